@@ -1,0 +1,4 @@
+pub mod Fold
+pub mod Zero
+pub mod Hashes
+pub mod Roomed
