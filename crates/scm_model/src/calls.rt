@@ -1,0 +1,154 @@
+ghost use Rattle.std.specs.Prelude.{◌≡◌, IfOk};
+
+use super::Status;
+use scm_text::{Items, OutOfMemory, WText};
+use std::alloc::Global;
+
+/// What a caller asks of a new service, as in `RCreateServiceW`.
+#[derive(Drop)]
+pub struct NewService {
+    pub handle: u64,
+    pub name: WText,
+    pub display: Option<WText>,
+    pub access: u32,
+    pub kind: u32,
+    pub start: u32,
+    pub error: u32,
+    pub path: WText,
+    pub group: Option<WText>,
+    /// Present where a tag is asked for. The number itself is not used.
+    pub tag: Option<u32>,
+    /// The names as they came, in 16-bit units, each ended by a 0 and all by one more.
+    pub needs: Option<Items<u8>>,
+    pub account: Option<WText>,
+}
+
+/// What a caller asks of the manager: the methods of svcctl in MS-SCMR that are served.
+#[derive(Drop)]
+pub enum Request {
+    /// `RCloseServiceHandle`, opnum 0.
+    Close {
+        handle: u64,
+    },
+    /// `RDeleteService`, opnum 2.
+    Delete {
+        handle: u64,
+    },
+    /// `RQueryServiceStatus`, opnum 6.
+    QueryStatus {
+        handle: u64,
+    },
+    /// `RCreateServiceW`, opnum 12.
+    Create(NewService),
+    /// `ROpenSCManagerW`, opnum 15.
+    OpenManager {
+        database: Option<WText>,
+        access: u32,
+    },
+    /// `ROpenServiceW`, opnum 16.
+    OpenService {
+        handle: u64,
+        name: WText,
+        access: u32,
+    },
+}
+
+/// What the manager answers a request. The code is 0 or one of MS-ERREF.
+#[derive(Drop)]
+pub enum Reply {
+    Code(u32),
+    Handle {
+        handle: u64,
+        code: u32,
+    },
+    State {
+        status: Status,
+        code: u32,
+    },
+    Made {
+        tag: Option<u32>,
+        handle: u64,
+        code: u32,
+    },
+}
+
+/// A copy of a text that may be absent.
+fn copy_of_text(text: &Option<WText>, alloc: Global) -> Result<Option<WText>, OutOfMemory>
+    ensures { IfOk result (λ copy. copy ≡ text.now) }
+{
+    match text {
+        Some(text) => Ok(Some(text.copy(alloc)?)),
+        None => Ok(None),
+    }
+}
+
+/// A copy of bytes that may be absent.
+fn copy_of_bytes(bytes: &Option<Items<u8>>, alloc: Global) -> Result<Option<Items<u8>>, OutOfMemory>
+    ensures { IfOk result (λ copy. copy ≡ bytes.now) }
+{
+    match bytes {
+        Some(bytes) => Ok(Some(Items::from_slice(alloc, bytes.as_slice())?)),
+        None => Ok(None),
+    }
+}
+
+impl NewService {
+    /// A copy of what is asked.
+    pub fn copy(&self, alloc: Global) -> Result<NewService, OutOfMemory>
+        ensures { IfOk result (λ copy. copy ≡ self.now) }
+    {
+        let name = self.name.copy(alloc)?;
+        let display = copy_of_text(&self.display, alloc)?;
+        let path = self.path.copy(alloc)?;
+        let group = copy_of_text(&self.group, alloc)?;
+        let needs = copy_of_bytes(&self.needs, alloc)?;
+        let account = copy_of_text(&self.account, alloc)?;
+        Ok(NewService {
+            handle: self.handle,
+            name,
+            display,
+            access: self.access,
+            kind: self.kind,
+            start: self.start,
+            error: self.error,
+            path,
+            group,
+            tag: self.tag,
+            needs,
+            account,
+        })
+    }
+}
+
+impl Request {
+    /// A copy of the request.
+    pub fn copy(&self, alloc: Global) -> Result<Request, OutOfMemory>
+        ensures { IfOk result (λ copy. copy ≡ self.now) }
+    {
+        match self {
+            Request::Close { handle } => Ok(Request::Close { handle: *handle }),
+            Request::Delete { handle } => Ok(Request::Delete { handle: *handle }),
+            Request::QueryStatus { handle } => Ok(Request::QueryStatus { handle: *handle }),
+            Request::Create(new) => Ok(Request::Create(new.copy(alloc)?)),
+            Request::OpenManager { database, access } => {
+                let database = copy_of_text(database, alloc)?;
+                Ok(Request::OpenManager {
+                    database,
+                    access: *access,
+                })
+            }
+            Request::OpenService {
+                handle,
+                name,
+                access,
+            } => {
+                let name = name.copy(alloc)?;
+                Ok(Request::OpenService {
+                    handle: *handle,
+                    name,
+                    access: *access,
+                })
+            }
+        }
+    }
+}

@@ -1,0 +1,16 @@
+//! The plain types of the service manager, and the definitions that several crates cite.
+#![tactic(auto)]
+
+mod calls;
+mod flat;
+mod refusing;
+mod steps;
+
+pub use calls::{NewService, Reply, Request};
+pub use flat::{
+    Action, Caller, Config, Due, DueKind, Flat, HandleKind, HandleRow, Limits, LockRow, Need, Next,
+    Opened, Phase, Plan, Principal, Process, ProcessStatus, Registration, Service, Status, Trigger,
+    Wanted,
+};
+pub use refusing::refused;
+pub use steps::{Answer, Change, Kept, Step};
