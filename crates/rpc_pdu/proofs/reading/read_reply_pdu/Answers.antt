@@ -1,0 +1,6 @@
+use Rattle.rpc_pdu.specs.declared.pdu.End.TheVariants.{Client}
+use Rattle.rpc_pdu.proofs.Settled.{settled}
+use Rattle.rpc_pdu.proofs.reading.read_reply_pdu.Goals as goal
+
+pub returns-clause-settled : goal.returns-clause-settled
+returns-clause-settled c = λ s more. settled Client c.args.bytes.now more s
