@@ -1,0 +1,12 @@
+use Rattle.std.proofs.Common.{length, ◌≤◌, ◌-◌, ◌≡◌}
+use Rattle.rpc_session.specs.Sinks.{Sent}
+use Rattle.rpc_session.specs.Replies.{fragments, reply_bytes}
+use Rattle.rpc_session.proofs.replies.write_fragments.Given as goal
+
+abbrev pub invariant-loop : goal.invariant-loop
+invariant-loop g l =
+    Sent (g.T.Sink.held l.fn.sink) (g.T.Sink.held l.sink) (reply_bytes l.fn.transmit l.fn.call l.fn.context l.fn.body)
+    (fragments (length l.fn.body - l.counter) l.fn.transmit l.fn.call l.fn.context l.first l.rest)
+    × (g.T.Sink.faults l.fn.sink ≤ g.T.Sink.faults l.sink)
+    × (length l.rest ≤ length l.fn.body)
+    × (length l.buffer ≡ length l.fn.buffer)

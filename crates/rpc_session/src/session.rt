@@ -1,0 +1,214 @@
+ghost use Rattle.std.specs.Prelude.{◌≡◌, ◌<◌, ◌++◌, List, ℕ, [], length, OnOk, OnErr, IfOk, IfErr, IfSome, IsSome, Some, ◌≤◌, ◌+◌, ◌^◌};
+ghost use Rattle.rpc_session.specs.declared.state.Incoming.{Incoming};
+ghost use Rattle.rpc_session.specs.declared.session.SessionFault.{SessionFault};
+ghost use Rattle.rpc_pdu.specs.Written.{fault_bytes};
+ghost use Rattle.rpc_session.specs.Replies.{HasRoom, reply_bytes};
+ghost use Rattle.rpc_session.specs.Moves.{IsFor};
+ghost use Rattle.outside.specs.Causes.{HasCause};
+ghost use Rattle.outside.specs.Written.{Writes};
+ghost use Rattle.rpc_session.specs.Held.{with_more};
+ghost use Rattle.rpc_session.specs.Items.{Seen, unbound, Comes, Gave, Says, given_by, StepComes, fault_by, is_at_rest, IsStuck, TellsAgain};
+
+use crate::known::Known;
+use crate::replies::{write_fault, write_reply};
+use crate::sink::Sink;
+use crate::state::{Incoming, Refusal, State};
+use crate::stream::Stream;
+use outside::Failed;
+use rpc_pdu::{PduKind, PduRead, read_pdu};
+use scm_text::{Items, OutOfMemory};
+use std::alloc::Global;
+use std::marker::Model;
+use thiserror::Error;
+
+/// Why a session gives no further item.
+#[derive(Clone, Copy, Debug, PartialEq, Eq, Error)]
+pub enum SessionFault {
+    /// The PDU at this place of the stream is bad.
+    #[error("bad PDU at {0}: {1}")]
+    BadPdu(u64, PduKind),
+    /// A request's stub would have this length.
+    #[error("a stub of {0} bytes")]
+    TooLong(u64),
+    #[error("out of memory")]
+    OutOfMemory,
+}
+
+fn fault_of(place: u64, refusal: Refusal) -> SessionFault
+    ensures { result ≡ fault_by place refusal }
+{
+    match refusal {
+        Refusal::Order => SessionFault::BadPdu(place, PduKind::Order),
+        Refusal::TooLong(length) => SessionFault::TooLong(length),
+        Refusal::OutOfMemory => SessionFault::OutOfMemory,
+    }
+}
+
+/// Takes one PDU: `None` where none is whole, and else the item that it gives, if it gives one.
+fn take_pdu(
+    alloc: Global,
+    state: &mut State,
+    stream: &mut Stream,
+) -> Result<Option<Option<Incoming>>, SessionFault>
+    ensures comes { StepComes (record { state = state.old; held = stream.old }) (record { state = state.new; held = stream.new }) result }
+    ensures room { HasRoom state.old.terms → HasRoom state.new.terms }
+    ensures transmit { IfOk result (λ taken. IfSome taken (IsFor state.new.terms)) }
+    ensures kept { IfSome state.old.terms (λ terms. state.new.terms ≡ Some terms) }
+    ensures shorter { IfOk result (λ taken. IfSome taken (λ _. length stream.new.rest < length stream.old.rest)) }
+    ensures no_longer { length stream.new.rest ≤ length stream.old.rest }
+    ensures stuck { IfErr result (IsStuck (record { state = state.new; held = stream.new })) }
+    ensures again { TellsAgain (record { state = state.old; held = stream.old }) (record { state = state.new; held = stream.new }) result }
+{
+    let (pdu, used) = match read_pdu(stream.rest()) {
+        PduRead::Whole(pdu, used) => (pdu, used),
+        PduRead::Short(_) => return Ok(None),
+        PduRead::Bad(kind) => return Err(SessionFault::BadPdu(stream.place(), kind)),
+    };
+    match state.take(alloc, &pdu) {
+        Ok(item) => {
+            stream.pass(used);
+            Ok(Some(item))
+        }
+        Err(refusal) => Err(fault_of(stream.place(), refusal)),
+    }
+}
+
+/// Takes PDUs up to the next item.
+fn next_item(
+    alloc: Global,
+    state: &mut State,
+    stream: &mut Stream,
+) -> Result<Option<Incoming>, SessionFault>
+    ensures comes { Comes (record { state = state.old; held = stream.old }) (record { state = state.new; held = stream.new }) result }
+    ensures room { HasRoom state.old.terms → HasRoom state.new.terms }
+    ensures transmit { IfOk result (IsFor state.new.terms) }
+    ensures kept { IfSome state.old.terms (λ terms. state.new.terms ≡ Some terms) }
+    ensures shorter { IfOk result (λ item. IfSome item (λ _. length stream.new.rest < length stream.old.rest)) }
+    ensures no_longer { length stream.new.rest ≤ length stream.old.rest }
+    ensures stuck { IfErr result (IsStuck (record { state = state.new; held = stream.new })) }
+    ensures again { TellsAgain (record { state = state.old; held = stream.old }) (record { state = state.new; held = stream.new }) result }
+{
+    loop {
+        match take_pdu(alloc, state, stream) {
+            Ok(None) => return Ok(None),
+            Ok(Some(Some(item))) => return Ok(Some(item)),
+            Ok(Some(None)) => {}
+            Err(fault) => return Err(fault),
+        }
+    }
+}
+
+/// The server's end of a connection: its stream so far, less the items that were given.
+#[derive(Drop)]
+pub struct Session {
+    state: State,
+    stream: Stream,
+}
+
+impl Model for Session {
+    ghost use Rattle.rpc_session.specs.Items.{Seen};
+    ghost use Rattle.rpc_session.specs.contracts.known.Known as known;
+    ghost use Rattle.std.specs.Coded.{codes};
+
+    ghost Value = { Seen };
+
+    ghost coded = { Prim.hlevel (codes, known.the_row.coded) };
+
+    ghost view = { λ s. record { state = s.state; held = s.stream } };
+
+    ghost use Rattle.rpc_session.specs.Replies.{HasRoom};
+
+    ghost invariant = { λ s. HasRoom s.state.terms };
+}
+
+impl Session {
+    /// An unbound session. It takes no memory.
+    pub fn new(alloc: Global) -> Self
+        ensures value { result ≡ record { state = unbound; held = record { place = 0; rest = [] } } }
+        // Nothing was fed, and nothing given.
+        ensures gave { Gave [] [] result }
+    {
+        Session {
+            state: State {
+                terms: None,
+                known: Known::new(alloc),
+                unfinished: None,
+            },
+            stream: Stream::new(alloc),
+        }
+    }
+
+    /// Appends a piece to the stream. An `Err` leaves the session as it was. Where the stream would be longer than a `u64` can
+    /// say, this too is want of memory.
+    pub fn feed(&mut self, piece: &[u8]) -> Result<(), OutOfMemory>
+        ensures ok { OnOk result (self.new ≡ record { state = self.old.state; held = with_more self.old.held piece.now }) }
+        ensures err { OnErr result (self.new ≡ self.old) }
+        ensures gave { OnOk result ((stream : List ℕ) (given : List Incoming) → Gave stream given self.old → Gave (stream ++ piece.now) given self.new) }
+        // A fault that was told is told whatever comes.
+        ensures stuck { (fault : SessionFault) → IsStuck self.old fault → IsStuck self.new fault }
+    {
+        self.stream.feed(piece)
+    }
+
+    /// The next item of the stream. Where there is no memory for it, the session will tell what it would have told.
+    pub fn next(&mut self, alloc: Global) -> Result<Option<Incoming>, SessionFault>
+        ensures comes { Comes self.old self.new result }
+        // The items that were given are a prefix of the stream's.
+        ensures gave { (stream : List ℕ) (given : List Incoming) → Gave stream given self.old → Gave stream (given ++ given_by result) self.new }
+        // None comes where no further item is whole and the end is open, and `at_rest` then tells which it is. A fault comes where
+        // the items end with it, whatever follows.
+        ensures says { (stream : List ℕ) (given : List Incoming) → Gave stream given self.old → Says stream given self.new result }
+        // A request comes of a bound session, and is answered by the transmit size that it tells.
+        ensures transmit { IfOk result (IsFor self.new.state.terms) }
+        // What a bind_ack settled stays.
+        ensures kept { IfSome self.old.state.terms (λ terms. self.new.state.terms ≡ Some terms) }
+        // An item takes bytes of those that are held.
+        ensures shorter { IfOk result (λ item. IfSome item (λ _. length self.new.held.rest < length self.old.held.rest)) }
+        ensures no_longer { length self.new.held.rest ≤ length self.old.held.rest }
+        // A fault other than want of memory is told at each later call.
+        ensures stuck { IfErr result (IsStuck self.new) }
+        ensures again { TellsAgain self.old self.new result }
+    {
+        next_item(alloc, &mut self.state, &mut self.stream)
+    }
+
+    /// Whether the session holds no part of a PDU and no unfinished request.
+    pub fn at_rest(&self) -> bool
+        ensures { result ≡ is_at_rest self.now }
+    {
+        self.stream.rest().is_empty() && self.state.unfinished.is_none()
+    }
+
+    /// Writes one fault.
+    pub fn fault<T: Sink>(
+        &self,
+        call: u32,
+        context: u16,
+        status: u32,
+        sink: &mut T,
+    ) -> Result<(), Failed>
+        ensures written { Writes (T.held sink.old) (T.held sink.new) result (fault_bytes (record { call = call; hint = 0; context = context; status = status })) }
+        ensures cause { HasCause (T.faults sink.old) (T.faults sink.new) result }
+    {
+        write_fault(sink, call, context, status)
+    }
+
+    /// Writes a body as the response fragments of a call.
+    pub fn reply<T: Sink>(
+        &self,
+        call: u32,
+        context: u16,
+        body: &[u8],
+        sink: &mut T,
+    ) -> Result<(), Failed>
+        requires bound { IsSome self.now.state.terms }
+        requires size { length body.now < 2 ^ 32 }
+        ensures written { IfSome self.now.state.terms (λ terms. Writes (T.held sink.old) (T.held sink.new) result (reply_bytes terms.transmit call context body.now)) }
+        ensures cause { HasCause (T.faults sink.old) (T.faults sink.new) result }
+    {
+        match self.state.terms {
+            Some(terms) => write_reply(sink, terms.transmit, call, context, body),
+            None => Ok(()),
+        }
+    }
+}
