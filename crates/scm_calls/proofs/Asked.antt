@@ -1,0 +1,112 @@
+-- A request is read exactly where the bytes are its body.
+use Rattle.std.proofs.Common.{◌≡◌, ℕ, true, eqb, List, Option, Result, Ok, Err, refl, sym, subst, inl, inr}
+use Rattle.std.specs.Prelude.{IfOk}
+use Rattle.std.proofs.lemmas.Bool.{eqb-true, cases_Bool}
+use Rattle.scm_model.specs.declared.calls.Request.{Request}
+use Rattle.scm_model.specs.declared.calls.Request.TheVariants as request
+use Rattle.ndr_body.specs.declared.fault.BodyFault.{BodyFault}
+use Rattle.ndr_body.specs.Reading.{◌>>=◌, Gives, number_at, handle_at, text_at, some_text_at, finished}
+use Rattle.ndr_body.proofs.Spelled.{IsBytes, bind_ok, ok_is, number_spelled, number_read}
+use Rattle.ndr_body.proofs.SpelledHandles.{handle_spelled, handle_read}
+use Rattle.ndr_body.proofs.SpelledTexts.{text_spelled, text_read}
+use Rattle.ndr_body.proofs.SpelledPointers.{some_text_spelled, some_text_read, finished_ended, ended_finished}
+use Rattle.scm_calls.specs.Requests.{is_served, lone_handle_at, open_manager_at, open_service_at, request_at}
+use Rattle.scm_calls.specs.Bodies.{IsLoneHandle, IsOpenManager, IsOpenService, IsBody}
+
+-- ## What is read is a body
+
+lone_found : (body : List ℕ) (handle : ℕ) → IsBytes body → lone_handle_at body ≡ Ok handle → IsLoneHandle body handle
+unfolding lone_handle_at
+lone_found body handle fits e =
+    let a = bind_ok (handle_at body 0) (λ held. finished body held.1 >>= λ ended. Ok held.0) handle e in
+    let b = bind_ok (finished body a.0.1) (λ ended. Ok a.0.0) handle a.2 in
+    subst (IsLoneHandle body) (ok_is a.0.0 handle b.2) (record { behind_handle = a.0.1; handle_stands = handle_spelled body 0 a.0 fits a.1; ends = finished_ended body a.0.1 b.1 })
+
+open_manager_found : (body : List ℕ) (r : Request) → IsBytes body → open_manager_at body ≡ Ok r → IsBody 15 body r
+unfolding open_manager_at
+open_manager_found body r fits e =
+    let a = bind_ok (some_text_at body 0) (λ machine. some_text_at body machine.1 >>= λ database. number_at body database.1 >>= λ access. finished body access.1 >>= λ ended. Ok (request.OpenManager database.0 access.0)) r e in
+    let b = bind_ok (some_text_at body a.0.1) (λ database. number_at body database.1 >>= λ access. finished body access.1 >>= λ ended. Ok (request.OpenManager database.0 access.0)) r a.2 in
+    let c = bind_ok (number_at body b.0.1) (λ access. finished body access.1 >>= λ ended. Ok (request.OpenManager b.0.0 access.0)) r b.2 in
+    let d = bind_ok (finished body c.0.1) (λ ended. Ok (request.OpenManager b.0.0 c.0.0)) r c.2 in
+    let found : IsOpenManager body b.0.0 c.0.0 = record {
+      machine = a.0.0;
+      behind_machine = a.0.1;
+      machine_stands = some_text_spelled body 0 a.0 fits a.1;
+      behind_database = b.0.1;
+      database_stands = some_text_spelled body _ b.0 fits b.1;
+      behind_access = c.0.1;
+      access_stands = number_spelled body _ _ c.0 fits c.1;
+      ends = finished_ended body c.0.1 d.1;
+    } in
+    subst (IsBody 15 body) (ok_is (request.OpenManager b.0.0 c.0.0) r d.2) (refl, found)
+
+open_service_found : (body : List ℕ) (r : Request) → IsBytes body → open_service_at body ≡ Ok r → IsBody 16 body r
+unfolding open_service_at
+open_service_found body r fits e =
+    let a = bind_ok (handle_at body 0) (λ handle. text_at body handle.1 >>= λ name. number_at body name.1 >>= λ access. finished body access.1 >>= λ ended. Ok (request.OpenService handle.0 name.0 access.0)) r e in
+    let b = bind_ok (text_at body a.0.1) (λ name. number_at body name.1 >>= λ access. finished body access.1 >>= λ ended. Ok (request.OpenService a.0.0 name.0 access.0)) r a.2 in
+    let c = bind_ok (number_at body b.0.1) (λ access. finished body access.1 >>= λ ended. Ok (request.OpenService a.0.0 b.0.0 access.0)) r b.2 in
+    let d = bind_ok (finished body c.0.1) (λ ended. Ok (request.OpenService a.0.0 b.0.0 c.0.0)) r c.2 in
+    let found : IsOpenService body a.0.0 b.0.0 c.0.0 = record {
+      behind_handle = a.0.1;
+      handle_stands = handle_spelled body 0 a.0 fits a.1;
+      behind_name = b.0.1;
+      name_stands = text_spelled body _ _ b.0 fits b.1;
+      behind_access = c.0.1;
+      access_stands = number_spelled body _ _ c.0 fits c.1;
+      ends = finished_ended body c.0.1 d.1;
+    } in
+    subst (IsBody 16 body) (ok_is (request.OpenService a.0.0 b.0.0 c.0.0) r d.2) (refl, found)
+
+asked_with : (body : List ℕ) (r : Request) (make : ℕ → Request) → IsBytes body → (lone_handle_at body >>= λ handle. Ok (make handle)) ≡ Ok r → (handle : ℕ) × IsLoneHandle body handle × (make handle ≡ r)
+asked_with body r make fits e =
+    let a = bind_ok (lone_handle_at body) (λ handle. Ok (make handle)) r e in
+    (a.0, lone_found body a.0 fits a.1, ok_is (make a.0) r a.2)
+
+pub request_found : (opnum : ℕ) (body : List ℕ) (r : Request) → is_served opnum ≡ true → IsBytes body → request_at opnum body ≡ Ok r → IsBody opnum body r
+unfolding request_at
+request_found opnum body r served fits e =
+    elim (cases_Bool (eqb opnum 0)) [
+      | inl is ↦ let a = asked_with body r request.Close fits (rw is at e) in subst (IsBody opnum body) a.2 (eqb-true _ _ is, a.1)
+      | inr no_0 ↦ elim (cases_Bool (eqb opnum 2)) [
+        | inl is ↦ let a = asked_with body r request.Delete fits (rw (no_0, is) at e) in subst (IsBody opnum body) a.2 (eqb-true _ _ is, a.1)
+        | inr no_2 ↦ elim (cases_Bool (eqb opnum 6)) [
+          | inl is ↦ let a = asked_with body r request.QueryStatus fits (rw (no_0, no_2, is) at e) in subst (IsBody opnum body) a.2 (eqb-true _ _ is, a.1)
+          | inr no_6 ↦ elim (cases_Bool (eqb opnum 15)) [
+            | inl is ↦ subst (λ (o : ℕ). IsBody o body r) (sym (eqb-true _ _ is)) (open_manager_found body r fits (rw (no_0, no_2, no_6, is) at e))
+            | inr no_15 ↦ let is : eqb opnum 16 ≡ true = rw (no_0, no_2, no_6, no_15) at served in
+                subst (λ (o : ℕ). IsBody o body r) (sym (eqb-true _ _ is)) (open_service_found body r fits (rw (no_0, no_2, no_6, no_15) at e))
+          ]
+        ]
+      ]
+    ]
+
+-- ## A body is read
+
+lone_read : (body : List ℕ) (handle : ℕ) → IsBytes body → IsLoneHandle body handle → lone_handle_at body ≡ Ok handle
+unfolding lone_handle_at
+lone_read body handle fits h = rw (handle_read body 0 handle h.behind_handle fits h.handle_stands, ended_finished body h.behind_handle h.ends) refl
+
+open_manager_read : (body : List ℕ) (database : Option (List ℕ)) (access : ℕ) → IsOpenManager body database access → open_manager_at body ≡ Ok (request.OpenManager database access)
+unfolding open_manager_at
+open_manager_read body database access h =
+    rw (some_text_read body 0 h.machine h.behind_machine h.machine_stands, some_text_read body _ database h.behind_database h.database_stands, number_read body _ _ access h.behind_access h.access_stands, ended_finished body h.behind_access h.ends) refl
+
+open_service_read : (body : List ℕ) (handle : ℕ) (name : List ℕ) (access : ℕ) → IsBytes body → IsOpenService body handle name access → open_service_at body ≡ Ok (request.OpenService handle name access)
+unfolding open_service_at
+open_service_read body handle name access fits h =
+    rw (handle_read body 0 handle h.behind_handle fits h.handle_stands, text_read body _ _ name h.behind_name h.name_stands, number_read body _ _ access h.behind_access h.access_stands, ended_finished body h.behind_access h.ends) refl
+
+pub request_read : (opnum : ℕ) (body : List ℕ) (r : Request) → IsBytes body → IsBody opnum body r → request_at opnum body ≡ Ok r
+unfolding request_at
+request_read opnum body (request.Close handle) fits h = rw (h.0, lone_read body handle fits h.1) refl
+request_read opnum body (request.Delete handle) fits h = rw (h.0, lone_read body handle fits h.1) refl
+request_read opnum body (request.QueryStatus handle) fits h = rw (h.0, lone_read body handle fits h.1) refl
+request_read opnum body (request.Create new) fits h = absurd h
+request_read opnum body (request.OpenManager database access) fits h = rw (h.0, open_manager_read body database access h.1) refl
+request_read opnum body (request.OpenService handle name access) fits h = rw (h.0, open_service_read body handle name access fits h.1) refl
+
+pub found_if : (opnum : ℕ) (body : List ℕ) (told : Result Request BodyFault) → is_served opnum ≡ true → IsBytes body → Gives (λ r. r) told (request_at opnum body) → IfOk told (λ r. IsBody opnum body r)
+found_if opnum body (Ok r) served fits given = request_found opnum body r served fits given
+found_if opnum body (Err e) served fits given = tt

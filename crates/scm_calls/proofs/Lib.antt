@@ -1,0 +1,4 @@
+pub mod Asked
+pub mod Put
+pub mod Sizes
+pub mod Told

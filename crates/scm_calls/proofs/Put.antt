@@ -1,0 +1,74 @@
+-- What is written is read back.
+use Rattle.std.proofs.Common.{◌≡◌, ℕ, ◌^◌, ◌<◌, List, Option, None, Result, Ok, Err, refl, ap, ◌∙◌}
+use Rattle.std.specs.Prelude.{IfSome, IfOk}
+use Rattle.scm_model.specs.declared.calls.Request.{Request}
+use Rattle.scm_model.specs.declared.calls.Request.TheVariants as request
+use Rattle.ndr_body.specs.Reading.{number_at, handle_at, text_at, some_text_at}
+use Rattle.ndr_body.specs.Writing.{blank, put_number, put_handle, put_text, put_some_text}
+use Rattle.ndr_body.specs.Laws.{IsSent}
+use Rattle.ndr_body.proofs.Chains.{handle_small, text_sent, pointed_sent, whole, held_before, read_there, blank_referent, ends_there}
+use Rattle.ndr_body.proofs.Written.{number_put, handle_put, text_put, any_text_put}
+use Rattle.scm_calls.specs.Requests.{opnum_of, with_request, request_bytes, lone_handle_at, open_manager_at, open_service_at, request_at}
+use Rattle.scm_calls.specs.Bodies.{IsBody}
+
+-- ## Requests
+
+lone_again : (handle : ℕ) → handle < 2 ^ 64 → lone_handle_at (put_handle handle blank).bytes ≡ Ok handle
+unfolding lone_handle_at
+lone_again handle lt =
+    let d = put_handle handle blank in
+    rw (read_there handle_at (put_handle handle) handle d.bytes blank (handle_put handle lt) blank_referent (whole d), ends_there d) refl
+
+open_manager_again : (database : Option (List ℕ)) (access : ℕ) → IfSome database IsSent → access < 2 ^ 32 → open_manager_at (put_number access (put_some_text database (put_some_text None blank))).bytes ≡ Ok (request.OpenManager database access)
+unfolding open_manager_at
+open_manager_again database access sent lt =
+    let d1 = put_some_text None blank in
+    let d2 = put_some_text database d1 in
+    let d3 = put_number access d2 in
+    let law1 = any_text_put None tt in
+    let law2 = any_text_put database sent in
+    let law3 = number_put access lt in
+    let held2 = held_before number_at (put_number access) access d3.bytes d2 law3 (whole d3) in
+    let held1 = held_before some_text_at (put_some_text database) database d3.bytes d1 law2 held2 in
+    let next1 = law1.next blank blank_referent in
+    let next2 = law2.next d1 next1 in
+    rw (
+      read_there some_text_at (put_some_text None) None d3.bytes blank law1 blank_referent held1,
+      read_there some_text_at (put_some_text database) database d3.bytes d1 law2 next1 held2,
+      read_there number_at (put_number access) access d3.bytes d2 law3 next2 (whole d3),
+      ends_there d3,
+    ) refl
+
+open_service_again : (handle : ℕ) (name : List ℕ) (access : ℕ) → handle < 2 ^ 64 → IsSent name → access < 2 ^ 32 → open_service_at (put_number access (put_text name (put_handle handle blank))).bytes ≡ Ok (request.OpenService handle name access)
+unfolding open_service_at
+open_service_again handle name access small sent lt =
+    let d1 = put_handle handle blank in
+    let d2 = put_text name d1 in
+    let d3 = put_number access d2 in
+    let law1 = handle_put handle small in
+    let law2 = text_put name sent in
+    let law3 = number_put access lt in
+    let held2 = held_before number_at (put_number access) access d3.bytes d2 law3 (whole d3) in
+    let held1 = held_before text_at (put_text name) name d3.bytes d1 law2 held2 in
+    let next1 = law1.next blank blank_referent in
+    let next2 = law2.next d1 next1 in
+    rw (
+      read_there handle_at (put_handle handle) handle d3.bytes blank law1 blank_referent held1,
+      read_there text_at (put_text name) name d3.bytes d1 law2 next1 held2,
+      read_there number_at (put_number access) access d3.bytes d2 law3 next2 (whole d3),
+      ends_there d3,
+    ) refl
+
+-- a request that some body asks is read from the form that is written
+pub request_again : (bytes : List ℕ) (r : Request) → IsBody (opnum_of r) bytes r → request_at (opnum_of r) (request_bytes r) ≡ Ok r
+unfolding request_at request_bytes with_request
+request_again bytes (request.Close handle) h = rw (lone_again handle (handle_small h.1.handle_stands.item handle h.1.handle_stands.is)) refl
+request_again bytes (request.Delete handle) h = rw (lone_again handle (handle_small h.1.handle_stands.item handle h.1.handle_stands.is)) refl
+request_again bytes (request.QueryStatus handle) h = rw (lone_again handle (handle_small h.1.handle_stands.item handle h.1.handle_stands.is)) refl
+request_again bytes (request.Create new) h = absurd h
+request_again bytes (request.OpenManager database access) h = open_manager_again database access (pointed_sent h.1.database_stands.item database h.1.database_stands.is) h.1.access_stands.is.small
+request_again bytes (request.OpenService handle name access) h = open_service_again handle name access (handle_small h.1.handle_stands.item handle h.1.handle_stands.is) (text_sent h.1.name_stands.item name h.1.name_stands.is) h.1.access_stands.is.small
+
+pub written_again : {E : Type 0} (r : Request) (bytes : List ℕ) (written : Result (List ℕ) E) → IsBody (opnum_of r) bytes r → IfOk written (λ b. b ≡ request_bytes r) → IfOk written (λ b. request_at (opnum_of r) b ≡ Ok r)
+written_again r bytes (Ok b) h form = ap (request_at (opnum_of r)) form ∙ request_again bytes r h
+written_again r bytes (Err e) h form = tt

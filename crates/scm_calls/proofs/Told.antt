@@ -1,0 +1,199 @@
+-- A reply is read exactly where the bytes are its body, and what is written is read back.
+use Rattle.std.proofs.Common.{◌≡◌, ℕ, ◌^◌, ◌<◌, Bool, true, false, eqb, List, [], ◌∷◌, ◌++◌, length, Result, Ok, Err, refl, sym, ap, subst, ◌∙◌, inl, inr}
+use Rattle.std.specs.Prelude.{◌||◌, IfOk}
+use Rattle.std.specs.List.{AllByRecursion}
+use Rattle.std.proofs.lemmas.Bool.{eqb-true, cases_Bool, or_cases}
+use Rattle.scm_text.specs.Roomed.{Roomed}
+use Rattle.scm_model.specs.declared.flat.Status.{Status}
+use Rattle.scm_model.specs.declared.calls.Reply.{Reply}
+use Rattle.scm_model.specs.declared.calls.Reply.TheVariants as reply
+use Rattle.ndr_body.specs.declared.fault.BodyFault.{BodyFault}
+use Rattle.ndr_body.specs.Reading.{◌>>=◌, Gives, aligned, number_at, handle_at, finished}
+use Rattle.ndr_body.specs.Writing.{Draft, blank, put_number, put_handle}
+use Rattle.ndr_body.specs.Spelled.{IsNumber, Stands}
+use Rattle.ndr_body.proofs.Spelled.{IsBytes, bind_ok, ok_is, number_spelled, number_read}
+use Rattle.ndr_body.proofs.SpelledHandles.{handle_spelled, handle_read}
+use Rattle.ndr_body.proofs.SpelledPointers.{finished_ended, ended_finished}
+use Rattle.ndr_body.proofs.Written.{number_put, handle_put, number_stands}
+use Rattle.scm_calls.specs.Requests.{is_served}
+use Rattle.scm_calls.specs.Replies.{put_numbers, numbers_of, with_reply, reply_bytes, code_at, handled_at, status_at, state_at, reply_at}
+use Rattle.scm_calls.specs.Bodies.{NumbersStand, IsCodeBody, IsHandledBody, IsStateBody, gives_handle, IsReply}
+use Rattle.ndr_body.proofs.Chains.{Holds, whole, held_before, read_there, blank_referent, ends_there, handle_small}
+
+-- ## What is read is a body
+
+code_found : (body : List ℕ) (told : Reply) → IsBytes body → code_at body ≡ Ok told → IsReply 2 body told
+unfolding code_at
+code_found body told fits e =
+    let a = bind_ok (number_at body 0) (λ code. finished body code.1 >>= λ ended. Ok (reply.Code code.0)) told e in
+    let b = bind_ok (finished body a.0.1) (λ ended. Ok (reply.Code a.0.0)) told a.2 in
+    subst (IsReply 2 body) (ok_is (reply.Code a.0.0) told b.2) (refl, record { behind_code = a.0.1; code_stands = number_spelled body 0 0 a.0 fits a.1; ends = finished_ended body a.0.1 b.1 })
+
+handled_found : (opnum : ℕ) (body : List ℕ) (told : Reply) → gives_handle opnum ≡ true → IsBytes body → handled_at body ≡ Ok told → IsReply opnum body told
+unfolding handled_at
+handled_found opnum body told gives fits e =
+    let a = bind_ok (handle_at body 0) (λ handle. number_at body handle.1 >>= λ code. finished body code.1 >>= λ ended. Ok (reply.Handle handle.0 code.0)) told e in
+    let b = bind_ok (number_at body a.0.1) (λ code. finished body code.1 >>= λ ended. Ok (reply.Handle a.0.0 code.0)) told a.2 in
+    let c = bind_ok (finished body b.0.1) (λ ended. Ok (reply.Handle a.0.0 b.0.0)) told b.2 in
+    let found : IsHandledBody body a.0.0 b.0.0 = record {
+      behind_handle = a.0.1;
+      handle_stands = handle_spelled body 0 a.0 fits a.1;
+      behind_code = b.0.1;
+      code_stands = number_spelled body (aligned a.0.1) (aligned a.0.1) b.0 fits b.1;
+      ends = finished_ended body b.0.1 c.1;
+    } in
+    subst (IsReply opnum body) (ok_is (reply.Handle a.0.0 b.0.0) told c.2) (gives, found)
+
+status_found : (body : List ℕ) (place : ℕ) (x : Status × ℕ) → IsBytes body → status_at body place ≡ Ok x → NumbersStand body place (numbers_of x.0) x.1
+unfolding status_at
+status_found body place x fits e =
+    let a = bind_ok (number_at body place) (λ kind. number_at body kind.1 >>= λ state. number_at body state.1 >>= λ accepted. number_at body accepted.1 >>= λ win32. number_at body win32.1 >>= λ specific. number_at body specific.1 >>= λ checkpoint. number_at body checkpoint.1 >>= λ hint. Ok (record { kind = kind.0; state = state.0; accepted = accepted.0; win32 = win32.0; specific = specific.0; checkpoint = checkpoint.0; hint = hint.0 }, hint.1)) x e in
+    let b = bind_ok (number_at body a.0.1) (λ state. number_at body state.1 >>= λ accepted. number_at body accepted.1 >>= λ win32. number_at body win32.1 >>= λ specific. number_at body specific.1 >>= λ checkpoint. number_at body checkpoint.1 >>= λ hint. Ok (record { kind = a.0.0; state = state.0; accepted = accepted.0; win32 = win32.0; specific = specific.0; checkpoint = checkpoint.0; hint = hint.0 }, hint.1)) x a.2 in
+    let c = bind_ok (number_at body b.0.1) (λ accepted. number_at body accepted.1 >>= λ win32. number_at body win32.1 >>= λ specific. number_at body specific.1 >>= λ checkpoint. number_at body checkpoint.1 >>= λ hint. Ok (record { kind = a.0.0; state = b.0.0; accepted = accepted.0; win32 = win32.0; specific = specific.0; checkpoint = checkpoint.0; hint = hint.0 }, hint.1)) x b.2 in
+    let d = bind_ok (number_at body c.0.1) (λ win32. number_at body win32.1 >>= λ specific. number_at body specific.1 >>= λ checkpoint. number_at body checkpoint.1 >>= λ hint. Ok (record { kind = a.0.0; state = b.0.0; accepted = c.0.0; win32 = win32.0; specific = specific.0; checkpoint = checkpoint.0; hint = hint.0 }, hint.1)) x c.2 in
+    let e = bind_ok (number_at body d.0.1) (λ specific. number_at body specific.1 >>= λ checkpoint. number_at body checkpoint.1 >>= λ hint. Ok (record { kind = a.0.0; state = b.0.0; accepted = c.0.0; win32 = d.0.0; specific = specific.0; checkpoint = checkpoint.0; hint = hint.0 }, hint.1)) x d.2 in
+    let f = bind_ok (number_at body e.0.1) (λ checkpoint. number_at body checkpoint.1 >>= λ hint. Ok (record { kind = a.0.0; state = b.0.0; accepted = c.0.0; win32 = d.0.0; specific = e.0.0; checkpoint = checkpoint.0; hint = hint.0 }, hint.1)) x e.2 in
+    let g = bind_ok (number_at body f.0.1) (λ hint. Ok (record { kind = a.0.0; state = b.0.0; accepted = c.0.0; win32 = d.0.0; specific = e.0.0; checkpoint = f.0.0; hint = hint.0 }, hint.1)) x f.2 in
+    let made : Status × ℕ = (record { kind = a.0.0; state = b.0.0; accepted = c.0.0; win32 = d.0.0; specific = e.0.0; checkpoint = f.0.0; hint = g.0.0 }, g.0.1) in
+    subst (λ (y : Status × ℕ). NumbersStand body place (numbers_of y.0) y.1) (ok_is made x g.2) (a.0.1, number_spelled body (aligned place) (aligned place) a.0 fits a.1, (b.0.1, number_spelled body (aligned a.0.1) (aligned a.0.1) b.0 fits b.1, (c.0.1, number_spelled body (aligned b.0.1) (aligned b.0.1) c.0 fits c.1, (d.0.1, number_spelled body (aligned c.0.1) (aligned c.0.1) d.0 fits d.1, (e.0.1, number_spelled body (aligned d.0.1) (aligned d.0.1) e.0 fits e.1, (f.0.1, number_spelled body (aligned e.0.1) (aligned e.0.1) f.0 fits f.1, (g.0.1, number_spelled body (aligned f.0.1) (aligned f.0.1) g.0 fits g.1, refl)))))))
+
+state_found : (body : List ℕ) (told : Reply) → IsBytes body → state_at body ≡ Ok told → IsReply 6 body told
+unfolding state_at
+state_found body told fits e =
+    let a = bind_ok (status_at body 0) (λ status. number_at body status.1 >>= λ code. finished body code.1 >>= λ ended. Ok (reply.State status.0 code.0)) told e in
+    let b = bind_ok (number_at body a.0.1) (λ code. finished body code.1 >>= λ ended. Ok (reply.State a.0.0 code.0)) told a.2 in
+    let c = bind_ok (finished body b.0.1) (λ ended. Ok (reply.State a.0.0 b.0.0)) told b.2 in
+    let found : IsStateBody body a.0.0 b.0.0 = record {
+      behind_status = a.0.1;
+      status_stands = status_found body 0 a.0 fits a.1;
+      behind_code = b.0.1;
+      code_stands = number_spelled body (aligned a.0.1) (aligned a.0.1) b.0 fits b.1;
+      ends = finished_ended body b.0.1 c.1;
+    } in
+    subst (IsReply 6 body) (ok_is (reply.State a.0.0 b.0.0) told c.2) (refl, found)
+
+left_out : (a b c d e : Bool) → (a || b || c || d || e) ≡ true → b ≡ false → c ≡ false → (a || d || e) ≡ true
+left_out true b c d e h no_b no_c = refl
+left_out false true c d e h no_b no_c = absurd cc
+left_out false false true d e h no_b no_c = absurd cc
+left_out false false false d e h no_b no_c = h
+
+gives_of : (opnum : ℕ) → is_served opnum ≡ true → eqb opnum 2 ≡ false → eqb opnum 6 ≡ false → gives_handle opnum ≡ true
+gives_of opnum served no_2 no_6 = left_out (eqb opnum 0) (eqb opnum 2) (eqb opnum 6) (eqb opnum 15) (eqb opnum 16) served no_2 no_6
+
+not_others : (opnum : ℕ) → gives_handle opnum ≡ true → (eqb opnum 2 ≡ false) × (eqb opnum 6 ≡ false)
+not_others opnum gives =
+    elim (or_cases _ _ gives) [
+      | inl front ↦ elim (or_cases _ _ front) [
+        | inl is ↦ let e = eqb-true opnum 0 is in rw e (refl, refl)
+        | inr is ↦ let e = eqb-true opnum 15 is in rw e (refl, refl)
+      ]
+      | inr is ↦ let e = eqb-true opnum 16 is in rw e (refl, refl)
+    ]
+
+reply_found : (opnum : ℕ) (body : List ℕ) (told : Reply) → is_served opnum ≡ true → IsBytes body → reply_at opnum body ≡ Ok told → IsReply opnum body told
+unfolding reply_at
+reply_found opnum body told served fits e =
+    elim (cases_Bool (eqb opnum 2)) [
+      | inl is ↦ subst (λ (o : ℕ). IsReply o body told) (sym (eqb-true _ _ is)) (code_found body told fits (rw is at e))
+      | inr no_2 ↦ elim (cases_Bool (eqb opnum 6)) [
+        | inl is ↦ subst (λ (o : ℕ). IsReply o body told) (sym (eqb-true _ _ is)) (state_found body told fits (rw (no_2, is) at e))
+        | inr no_6 ↦ handled_found opnum body told (gives_of opnum served no_2 no_6) fits (rw (no_2, no_6) at e)
+      ]
+    ]
+
+pub found_if : (opnum : ℕ) (body : List ℕ) (told : Result Reply BodyFault) → is_served opnum ≡ true → IsBytes body → Gives (λ r. r) told (reply_at opnum body) → IfOk told (λ r. IsReply opnum body r)
+found_if opnum body (Ok r) served fits given = reply_found opnum body r served fits given
+found_if opnum body (Err e) served fits given = tt
+
+-- ## A body is read
+
+status_read : (body : List ℕ) (place : ℕ) (s : Status) (after : ℕ) → NumbersStand body place (numbers_of s) after → status_at body place ≡ Ok (s, after)
+unfolding status_at
+status_read body place s after h =
+    rw (number_read body (aligned place) (aligned place) s.kind h.0 h.1, number_read body (aligned h.0) (aligned h.0) s.state h.2.0 h.2.1, number_read body (aligned h.2.0) (aligned h.2.0) s.accepted h.2.2.0 h.2.2.1, number_read body (aligned h.2.2.0) (aligned h.2.2.0) s.win32 h.2.2.2.0 h.2.2.2.1, number_read body (aligned h.2.2.2.0) (aligned h.2.2.2.0) s.specific h.2.2.2.2.0 h.2.2.2.2.1, number_read body (aligned h.2.2.2.2.0) (aligned h.2.2.2.2.0) s.checkpoint h.2.2.2.2.2.0 h.2.2.2.2.2.1, number_read body (aligned h.2.2.2.2.2.0) (aligned h.2.2.2.2.2.0) s.hint h.2.2.2.2.2.2.0 h.2.2.2.2.2.2.1, h.2.2.2.2.2.2.2) refl
+
+code_read : (body : List ℕ) (code : ℕ) → IsCodeBody body code → code_at body ≡ Ok (reply.Code code)
+unfolding code_at
+code_read body code h = rw (number_read body 0 0 code h.behind_code h.code_stands, ended_finished body h.behind_code h.ends) refl
+
+handled_read : (body : List ℕ) (handle code : ℕ) → IsBytes body → IsHandledBody body handle code → handled_at body ≡ Ok (reply.Handle handle code)
+unfolding handled_at
+handled_read body handle code fits h =
+    rw (handle_read body 0 handle h.behind_handle fits h.handle_stands, number_read body (aligned h.behind_handle) (aligned h.behind_handle) code h.behind_code h.code_stands, ended_finished body h.behind_code h.ends) refl
+
+state_read : (body : List ℕ) (s : Status) (code : ℕ) → IsStateBody body s code → state_at body ≡ Ok (reply.State s code)
+unfolding state_at
+state_read body s code h =
+    rw (status_read body 0 s h.behind_status h.status_stands, number_read body (aligned h.behind_status) (aligned h.behind_status) code h.behind_code h.code_stands, ended_finished body h.behind_code h.ends) refl
+
+pub reply_read : (opnum : ℕ) (body : List ℕ) (told : Reply) → IsBytes body → IsReply opnum body told → reply_at opnum body ≡ Ok told
+unfolding reply_at
+reply_read opnum body (reply.Code code) fits h = rw (h.0, code_read body code h.1) refl
+reply_read opnum body (reply.Handle handle code) fits h = let n = not_others opnum h.0 in rw (n.0, n.1, handled_read body handle code fits h.1) refl
+reply_read opnum body (reply.State s code) fits h = rw (h.0, state_read body s code h.1) refl
+reply_read opnum body (reply.Made tag handle code) fits h = absurd h
+
+-- ## What is written is read back
+
+numbers_small : (bytes : List ℕ) (place : ℕ) (ns : List ℕ) (after : ℕ) → NumbersStand bytes place ns after → AllByRecursion (λ n. n < 2 ^ 32) ns
+numbers_small bytes place [] after h = tt
+numbers_small bytes place (n ∷ ns) after h = (h.1.is.small, numbers_small bytes h.0 ns after h.2)
+
+numbers_before : (ns : List ℕ) (body : List ℕ) (d : Draft) → AllByRecursion (λ n. n < 2 ^ 32) ns → Holds body (put_numbers ns d) → Holds body d
+numbers_before [] body d small held = held
+numbers_before (n ∷ ns) body d small held = held_before number_at (put_number n) n body d (number_put n small.0) (numbers_before ns body (put_number n d) small.1 held)
+
+numbers_again : (ns : List ℕ) (body : List ℕ) (d : Draft) → AllByRecursion (λ n. n < 2 ^ 32) ns → Holds body (put_numbers ns d) → NumbersStand body (length d.bytes) ns (length (put_numbers ns d).bytes)
+numbers_again [] body d small held = refl
+numbers_again (n ∷ ns) body d small held =
+    let here = numbers_before ns body (put_number n d) small.1 held in
+    let one : Stands IsNumber body (length d.bytes) n (length (put_number n d).bytes) = subst (λ (l : List ℕ). Stands IsNumber l (length d.bytes) n (length (put_number n d).bytes)) (sym here.1) (number_stands n d here.0 small.0) in
+    (length (put_number n d).bytes, one, numbers_again ns body (put_number n d) small.1 held)
+
+code_again : (code : ℕ) → code < 2 ^ 32 → code_at (put_number code blank).bytes ≡ Ok (reply.Code code)
+unfolding code_at
+code_again code lt =
+    let d = put_number code blank in
+    rw (read_there number_at (put_number code) code d.bytes blank (number_put code lt) blank_referent (whole d), ends_there d) refl
+
+handled_again : (handle code : ℕ) → handle < 2 ^ 64 → code < 2 ^ 32 → handled_at (put_number code (put_handle handle blank)).bytes ≡ Ok (reply.Handle handle code)
+unfolding handled_at
+handled_again handle code small lt =
+    let d1 = put_handle handle blank in
+    let d2 = put_number code d1 in
+    let law1 = handle_put handle small in
+    let law2 = number_put code lt in
+    let held1 = held_before number_at (put_number code) code d2.bytes d1 law2 (whole d2) in
+    rw (
+      read_there handle_at (put_handle handle) handle d2.bytes blank law1 blank_referent held1,
+      read_there number_at (put_number code) code d2.bytes d1 law2 (law1.next blank blank_referent) (whole d2),
+      ends_there d2,
+    ) refl
+
+state_again : (s : Status) (code : ℕ) → AllByRecursion (λ n. n < 2 ^ 32) (numbers_of s) → code < 2 ^ 32 → state_at (put_number code (put_numbers (numbers_of s) blank)).bytes ≡ Ok (reply.State s code)
+state_again s code small lt =
+    let d1 = put_numbers (numbers_of s) blank in
+    let d2 = put_number code d1 in
+    let held1 = held_before number_at (put_number code) code d2.bytes d1 (number_put code lt) (whole d2) in
+    let last : Stands IsNumber d2.bytes (length d1.bytes) code (length d2.bytes) = subst (λ (l : List ℕ). Stands IsNumber l (length d1.bytes) code (length d2.bytes)) (sym (whole d2).1) (number_stands code d1 (whole d2).0 lt) in
+    state_read d2.bytes s code (record {
+      behind_status = length d1.bytes;
+      status_stands = numbers_again (numbers_of s) d2.bytes blank small held1;
+      behind_code = length d2.bytes;
+      code_stands = last;
+      ends = inl refl;
+    })
+
+-- a reply that some body tells is read from the form that is written
+pub reply_again : (opnum : ℕ) (bytes : List ℕ) (told : Reply) → IsReply opnum bytes told → reply_at opnum (reply_bytes told) ≡ Ok told
+unfolding reply_at reply_bytes with_reply
+reply_again opnum bytes (reply.Code code) h = rw (h.0, code_again code h.1.code_stands.is.small) refl
+reply_again opnum bytes (reply.Handle handle code) h = let n = not_others opnum h.0 in rw (n.0, n.1, handled_again handle code (handle_small h.1.handle_stands.item handle h.1.handle_stands.is) h.1.code_stands.is.small) refl
+reply_again opnum bytes (reply.State s code) h = rw (h.0, state_again s code (numbers_small bytes 0 (numbers_of s) h.1.behind_status h.1.status_stands) h.1.code_stands.is.small) refl
+reply_again opnum bytes (reply.Made tag handle code) h = absurd h
+
+pub written_again : {E : Type 0} (opnum : ℕ) (bytes : List ℕ) (told : Reply) (front : List ℕ) (written : Result (Roomed ℕ) E) → IsReply opnum bytes told → front ≡ [] → IfOk written (λ b. b.items ≡ front ++ reply_bytes told)
+    → IfOk written (λ b. reply_at opnum b.items ≡ Ok told)
+written_again opnum bytes told front (Ok b) h none form = ap (reply_at opnum) (form ∙ ap (λ (l : List ℕ). l ++ reply_bytes told) none) ∙ reply_again opnum bytes told h
+written_again opnum bytes told front (Err e) h none form = tt

@@ -1,0 +1,27 @@
+use Rattle.std.proofs.Common.{length, ap, arith}
+use Rattle.scm_model.specs.declared.calls.Reply.TheVariants as reply
+use Rattle.ndr_body.specs.Writing.{Draft, put_handle}
+use Rattle.ndr_body.proofs.Lengths.{length_put_handle}
+use Rattle.scm_calls.proofs.Sizes.{length_reply, length_tag, status_fits, made_fits}
+use Rattle.scm_calls.proofs.replies.put_reply.Goals as goal
+
+pub returns-in_err-handle-in-Handle-clause-enough : goal.returns-in_err-handle-in-Handle-clause-enough
+returns-in_err-handle-in-Handle-clause-enough c =
+    λ le. let seen = rw c.in-Handle.is at le in
+    let found = c.in_err-handle-in-Handle.ensures.enough (omega (arith, seen, length_reply (reply.Handle c.in-Handle.handle c.in-Handle.code) c.args.writer.now.draft, length_put_handle c.in-Handle.handle c.args.writer.now.draft)) in absurd cc
+
+pub returns-in_err-put_numbers-in-State-clause-enough : goal.returns-in_err-put_numbers-in-State-clause-enough
+returns-in_err-put_numbers-in-State-clause-enough c =
+    λ le. let seen = rw c.in-State.is at le in
+    let found = c.in_err-put_numbers-in-State.ensures.enough (omega (arith, seen, status_fits c.in-State.status c.in-State.code c.args.writer.now.draft)) in absurd cc
+
+pub returns-in_err-some_number-in-Made-clause-enough : goal.returns-in_err-some_number-in-Made-clause-enough
+returns-in_err-some_number-in-Made-clause-enough c =
+    λ le. let seen = rw c.in-Made.is at le in
+    let found = c.in_err-some_number-in-Made.ensures.enough (omega (arith, seen, length_reply (reply.Made c.in-Made.tag c.in-Made.handle c.in-Made.code) c.args.writer.now.draft, length_tag c.in-Made.tag c.args.writer.now.draft)) in absurd cc
+
+pub returns-in_err-handle-in-Made-clause-enough : goal.returns-in_err-handle-in-Made-clause-enough
+returns-in_err-handle-in-Made-clause-enough c =
+    let same = ap (λ (d : Draft). length (put_handle c.in-Made.handle d).bytes) c.in_ok-some_number-in-Made.ensures.ok in
+    λ le. let seen = rw c.in-Made.is at le in
+    let found = c.in_err-handle-in-Made.ensures.enough (omega (arith, seen, same, c.in_ok-some_number-in-Made.ensures.space, made_fits c.in-Made.tag c.in-Made.handle c.in-Made.code c.args.writer.now.draft)) in absurd cc

@@ -1,0 +1,126 @@
+ghost use Rattle.std.specs.Prelude.{◌≡◌, IsTrue, IfOk, OnOk, Ok, List, ℕ, option_map};
+ghost use Rattle.scm_model.specs.declared.calls.Request.{Request};
+ghost use Rattle.ndr_body.specs.Reading.{Gives};
+ghost use Rattle.scm_calls.specs.Bodies.{IsBody};
+ghost use Rattle.scm_calls.specs.Requests.{is_served, opnum_of, with_request, request_bytes, lone_handle_at, open_manager_at, open_service_at, request_at};
+
+use ndr_body::{BodyFault, NdrReader, NdrWriter};
+use scm_model::Request;
+use scm_text::{Buffer, Items, OutOfMemory};
+use std::alloc::Global;
+
+/// A handle and nothing else.
+#[tactic(auto, unfolding(crate::specs::Requests::lone_handle_at))]
+fn lone_handle(body: &[u8]) -> Result<u64, BodyFault>
+    ensures { Gives (λ handle. handle) result (lone_handle_at body.now) }
+{
+    let mut reader = NdrReader::new(body);
+    let handle = reader.handle()?;
+    reader.finish()?;
+    Ok(handle)
+}
+
+#[tactic(auto, unfolding(crate::specs::Requests::open_manager_at))]
+fn open_manager(alloc: Global, body: &[u8]) -> Result<Request, BodyFault>
+    ensures { Gives (λ r. r) result (open_manager_at body.now) }
+{
+    let mut reader = NdrReader::new(body);
+    let _machine = reader.some_text(alloc)?;
+    let database = reader.some_text(alloc)?;
+    let access = reader.number()?;
+    reader.finish()?;
+    Ok(Request::OpenManager { database, access })
+}
+
+#[tactic(auto, unfolding(crate::specs::Requests::open_service_at))]
+fn open_service(alloc: Global, body: &[u8]) -> Result<Request, BodyFault>
+    ensures { Gives (λ r. r) result (open_service_at body.now) }
+{
+    let mut reader = NdrReader::new(body);
+    let handle = reader.handle()?;
+    let name = reader.text(alloc)?;
+    let access = reader.number()?;
+    reader.finish()?;
+    Ok(Request::OpenService {
+        handle,
+        name,
+        access,
+    })
+}
+
+#[tactic(auto, unfolding(crate::specs::Requests::request_at))]
+fn request_of(alloc: Global, opnum: u16, body: &[u8]) -> Result<Request, BodyFault>
+    ensures { Gives (λ r. r) result (request_at opnum body.now) }
+{
+    match opnum {
+        0 => Ok(Request::Close {
+            handle: lone_handle(body)?,
+        }),
+        2 => Ok(Request::Delete {
+            handle: lone_handle(body)?,
+        }),
+        6 => Ok(Request::QueryStatus {
+            handle: lone_handle(body)?,
+        }),
+        15 => open_manager(alloc, body),
+        _ => open_service(alloc, body),
+    }
+}
+
+/// What the body of a request asks.
+pub fn read_request(alloc: Global, opnum: u16, body: &[u8]) -> Result<Request, BodyFault>
+    requires { IsTrue (is_served opnum) }
+    // What is read is asked by the body, whatever its padding and its referents are.
+    ensures found { IfOk result (λ r. IsBody opnum body.now r) }
+    // What the body asks is read, unless memory runs out.
+    ensures only { (r : Request) → IsBody opnum body.now r → Gives (λ r. r) result (Ok r) }
+    // Which fault it is.
+    ensures exact { Gives (λ r. r) result (request_at opnum body.now) }
+{
+    request_of(alloc, opnum, body)
+}
+
+#[tactic(auto, unfolding(crate::specs::Requests::with_request))]
+fn put_request(writer: &mut NdrWriter, request: &Request) -> Result<(), OutOfMemory>
+    ensures front { writer.new.front ≡ writer.old.front }
+    ensures ok { OnOk result (writer.new.draft ≡ with_request request.now writer.old.draft) }
+{
+    match request {
+        Request::Close { handle } | Request::Delete { handle } | Request::QueryStatus { handle } =>
+            writer.handle(*handle),
+        Request::Create(_) => Ok(()),
+        Request::OpenManager { database, access } => {
+            writer.some_text(None)?;
+            writer.some_text(database.as_ref())?;
+            writer.number(*access)
+        }
+        Request::OpenService {
+            handle,
+            name,
+            access,
+        } => {
+            writer.handle(*handle)?;
+            writer.text(name)?;
+            writer.number(*access)
+        }
+    }
+}
+
+#[tactic(auto, unfolding(crate::specs::Requests::request_bytes))]
+fn bytes_of(alloc: Global, request: &Request) -> Result<Items<u8>, OutOfMemory>
+    ensures { IfOk result (λ bytes. bytes ≡ request_bytes request.now) }
+{
+    let mut writer = NdrWriter::new(Buffer::with_room(alloc, 64)?);
+    put_request(&mut writer, request)?;
+    Ok(Items::from_vec(writer.end().into_vec()))
+}
+
+/// The body of a request, in the one form that is written.
+pub fn write_request(alloc: Global, request: &Request) -> Result<Items<u8>, OutOfMemory>
+    requires { IsTrue (is_served (opnum_of request.now)) }
+    ensures form { IfOk result (λ bytes. bytes ≡ request_bytes request.now) }
+    // What some body asks is read back from the one that is written.
+    ensures back { (bytes : List ℕ) → IsBody (opnum_of request.now) bytes request.now → IfOk result (λ written. request_at (opnum_of request.now) written ≡ Ok request.now) }
+{
+    bytes_of(alloc, request)
+}

@@ -1,0 +1,11 @@
+//! Bodies of calls on configurations, both ways: `RCreateServiceW` of MS-SCMR.
+#![tactic(auto)]
+
+mod replies;
+mod requests;
+
+pub use replies::{read_reply, write_reply};
+pub use requests::{read_request, write_request};
+
+#[cfg(test)]
+mod tests;
