@@ -1,0 +1,15 @@
+//! What the configuration of a service has to be.
+#![tactic(auto)]
+
+mod checking;
+mod lines;
+mod reading;
+mod writing;
+
+pub use checking::{check_change, check_new, is_bad_account, is_bad_name};
+pub use lines::is_bad_line;
+pub use reading::{RecordFault, read_record};
+pub use writing::record_bytes;
+
+#[cfg(test)]
+mod tests;
