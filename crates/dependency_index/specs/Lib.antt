@@ -1,0 +1,5 @@
+pub mod Needs
+pub mod Walks
+pub mod Order
+pub mod Indexed
+pub mod Naming

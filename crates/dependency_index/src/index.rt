@@ -1,0 +1,233 @@
+ghost use Rattle.std.specs.Prelude.{◌≡◌, ◌+◌, ◌≤◌, ◌<◌, ◌==◌, true, false, not, [], eqb, filter, length, slice_get, vec_len, vec_capacity, IfSome, IfOk, OnOk, OnErr, IsTrue, IsFalse, Some, Ok};
+ghost use Rattle.std.specs.List.{IsDistinct};
+ghost use Rattle.dependency_index.specs.Indexed.{Indexed, empty, reserved, row_with, spare_of, with_needs, without_service};
+ghost use Rattle.dependency_index.specs.Naming.{active_in, naming_in, row_of};
+ghost use Rattle.dependency_index.specs.Needs.{has, needs_of, numbers_of, with_row};
+ghost use Rattle.dependency_index.specs.Order.{order_in};
+ghost use Rattle.dependency_index.specs.Walks.{IsAcyclic};
+
+use super::graph::{Graph, NewRow, is_listed};
+use super::naming::{StateLook, active, row_of};
+use super::order;
+use super::rows::NeedRow;
+use super::steps::Steps;
+use super::visit::StateOf;
+use scm_model::Need;
+use scm_text::{Buffer, Items, OutOfMemory, WText};
+use std::alloc::Global;
+use std::marker::Model;
+use std::sync::ledger::Ledger;
+
+/// What is kept for a row that comes.
+#[derive(Drop)]
+pub struct Spare {
+    name: WText,
+    group: WText,
+    needs: Items<Need>,
+}
+
+/// Which service needs which. Contracts see the rows, a service each, and the row that there is room for.
+#[derive(Drop)]
+pub struct DependencyIndex {
+    rows: Vec<NeedRow>,
+    spare: Option<Spare>,
+}
+
+impl Model for DependencyIndex {
+    ghost use Rattle.std.specs.Prelude.{◌<◌, IsSome, eqb, vec_len, vec_capacity};
+    ghost use Rattle.std.specs.List.{IsDistinct};
+    ghost use Rattle.dependency_index.specs.Indexed.{Indexed};
+    ghost use Rattle.dependency_index.specs.Needs.{numbers_of};
+
+    ghost Value = { Indexed };
+
+    ghost view = { λ i. record { rows = i.rows.items; spare = i.spare } };
+
+    ghost invariant = { λ i. record { once : IsDistinct eqb (numbers_of i.rows.items); room : IsSome i.spare → vec_len i.rows < vec_capacity i.rows } };
+}
+
+fn copy_need(need: &Need, alloc: Global) -> Result<Need, OutOfMemory>
+    ensures { IfOk result (λ copy. copy ≡ need.now) }
+{
+    match need {
+        Need::Service(name) => Ok(Need::Service(name.copy(alloc)?)),
+        Need::Group(name) => Ok(Need::Group(name.copy(alloc)?)),
+    }
+}
+
+fn copy_needs(needs: &[Need], alloc: Global) -> Result<Items<Need>, OutOfMemory>
+    ensures { IfOk result (λ copy. copy ≡ needs.now) }
+{
+    let mut copy = Items::new(alloc);
+    for need in needs {
+        let need = copy_need(need, alloc)?;
+        if copy.push(need).is_err() {
+            return Err(OutOfMemory);
+        }
+    }
+    Ok(copy)
+}
+
+/// Where a service's row is, or past the end.
+fn place_of(rows: &[NeedRow], number: u64) -> usize
+    ensures within { result < length rows.now → IfSome (slice_get rows.now result) (λ row. row.number ≡ number) }
+    ensures past { length rows.now ≤ result → has (numbers_of rows.now) number ≡ false }
+{
+    for i in 0..rows.len() {
+        if rows[i].number == number {
+            return i;
+        }
+    }
+    rows.len()
+}
+
+/// Puts a row in place of the same service's, or at the end.
+fn put(rows: &mut Vec<NeedRow>, row: NeedRow)
+    requires once { IsDistinct eqb (numbers_of rows.old.items) }
+    requires room { vec_len rows.old < vec_capacity rows.old }
+    ensures rows { rows.new.items ≡ with_row rows.old.items row }
+    ensures once { IsDistinct eqb (numbers_of rows.new.items) }
+{
+    let place = place_of(rows.as_slice(), row.number);
+    if place < rows.len() {
+        rows[place] = row;
+    } else {
+        rows.push_reserved(row);
+    }
+}
+
+/// Takes a service's row out.
+fn take_out(rows: &mut Vec<NeedRow>, number: u64)
+    requires { IsDistinct eqb (numbers_of rows.old.items) }
+    ensures rows { rows.new.items ≡ filter (λ row. not (row.number == number)) rows.old.items }
+    ensures once { IsDistinct eqb (numbers_of rows.new.items) }
+{
+    rows.retain(|row| !(row.number == number));
+}
+
+impl DependencyIndex {
+    /// An index with no rows, which takes no memory.
+    pub fn new(alloc: Global) -> Result<DependencyIndex, OutOfMemory>
+        ensures { result ≡ Ok empty }
+    {
+        Ok(DependencyIndex {
+            rows: Vec::new(alloc),
+            spare: None,
+        })
+    }
+
+    /// How many services have a row.
+    pub fn len(&self) -> usize
+        ensures { result ≡ length self.now.rows }
+    {
+        self.rows.len()
+    }
+
+    /// Whether a service has a row.
+    pub fn is_listed(&self, service: u64) -> bool
+        ensures { result ≡ has (numbers_of self.now.rows) service }
+    {
+        is_listed(self.rows.as_slice(), service)
+    }
+
+    /// Makes room for a row with this name, group and needs.
+    pub fn reserve(
+        &mut self,
+        alloc: Global,
+        name: &WText,
+        group: &WText,
+        needs: &Items<Need>,
+    ) -> Result<(), OutOfMemory>
+        ensures ok { OnOk result (self.new ≡ reserved self.old name.now group.now needs.now) }
+        ensures err { OnErr result (self.new ≡ self.old) }
+    {
+        let name = name.copy(alloc)?;
+        let group = group.copy(alloc)?;
+        let needs = copy_needs(needs.as_slice(), alloc)?;
+        if self.rows.reserve(1).is_err() {
+            return Err(OutOfMemory);
+        }
+        self.spare = Some(Spare { name, group, needs });
+        Ok(())
+    }
+
+    /// Puts a service's row in, for which room was made, in place of the one that it had or at the end. It takes no memory.
+    pub fn set_needs(&mut self, service: u64, name: &WText, group: &WText, needs: &Items<Need>)
+        requires { self.old.spare ≡ Some (spare_of name.now group.now needs.now) }
+        ensures { self.new ≡ with_needs self.old (row_with service name.now group.now needs.now) }
+    {
+        if let Some(spare) = self.spare.take() {
+            let row = NeedRow {
+                number: service,
+                name: spare.name,
+                group: spare.group,
+                needs: spare.needs,
+            };
+            put(&mut self.rows, row);
+        }
+    }
+
+    /// Takes a service's row out, and takes no memory.
+    pub fn drop_service(&mut self, service: u64)
+        ensures { self.new ≡ without_service self.old service }
+    {
+        self.spare = None;
+        take_out(&mut self.rows, service);
+    }
+
+    /// Whether the need graph with this row put in has a cycle: a service that needs its own group is one. The list is used as
+    /// room. It takes no memory.
+    pub fn would_cycle(
+        &self,
+        service: u64,
+        name: &WText,
+        group: &WText,
+        needs: &Items<Need>,
+        room: &mut Buffer<u64>,
+    ) -> bool
+        requires empty { room.old.items ≡ [] }
+        requires room { length self.now.rows < room.old.room }
+        ensures no { IsFalse result → IsAcyclic (needs_of (with_row self.now.rows (row_with service name.now group.now needs.now))) }
+        ensures yes { IsTrue result → IsAcyclic (needs_of (with_row self.now.rows (row_with service name.now group.now needs.now))) → ⊥ }
+    {
+        let new = NewRow {
+            number: service,
+            name,
+            group,
+            needs: needs.as_slice(),
+        };
+        let graph = Graph {
+            rows: self.rows.as_slice(),
+            new: Some(new),
+        };
+        order::has_cycle(&graph, room)
+    }
+
+    /// Writes the order in which a service and what it needs are started. It takes no memory.
+    pub fn order_of<S: StateOf>(&self, target: u64, states: &S, room: &mut Buffer<u64>)
+        requires listed { has (numbers_of self.now.rows) target ≡ true }
+        requires empty { room.old.items ≡ [] }
+        requires room { length self.now.rows ≤ room.old.room }
+        ensures order { room.new.items ≡ order_in self.now.rows (S.state_of states.now) target }
+        ensures few { length room.new.items ≤ length self.now.rows }
+    {
+        order::order_of(self.rows.as_slice(), target, states, room);
+    }
+
+    /// How many services name this one and aren't stopped. A state is looked at by `state_of` alone, and of those services alone.
+    /// It takes no memory.
+    pub fn active_dependents<S: StateLook, L: Ledger>(
+        &self,
+        service: u64,
+        states: &S,
+        steps: &mut Steps<L>,
+    ) -> u32
+        ensures active { result ≡ active_in self.now.rows (S.state_of states.now) (row_of self.now.rows service) }
+        ensures looks { steps.new ≡ steps.old + naming_in self.now.rows (row_of self.now.rows service) }
+    {
+        match row_of(self.rows.as_slice(), service) {
+            Some(row) => active(self.rows.as_slice(), &row.name, states, steps),
+            None => 0,
+        }
+    }
+}

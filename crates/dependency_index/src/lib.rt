@@ -1,0 +1,20 @@
+//! Needs: which services a service needs, and in which order they are started.
+#![tactic(auto)]
+
+mod graph;
+mod index;
+mod naming;
+mod order;
+mod rows;
+mod steps;
+mod visit;
+
+pub use index::DependencyIndex;
+pub use naming::StateLook;
+pub use order::order_follows_its_rule;
+pub use rows::NeedRow;
+pub use steps::Steps;
+pub use visit::StateOf;
+
+#[cfg(test)]
+mod tests;

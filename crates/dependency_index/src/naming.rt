@@ -1,0 +1,93 @@
+ghost use Rattle.std.specs.Prelude.{ℕ, ◌≡◌, ◌+◌, ◌-◌, ◌^◌, ◌==◌, Bool, true, false, length, min, option_copied, if◌then◌else◌};
+ghost use Rattle.dependency_index.specs.Naming.{active, active_in, is_active, is_named, names, naming, naming_in, row_of};
+
+use super::rows::NeedRow;
+use super::steps::Steps;
+use scm_model::Need;
+use scm_text::{WText, same};
+use std::sync::ledger::Ledger;
+
+/// What tells the states of services, and counts how often it is asked.
+pub trait StateLook {
+    ghost state_of: { Self → ℕ → ℕ };
+
+    fn state_of<L: Ledger>(&self, service: u64, steps: &mut Steps<L>) -> u32
+        ensures state { result ≡ state_of self.now service }
+        ensures steps { steps.new ≡ steps.old + 1 };
+}
+
+const STOPPED: u32 = 1;
+
+fn is_named(name: &WText, need: &Need) -> bool
+    ensures { result ≡ is_named name.now need.now }
+{
+    match need {
+        Need::Service(needed) => same(name, needed),
+        Need::Group(_) => false,
+    }
+}
+
+/// Whether a service names the one of this name.
+pub fn names(name: &WText, row: &NeedRow) -> bool
+    ensures { result ≡ names name.now row.now }
+{
+    for need in row.needs.as_slice() {
+        if is_named(name, need) {
+            return true;
+        }
+    }
+    false
+}
+
+/// Whether a service names the one of this name and isn't stopped. Its state is looked at only where it does.
+fn is_active<S: StateLook, L: Ledger>(
+    name: &WText,
+    row: &NeedRow,
+    states: &S,
+    steps: &mut Steps<L>,
+) -> bool
+    ensures active { result ≡ is_active name.now (S.state_of states.now) row.now }
+    ensures looks { steps.new ≡ steps.old + (if names name.now row.now then 1 else 0) }
+{
+    if names(name, row) {
+        states.state_of(row.number, steps) != STOPPED
+    } else {
+        false
+    }
+}
+
+/// A count with one more or not, in 32 bits.
+fn raised(count: u32, more: bool) -> u32
+    ensures { result ≡ min (count + (if more then 1 else 0)) (2 ^ 32 - 1) }
+{
+    if more { count.saturating_add(1) } else { count }
+}
+
+/// How many services name the one of this name and aren't stopped.
+pub fn active<S: StateLook, L: Ledger>(
+    rows: &[NeedRow],
+    name: &WText,
+    states: &S,
+    steps: &mut Steps<L>,
+) -> u32
+    ensures active { result ≡ active rows.now (S.state_of states.now) name.now }
+    ensures looks { steps.new ≡ steps.old + naming rows.now name.now }
+{
+    let mut count = 0;
+    for row in rows {
+        count = raised(count, is_active(name, row, states, steps));
+    }
+    count
+}
+
+/// The row of a service.
+pub fn row_of(rows: &[NeedRow], number: u64) -> Option<&NeedRow>
+    ensures { option_copied result ≡ row_of rows.now number }
+{
+    for row in rows {
+        if row.number == number {
+            return Some(row);
+        }
+    }
+    None
+}
