@@ -1,0 +1,103 @@
+-- Create: a stopped service, and a handle of it.
+use Rattle.std.specs.Prelude.{ℕ, Bool, false, ◌||◌, ◌&&◌, ◌==◌, ◌+◌, nat_le, length, List, [], ◌∷◌, Option, None, Some, is_none, is_some, unwrap_or, option_map, fold, max, min, if◌then◌else◌}
+use Rattle.scm_model.specs.declared.flat.Flat.{Flat}
+use Rattle.scm_model.specs.declared.flat.Config.{Config}
+use Rattle.scm_model.specs.declared.flat.Service.{Service}
+use Rattle.scm_model.specs.declared.flat.Status.{Status}
+use Rattle.scm_model.specs.declared.flat.Limits.{Limits}
+use Rattle.scm_model.specs.declared.flat.HandleKind.TheVariants as kinds
+use Rattle.scm_model.specs.declared.calls.NewService.{NewService}
+use Rattle.scm_model.specs.declared.calls.Reply.{Reply}
+use Rattle.scm_model.specs.declared.calls.Reply.TheVariants as reply
+use Rattle.scm_model.specs.declared.steps.Change.{Change}
+use Rattle.scm_model.specs.declared.steps.Change.TheVariants.{Created}
+use Rattle.scm_model.specs.declared.steps.Kept.{Kept}
+use Rattle.scm_model.specs.Rows.{manager_mask, members, named, is_shown, held_by}
+use Rattle.scm_model.specs.Changes.{with_service, with_handle}
+use Rattle.scm_model.specs.Refused.{first_refusal}
+use Rattle.service_record.specs.Checks.{check_new}
+use Rattle.scm_rules.specs.Rights.{manager_lacks}
+use Rattle.scm_rules.specs.OpenService.{service_granted}
+use Rattle.scm_rules.specs.Delete.{is_marked, is_failed}
+
+-- the display name of a new service: its name where none is given
+abbrev pub display_of : List ℕ → Option (List ℕ) → List ℕ
+display_of name None = name
+display_of name (Some display) = if length display == 0 then name else display
+
+-- the greatest tag of some services, or 0
+abbrev pub greatest_tag : List Service → ℕ
+greatest_tag rows = fold (λ greatest (row : Service). max greatest row.config.tag) 0 rows
+
+-- a tag is one more than the greatest of the group's members, as far as numbers go
+abbrev pub next_tag : Flat → List ℕ → ℕ
+next_tag f group = min 0xFFFFFFFF (greatest_tag (members f group) + 1)
+
+-- the tag of a new service: 0 where none is asked for, or without a group
+abbrev pub tag_of : Flat → List ℕ → Option ℕ → ℕ
+tag_of f group None = 0
+tag_of f group (Some asked) = if length group == 0 then 0 else next_tag f group
+
+-- the configuration of a new service, apart from its tag
+abbrev pub config_at : ℕ → NewService → Config
+config_at tag new = record {
+  name = new.name;
+  display = display_of new.name new.display;
+  kind = new.kind;
+  start = new.start;
+  error = new.error;
+  path = new.path;
+  group = unwrap_or new.group [];
+  tag = tag;
+  needs = [];
+  description = [];
+  reset = 0;
+  actions = [];
+  command = [];
+  on_exit = false;
+  delayed = false;
+  triggers = [];
+}
+
+abbrev pub config_of : Flat → NewService → Config
+config_of f new = config_at (tag_of f (unwrap_or new.group []) new.tag) new
+
+-- whether a tag is asked for without a group
+abbrev pub tags_nothing : NewService → Bool
+tags_nothing new = is_some new.tag && length (unwrap_or new.group []) == 0
+
+-- never run yet
+abbrev pub new_status : ℕ → Status
+new_status kind = record { kind = kind; state = 1; accepted = 0; win32 = 1077; specific = 0; checkpoint = 0; hint = 0 }
+
+-- needs are not taken yet: where some are given, 87 stands in their place
+abbrev pub create_refusals : Limits → Flat → ℕ → NewService → Kept → List (Bool × ℕ)
+create_refusals l f caller new append =
+    (is_none (manager_mask f caller new.handle), 6)
+    ∷ (manager_lacks (manager_mask f caller new.handle) 2 || is_none (service_granted f caller new.access), 5)
+    ∷ (check_new (config_of f new) new.account == 123, 123)
+    ∷ (check_new (config_of f new) new.account == 87 || tags_nothing new || is_some new.needs, 87)
+    ∷ (check_new (config_of f new) new.account == 1057, 1057)
+    ∷ (is_marked (named f new.name), 1072)
+    ∷ (is_some (named f new.name), 1073)
+    ∷ (is_shown f (config_of f new).display, 1078)
+    ∷ (nat_le l.services (length f.services) || nat_le l.handles (held_by f caller), 1816)
+    ∷ (is_failed append, 1013)
+    ∷ []
+
+abbrev pub create_verdict : Limits → Flat → ℕ → NewService → Kept → ℕ
+create_verdict l f caller new append = first_refusal (create_refusals l f caller new append)
+
+-- the tag is told where one was asked for
+abbrev pub told_tag : ℕ → Option ℕ → Option ℕ
+told_tag tag asked = option_map (λ number. tag) asked
+
+abbrev pub create_done : Flat → ℕ → NewService → Reply × Flat
+create_done f caller new = (
+  reply.Made (told_tag (config_of f new).tag new.tag) f.next.handle 0,
+  with_handle (with_service f (config_of f new) (new_status new.kind)) caller (kinds.Service f.next.service) (unwrap_or (service_granted f caller new.access) 0),
+)
+
+-- the change of a Create that is not refused
+abbrev pub create_change : Flat → NewService → Option Change
+create_change f new = Some (Created (config_of f new))

@@ -1,0 +1,14 @@
+pub mod Rights
+pub mod Names
+pub mod Close
+pub mod OpenManager
+pub mod OpenService
+pub mod Query
+pub mod Delete
+pub mod Create
+pub mod Verdicts
+pub mod Steps
+pub mod Opening
+pub mod Texts
+pub mod Runs
+pub mod Valid

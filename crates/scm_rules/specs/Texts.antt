@@ -1,0 +1,34 @@
+-- How much text a step has: twice the units of its texts, and the length of its lists of bytes.
+use Rattle.std.specs.Prelude.{ℕ, ◌+◌, ◌*◌, List, length, Option, None, Some}
+use Rattle.scm_model.specs.declared.calls.Request.{Request}
+use Rattle.scm_model.specs.declared.calls.Request.TheVariants as request
+use Rattle.scm_model.specs.declared.calls.NewService.{NewService}
+use Rattle.scm_model.specs.declared.steps.Step.{Step}
+use Rattle.scm_model.specs.declared.steps.Step.TheVariants.{Joined, Call, Gone, NoMemory}
+
+abbrev pub some_text : Option (List ℕ) → ℕ
+some_text None = 0
+some_text (Some text) = 2 * length text
+
+abbrev pub some_bytes : Option (List ℕ) → ℕ
+some_bytes None = 0
+some_bytes (Some bytes) = length bytes
+
+abbrev pub text_of_new : NewService → ℕ
+text_of_new new =
+    2 * length new.name + some_text new.display + 2 * length new.path + some_text new.group + some_bytes new.needs
+    + some_text new.account
+
+abbrev pub text_of_call : Request → ℕ
+text_of_call (request.Close handle) = 0
+text_of_call (request.Delete handle) = 0
+text_of_call (request.QueryStatus handle) = 0
+text_of_call (request.Create new) = text_of_new new
+text_of_call (request.OpenManager database access) = some_text database
+text_of_call (request.OpenService handle name access) = 2 * length name
+
+abbrev pub text_of : Step → ℕ
+text_of (Joined principal) = 0
+text_of (Call caller asked append) = text_of_call asked
+text_of (Gone caller) = 0
+text_of (NoMemory caller) = 0

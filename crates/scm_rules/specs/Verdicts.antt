@@ -1,0 +1,67 @@
+-- What each call comes to, and the change of the configurations that it asks to be kept.
+use Rattle.std.specs.Prelude.{ℕ, Bool, not, ◌==◌, Option, None, if◌then◌else◌}
+use Rattle.scm_model.specs.declared.flat.Flat.{Flat}
+use Rattle.scm_model.specs.declared.flat.Limits.{Limits}
+use Rattle.scm_model.specs.declared.calls.Request.{Request}
+use Rattle.scm_model.specs.declared.calls.Request.TheVariants as request
+use Rattle.scm_model.specs.declared.calls.Reply.{Reply}
+use Rattle.scm_model.specs.declared.steps.Change.{Change}
+use Rattle.scm_model.specs.declared.steps.Kept.{Kept}
+use Rattle.scm_model.specs.declared.steps.Kept.TheVariants as appended
+use Rattle.scm_model.specs.declared.steps.Step.{Step}
+use Rattle.scm_model.specs.declared.steps.Step.TheVariants.{Joined, Call, Gone, NoMemory}
+use Rattle.scm_model.specs.Refused.{outcome}
+use Rattle.scm_rules.specs.Create.{create_verdict, create_done, create_change}
+use Rattle.scm_rules.specs.Delete.{delete_verdict, delete_done, delete_change}
+use Rattle.scm_rules.specs.Query.{query_verdict, query_done}
+use Rattle.scm_rules.specs.Close.{close_verdict, close_done}
+use Rattle.scm_rules.specs.OpenManager.{open_manager_verdict, open_manager_done}
+use Rattle.scm_rules.specs.OpenService.{open_service_verdict, open_service_done}
+
+-- the first refusal of a call, or 0
+abbrev pub verdict : Limits → Flat → ℕ → Request → Kept → ℕ
+verdict l f caller (request.Close handle) append = close_verdict f caller handle
+verdict l f caller (request.Delete handle) append = delete_verdict f caller handle append
+verdict l f caller (request.QueryStatus handle) append = query_verdict f caller handle
+verdict l f caller (request.Create new) append = create_verdict l f caller new append
+verdict l f caller (request.OpenManager database access) append = open_manager_verdict l f caller database access
+verdict l f caller (request.OpenService handle name access) append = open_service_verdict l f caller handle name access
+
+-- the reply and the state of a call that is not refused
+abbrev pub done_of : Flat → ℕ → Request → Reply × Flat
+done_of f caller (request.Close handle) = close_done f handle
+done_of f caller (request.Delete handle) = delete_done f caller handle
+done_of f caller (request.QueryStatus handle) = query_done f caller handle
+done_of f caller (request.Create new) = create_done f caller new
+done_of f caller (request.OpenManager database access) = open_manager_done f caller access
+done_of f caller (request.OpenService handle name access) = open_service_done f caller name access
+
+-- the reply and the state of a call
+abbrev pub call_of : Limits → Flat → ℕ → Request → Kept → Reply × Flat
+call_of l f caller asked append = outcome (verdict l f caller asked append) asked f (done_of f caller asked)
+
+-- no change where a call is refused
+abbrev pub unless_refused : ℕ → Option Change → Option Change
+unless_refused code change = if code == 0 then change else None
+
+-- the change that a call would make if it were kept: none where it is refused before
+abbrev pub change_of_call : Limits → Flat → ℕ → Request → Option Change
+change_of_call l f caller (request.Close handle) = None
+change_of_call l f caller (request.Delete handle) = unless_refused (delete_verdict f caller handle appended.Kept) (delete_change f caller handle)
+change_of_call l f caller (request.QueryStatus handle) = None
+change_of_call l f caller (request.Create new) = unless_refused (create_verdict l f caller new appended.Kept) (create_change f new)
+change_of_call l f caller (request.OpenManager database access) = None
+change_of_call l f caller (request.OpenService handle name access) = None
+
+-- the change of the configurations that a step would make if it were kept, or none
+abbrev pub change_of : Limits → Flat → Step → Option Change
+change_of l f (Joined principal) = None
+change_of l f (Call caller asked append) = change_of_call l f caller asked
+change_of l f (Gone caller) = None
+change_of l f (NoMemory caller) = None
+
+-- what became of a change is told exactly where there is one
+abbrev pub tells_right : Bool → Kept → Bool
+tells_right changes appended.NotAsked = not changes
+tells_right changes appended.Kept = changes
+tells_right changes appended.Failed = changes
