@@ -1,0 +1,18 @@
+//! The lists of the service manager: the one set of reads and writes through which its calls reach them.
+#![tactic(auto)]
+
+mod handle_rows;
+mod service_rows;
+mod tables;
+
+ghost use Rattle.std.specs.Prelude.{◌≡◌};
+ghost use Rattle.scm_rules.specs.Rights.{mask_lacks};
+
+pub use tables::Tables;
+
+/// Whether a mask lacks one of the rights.
+pub fn mask_lacks(mask: u32, rights: u32) -> bool
+    ensures { result ≡ mask_lacks mask rights }
+{
+    mask & rights != rights
+}

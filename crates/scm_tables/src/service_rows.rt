@@ -1,0 +1,100 @@
+ghost use Rattle.std.specs.Prelude.{◌≡◌, ◌==◌, ◌||◌, not, find, filter, length, map, option_copied, vec_capacity};
+ghost use Rattle.std.specs.List.{list_any};
+ghost use Rattle.scm_text.specs.Fold.{same_text};
+ghost use Rattle.scm_model.specs.Changes.{leaves, marked_if};
+ghost use Rattle.scm_rules.specs.Create.{greatest_tag};
+ghost use Rattle.scm_tables.specs.Tags.{tag_in};
+
+use super::handle_rows::is_open_in;
+use scm_model::{HandleRow, Service};
+use scm_text::{WText, same};
+
+/// The service with a number.
+pub fn row_with(rows: &[Service], number: u64) -> Option<&Service>
+    ensures { option_copied result ≡ find (λ row. row.number == number) rows.now }
+{
+    for row in rows {
+        if row.number == number {
+            return Some(row);
+        }
+    }
+    None
+}
+
+/// The service with the same name.
+pub fn named_in<'a>(rows: &'a [Service], name: &WText) -> Option<&'a Service>
+    ensures { option_copied result ≡ find (λ row. same_text row.config.name name.now) rows.now }
+{
+    for row in rows {
+        if same(&row.config.name, name) {
+            return Some(row);
+        }
+    }
+    None
+}
+
+/// Whether a text is the same as the name or the display name of a service.
+pub fn is_shown_in(rows: &[Service], text: &WText) -> bool
+    ensures { result ≡ list_any (λ row. same_text row.config.name text.now || same_text row.config.display text.now) rows.now }
+{
+    for row in rows {
+        if same(&row.config.name, text) || same(&row.config.display, text) {
+            return true;
+        }
+    }
+    false
+}
+
+/// The tag of a service in a group, or 0.
+fn tag_in(row: &Service, group: &WText) -> u32
+    ensures { result ≡ tag_in group.now row.now }
+{
+    if same(&row.config.group, group) {
+        row.config.tag
+    } else {
+        0
+    }
+}
+
+/// The greatest tag of the services of a group, or 0.
+pub fn greatest_tag_in(rows: &[Service], group: &WText) -> u32
+    ensures { result ≡ greatest_tag (filter (λ row. same_text row.config.group group.now) rows.now) }
+{
+    let mut greatest = 0;
+    for row in rows {
+        greatest = greatest.max(tag_in(row, group));
+    }
+    greatest
+}
+
+/// How many services are RUNNING.
+pub fn running_in(rows: &[Service]) -> usize
+    ensures { result ≡ length (filter (λ row. row.status.state == 4) rows.now) }
+{
+    rows.iter().filter(|row| row.status.state == 4).count()
+}
+
+/// Marks the services with a number.
+pub fn mark_in(rows: &mut Vec<Service>, number: u64)
+    ensures rows { rows.new.items ≡ map (marked_if number) rows.old.items }
+    ensures capacity { vec_capacity rows.new ≡ vec_capacity rows.old }
+{
+    for row in rows.iter_mut() {
+        row.marked |= row.number == number;
+    }
+}
+
+/// Whether a service is marked, stopped and named by no handle.
+fn leaves(handles: &[HandleRow], row: &Service) -> bool
+    ensures { result ≡ leaves handles.now row.now }
+{
+    row.marked && row.status.state == 1 && !is_open_in(handles, row.number)
+}
+
+/// Keeps the services that stay.
+pub fn purge_in(rows: &mut Vec<Service>, handles: &[HandleRow])
+    ensures rows { rows.new.items ≡ filter (λ row. not (leaves handles.now row)) rows.old.items }
+    ensures capacity { vec_capacity rows.new ≡ vec_capacity rows.old }
+{
+    rows.retain(|row| !leaves(handles, row));
+}
