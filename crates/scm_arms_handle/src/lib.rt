@@ -1,0 +1,13 @@
+//! The service manager's calls on handles, and the coming and going of callers.
+#![tactic(auto)]
+
+mod callers;
+mod closing;
+mod databases;
+mod manager_handles;
+mod service_handles;
+
+pub use callers::{join, leave};
+pub use closing::{close, close_verdict};
+pub use manager_handles::{open_manager, open_manager_verdict};
+pub use service_handles::{open_service, open_service_verdict};

@@ -1,0 +1,82 @@
+ghost use Rattle.std.specs.Prelude.{◌≡◌, ◌≤◌, ◌<◌, ◌^◌, option_copied};
+ghost use Rattle.scm_model.specs.Refused.{outcome};
+ghost use Rattle.scm_model.specs.Rows.{named};
+ghost use Rattle.scm_model.specs.declared.calls.Request.TheVariants as request;
+ghost use Rattle.scm_rules.specs.OpenService.{number_in, open_service_done, open_service_verdict, service_granted};
+
+use access_mask::granted;
+use scm_model::{HandleKind, Limits, Reply};
+use scm_tables::Tables;
+use scm_text::WText;
+use service_record::is_bad_name;
+
+/// The rights that a caller is granted on a service.
+fn service_granted(tables: &Tables, caller: u64, access: u32) -> Option<u32>
+    ensures { result ≡ service_granted tables.now.flat caller access }
+{
+    granted(tables.principal_of(caller), false, access)
+}
+
+/// The number of the service with a name, or 0.
+fn number_of(tables: &Tables, name: &WText) -> u64
+    ensures { result ≡ number_in (named tables.now.flat name.now) }
+{
+    match tables.named(name) {
+        Some(row) => row.number,
+        None => 0,
+    }
+}
+
+/// What `ROpenServiceW` is refused with, or 0: `ERROR_INVALID_HANDLE` (6), `ERROR_INVALID_NAME` (123),
+/// `ERROR_SERVICE_DOES_NOT_EXIST` (1060), `ERROR_ACCESS_DENIED` (5) or `ERROR_NOT_ENOUGH_QUOTA` (1816).
+pub fn open_service_verdict(
+    tables: &Tables,
+    limits: &Limits,
+    caller: u64,
+    handle: u64,
+    name: &WText,
+    access: u32,
+) -> u32
+    ensures { result ≡ open_service_verdict limits.now tables.now.flat caller handle name.now access }
+{
+    if tables.manager_mask(caller, handle).is_none() {
+        return 6;
+    }
+    if is_bad_name(name) {
+        return 123;
+    }
+    if tables.named(name).is_none() {
+        return 1060;
+    }
+    if service_granted(tables, caller, access).is_none() {
+        return 5;
+    }
+    if limits.handles as usize <= tables.handles_of(caller) {
+        return 1816;
+    }
+    0
+}
+
+/// Opens a service for a caller.
+pub fn open_service(
+    tables: &mut Tables,
+    limits: &Limits,
+    caller: u64,
+    handle: u64,
+    name: &WText,
+    access: u32,
+) -> Reply
+    requires room { 1 ≤ tables.old.spare.handles }
+    requires next { tables.old.flat.next.handle < 2 ^ 63 }
+    ensures reply { result ≡ (outcome (open_service_verdict limits.now tables.old.flat caller handle name.now access) (request.OpenService handle name.now access) tables.old.flat (open_service_done tables.old.flat caller name.now access)).0 }
+    ensures flat { tables.new.flat ≡ (outcome (open_service_verdict limits.now tables.old.flat caller handle name.now access) (request.OpenService handle name.now access) tables.old.flat (open_service_done tables.old.flat caller name.now access)).1 }
+{
+    let code = open_service_verdict(tables, limits, caller, handle, name, access);
+    if code != 0 {
+        return Reply::Handle { handle: 0, code };
+    }
+    let rights = service_granted(tables, caller, access).unwrap_or(0);
+    let service = number_of(tables, name);
+    let handle = tables.add_handle(caller, HandleKind::Service(service), rights);
+    Reply::Handle { handle, code: 0 }
+}

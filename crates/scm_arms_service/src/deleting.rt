@@ -1,0 +1,86 @@
+ghost use Rattle.std.specs.Prelude.{◌≡◌, IfOk, is_some, option_copied};
+ghost use Rattle.scm_model.specs.Refused.{outcome};
+ghost use Rattle.scm_model.specs.declared.calls.Request.TheVariants as request;
+ghost use Rattle.scm_rules.specs.Delete.{delete_change, delete_done, delete_verdict, is_failed, is_marked};
+
+use scm_model::{Change, Kept, Reply, Service};
+use scm_tables::{Tables, mask_lacks};
+use scm_text::OutOfMemory;
+use std::alloc::Global;
+
+const DELETE: u32 = 0x1_0000;
+
+/// Whether a service that is there is marked.
+pub fn is_marked(service: Option<&Service>) -> bool
+    ensures { result ≡ is_marked (option_copied service.entry) }
+{
+    match service {
+        Some(row) => row.marked,
+        None => false,
+    }
+}
+
+/// Whether a change could not be kept.
+pub fn is_failed(kept: Kept) -> bool
+    ensures { result ≡ is_failed kept }
+{
+    matches!(kept, Kept::Failed)
+}
+
+/// What `RDeleteService` is refused with, or 0: `ERROR_INVALID_HANDLE` (6), `ERROR_ACCESS_DENIED` (5),
+/// `ERROR_SERVICE_MARKED_FOR_DELETE` (1072) or `ERROR_CANTWRITE` (1013).
+pub fn delete_verdict(tables: &Tables, caller: u64, handle: u64, kept: Kept) -> u32
+    ensures { result ≡ delete_verdict tables.now.flat caller handle kept }
+{
+    let Some(opened) = tables.opened(caller, handle) else {
+        return 6;
+    };
+    if mask_lacks(opened.granted, DELETE) {
+        return 5;
+    }
+    if is_marked(tables.service(opened.service)) {
+        return 1072;
+    }
+    if is_failed(kept) {
+        return 1013;
+    }
+    0
+}
+
+/// Whether a service is there to be removed, where the call isn't refused.
+pub fn removes(tables: &Tables, caller: u64, handle: u64) -> bool
+    ensures { result ≡ is_some (delete_change tables.now.flat caller handle) }
+{
+    tables
+        .service(tables.opened_service(caller, handle))
+        .is_some()
+}
+
+/// The change of the configurations that a call asks for where it isn't refused.
+pub fn removed(
+    tables: &Tables,
+    caller: u64,
+    handle: u64,
+    alloc: Global,
+) -> Result<Option<Change>, OutOfMemory>
+    ensures { IfOk result (λ change. change ≡ delete_change tables.now.flat caller handle) }
+{
+    match tables.service(tables.opened_service(caller, handle)) {
+        Some(row) => Ok(Some(Change::Removed(row.config.name.copy(alloc)?))),
+        None => Ok(None),
+    }
+}
+
+/// Marks a service. It leaves once it is STOPPED and no handle names it.
+pub fn delete(tables: &mut Tables, caller: u64, handle: u64, kept: Kept) -> Reply
+    ensures reply { result ≡ (outcome (delete_verdict tables.old.flat caller handle kept) (request.Delete handle) tables.old.flat (delete_done tables.old.flat caller handle)).0 }
+    ensures flat { tables.new.flat ≡ (outcome (delete_verdict tables.old.flat caller handle kept) (request.Delete handle) tables.old.flat (delete_done tables.old.flat caller handle)).1 }
+{
+    let code = delete_verdict(tables, caller, handle, kept);
+    if code != 0 {
+        return Reply::Code(code);
+    }
+    let service = tables.opened_service(caller, handle);
+    tables.mark(service);
+    Reply::Code(0)
+}

@@ -1,0 +1,70 @@
+ghost use Rattle.std.specs.Prelude.{◌≡◌};
+ghost use Rattle.scm_model.specs.Refused.{outcome, zero_status};
+ghost use Rattle.scm_model.specs.Rows.{service_of};
+ghost use Rattle.scm_model.specs.declared.calls.Request.TheVariants as request;
+ghost use Rattle.scm_rules.specs.Query.{query_done, query_verdict, status_in};
+
+use scm_model::{Reply, Status};
+use scm_tables::{Tables, mask_lacks};
+
+const SERVICE_QUERY_STATUS: u32 = 4;
+
+/// What `RQueryServiceStatus` is refused with, or 0: `ERROR_INVALID_HANDLE` (6) or `ERROR_ACCESS_DENIED` (5).
+pub fn query_verdict(tables: &Tables, caller: u64, handle: u64) -> u32
+    ensures { result ≡ query_verdict tables.now.flat caller handle }
+{
+    match tables.opened(caller, handle) {
+        None => 6,
+        Some(opened) => {
+            if mask_lacks(opened.granted, SERVICE_QUERY_STATUS) {
+                5
+            } else {
+                0
+            }
+        }
+    }
+}
+
+/// A status of zeros.
+fn zero_status() -> Status
+    ensures { result ≡ zero_status }
+{
+    Status {
+        kind: 0,
+        state: 0,
+        accepted: 0,
+        win32: 0,
+        specific: 0,
+        checkpoint: 0,
+        hint: 0,
+    }
+}
+
+/// The status of a service, or zeros.
+fn status_of(tables: &Tables, service: u64) -> Status
+    ensures { result ≡ status_in (service_of tables.now.flat service) }
+{
+    match tables.service(service) {
+        Some(row) => row.status,
+        None => zero_status(),
+    }
+}
+
+/// Answers the status of a service.
+pub fn query(tables: &Tables, caller: u64, handle: u64) -> Reply
+    ensures reply { result ≡ (outcome (query_verdict tables.now.flat caller handle) (request.QueryStatus handle) tables.now.flat (query_done tables.now.flat caller handle)).0 }
+    ensures flat { tables.now.flat ≡ (outcome (query_verdict tables.now.flat caller handle) (request.QueryStatus handle) tables.now.flat (query_done tables.now.flat caller handle)).1 }
+{
+    let code = query_verdict(tables, caller, handle);
+    if code != 0 {
+        return Reply::State {
+            status: zero_status(),
+            code,
+        };
+    }
+    let service = tables.opened_service(caller, handle);
+    Reply::State {
+        status: status_of(tables, service),
+        code: 0,
+    }
+}
