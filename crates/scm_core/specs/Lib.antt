@@ -1,0 +1,3 @@
+pub mod Managed
+pub mod Room
+pub mod Inside

@@ -1,0 +1,178 @@
+ghost use Rattle.std.specs.Prelude.{◌≡◌, ◌+◌, ◌<◌, ◌==◌, ◌^◌, IsTrue, OnOk, OnErr, IfOk, None, Some, length, filter, is_some, []};
+ghost use Rattle.scm_rules.specs.Opening.{opening};
+ghost use Rattle.scm_rules.specs.Steps.{keeps_right, may, may_come, step_of};
+ghost use Rattle.scm_rules.specs.Texts.{text_of};
+ghost use Rattle.scm_rules.specs.Verdicts.{change_of};
+ghost use Rattle.scm_model.specs.Unkept.{unkept};
+ghost use Rattle.scm_core.specs.Managed.{AreSmall, WasMadeFor};
+
+use super::effect::{act, name_in};
+use super::judging::{change_of, is_told, makes_change, may_come};
+use super::room::reserve;
+use super::texts::text_of;
+use scm_model::{Answer, Change, Config, Limits, Step};
+use scm_tables::Tables;
+use scm_text::{Items, OutOfMemory, WText};
+use std::alloc::Global;
+use std::marker::Model;
+
+/// The service manager. Contracts see its flat state, its limits, how many steps were made and
+/// their text, and the step that room was made for.
+#[derive(Drop)]
+pub struct Manager {
+    tables: Tables,
+    limits: Limits,
+    steps: u64,
+    text: u64,
+    room: Option<Step>,
+    alloc: Global,
+}
+
+impl Model for Manager {
+    ghost use Rattle.scm_core.specs.Managed.{Managed};
+
+    ghost Value = { Managed };
+
+    ghost use Rattle.scm_core.specs.Inside.{managed, IsSound};
+
+    ghost view = { managed };
+
+    ghost invariant = { IsSound };
+}
+
+/// Lets the room of a step go.
+fn forget(room: &mut Option<Step>)
+    ensures { room.new ≡ None }
+{
+    *room = None;
+}
+
+/// Takes the room of a step.
+fn taken(room: &mut Option<Step>) -> Option<Step>
+    ensures room { result ≡ room.old }
+    ensures none { room.new ≡ None }
+{
+    room.take()
+}
+
+impl Manager {
+    /// A manager with no services and no callers. It takes no groups and no configurations yet.
+    pub fn new(
+        alloc: Global,
+        limits: Limits,
+        groups: Items<WText>,
+        configs: Items<Config>,
+        moment: u64,
+    ) -> Result<Manager, OutOfMemory>
+        requires groups { groups ≡ [] }
+        requires configs { configs ≡ [] }
+        requires limits { AreSmall limits }
+        ensures flat { IfOk result (λ manager. manager.flat ≡ opening limits groups configs moment) }
+        ensures limits { IfOk result (λ manager. manager.limits ≡ limits) }
+        ensures fresh { IfOk result (λ manager. (manager.steps ≡ 0) × (manager.text ≡ 0) × (manager.room ≡ None)) }
+    {
+        Ok(Manager {
+            tables: Tables::new(alloc, moment),
+            limits,
+            steps: 0,
+            text: 0,
+            room: None,
+            alloc,
+        })
+    }
+
+    /// How many services there are.
+    pub fn services(&self) -> u64
+        ensures { result ≡ length self.now.flat.services }
+    {
+        self.tables.services() as u64
+    }
+
+    /// How many services are RUNNING.
+    pub fn running(&self) -> u64
+        ensures { result ≡ length (filter (λ row. row.status.state == 4) self.now.flat.services) }
+    {
+        self.tables.running() as u64
+    }
+
+    /// Whether few enough steps were made, and their text and the step's are small enough.
+    pub fn fits(&self, step: &Step) -> bool
+        ensures steps { IsTrue result → self.now.steps < 2 ^ 50 }
+        ensures text { IsTrue result → self.now.text + text_of step.now < 2 ^ 63 }
+        ensures fits { self.now.steps < 2 ^ 50 → self.now.text + text_of step.now < 2 ^ 63 → IsTrue result }
+    {
+        self.steps < (1 << 50) && self.text as u128 + text_of(step) < (1 << 63)
+    }
+
+    /// Whether a step may be done at a moment, whatever it tells of what was kept. It takes no memory.
+    pub fn may(&self, moment: u64, step: &Step) -> bool
+        ensures { result ≡ may_come self.now.limits self.now.flat moment step.now }
+    {
+        may_come(&self.tables, &self.limits, moment, step)
+    }
+
+    /// Whether a step makes a change of the configurations, if it is kept. It takes no memory.
+    pub fn makes_change(&self, _moment: u64, step: &Step) -> bool
+        ensures { result ≡ is_some (change_of self.now.limits self.now.flat step.now) }
+    {
+        makes_change(&self.tables, &self.limits, step)
+    }
+
+    /// Whether a step tells that a change was kept or not exactly where it makes one. It takes no memory.
+    pub fn is_told(&self, step: &Step) -> bool
+        ensures { result ≡ keeps_right self.now.limits self.now.flat step.now }
+    {
+        is_told(&self.tables, &self.limits, step)
+    }
+
+    /// Whether a step may be done at a moment, apart from its room and from the number and text of the steps. It takes no memory.
+    pub fn admits(&self, moment: u64, step: &Step) -> bool
+        ensures { result ≡ may self.now.limits self.now.flat moment step.now }
+    {
+        self.may(moment, step) && self.is_told(step)
+    }
+
+    /// The change of the configurations that a step makes if it is kept.
+    pub fn change_of(&self, step: &Step) -> Result<Option<Change>, OutOfMemory>
+        ensures { IfOk result (λ change. change ≡ change_of self.now.limits self.now.flat step.now) }
+    {
+        change_of(&self.tables, &self.limits, step, self.alloc)
+    }
+
+    /// Makes the room that a step uses. Where there is no memory, all but the room stays as it was.
+    pub fn reserve_for(&mut self, step: &Step) -> Result<(), OutOfMemory>
+        ensures ok { OnOk result (self.new ≡ record self.old { room = Some (unkept step.now) }) }
+        ensures err { OnErr result (self.new ≡ record self.old { room = None }) }
+    {
+        forget(&mut self.room);
+        reserve(&mut self.tables, step)?;
+        self.room = Some(step.copy_unkept(self.alloc)?);
+        Ok(())
+    }
+
+    /// Does a step, with the room that was made for it where it needs some. It takes no memory.
+    pub fn step(&mut self, moment: u64, step: Step) -> Answer
+        requires may { IsTrue (may self.old.limits self.old.flat moment step) }
+        requires room { WasMadeFor self.old.room step }
+        requires steps { self.old.steps < 2 ^ 50 }
+        requires text { self.old.text + text_of step < 2 ^ 63 }
+        ensures answer { result ≡ (step_of self.old.limits self.old.flat moment step).0 }
+        ensures flat { self.new.flat ≡ (step_of self.old.limits self.old.flat moment step).1 }
+        ensures limits { self.new.limits ≡ self.old.limits }
+        ensures steps { self.new.steps ≡ self.old.steps + 1 }
+        ensures text { self.new.text ≡ self.old.text + text_of step }
+        ensures room { self.new.room ≡ None }
+    {
+        self.steps += 1;
+        self.text += text_of(&step) as u64;
+        let copy = name_in(taken(&mut self.room));
+        act(
+            &mut self.tables,
+            &self.limits,
+            self.alloc,
+            moment,
+            step,
+            copy,
+        )
+    }
+}

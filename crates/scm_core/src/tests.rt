@@ -1,0 +1,183 @@
+use crate::Manager;
+use scm_model::{Answer, Change, Kept, Limits, NewService, Principal, Reply, Request, Step};
+use scm_text::{Items, WText, same_units};
+use std::alloc::Global;
+use std::test::Fail;
+
+const LIMITS: Limits = Limits {
+    services: 4,
+    handles: 8,
+    registrations: 4,
+    callers: 2,
+    processes: 4,
+    controls: 4,
+    steps: 100,
+    text: 10000,
+};
+
+fn begun(alloc: Global) -> Result<Manager, Fail> {
+    match Manager::new(alloc, LIMITS, Items::new(alloc), Items::new(alloc), 0) {
+        Ok(manager) => Ok(manager),
+        Err(_) => Err("no memory".into()),
+    }
+}
+
+/// Does a step that may be done.
+fn done(manager: &mut Manager, step: Step) -> Result<Answer, Fail> {
+    if !manager.admits(7, &step) || !manager.fits(&step) {
+        return Err("the step may not be done".into());
+    }
+    match manager.reserve_for(&step) {
+        Ok(()) => Ok(manager.step(7, step)),
+        Err(_) => Err("no memory".into()),
+    }
+}
+
+fn kept_of(manager: &Manager, step: &Step) -> Kept {
+    if manager.makes_change(7, step) {
+        Kept::Kept
+    } else {
+        Kept::NotAsked
+    }
+}
+
+fn with_kept(step: Step, kept: Kept) -> Step {
+    match step {
+        Step::Call {
+            caller,
+            request,
+            kept: _,
+        } => Step::Call {
+            caller,
+            request,
+            kept,
+        },
+        Step::Joined { .. } | Step::Gone { .. } | Step::NoMemory { .. } => step,
+    }
+}
+
+/// A call whose change, where it makes one, is kept.
+fn asking(manager: &Manager, caller: u64, request: Request) -> Step {
+    let step = Step::Call {
+        caller,
+        request,
+        kept: Kept::NotAsked,
+    };
+    let kept = kept_of(manager, &step);
+    with_kept(step, kept)
+}
+
+fn code_of(answer: Answer) -> u32 {
+    match answer {
+        Answer::Reply(Reply::Code(code)) => code,
+        Answer::Reply(Reply::Handle { handle: _, code }) => code,
+        Answer::Reply(Reply::State { status: _, code }) => code,
+        Answer::Reply(
+            Reply::Made {
+                tag: _,
+                handle: _,
+                code,
+            },
+        ) => code,
+        Answer::Caller(_) | Answer::Done => 0,
+    }
+}
+
+/// Whether a call is answered with this code.
+fn wants(manager: &mut Manager, caller: u64, request: Request, code: u32) -> Result<(), Fail> {
+    let step = asking(manager, caller, request);
+    if code_of(done(manager, step)?) == code {
+        Ok(())
+    } else {
+        Err("another code".into())
+    }
+}
+
+/// An administrator joins, and opens the manager.
+fn join(manager: &mut Manager, caller: u64) -> Result<(), Fail> {
+    let step = Step::Joined {
+        principal: Principal::Admin,
+    };
+    let _joined = done(manager, step)?;
+    let open = Request::OpenManager {
+        database: None,
+        access: 0xF003F,
+    };
+    wants(manager, caller, open, 0)
+}
+
+fn text(alloc: Global, units: &[u16]) -> Result<WText, Fail> {
+    match WText::from_units(alloc, units) {
+        Ok(text) => Ok(text),
+        Err(_) => Err("no text".into()),
+    }
+}
+
+/// What caller 1 asks of a new service, by its first handle.
+fn service(name: WText, path: WText) -> Request {
+    Request::Create(NewService {
+        handle: 1,
+        name,
+        display: None,
+        access: 0x10000,
+        kind: 0x10,
+        start: 3,
+        error: 1,
+        path,
+        group: None,
+        tag: None,
+        needs: None,
+        account: None,
+    })
+}
+
+fn create(alloc: Global, manager: &mut Manager, name: &[u16], code: u32) -> Result<(), Fail> {
+    let name = text(alloc, name)?;
+    let path = text(alloc, &[97])?;
+    wants(manager, 1, service(name, path), code)
+}
+
+/// A manager with a caller that has opened it.
+fn opened(alloc: Global) -> Result<Manager, Fail> {
+    let mut manager = begun(alloc)?;
+    join(&mut manager, 1)?;
+    Ok(manager)
+}
+
+/// Caller 2 joins, and opens the service `a` by its first handle.
+fn open_as_another(alloc: Global, manager: &mut Manager) -> Result<(), Fail> {
+    join(manager, 2)?;
+    let name = text(alloc, &[97])?;
+    let open = Request::OpenService {
+        handle: 3,
+        name,
+        access: 0,
+    };
+    wants(manager, 2, open, 0)
+}
+
+/// Whether a step changes the configuration of this name.
+fn changes(manager: &Manager, step: &Step, name: &[u16]) -> Result<bool, Fail> {
+    match manager.change_of(step) {
+        Ok(Some(Change::Created(config))) => Ok(same_units(config.name.units(), name)),
+        Ok(Some(Change::Removed(removed))) => Ok(same_units(removed.units(), name)),
+        Ok(_) => Ok(false),
+        Err(_) => Err("no memory".into()),
+    }
+}
+
+#[test]
+fn a_deleted_service_stays_while_another_caller_has_a_handle(rt: HostRuntime) -> Result<(), Fail> {
+    let mut manager = opened(rt.alloc())?;
+    create(rt.alloc(), &mut manager, &[65], 0)?;
+    open_as_another(rt.alloc(), &mut manager)?;
+    let step = asking(&manager, 1, Request::Delete { handle: 2 });
+    assert!(rt; changes(&manager, &step, &[65])?);
+    let _deleted = done(&mut manager, step)?;
+    wants(&mut manager, 1, Request::Close { handle: 2 }, 0)?;
+    assert_eq!(rt; manager.services(), 1);
+    assert_eq!(rt; manager.running(), 0);
+    let _gone = done(&mut manager, Step::Gone { caller: 2 })?;
+    assert_eq!(rt; manager.services(), 0);
+    Ok(())
+}
