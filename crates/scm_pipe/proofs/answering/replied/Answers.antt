@@ -1,0 +1,22 @@
+use Rattle.std.proofs.Common.{ap, ◌∙◌, ◌++◌, arith}
+use Rattle.scm_calls.specs.Replies.{reply_bytes as body_of}
+use Rattle.scm_pipe.proofs.Calls.{answers_called}
+use Rattle.scm_pipe.proofs.answering.replied.Goals as goal
+
+pub written-requires : goal.written-requires
+written-requires g c =
+    let m = c.args.manager.now in
+    let short = c.reply_bound-bound.ensures.bound c.call-reply.result (answers_called (g.C.Clock.tells c.args.clock.now) m.limits m.flat c.call-reply.new.manager.flat c.args.request c.call-reply.result c.call-reply.ensures.called) in
+    omega (arith, short, c.in_ok-out.ensures.1)
+
+pub returns-clause-ok : goal.returns-clause-ok
+returns-clause-ok g c =
+    let m = c.args.manager.now in
+    let short = c.reply_bound-bound.ensures.bound c.call-reply.result (answers_called (g.C.Clock.tells c.args.clock.now) m.limits m.flat c.call-reply.new.manager.flat c.args.request c.call-reply.result c.call-reply.ensures.called) in
+    let is = c.written.ensures ∙ ap (λ front. front ++ body_of c.call-reply.result) c.in_ok-out.ensures.0 in
+    record {
+      reply = c.call-reply.result;
+      called = c.call-reply.ensures.called;
+      written = is;
+      small = rw is (omega (arith, short, c.reply_bound-bound.type_inv));
+    }

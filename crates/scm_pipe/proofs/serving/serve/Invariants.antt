@@ -1,0 +1,23 @@
+use Rattle.std.proofs.Common.{ℕ, ◌≡◌, ◌+◌, ◌-◌, ◌≤◌, ◌^◌, List, length}
+use Rattle.std.specs.Io.KnownBytes.{Consumes}
+use Rattle.scm_pipe.specs.Along.{Keeps}
+use Rattle.scm_pipe.proofs.Ends.{SoFar}
+use Rattle.scm_pipe.proofs.serving.serve.Given as goal
+
+-- all items of what was read so far are answered
+abbrev pub invariant-loop-read : goal.invariant-loop-read
+invariant-loop-read g l = record {
+  bytes : List ℕ;
+  consumed : Consumes (g.I.Source.left l.fn.input) (g.I.Source.left l.input) bytes;
+  count : length bytes ≡ l.read;
+  most : l.read ≤ 2 ^ 40;
+  on : SoFar (g.C.Clock.tells l.clock) l.fn.manager.limits 1 l.fn.manager.flat (g.O.Sink.held l.fn.output)
+      (record { session = l.session; flat = l.manager.flat; held = g.O.Sink.held l.output }) bytes;
+  keeps : Keeps l.fn.manager l.manager 1 l.read;
+  room : l.manager.steps + length l.session.held.rest ≤ l.fn.manager.steps + l.read;
+  input : g.I.Source.faults l.fn.input ≤ g.I.Source.faults l.input;
+  output : g.O.Sink.faults l.fn.output ≤ g.O.Sink.faults l.output;
+}
+
+abbrev pub decreases-loop-read : goal.decreases-loop-read
+decreases-loop-read g l = 2 ^ 40 - l.read

@@ -1,0 +1,87 @@
+-- What the items of a connection ask, and what they are answered.
+use Rattle.std.specs.Prelude.{ℕ, Bool, ◌==◌, ◌||◌, ◌++◌, List, [], ◌∷◌, drop, Option, None, Some, Result, Ok, Err, if◌then◌else◌}
+use Rattle.std.specs.List.{filter_map}
+use Rattle.scm_model.specs.declared.calls.Request.{Request as Call}
+use Rattle.scm_model.specs.declared.calls.Reply.{Reply}
+use Rattle.scm_model.specs.Refused.{refused}
+use Rattle.ndr_body.specs.declared.fault.BodyFault.{BodyFault}
+use Rattle.scm_calls.specs.Requests.{request_at}
+use Rattle.scm_calls.specs.Replies.{reply_bytes as body_of}
+use Rattle.scm_calls_cfg.specs.Requests.{request_at as config_request_at}
+use Rattle.rpc_pdu.specs.Written.{fault_bytes}
+use Rattle.rpc_session.specs.Replies.{reply_bytes as fragments_of}
+use Rattle.rpc_session.specs.declared.contexts.Interface.{Interface}
+use Rattle.rpc_session.specs.declared.contexts.Interface.TheVariants.{Svcctl, Trigger}
+use Rattle.rpc_session.specs.declared.state.Incoming.{Incoming}
+use Rattle.rpc_session.specs.declared.state.Incoming.TheVariants.{Local, Request}
+use Rattle.rpc_session.specs.declared.state.RequestItem.{RequestItem}
+
+-- ## Requests
+
+-- the calls that are served so far, but for RCreateServiceW
+abbrev pub is_plain : ℕ → Bool
+is_plain opnum = opnum == 0 || opnum == 2 || opnum == 6 || opnum == 15 || opnum == 16
+
+-- a body that can't be read is nca_s_fault_ndr
+abbrev pub or_fault : Result Call BodyFault → Result Call ℕ
+or_fault (Ok request) = Ok request
+or_fault (Err fault) = Err 0x6F7
+
+-- what is asked, or the status of the fault that is answered; a call that isn't served is nca_op_rng_error
+unfoldable pub asked_in : Interface → ℕ → List ℕ → Result Call ℕ
+asked_in Trigger opnum body = Err 0x1C010002
+asked_in Svcctl opnum body =
+    if is_plain opnum then or_fault (request_at opnum body) else
+    if opnum == 12 then or_fault (config_request_at opnum body) else Err 0x1C010002
+
+abbrev pub asked_of : RequestItem → Result Call ℕ
+asked_of r = asked_in r.interface r.opnum r.body
+
+abbrev pub call_in : Result Call ℕ → Option Call
+call_in (Ok request) = Some request
+call_in (Err status) = None
+
+-- what an item asks of the manager, if it does
+abbrev pub asked_by : Incoming → Option Call
+asked_by (Local bytes) = None
+asked_by (Request r) = call_in (asked_of r)
+
+-- what the items ask, in order
+abbrev pub asked : List Incoming → List Call
+asked items = filter_map asked_by items
+
+-- ## Replies
+
+-- what a request was told: a reply, or that there was no memory for it
+abbrev pub reply_to : Call → Option Reply → Reply
+reply_to request (Some told) = told
+reply_to request None = refused request 8
+
+-- the response to a request
+abbrev pub response : RequestItem → Reply → List ℕ
+response r reply = fragments_of r.transmit r.call r.context (body_of reply)
+
+-- the fault that a request is answered
+abbrev pub fault : RequestItem → ℕ → List ℕ
+fault r status = fault_bytes (record { call = r.call; hint = 0; context = r.context; status = status })
+
+-- the bytes that answer a request, where these replies come next
+abbrev pub answer_to : RequestItem → Result Call ℕ → List (Option Reply) → List ℕ
+answer_to r (Err status) replies = fault r status
+answer_to r (Ok request) [] = []
+answer_to r (Ok request) (told ∷ replies) = response r (reply_to request told)
+
+-- the bytes that answer an item, where these replies come next
+abbrev pub answer_of : Incoming → List (Option Reply) → List ℕ
+answer_of (Local bytes) replies = bytes
+answer_of (Request r) replies = answer_to r (asked_of r) replies
+
+-- the replies that are left behind a request
+abbrev pub behind : Option Call → List (Option Reply) → List (Option Reply)
+behind None replies = replies
+behind (Some request) replies = drop 1 replies
+
+-- what a connection is answered: each item its own bytes, or those of the next reply
+abbrev pub spoken : List Incoming → List (Option Reply) → List ℕ
+spoken [] replies = []
+spoken (item ∷ items) replies = answer_of item replies ++ spoken items (behind (asked_by item) replies)

@@ -1,0 +1,71 @@
+ghost use Rattle.std.specs.Prelude.{◌≡◌, IfOk, Result};
+ghost use Rattle.scm_model.specs.declared.calls.Request.{Request};
+ghost use Rattle.ndr_body.specs.declared.fault.BodyFault.{BodyFault};
+ghost use Rattle.ndr_body.specs.Reading.{Gives};
+ghost use Rattle.scm_pipe.specs.Bodies.{asked_in, asked_of, is_plain, or_fault};
+
+use ndr_body::BodyFault;
+use rpc_session::{Interface, RequestItem};
+use scm_model::Request;
+use scm_text::OutOfMemory;
+use std::alloc::Global;
+
+/// nca_op_rng_error of C706: the call isn't served.
+const OP_RANGE: u32 = 0x1C01_0002;
+
+/// nca_s_fault_ndr of MS-RPCE: the body can't be read.
+const BAD_BODY: u32 = 0x6F7;
+
+/// Whether a call is one that is served, other than RCreateServiceW.
+fn is_plain(opnum: u16) -> bool
+    ensures { result ≡ is_plain opnum }
+{
+    opnum == 0 || opnum == 2 || opnum == 6 || opnum == 15 || opnum == 16
+}
+
+/// What a body that was read asks, or the fault of one that can't be.
+fn or_fault(read: Result<Request, BodyFault>) -> Result<Result<Request, u32>, OutOfMemory>
+    ensures { (at : Result Request BodyFault) → Gives (λ r. r) read at → IfOk result (λ told. told ≡ or_fault at) }
+{
+    match read {
+        Ok(request) => Ok(Ok(request)),
+        Err(BodyFault::OutOfMemory) => Err(OutOfMemory),
+        Err(
+            BodyFault::Short(_)
+            | BodyFault::BadString(_)
+            | BodyFault::BadCount(_)
+            | BodyFault::Trailing(_),
+        ) => Ok(Err(BAD_BODY)),
+    }
+}
+
+/// What a body asks of svcctl, or the status of the fault that is answered.
+#[tactic(auto, unfolding(crate::specs::Bodies::asked_in))]
+fn asked_in(
+    alloc: Global,
+    interface: Interface,
+    opnum: u16,
+    body: &[u8],
+) -> Result<Result<Request, u32>, OutOfMemory>
+    ensures { IfOk result (λ read. read ≡ asked_in interface opnum body.now) }
+{
+    match interface {
+        Interface::Trigger => Ok(Err(OP_RANGE)),
+        Interface::Svcctl => {
+            if is_plain(opnum) {
+                or_fault(scm_calls::read_request(alloc, opnum, body))
+            } else if opnum == 12 {
+                or_fault(scm_calls_cfg::read_request(alloc, opnum, body))
+            } else {
+                Ok(Err(OP_RANGE))
+            }
+        }
+    }
+}
+
+/// What a request asks, or the status of the fault that is answered.
+pub fn asked(alloc: Global, item: &RequestItem) -> Result<Result<Request, u32>, OutOfMemory>
+    ensures { IfOk result (λ read. read ≡ asked_of item.now) }
+{
+    asked_in(alloc, item.interface, item.opnum, item.body.as_slice())
+}

@@ -1,0 +1,17 @@
+//! One connection, served from a source to a sink over a manager that only it calls.
+#![tactic(auto)]
+
+mod answering;
+mod asking;
+mod calling;
+mod clock;
+mod feeding;
+mod served;
+mod serving;
+mod stop;
+
+pub use answering::CALLER;
+pub use clock::{Clock, FixedClock};
+pub use served::Served;
+pub use serving::serve;
+pub use stop::Stop;
