@@ -1,0 +1,105 @@
+-- A whole run of one caller alone.
+use Rattle.std.proofs.Common.{arith, ℕ, ◌≡◌, Bool, true, false, All, IsTrue, List, [], ◌∷◌, ◌++◌, Option, refl, sym, ap, ◌∙◌, subst, append-nil, rules}
+use Rattle.std.specs.Prelude.{◌&&◌}
+use Rattle.std.proofs.lemmas.List.Elements.{All-nil, All-cons, All-append}
+use Rattle.std.proofs.KnownBytes.{Consumes-nil, Appends-nil}
+use Rattle.scm_model.specs.declared.flat.Flat.{Flat}
+use Rattle.scm_model.specs.declared.flat.Principal.{Principal}
+use Rattle.scm_model.specs.declared.steps.Step.TheVariants.{Joined, Gone}
+use Rattle.scm_model.specs.Rows.{is_caller}
+use Rattle.scm_core.specs.Managed.{Managed}
+use Rattle.scm_rules.specs.Opening.{opening}
+use Rattle.scm_rules.specs.Steps.{step_of}
+use Rattle.scm_rules.specs.Runs.{Entry, state_of}
+use Rattle.rpc_session.specs.Items.{items}
+use Rattle.scm_pipe.specs.Bodies.{asked}
+use Rattle.scm_pipe.specs.declared.served.Served.{Served}
+use Rattle.scm_pipe.specs.declared.served.Served.TheVariants as served
+use Rattle.scm_pipe.specs.Histories.{AreRequests, AsMany, replies, requests_of}
+use Rattle.scmd.specs.Joining.{HasJoined}
+use Rattle.scm_pipe.specs.Serves.{Serves}
+use Rattle.scm_pipe.specs.Connection.{Reached}
+use Rattle.scmd.specs.Pipe.{IsPiped, program_limits}
+use Rattle.scm_pipe.proofs.Talking.{legal_append, only_requests, replies_append, replies_as_many}
+
+both : (b : Bool) → IsTrue b → IsTrue (b && true)
+both true h = refl
+both false h = absurd cc
+
+abbrev whole : Principal → ℕ → List Entry → ℕ → List Entry
+whole principal joined calls gone = (joined, Joined principal) ∷ calls ++ (gone, Gone 1) ∷ []
+
+abbrev joined_state : Principal → ℕ → ℕ → Flat
+joined_state principal opened moment = (step_of program_limits (opening program_limits [] [] opened) moment (Joined principal)).1
+
+-- what a run tells its caller is what its calls tell it
+told_calls : (principal : Principal) (opened joined gone : ℕ) (calls : List Entry)
+    → replies program_limits (opening program_limits [] [] opened) 1 (whole principal joined calls gone) ≡ replies program_limits (joined_state principal opened joined) 1 calls
+told_calls principal opened joined gone calls =
+    replies_append program_limits (joined_state principal opened joined) 1 calls ((gone, Gone 1) ∷ [])
+    ∙ append-nil (replies program_limits (joined_state principal opened joined) 1 calls)
+
+piped : (tells : ℕ → Type 0) (principal : Principal) (opened joined gone : ℕ) (g : Flat) (left left_now held held_now : Option (List ℕ)) (how : Served)
+    → tells opened → tells joined → tells gone
+    → Serves tells program_limits 1 (joined_state principal opened joined) g left left_now held held_now how
+    → is_caller g 1 ≡ is_caller (joined_state principal opened joined) 1
+    → IsPiped tells principal how left left_now held held_now
+piped tells principal opened joined gone g left left_now held held_now how o j k s same =
+    let f = joined_state principal opened joined in
+    let calls = s.talks.calls in
+    let here : IsTrue (is_caller f 1) = search rules in
+    let own : requests_of 1 (whole principal joined calls gone) ≡ calls = only_requests 1 (asked s.done) calls ((gone, Gone 1) ∷ []) s.talks.asked refl in
+    let told = sym (told_calls principal opened joined gone calls) in
+    record {
+      opened = opened;
+      talk = record { history = whole principal joined calls gone; read = s.read; done = s.done; written = s.written };
+      seen = record { read = s.consumed; most = s.most; written = s.appended };
+      connection = record {
+        legal = (
+          search rules,
+          legal_append program_limits f calls ((gone, Gone 1) ∷ []) s.talks.legal
+              (both (is_caller (state_of program_limits f calls) 1) (subst (λ b. IsTrue b) (sym (ap (λ x. is_caller x 1) s.talks.state ∙ same)) here), tt),
+        );
+        requests = subst (λ es. AreRequests 1 (asked s.done) es) (sym own) s.talks.asked;
+        moments = subst (λ es. All (λ (e : Entry). tells e.0) es) (sym own) s.talks.moments;
+        replied = subst (λ t. AsMany (asked s.done) t) told (replies_as_many program_limits f 1 (asked s.done) calls s.talks.asked);
+        reached = subst (λ t. Reached how s.read left_now s.done t s.written) told s.reached;
+      };
+      alone = record { joined = joined; calls = calls; gone = gone; order = refl; asked = s.talks.asked };
+      opened_at = o;
+      moments = All-cons (λ (e : Entry). tells e.0) (joined, Joined principal) _ j
+          (All-append (λ (e : Entry). tells e.0) calls _ s.talks.moments
+          (All-cons (λ (e : Entry). tells e.0) (gone, Gone 1) [] k (All-nil (λ (e : Entry). tells e.0))));
+    }
+
+pub piped_after : (tells : ℕ → Type 0) (principal : Principal) (opened gone : ℕ) (m : Managed) (g : Flat) (left left_now held held_now : Option (List ℕ)) (how : Served)
+    → tells opened → tells gone → HasJoined tells principal opened m
+    → Serves tells m.limits 1 m.flat g left left_now held held_now how
+    → is_caller g 1 ≡ is_caller m.flat 1
+    → IsPiped tells principal how left left_now held held_now
+piped_after tells principal opened gone m g left left_now held held_now how o k j s same =
+    piped tells principal opened j.moment gone g left left_now held held_now how o j.told k
+    (subst (λ f. Serves tells program_limits 1 f g left left_now held held_now how) j.flat
+    (subst (λ l. Serves tells l 1 m.flat g left left_now held held_now how) j.limits s))
+    (same ∙ ap (λ x. is_caller x 1) j.flat)
+
+-- nothing was read, since there was no memory to begin
+pub piped_none : (tells : ℕ → Type 0) (principal : Principal) (opened : ℕ) (left held : Option (List ℕ))
+    → tells opened → IsPiped tells principal served.OutOfMemory left left held held
+piped_none tells principal opened left held o =
+    record {
+      opened = opened;
+      talk = record { history = whole principal opened [] opened; read = []; done = []; written = [] };
+      seen = record { read = Consumes-nil left; most = omega arith; written = Appends-nil held };
+      connection = record {
+        legal = (search rules, (search rules, tt));
+        requests = tt;
+        moments = All-nil (λ (e : Entry). tells e.0);
+        replied = tt;
+        reached = record { first = ((items []).items, refl); text = refl };
+      };
+      alone = record { joined = opened; calls = []; gone = opened; order = refl; asked = tt };
+      opened_at = o;
+      moments = All-cons (λ (e : Entry). tells e.0) (opened, Joined principal) ((opened, Gone 1) ∷ []) o
+          (All-cons (λ (e : Entry). tells e.0) (opened, Gone 1) [] o (All-nil (λ (e : Entry). tells e.0)));
+    }

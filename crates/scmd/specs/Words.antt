@@ -1,0 +1,33 @@
+-- What the words ask for.
+use Rattle.std.specs.Prelude.{ℕ, Bool, nat_eq, codes, List, [], ◌∷◌, Option, None, Some, option_map, if◌then◌else◌}
+use Rattle.std.specs.Cmp.Lexicographic.{pointwise}
+use Rattle.scm_model.specs.declared.flat.Principal.{Principal}
+use Rattle.scm_model.specs.declared.flat.Principal.TheVariants.{Admin, User}
+use Rattle.scmd.specs.declared.words.Job.{Job}
+use Rattle.scmd.specs.declared.words.Job.TheVariants.{Pipe}
+
+abbrev pub is_word : List ℕ → List ℕ → Bool
+is_word = pointwise nat_eq
+
+abbrev pub principal_named : List ℕ → Option Principal
+principal_named value =
+    if is_word value (codes "admin") then Some Admin else
+    if is_word value (codes "user") then Some User else None
+
+-- an option and its value in one word
+abbrev pub principal_in : List ℕ → Option Principal
+principal_in word =
+    if is_word word (codes "--as=admin") then Some Admin else
+    if is_word word (codes "--as=user") then Some User else None
+
+-- whose connection a pipe serves: an administrator's, unless it is said
+abbrev pub principal_of_pipe : List (List ℕ) → Option Principal
+principal_of_pipe [] = Some Admin
+principal_of_pipe (word ∷ []) = principal_in word
+principal_of_pipe (word ∷ value ∷ []) = if is_word word (codes "--as") then principal_named value else None
+principal_of_pipe (word ∷ value ∷ other ∷ words) = None
+
+-- the job, or none where the words aren't in the set
+abbrev pub job_of : List (List ℕ) → Option Job
+job_of [] = None
+job_of (word ∷ words) = if is_word word (codes "pipe") then option_map Pipe (principal_of_pipe words) else None

@@ -1,0 +1,142 @@
+ghost use Rattle.std.specs.Prelude.{◌≡◌, ◌≤◌, ◌<◌, ◌^◌, ◌↔◌, IfOk, IfSome, IsNone, IsTrue};
+ghost use Rattle.scm_model.specs.Rows.{is_caller};
+ghost use Rattle.scm_pipe.specs.declared.served.Served.{Served};
+ghost use Rattle.scm_pipe.specs.Connection.{IsCaused};
+ghost use Rattle.scmd.specs.Joining.{HasJoined};
+ghost use Rattle.scmd.specs.Pipe.{IsComplete, IsPiped, principal_of, status_of};
+ghost use Rattle.scmd.specs.Words.{job_of};
+
+use super::words::{Job, job_of};
+use rpc_session::{Sink, Source};
+use scm_core::Manager;
+use scm_model::{Limits, Principal, Step};
+use scm_pipe::{CALLER, Clock, Served, serve};
+use scm_text::{Items, OutOfMemory, Text};
+use std::alloc::Global;
+
+/// What a run of the program meets outside.
+#[derive(Drop)]
+pub struct World<I: Source, O: Sink, C: Clock> {
+    pub input: I,
+    pub output: O,
+    pub clock: C,
+}
+
+const LIMITS: Limits = Limits {
+    services: 512,
+    handles: 1024,
+    registrations: 64,
+    callers: 64,
+    processes: 32,
+    controls: 16,
+    steps: 4_194_304,
+    text: 268_435_456,
+};
+
+/// The status of a program that served one connection.
+fn status_of(how: Served) -> u8
+    ensures { result ≡ status_of how }
+{
+    match how {
+        Served::Ended => 0,
+        Served::ReadFault => 1,
+        Served::WriteFault => 2,
+        Served::Truncated => 6,
+        Served::BadPdu(_, _) | Served::TooLong(_) => 7,
+        Served::OutOfMemory => 8,
+        Served::Worn => 12,
+    }
+}
+
+/// A manager with one caller.
+fn joined<C: Clock>(
+    alloc: Global,
+    principal: Principal,
+    opened: u64,
+    clock: &C,
+) -> Result<Manager, OutOfMemory>
+    ensures { IfOk result (λ manager. HasJoined (C.tells clock.now) principal opened manager) }
+{
+    let mut manager = Manager::new(alloc, LIMITS, Items::new(alloc), Items::new(alloc), opened)?;
+    let step = Step::Joined { principal };
+    manager.reserve_for(&step)?;
+    let moment = clock.now();
+    let _caller = manager.step(moment, step);
+    Ok(manager)
+}
+
+/// Lets the one caller go.
+fn leave(manager: &mut Manager, moment: u64)
+    requires joined { IsTrue (is_caller manager.old.flat 1) }
+    requires steps { manager.old.steps < 2 ^ 50 }
+    requires text { manager.old.text < 2 ^ 63 }
+{
+    let _done = manager.step(moment, Step::Gone { caller: CALLER });
+}
+
+/// Serves one connection over a manager that only it calls.
+fn pipe<I: Source, O: Sink, C: Clock>(
+    alloc: Global,
+    principal: Principal,
+    input: &mut I,
+    output: &mut O,
+    clock: &C,
+) -> Served
+    ensures piped { IsPiped (C.tells clock.now) principal result
+        (I.left input.old) (I.left input.new) (O.held output.old) (O.held output.new) }
+    ensures input { I.faults input.old ≤ I.faults input.new }
+    ensures output { O.faults output.old ≤ O.faults output.new }
+    ensures cause { IsCaused result (I.faults input.old) (I.faults input.new) (O.faults output.old) (O.faults output.new) }
+{
+    let opened = clock.now();
+    let Ok(mut manager) = joined(alloc, principal, opened, clock) else {
+        return Served::OutOfMemory;
+    };
+    let how = serve(alloc, &mut manager, input, output, clock);
+    leave(&mut manager, clock.now());
+    how
+}
+
+/// Does what the words ask for, and answers the status of the program: 0 done, 1 the input failed, 2 the output failed, 5 words
+/// that are no job, 6 an input that ends within a PDU or a request, 7 a bad PDU or a request that is too long, 8 want of memory,
+/// 12 more input than a connection may have.
+pub fn scmd_main<R, I: Source, O: Sink, C: Clock>(
+    _rt: &R,
+    alloc: Global,
+    words: &Items<Text>,
+    world: World<I, O, C>,
+) -> (u8, World<I, O, C>)
+    // 5 exactly where the words aren't in the set; then nothing is read or written.
+    ensures words { result.0 ≡ 5 ↔ IsNone (job_of words.now) }
+    ensures unread { result.0 ≡ 5 → result.1 ≡ world }
+    ensures clock { result.1.clock ≡ world.clock }
+    // Counts of faults never fall.
+    ensures input { I.faults world.input ≤ I.faults result.1.input }
+    ensures output { O.faults world.output ≤ O.faults result.1.output }
+    // What was read, answered and written, and why the run ended.
+    ensures run { IfSome (job_of words.now) (λ job. (how : Served)
+        × (result.0 ≡ status_of how)
+        × IsPiped (C.tells world.clock) (principal_of job) how
+        (I.left world.input) (I.left result.1.input) (O.held world.output) (O.held result.1.output)
+        × IsCaused how (I.faults world.input) (I.faults result.1.input) (O.faults world.output) (O.faults result.1.output)) }
+    // Nothing else ends a run over whole input.
+    ensures complete { IfSome (job_of words.now) (λ job.
+        IsComplete (I.left world.input) (I.faults world.input) (I.faults result.1.input)
+        (O.faults world.output) (O.faults result.1.output) result.0) }
+{
+    let Some(Job::Pipe { principal }) = job_of(words) else {
+        return (5, world);
+    };
+    let World {
+        mut input,
+        mut output,
+        clock,
+    } = world;
+    let how = pipe(alloc, principal, &mut input, &mut output, &clock);
+    let world = World {
+        input,
+        output,
+        clock,
+    };
+    (status_of(how), world)
+}
