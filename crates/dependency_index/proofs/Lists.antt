@@ -75,13 +75,6 @@ has_met rows (need ∷ needs) y h =
 pub needed_listed : (rows : List NeedRow) (x y : ℕ) → Needs (needs_of rows) x y → has (numbers_of rows) y ≡ true
 needed_listed rows x y h = has_met rows _ y h
 
--- the next row
-pub row_next : (go : List ℕ → ℕ → Option (List ℕ)) (d : List ℕ) (rows : List NeedRow) (i : ℕ) (row : NeedRow) → i < length rows → row ≡ get_or rows i row
-    → try_all go d (numbers_of (drop i rows)) ≡ option_and_then (λ more. try_all go more (numbers_of (drop (i + 1) rows))) (go d row.number)
-row_next go d rows i row lt is =
-    let cons : drop i rows ≡ row ∷ drop (i + 1) rows = rw add-one (drop-cons rows i row lt ∙ ap (λ x. x ∷ drop (suc i) rows) (sym is)) in
-    rw cons refl
-
 dropped_all : {A : Type 0} (xs : List A) (i : ℕ) → length xs ≤ i → drop i xs ≡ []
 dropped_all [] zero le = refl
 dropped_all [] (suc i) le = refl
@@ -127,9 +120,6 @@ met_next go d need rows i number lt is =
           rw (drop_at rows i row found.2, met) (met_step go d need row (drop (i + 1) rows))
       | inr past ↦ absurd (omega (arith, lt, past.0))
     ]
-
-pub met_end : (go : List ℕ → ℕ → Option (List ℕ)) (d : List ℕ) (need : Need) (rows : List NeedRow) (i : ℕ) → length rows ≤ i → try_all go d (numbers_of (filter (is_met need) (drop i rows))) ≡ Some d
-met_end go d need rows i le = rw (dropped_all rows i le) refl
 
 -- its number is listed
 has_place : (rows : List NeedRow) (i : ℕ) (row : NeedRow) → slice_get rows i ≡ Some row → has (numbers_of rows) row.number ≡ true
