@@ -1,8 +1,8 @@
 -- What was written on the way.
-use Rattle.std.proofs.Common.{◌≡◌, ℕ, ◌<◌, ◌≤◌, ◌+◌, List, [], ◌∷◌, ◌++◌, length, take, drop, Option, Some, None, refl, sym, ap, ◌∙◌, arith, append_assoc, append-nil, Result, Ok, Err, subst}
+use Rattle.std.proofs.Common.{◌≡◌, ℕ, ◌<◌, ◌≤◌, ◌+◌, List, [], ◌∷◌, ◌++◌, length, take, drop, Option, Some, None, refl, sym, ap, ◌∙◌, arith, append_assoc, append-nil, subst}
 use Rattle.std.proofs.lemmas.List.{take-append-drop}
-use Rattle.std.specs.Io.KnownBytes.{Appends, Keeps, WriteAppends}
-use Rattle.std.proofs.Common.{suc, zero, ◌-◌, Bool, true, false, cond, eqb}
+use Rattle.std.specs.Io.KnownBytes.{Appends, Keeps}
+use Rattle.std.proofs.Common.{suc, zero, ◌-◌, Bool, false}
 use Rattle.rpc_session.specs.Replies.{fragment, fragments, room_of}
 use Rattle.rpc_session.specs.Sinks.{Sent}
 use Rattle.outside.specs.Written.{AppendsFront}

@@ -1,5 +1,5 @@
 -- One step of the recursions over contexts and syntaxes, at a difference.
-use Rattle.std.proofs.Common.{◌≡◌, ℕ, suc, ◌-◌, ◌+◌, ◌<◌, ◌≤◌, Bool, true, false, List, [], ◌∷◌, ◌++◌, take, drop, Option, Some, None, refl, sym, ap, ◌∙◌, arith, append_assoc, rules, length, length-append, ◌*◌, set, get_or, replicate, cond, eqb, eqb-true, subst, inl, inr, All, zero, ◌≢◌}
+use Rattle.std.proofs.Common.{◌≡◌, ℕ, suc, ◌-◌, ◌+◌, ◌<◌, ◌≤◌, Bool, true, false, List, [], ◌∷◌, ◌++◌, take, drop, Option, Some, None, refl, sym, ap, ◌∙◌, arith, append_assoc, rules, length, length-append, ◌*◌, set, get_or, replicate, cond, subst, inl, inr, zero, ◌≢◌}
 use Rattle.std.specs.FinMap as map
 use Rattle.std.specs.Ordering.{nat_cmp, eq_by_cmp, is_eq}
 use Rattle.std.specs.Cmp.{nat_cmp_is}

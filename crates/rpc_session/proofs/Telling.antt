@@ -1,5 +1,5 @@
 -- What a session will tell, a PDU at a time.
-use Rattle.std.proofs.Common.{◌≡◌, ℕ, zero, suc, ◌-◌, ◌+◌, ◌<◌, ◌≤◌, List, [], ◌∷◌, ◌++◌, length, take, drop, refl, sym, ap, ◌∙◌, arith, ◌⊎◌, inl, inr, append_assoc, append-nil, subst, length-append, Bool, true, false, cond, Option, Some, None, Result, Ok, Err}
+use Rattle.std.proofs.Common.{◌≡◌, ℕ, zero, suc, ◌-◌, ◌+◌, ◌≤◌, List, [], ◌∷◌, ◌++◌, length, drop, refl, sym, ap, ◌∙◌, arith, append_assoc, append-nil, subst, length-append, Bool, true, false, cond, Option, Some, None, Result, Ok, Err}
 use Rattle.std.specs.Prelude.{is_some, IfSome, not, ◌&&◌, ◌==◌}
 use Rattle.std.proofs.lemmas.List.{drop-append-le}
 use Rattle.rpc_pdu.specs.declared.pdu.End.{End}
@@ -18,8 +18,8 @@ use Rattle.rpc_session.specs.declared.session.SessionFault.TheVariants as faults
 use Rattle.rpc_pdu.specs.declared.pdu.PduKind.TheVariants.{Order}
 use Rattle.rpc_pdu.proofs.Settled.{settled}
 use Rattle.rpc_session.specs.Moves.{Move, Gives, Joins, OutOfOrder, Passes, move_of, Moved, HasPlace}
-use Rattle.rpc_session.specs.Pdus.{Cut, CutEnd, Nothing, Part, BadAt, no_more, onto, by_read, pdus_behind, pdus_from}
-use Rattle.rpc_session.specs.Items.{Told, StreamEnd, AtRest, Unfinished, BadPdu, TooLong, ends, before, after, end_of, told_by, told_of, Seen, to_come, IsOpen, Ends, StepComes, fault_by, TellSame, Comes, Gave, Says, given_by, items, unbound, open_end, front_fault, fault_of_read, fault_of_move, IsStuck, TellsAgain}
+use Rattle.rpc_session.specs.Pdus.{Part, BadAt, no_more, onto, by_read, pdus_behind, pdus_from}
+use Rattle.rpc_session.specs.Items.{Told, StreamEnd, AtRest, Unfinished, BadPdu, TooLong, ends, before, after, told_by, told_of, Seen, to_come, IsOpen, Ends, StepComes, fault_by, TellSame, Comes, Gave, Says, given_by, items, unbound, open_end, front_fault, fault_of_read, fault_of_move, IsStuck, TellsAgain}
 use Rattle.rpc_session.specs.Held.{with_more}
 
 -- the bytes of a PDU are passed

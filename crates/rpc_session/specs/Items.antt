@@ -14,8 +14,8 @@ use Rattle.rpc_session.specs.declared.state.Refusal.{Refusal}
 use Rattle.rpc_session.specs.declared.state.Refusal.TheVariants as refusals
 use Rattle.rpc_session.specs.declared.session.SessionFault.{SessionFault}
 use Rattle.rpc_session.specs.declared.session.SessionFault.TheVariants as faults
-use Rattle.rpc_session.specs.Held.{Held}
-use Rattle.rpc_session.specs.Moves.{Move, Gives, Joins, OutOfOrder, Passes, move_of}
+use Rattle.rpc_session.specs.Held.{Held, further}
+use Rattle.rpc_session.specs.Moves.{Move, Gives, Joins, OutOfOrder, Passes, move_of, HasJoined}
 use Rattle.rpc_session.specs.Pdus.{Cut, CutEnd, Nothing, Part, BadAt, pdus, pdus_from}
 
 pub data StreamEnd : Type 0 where
@@ -151,3 +151,22 @@ IsStuck s faults.OutOfMemory = Unit {0}
 -- a fault that stands first is told again, and changes nothing
 abbrev pub TellsAgain : {A : Type 0} → Seen → Seen → Result A SessionFault → Type 0
 TellsAgain old new result = IfSome (front_fault old) (λ fault. (result ≡ Err fault) × (new ≡ old))
+
+-- ---- want of memory
+
+-- what holds where there was no memory
+abbrev pub OnWant : {A : Type 0} → Result A SessionFault → Type 0 → Type 0
+OnWant (Ok _) p = Unit {0}
+OnWant (Err (faults.BadPdu _ _)) p = Unit {0}
+OnWant (Err (faults.TooLong _)) p = Unit {0}
+OnWant (Err faults.OutOfMemory) p = p
+
+-- a session that has looked at some of the bytes that are held
+abbrev pub ahead_by : State → Held → ℕ → Seen
+ahead_by s held n = record { state = s; held = further held n }
+
+-- one PDU at most joined a fragment, where it gave no item and had no fault
+abbrev pub StepJoins : State → State → Result (Option (Option Incoming)) SessionFault → Type 0
+StepJoins old new (Ok (Some None)) = HasJoined old new
+StepJoins old new (Err faults.OutOfMemory) = HasJoined old new
+StepJoins old new _ = Unit {0}

@@ -1,5 +1,5 @@
 -- What one PDU does to a session.
-use Rattle.std.specs.Prelude.{ℕ, ◌≡◌, ◌≤◌, ◌<◌, ◌+◌, min, max, Bool, true, false, not, ◌&&◌, ◌||◌, ◌==◌, nat_lt, nat_le, List, [], ◌∷◌, ◌++◌, length, find, Option, Some, None, is_some, IsSome, IfSome, Result, Ok, Err, if◌then◌else◌}
+use Rattle.std.specs.Prelude.{ℕ, ◌≡◌, ◌≤◌, ◌<◌, min, max, Bool, true, false, not, ◌&&◌, ◌||◌, ◌==◌, nat_lt, nat_le, List, [], ◌∷◌, ◌++◌, length, take, Option, Some, None, is_some, IsSome, IfSome, Result, Ok, Err, if◌then◌else◌}
 use Rattle.std.specs.FinMap as map
 use Rattle.rpc_pdu.specs.declared.pdu.RequestPdu.{RequestPdu}
 use Rattle.rpc_pdu.specs.declared.pdu.Bind.{Bind}
@@ -170,3 +170,26 @@ Grown old new (Ok x) grown = (new ≡ grown) × (length grown.body ≤ limit)
 Grown old new (Err refusals.Order) grown = ⊥
 Grown old new (Err (refusals.TooLong n)) grown = (new ≡ old) × (n ≡ length grown.body) × (limit < n)
 Grown old new (Err refusals.OutOfMemory) grown = (new ≡ old) × (length grown.body ≤ limit)
+
+-- ---- fragments that are given back
+
+abbrev pub body_length : Option Unfinished → Option ℕ
+body_length None = None
+body_length (Some u) = Some (length u.body)
+
+-- a request with so much of its body, and none where there was none
+abbrev pub cut_to : Option ℕ → Option Unfinished → Option Unfinished
+cut_to None u = None
+cut_to (Some n) None = None
+cut_to (Some n) (Some u) = Some (with_body u (take n u.body))
+
+-- a request that was unfinished is so still, with more behind its body
+abbrev pub HasGrown : Option Unfinished → Option Unfinished → Type 0
+HasGrown None now = Unit {0}
+HasGrown (Some u) now = (more : List ℕ) × (now ≡ Some (with_body u (u.body ++ more)))
+
+-- what came of a state by joining fragments alone
+pub record HasJoined (old new : State) : Type 0 where
+  pub terms : new.terms ≡ old.terms
+  pub known : new.known ≡ old.known
+  pub unfinished : HasGrown old.unfinished new.unfinished

@@ -3,11 +3,11 @@ ghost use Rattle.rpc_session.specs.declared.state.Incoming.{Incoming};
 ghost use Rattle.rpc_session.specs.declared.session.SessionFault.{SessionFault};
 ghost use Rattle.rpc_pdu.specs.Written.{fault_bytes};
 ghost use Rattle.rpc_session.specs.Replies.{HasRoom, reply_bytes};
-ghost use Rattle.rpc_session.specs.Moves.{IsFor};
+ghost use Rattle.rpc_session.specs.Moves.{IsFor, HasJoined};
 ghost use Rattle.outside.specs.Causes.{HasCause};
 ghost use Rattle.outside.specs.Written.{Writes};
 ghost use Rattle.rpc_session.specs.Held.{with_more};
-ghost use Rattle.rpc_session.specs.Items.{Seen, unbound, Comes, Gave, Says, given_by, StepComes, fault_by, is_at_rest, IsStuck, TellsAgain};
+ghost use Rattle.rpc_session.specs.Items.{Seen, unbound, OnWant, ahead_by, StepJoins, Comes, Gave, Says, given_by, StepComes, fault_by, is_at_rest, IsStuck, TellsAgain};
 
 use crate::known::Known;
 use crate::replies::{write_fault, write_reply};
@@ -44,36 +44,68 @@ fn fault_of(place: u64, refusal: Refusal) -> SessionFault
     }
 }
 
-/// Takes one PDU: `None` where none is whole, and else the item that it gives, if it gives one.
+/// Takes the PDU that stands some bytes ahead: `None` where none is whole, and else the item that it gives, if it gives one.
 fn take_pdu(
     alloc: Global,
     state: &mut State,
-    stream: &mut Stream,
+    stream: &Stream,
+    ahead: &mut usize,
 ) -> Result<Option<Option<Incoming>>, SessionFault>
-    ensures comes { StepComes (record { state = state.old; held = stream.old }) (record { state = state.new; held = stream.new }) result }
+    requires { ahead.old ≤ length stream.now.rest }
+    ensures within { ahead.new ≤ length stream.now.rest }
+    ensures comes { StepComes (ahead_by state.old stream.now ahead.old) (ahead_by state.new stream.now ahead.new) result }
     ensures room { HasRoom state.old.terms → HasRoom state.new.terms }
     ensures transmit { IfOk result (λ taken. IfSome taken (IsFor state.new.terms)) }
     ensures kept { IfSome state.old.terms (λ terms. state.new.terms ≡ Some terms) }
-    ensures shorter { IfOk result (λ taken. IfSome taken (λ _. length stream.new.rest < length stream.old.rest)) }
-    ensures no_longer { length stream.new.rest ≤ length stream.old.rest }
-    ensures stuck { IfErr result (IsStuck (record { state = state.new; held = stream.new })) }
-    ensures again { TellsAgain (record { state = state.old; held = stream.old }) (record { state = state.new; held = stream.new }) result }
+    ensures further { IfOk result (λ taken. IfSome taken (λ _. ahead.old < ahead.new)) }
+    ensures no_less { ahead.old ≤ ahead.new }
+    ensures stuck { IfErr result (IsStuck (ahead_by state.new stream.now ahead.new)) }
+    ensures again { TellsAgain (ahead_by state.old stream.now ahead.old) (ahead_by state.new stream.now ahead.new) result }
+    ensures joins { StepJoins state.old state.new result }
 {
-    let (pdu, used) = match read_pdu(stream.rest()) {
+    let (pdu, used) = match read_pdu(stream.ahead(*ahead)) {
         PduRead::Whole(pdu, used) => (pdu, used),
         PduRead::Short(_) => return Ok(None),
-        PduRead::Bad(kind) => return Err(SessionFault::BadPdu(stream.place(), kind)),
+        PduRead::Bad(kind) => return Err(SessionFault::BadPdu(stream.place(*ahead), kind)),
     };
     match state.take(alloc, &pdu) {
         Ok(item) => {
-            stream.pass(used);
+            *ahead += used;
             Ok(Some(item))
         }
-        Err(refusal) => Err(fault_of(stream.place(), refusal)),
+        Err(refusal) => Err(fault_of(stream.place(*ahead), refusal)),
     }
 }
 
-/// Takes PDUs up to the next item.
+/// Takes PDUs that stand ahead, up to the next item.
+fn find_item(
+    alloc: Global,
+    state: &mut State,
+    stream: &Stream,
+    ahead: &mut usize,
+) -> Result<Option<Incoming>, SessionFault>
+    requires { ahead.old ≤ length stream.now.rest }
+    ensures within { ahead.new ≤ length stream.now.rest }
+    ensures comes { Comes (ahead_by state.old stream.now ahead.old) (ahead_by state.new stream.now ahead.new) result }
+    ensures room { HasRoom state.old.terms → HasRoom state.new.terms }
+    ensures transmit { IfOk result (IsFor state.new.terms) }
+    ensures kept { IfSome state.old.terms (λ terms. state.new.terms ≡ Some terms) }
+    ensures further { IfOk result (λ item. IfSome item (λ _. ahead.old < ahead.new)) }
+    ensures stuck { IfErr result (IsStuck (ahead_by state.new stream.now ahead.new)) }
+    ensures again { TellsAgain (ahead_by state.old stream.now ahead.old) (ahead_by state.new stream.now ahead.new) result }
+    ensures joined { OnWant result (HasJoined state.old state.new) }
+{
+    loop {
+        match take_pdu(alloc, state, stream, ahead) {
+            Ok(None) => return Ok(None),
+            Ok(Some(Some(item))) => return Ok(Some(item)),
+            Ok(Some(None)) => {}
+            Err(fault) => return Err(fault),
+        }
+    }
+}
+
+/// Takes PDUs up to the next item. Where there is no memory for one of them, those before it are given back.
 fn next_item(
     alloc: Global,
     state: &mut State,
@@ -87,13 +119,27 @@ fn next_item(
     ensures no_longer { length stream.new.rest ≤ length stream.old.rest }
     ensures stuck { IfErr result (IsStuck (record { state = state.new; held = stream.new })) }
     ensures again { TellsAgain (record { state = state.old; held = stream.old }) (record { state = state.new; held = stream.new }) result }
+    ensures state { OnWant result (state.new ≡ state.old) }
+    ensures stream { OnWant result (stream.new ≡ stream.old) }
 {
-    loop {
-        match take_pdu(alloc, state, stream) {
-            Ok(None) => return Ok(None),
-            Ok(Some(Some(item))) => return Ok(Some(item)),
-            Ok(Some(None)) => {}
-            Err(fault) => return Err(fault),
+    let joined = state.joined();
+    let mut ahead = 0;
+    match find_item(alloc, state, stream, &mut ahead) {
+        Ok(item) => {
+            stream.pass(ahead);
+            Ok(item)
+        }
+        Err(SessionFault::OutOfMemory) => {
+            state.give_back(joined);
+            Err(SessionFault::OutOfMemory)
+        }
+        Err(SessionFault::BadPdu(place, kind)) => {
+            stream.pass(ahead);
+            Err(SessionFault::BadPdu(place, kind))
+        }
+        Err(SessionFault::TooLong(length)) => {
+            stream.pass(ahead);
+            Err(SessionFault::TooLong(length))
         }
     }
 }
@@ -150,7 +196,7 @@ impl Session {
         self.stream.feed(piece)
     }
 
-    /// The next item of the stream. Where there is no memory for it, the session will tell what it would have told.
+    /// The next item of the stream.
     pub fn next(&mut self, alloc: Global) -> Result<Option<Incoming>, SessionFault>
         ensures comes { Comes self.old self.new result }
         // The items that were given are a prefix of the stream's.
@@ -168,6 +214,8 @@ impl Session {
         // A fault other than want of memory is told at each later call.
         ensures stuck { IfErr result (IsStuck self.new) }
         ensures again { TellsAgain self.old self.new result }
+        // Where there is no memory for the item, or for a fragment before it, the session is as it was.
+        ensures unchanged { OnWant result (self.new ≡ self.old) }
     {
         next_item(alloc, &mut self.state, &mut self.stream)
     }

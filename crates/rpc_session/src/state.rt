@@ -3,7 +3,7 @@ ghost use Rattle.rpc_pdu.specs.Pdu.{seen_bind, seen_request, seen_pdu, seen_ack}
 ghost use Rattle.rpc_pdu.specs.Written.{nak_bytes, ack_bytes, fault_bytes, ack_size};
 ghost use Rattle.rpc_session.specs.Replies.{HasRoom};
 ghost use Rattle.rpc_session.specs.Contexts.{results_of};
-ghost use Rattle.rpc_session.specs.Moves.{held_size, terms_of, ack_to, bind_move, alter_move, request_move, move_of, is_served, verdict_of, item_by, transmit_of, IsFor, Moved, Grown, going_on, with_body, continues, joined, begun, accepted};
+ghost use Rattle.rpc_session.specs.Moves.{held_size, terms_of, ack_to, bind_move, alter_move, request_move, move_of, is_served, verdict_of, item_by, transmit_of, IsFor, Moved, Grown, body_length, cut_to, with_unfinished, going_on, with_body, continues, joined, begun, accepted};
 ghost use Rattle.rpc_session.specs.declared.state.Refusal.TheVariants.{OutOfMemory};
 
 use crate::contexts::{Interface, answer_all};
@@ -55,6 +55,19 @@ pub enum Refusal {
     Order,
     TooLong(u64),
     OutOfMemory,
+}
+
+/// A request with so much of its body, and none where there was none.
+fn cut(unfinished: Option<Unfinished>, length: Option<usize>) -> Option<Unfinished>
+    ensures { result ≡ cut_to length unfinished }
+{
+    match (unfinished, length) {
+        (Some(mut request), Some(length)) => {
+            request.body.truncate(length);
+            Some(request)
+        }
+        _ => None,
+    }
 }
 
 /// A session between two PDUs.
@@ -385,5 +398,23 @@ impl State {
             Pdu::Alter(bind) => self.take_alter(alloc, bind),
             _ => Err(Refusal::Order),
         }
+    }
+
+    /// How long the body of the unfinished request is.
+    pub fn joined(&self) -> Option<usize>
+        ensures { result ≡ body_length self.now.unfinished }
+    {
+        match &self.unfinished {
+            None => None,
+            Some(request) => Some(request.body.len()),
+        }
+    }
+
+    /// Gives back what was joined since the unfinished request had this length, or what was begun since there was none.
+    pub fn give_back(&mut self, joined: Option<usize>)
+        ensures { self.new ≡ with_unfinished self.old (cut_to joined self.old.unfinished) }
+    {
+        let unfinished = self.unfinished.take();
+        self.unfinished = cut(unfinished, joined);
     }
 }

@@ -1,4 +1,4 @@
-use Rattle.std.proofs.Common.{sym, ap, ◌∙◌, ◌-◌, ◌+◌, ◌≡◌, ◌++◌, List, [], arith, refl}
+use Rattle.std.proofs.Common.{sym, ap, ◌∙◌, ◌-◌, ◌+◌, ◌≡◌, ◌++◌, [], arith}
 use Rattle.std.specs.Prelude.{option_map}
 use Rattle.rpc_pdu.specs.Contexts.{contexts_of, seen_context}
 use Rattle.rpc_session.specs.Contexts.{seen, result_bytes, answer_to}

@@ -1,8 +1,8 @@
-use Rattle.std.proofs.Common.{sym, ap, ◌∙◌, ◌-◌, ◌+◌, ◌<◌, ◌≡◌, List, [], arith, refl, length, subst, set}
+use Rattle.std.proofs.Common.{sym, ap, ◌∙◌, ◌-◌, ◌+◌, ◌≡◌, arith, length, subst, set}
 use Rattle.std.specs.Prelude.{option_map}
 use Rattle.std.proofs.lemmas.List.{length-set}
 use Rattle.rpc_pdu.specs.Contexts.{contexts_of, seen_context}
-use Rattle.rpc_session.specs.Contexts.{seen, answer_to, accepted_by, listed, known_after, AreBelow}
+use Rattle.rpc_session.specs.Contexts.{seen, answer_to, accepted_by, listed, AreBelow}
 use Rattle.rpc_session.proofs.Steps.{contexts_end, contexts_none, contexts_next, nothing_known, known_next, below_head, below_tail, entered}
 use Rattle.rpc_session.proofs.known.enter.Goals as goal
 

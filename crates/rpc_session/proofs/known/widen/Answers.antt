@@ -1,4 +1,4 @@
-use Rattle.std.proofs.Common.{arith, ◌-◌, length}
+use Rattle.std.proofs.Common.{arith}
 use Rattle.std.specs.Prelude.{is_ok}
 use Rattle.rpc_session.proofs.Steps.{resized}
 use Rattle.rpc_session.proofs.known.widen.Goals as goal

@@ -1,4 +1,4 @@
-use Rattle.std.proofs.Common.{arith, ◌∙◌, length, refl, ◌+◌, ◌-◌}
+use Rattle.std.proofs.Common.{arith, ◌∙◌, length, ◌+◌, ◌-◌}
 use Rattle.std.proofs.lemmas.List.{length-take-le}
 use Rattle.rpc_pdu.specs.Written.{response_bytes, response_front}
 use Rattle.rpc_pdu.specs.Pdu.{seen_response}

@@ -1,6 +1,6 @@
-use Rattle.std.proofs.Common.{arith, rules, ap, eqb-true, List, ℕ, [], ◌∷◌, ◌-◌, ◌+◌, ◌<◌, ◌≡◌, length, false, Bool, sym, ◌∙◌, drop, nat_eq, refl}
+use Rattle.std.proofs.Common.{arith, rules, ap, eqb-true, List, ℕ, [], ◌∷◌, ◌-◌, ◌<◌, ◌≡◌, length, false, sym, ◌∙◌, drop, nat_eq, refl}
 use Rattle.std.proofs.lemmas.List.{length-drop}
-use Rattle.rpc_session.specs.Replies.{fragment, fragments, reply_bytes, room_of}
+use Rattle.rpc_session.specs.Replies.{room_of}
 use Rattle.rpc_session.proofs.Sending.{sent_more, sent_failed, sent_all, no_fragments, spent, fragments_step}
 use Rattle.rpc_session.proofs.replies.write_fragments.Goals as goal
 

@@ -1,5 +1,5 @@
 use Rattle.std.proofs.Common.{arith}
-use Rattle.rpc_session.proofs.Sending.{sent_none, sent_part, sent_kept, sent_all}
+use Rattle.rpc_session.proofs.Sending.{sent_part}
 use Rattle.rpc_session.proofs.sink.write_all.Goals as goal
 
 pub loop-rest-preserved : goal.loop-rest-preserved
