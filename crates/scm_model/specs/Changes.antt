@@ -1,5 +1,5 @@
 -- The states that one change makes of a flat state.
-use Rattle.std.specs.Prelude.{ℕ, Bool, false, not, ◌&&◌, ◌||◌, ◌==◌, ◌+◌, ◌++◌, List, [], ◌∷◌, filter, map, max}
+use Rattle.std.specs.Prelude.{ℕ, Bool, false, not, ◌&&◌, ◌||◌, ◌==◌, ◌+◌, ◌++◌, List, [], ◌∷◌, filter, map, max, if◌then◌else◌}
 use Rattle.std.specs.List.{list_any}
 use Rattle.scm_model.specs.declared.flat.Config.{Config}
 use Rattle.scm_model.specs.declared.flat.Status.{Status}
@@ -64,6 +64,14 @@ marked_if number row = record row { marked = row.marked || row.number == number 
 
 abbrev pub with_mark : Flat → ℕ → Flat
 with_mark f number = record f { services = map (marked_if number) f.services }
+
+-- a configuration replaces a service's, and its type is the one that the status tells
+abbrev pub configured_if : ℕ → Config → Service → Service
+configured_if number config row =
+    if row.number == number then record row { config = config; status = record row.status { kind = config.kind } } else row
+
+abbrev pub with_config : Flat → ℕ → Config → Flat
+with_config f number config = record f { services = map (configured_if number config) f.services }
 
 -- a service that is marked, STOPPED and named by no handle leaves
 abbrev pub leaves : List HandleRow → Service → Bool

@@ -1,5 +1,5 @@
 -- The answer of a refused request.
-use Rattle.std.specs.Prelude.{ℕ, Bool, ◌==◌, List, [], ◌∷◌, if◌then◌else◌}
+use Rattle.std.specs.Prelude.{ℕ, Bool, ◌==◌, List, [], ◌∷◌, None, if◌then◌else◌}
 use Rattle.scm_model.specs.declared.flat.Flat.{Flat}
 use Rattle.scm_model.specs.declared.flat.Status.{Status}
 use Rattle.scm_model.specs.declared.calls.Request.{Request}
@@ -15,15 +15,23 @@ abbrev pub refused : Request → ℕ → Reply
 refused (request.Close handle) code = reply.Handle handle code
 refused (request.Delete handle) code = reply.Code code
 refused (request.QueryStatus handle) code = reply.State zero_status code
+refused (request.Change change) code = reply.Tag change.tag code
 refused (request.Create new) code = reply.Made new.tag 0 code
 refused (request.OpenManager database access) code = reply.Handle 0 code
 refused (request.OpenService handle name access) code = reply.Handle 0 code
+refused (request.QueryConfig handle size) code = reply.Shown None 0 code
+refused (request.DisplayName handle name size) code = reply.Name [] 0 code
+refused (request.KeyName handle name size) code = reply.Name [] 0 code
 
 -- the first code whose test holds, or 0
 abbrev pub first_refusal : List (Bool × ℕ) → ℕ
 first_refusal [] = 0
 first_refusal (row ∷ rows) = if row.0 then row.1 else first_refusal rows
 
--- what a call comes to: at code 0 its effect, else the refused form and no change
+-- what a call comes to: at code 0 its effect, else what it is told and no change
+abbrev pub answered : ℕ → Reply → Flat → Reply × Flat → Reply × Flat
+answered code told f done = if code == 0 then done else (told, f)
+
+-- a call that is told no more than its refusal
 abbrev pub outcome : ℕ → Request → Flat → Reply × Flat → Reply × Flat
-outcome code request f done = if code == 0 then done else (refused request code, f)
+outcome code request f done = answered code (refused request code) f done

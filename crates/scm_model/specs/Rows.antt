@@ -1,5 +1,5 @@
 -- What is read from a flat state.
-use Rattle.std.specs.Prelude.{ℕ, Bool, false, true, ◌&&◌, ◌||◌, ◌==◌, List, Option, None, Some, find, filter, length, is_some, option_and_then}
+use Rattle.std.specs.Prelude.{ℕ, Bool, false, true, not, ◌&&◌, ◌||◌, ◌==◌, List, Option, None, Some, find, filter, length, is_some, option_and_then}
 use Rattle.std.specs.List.{list_any}
 use Rattle.scm_text.specs.Fold.{same_text}
 use Rattle.scm_model.specs.declared.flat.Flat.{Flat}
@@ -88,12 +88,18 @@ members f group = filter (λ (row : Service). same_text row.config.group group) 
 abbrev pub is_shown : Flat → List ℕ → Bool
 is_shown f text = list_any (λ (row : Service). same_text row.config.name text || same_text row.config.display text) f.services
 
+-- the service with the same display name
+abbrev pub displayed : Flat → List ℕ → Option Service
+displayed f display = find (λ (row : Service). same_text row.config.display display) f.services
+
+-- whether a text is the same as the name or the display name of another service
+abbrev pub is_shown_by_another : Flat → ℕ → List ℕ → Bool
+is_shown_by_another f number text =
+    list_any (λ (row : Service). not (row.number == number) && (same_text row.config.name text || same_text row.config.display text)) f.services
+
 -- whether a handle is of the service
 abbrev pub is_of : ℕ → HandleKind → Bool
 is_of service kinds.Manager = false
 is_of service (kinds.Service number) = number == service
 is_of service kinds.Lock = false
 is_of service (kinds.Notify number) = false
-
-abbrev pub is_open : Flat → ℕ → Bool
-is_open f service = list_any (λ (row : HandleRow). is_of service row.kind) f.handles

@@ -23,6 +23,39 @@ pub struct NewService {
     pub account: Option<WText>,
 }
 
+/// What a caller asks to be changed in a configuration, as in `RChangeServiceConfigW`. An absent text stays as it is.
+#[derive(Drop)]
+pub struct ChangeService {
+    pub handle: u64,
+    /// `SERVICE_NO_CHANGE` (0xFFFFFFFF) leaves it as it is, as in `start` and `error`.
+    pub kind: u32,
+    pub start: u32,
+    pub error: u32,
+    pub path: Option<WText>,
+    pub group: Option<WText>,
+    /// Present where a new tag is asked for. The number itself is not used.
+    pub tag: Option<u32>,
+    /// The names as they came, in 16-bit units, each ended by a 0 and all by one more.
+    pub needs: Option<Items<u8>>,
+    pub account: Option<WText>,
+    pub display: Option<WText>,
+}
+
+/// What a service is configured as, as in `QUERY_SERVICE_CONFIGW`.
+#[derive(Drop)]
+pub struct Shown {
+    pub kind: u32,
+    pub start: u32,
+    pub error: u32,
+    pub path: WText,
+    pub group: WText,
+    pub tag: u32,
+    /// Each name is followed by `/`, and a group has the prefix `+`.
+    pub needs: WText,
+    pub account: WText,
+    pub display: WText,
+}
+
 /// What a caller asks of the manager: the methods of svcctl in MS-SCMR that are served.
 #[derive(Drop)]
 pub enum Request {
@@ -38,6 +71,8 @@ pub enum Request {
     QueryStatus {
         handle: u64,
     },
+    /// `RChangeServiceConfigW`, opnum 11.
+    Change(ChangeService),
     /// `RCreateServiceW`, opnum 12.
     Create(NewService),
     /// `ROpenSCManagerW`, opnum 15.
@@ -50,6 +85,23 @@ pub enum Request {
         handle: u64,
         name: WText,
         access: u32,
+    },
+    /// `RQueryServiceConfigW`, opnum 17. The size is in bytes.
+    QueryConfig {
+        handle: u64,
+        size: u32,
+    },
+    /// `RGetServiceDisplayNameW`, opnum 20. The size is in 16-bit units.
+    DisplayName {
+        handle: u64,
+        name: WText,
+        size: u32,
+    },
+    /// `RGetServiceKeyNameW`, opnum 21. The size is in 16-bit units.
+    KeyName {
+        handle: u64,
+        name: WText,
+        size: u32,
     },
 }
 
@@ -68,6 +120,22 @@ pub enum Reply {
     Made {
         tag: Option<u32>,
         handle: u64,
+        code: u32,
+    },
+    Tag {
+        tag: Option<u32>,
+        code: u32,
+    },
+    /// The bytes that the configuration takes, wherever it was looked at.
+    Shown {
+        config: Option<Shown>,
+        needed: u32,
+        code: u32,
+    },
+    /// The size is in 16-bit units, without the zero at the end.
+    Name {
+        name: WText,
+        size: u32,
         code: u32,
     },
 }
@@ -120,6 +188,31 @@ impl NewService {
     }
 }
 
+impl ChangeService {
+    /// A copy of what is asked.
+    pub fn copy(&self, alloc: Global) -> Result<ChangeService, OutOfMemory>
+        ensures { IfOk result (λ copy. copy ≡ self.now) }
+    {
+        let path = copy_of_text(&self.path, alloc)?;
+        let group = copy_of_text(&self.group, alloc)?;
+        let needs = copy_of_bytes(&self.needs, alloc)?;
+        let account = copy_of_text(&self.account, alloc)?;
+        let display = copy_of_text(&self.display, alloc)?;
+        Ok(ChangeService {
+            handle: self.handle,
+            kind: self.kind,
+            start: self.start,
+            error: self.error,
+            path,
+            group,
+            tag: self.tag,
+            needs,
+            account,
+            display,
+        })
+    }
+}
+
 impl Request {
     /// A copy of the request.
     pub fn copy(&self, alloc: Global) -> Result<Request, OutOfMemory>
@@ -129,26 +222,35 @@ impl Request {
             Request::Close { handle } => Ok(Request::Close { handle: *handle }),
             Request::Delete { handle } => Ok(Request::Delete { handle: *handle }),
             Request::QueryStatus { handle } => Ok(Request::QueryStatus { handle: *handle }),
+            Request::Change(change) => Ok(Request::Change(change.copy(alloc)?)),
             Request::Create(new) => Ok(Request::Create(new.copy(alloc)?)),
-            Request::OpenManager { database, access } => {
-                let database = copy_of_text(database, alloc)?;
-                Ok(Request::OpenManager {
-                    database,
-                    access: *access,
-                })
-            }
+            Request::OpenManager { database, access } => Ok(Request::OpenManager {
+                database: copy_of_text(database, alloc)?,
+                access: *access,
+            }),
             Request::OpenService {
                 handle,
                 name,
                 access,
-            } => {
-                let name = name.copy(alloc)?;
-                Ok(Request::OpenService {
-                    handle: *handle,
-                    name,
-                    access: *access,
-                })
-            }
+            } => Ok(Request::OpenService {
+                handle: *handle,
+                name: name.copy(alloc)?,
+                access: *access,
+            }),
+            Request::QueryConfig { handle, size } => Ok(Request::QueryConfig {
+                handle: *handle,
+                size: *size,
+            }),
+            Request::DisplayName { handle, name, size } => Ok(Request::DisplayName {
+                handle: *handle,
+                name: name.copy(alloc)?,
+                size: *size,
+            }),
+            Request::KeyName { handle, name, size } => Ok(Request::KeyName {
+                handle: *handle,
+                name: name.copy(alloc)?,
+                size: *size,
+            }),
         }
     }
 }

@@ -2,11 +2,13 @@
 #![tactic(auto)]
 
 mod calls;
+mod copying;
 mod flat;
 mod refusing;
 mod steps;
 
-pub use calls::{NewService, Reply, Request};
+pub use calls::{ChangeService, NewService, Reply, Request, Shown};
+pub use copying::copy_needs;
 pub use flat::{
     Action, Caller, Config, Due, DueKind, Flat, HandleKind, HandleRow, Limits, LockRow, Need, Next,
     Opened, Phase, Plan, Principal, Process, ProcessStatus, Registration, Service, Status, Trigger,

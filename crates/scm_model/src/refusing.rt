@@ -2,6 +2,8 @@ ghost use Rattle.std.specs.Prelude.{◌≡◌};
 ghost use Rattle.scm_model.specs.Refused.{refused, zero_status};
 
 use super::{Reply, Request, Status};
+use scm_text::WText;
+use std::alloc::Global;
 
 /// A status of zeros.
 fn zero_status() -> Status
@@ -18,8 +20,9 @@ fn zero_status() -> Status
     }
 }
 
-/// The answer of a request that is refused with this code, which isn't 0. It takes no memory.
-pub fn refused(request: &Request, code: u32) -> Reply
+/// The answer of a request that is refused with this code, which is none of 0, `ERROR_INSUFFICIENT_BUFFER` (122) and
+/// `ERROR_MORE_DATA` (234). It takes no memory.
+pub fn refused(alloc: Global, request: &Request, code: u32) -> Reply
     ensures { result ≡ refused request.now code }
 {
     match request {
@@ -32,6 +35,10 @@ pub fn refused(request: &Request, code: u32) -> Reply
             status: zero_status(),
             code,
         },
+        Request::Change(change) => Reply::Tag {
+            tag: change.tag,
+            code,
+        },
         Request::Create(new) => Reply::Made {
             tag: new.tag,
             handle: 0,
@@ -40,5 +47,15 @@ pub fn refused(request: &Request, code: u32) -> Reply
         Request::OpenManager { .. } | Request::OpenService { .. } => {
             Reply::Handle { handle: 0, code }
         }
+        Request::QueryConfig { .. } => Reply::Shown {
+            config: None,
+            needed: 0,
+            code,
+        },
+        Request::DisplayName { .. } | Request::KeyName { .. } => Reply::Name {
+            name: WText::new(alloc),
+            size: 0,
+            code,
+        },
     }
 }
