@@ -10,8 +10,9 @@ use Rattle.ndr_body.proofs.Spelled.{IsBytes, bind_ok, ok_is, number_spelled, num
 use Rattle.ndr_body.proofs.SpelledHandles.{handle_spelled, handle_read}
 use Rattle.ndr_body.proofs.SpelledTexts.{text_spelled, text_read}
 use Rattle.ndr_body.proofs.SpelledPointers.{some_text_spelled, some_text_read, finished_ended, ended_finished}
-use Rattle.scm_calls.specs.Requests.{is_served, lone_handle_at, open_manager_at, open_service_at, request_at}
-use Rattle.scm_calls.specs.Bodies.{IsLoneHandle, IsOpenManager, IsOpenService, IsBody}
+use Rattle.scm_calls.specs.Requests.{is_served, IsInRange, lone_handle_at, open_manager_at, named_at, request_at}
+use Rattle.scm_calls.specs.declared.requests.Named.{Named}
+use Rattle.scm_calls.specs.Bodies.{IsLoneHandle, IsOpenManager, IsNamed, IsBody}
 
 -- ## What is read is a body
 
@@ -41,28 +42,35 @@ open_manager_found body r fits e =
     } in
     subst (IsBody 15 body) (ok_is (request.OpenManager b.0.0 c.0.0) r d.2) (refl, found)
 
-open_service_found : (body : List ℕ) (r : Request) → IsBytes body → open_service_at body ≡ Ok r → IsBody 16 body r
-unfolding open_service_at
-open_service_found body r fits e =
-    let a = bind_ok (handle_at body 0) (λ handle. text_at body handle.1 >>= λ name. number_at body name.1 >>= λ access. finished body access.1 >>= λ ended. Ok (request.OpenService handle.0 name.0 access.0)) r e in
-    let b = bind_ok (text_at body a.0.1) (λ name. number_at body name.1 >>= λ access. finished body access.1 >>= λ ended. Ok (request.OpenService a.0.0 name.0 access.0)) r a.2 in
-    let c = bind_ok (number_at body b.0.1) (λ access. finished body access.1 >>= λ ended. Ok (request.OpenService a.0.0 b.0.0 access.0)) r b.2 in
-    let d = bind_ok (finished body c.0.1) (λ ended. Ok (request.OpenService a.0.0 b.0.0 c.0.0)) r c.2 in
-    let found : IsOpenService body a.0.0 b.0.0 c.0.0 = record {
+named_found : (body : List ℕ) (named : Named) → IsBytes body → named_at body ≡ Ok named → IsNamed body named.handle named.name named.number
+unfolding named_at
+named_found body named fits e =
+    let a = bind_ok (handle_at body 0) (λ handle. text_at body handle.1 >>= λ name. number_at body name.1 >>= λ number. finished body number.1 >>= λ ended. Ok (record { handle = handle.0; name = name.0; number = number.0 })) named e in
+    let b = bind_ok (text_at body a.0.1) (λ name. number_at body name.1 >>= λ number. finished body number.1 >>= λ ended. Ok (record { handle = a.0.0; name = name.0; number = number.0 })) named a.2 in
+    let c = bind_ok (number_at body b.0.1) (λ number. finished body number.1 >>= λ ended. Ok (record { handle = a.0.0; name = b.0.0; number = number.0 })) named b.2 in
+    let d = bind_ok (finished body c.0.1) (λ ended. Ok (record { handle = a.0.0; name = b.0.0; number = c.0.0 })) named c.2 in
+    let made : Named = record { handle = a.0.0; name = b.0.0; number = c.0.0 } in
+    let found : IsNamed body made.handle made.name made.number = record {
       behind_handle = a.0.1;
       handle_stands = handle_spelled body 0 a.0 fits a.1;
       behind_name = b.0.1;
       name_stands = text_spelled body _ _ b.0 fits b.1;
-      behind_access = c.0.1;
-      access_stands = number_spelled body _ _ c.0 fits c.1;
+      behind_number = c.0.1;
+      number_stands = number_spelled body _ _ c.0 fits c.1;
       ends = finished_ended body c.0.1 d.1;
     } in
-    subst (IsBody 16 body) (ok_is (request.OpenService a.0.0 b.0.0 c.0.0) r d.2) (refl, found)
+    subst (λ (y : Named). IsNamed body y.handle y.name y.number) (ok_is made named d.2) found
 
 asked_with : (body : List ℕ) (r : Request) (make : ℕ → Request) → IsBytes body → (lone_handle_at body >>= λ handle. Ok (make handle)) ≡ Ok r → (handle : ℕ) × IsLoneHandle body handle × (make handle ≡ r)
 asked_with body r make fits e =
     let a = bind_ok (lone_handle_at body) (λ handle. Ok (make handle)) r e in
     (a.0, lone_found body a.0 fits a.1, ok_is (make a.0) r a.2)
+
+asked_of_name : (body : List ℕ) (r : Request) (make : ℕ → List ℕ → ℕ → Request) → IsBytes body → (named_at body >>= λ named. Ok (make named.handle named.name named.number)) ≡ Ok r
+    → (named : Named) × IsNamed body named.handle named.name named.number × (make named.handle named.name named.number ≡ r)
+asked_of_name body r make fits e =
+    let a = bind_ok (named_at body) (λ named. Ok (make named.handle named.name named.number)) r e in
+    (a.0, named_found body a.0 fits a.1, ok_is (make a.0.handle a.0.name a.0.number) r a.2)
 
 pub request_found : (opnum : ℕ) (body : List ℕ) (r : Request) → is_served opnum ≡ true → IsBytes body → request_at opnum body ≡ Ok r → IsBody opnum body r
 unfolding request_at
@@ -75,8 +83,14 @@ request_found opnum body r served fits e =
           | inl is ↦ let a = asked_with body r request.QueryStatus fits (rw (no_0, no_2, is) at e) in subst (IsBody opnum body) a.2 (eqb-true _ _ is, a.1)
           | inr no_6 ↦ elim (cases_Bool (eqb opnum 15)) [
             | inl is ↦ subst (λ (o : ℕ). IsBody o body r) (sym (eqb-true _ _ is)) (open_manager_found body r fits (rw (no_0, no_2, no_6, is) at e))
-            | inr no_15 ↦ let is : eqb opnum 16 ≡ true = rw (no_0, no_2, no_6, no_15) at served in
-                subst (λ (o : ℕ). IsBody o body r) (sym (eqb-true _ _ is)) (open_service_found body r fits (rw (no_0, no_2, no_6, no_15) at e))
+            | inr no_15 ↦ elim (cases_Bool (eqb opnum 16)) [
+              | inl is ↦ let a = asked_of_name body r request.OpenService fits (rw (no_0, no_2, no_6, no_15, is) at e) in subst (IsBody opnum body) a.2 (eqb-true _ _ is, a.1)
+              | inr no_16 ↦ elim (cases_Bool (eqb opnum 20)) [
+                | inl is ↦ let a = asked_of_name body r request.DisplayName fits (rw (no_0, no_2, no_6, no_15, no_16, is) at e) in subst (IsBody opnum body) a.2 (eqb-true _ _ is, a.1)
+                | inr no_20 ↦ let is : eqb opnum 21 ≡ true = rw (no_0, no_2, no_6, no_15, no_16, no_20) at served in
+                    let a = asked_of_name body r request.KeyName fits (rw (no_0, no_2, no_6, no_15, no_16, no_20) at e) in subst (IsBody opnum body) a.2 (eqb-true _ _ is, a.1)
+              ]
+            ]
           ]
         ]
       ]
@@ -93,10 +107,10 @@ unfolding open_manager_at
 open_manager_read body database access h =
     rw (some_text_read body 0 h.machine h.behind_machine h.machine_stands, some_text_read body _ database h.behind_database h.database_stands, number_read body _ _ access h.behind_access h.access_stands, ended_finished body h.behind_access h.ends) refl
 
-open_service_read : (body : List ℕ) (handle : ℕ) (name : List ℕ) (access : ℕ) → IsBytes body → IsOpenService body handle name access → open_service_at body ≡ Ok (request.OpenService handle name access)
-unfolding open_service_at
-open_service_read body handle name access fits h =
-    rw (handle_read body 0 handle h.behind_handle fits h.handle_stands, text_read body _ _ name h.behind_name h.name_stands, number_read body _ _ access h.behind_access h.access_stands, ended_finished body h.behind_access h.ends) refl
+named_read : (body : List ℕ) (handle : ℕ) (name : List ℕ) (number : ℕ) → IsBytes body → IsNamed body handle name number → named_at body ≡ Ok (record { handle = handle; name = name; number = number })
+unfolding named_at
+named_read body handle name number fits h =
+    rw (handle_read body 0 handle h.behind_handle fits h.handle_stands, text_read body _ _ name h.behind_name h.name_stands, number_read body _ _ number h.behind_number h.number_stands, ended_finished body h.behind_number h.ends) refl
 
 pub request_read : (opnum : ℕ) (body : List ℕ) (r : Request) → IsBytes body → IsBody opnum body r → request_at opnum body ≡ Ok r
 unfolding request_at
@@ -105,8 +119,20 @@ request_read opnum body (request.Delete handle) fits h = rw (h.0, lone_read body
 request_read opnum body (request.QueryStatus handle) fits h = rw (h.0, lone_read body handle fits h.1) refl
 request_read opnum body (request.Create new) fits h = absurd h
 request_read opnum body (request.OpenManager database access) fits h = rw (h.0, open_manager_read body database access h.1) refl
-request_read opnum body (request.OpenService handle name access) fits h = rw (h.0, open_service_read body handle name access fits h.1) refl
+request_read opnum body (request.OpenService handle name access) fits h = rw (h.0, named_read body handle name access fits h.1) refl
+request_read opnum body (request.Change change) fits h = absurd h
+request_read opnum body (request.QueryConfig handle size) fits h = absurd h
+request_read opnum body (request.DisplayName handle name size) fits h = rw (h.0, named_read body handle name size fits h.1) refl
+request_read opnum body (request.KeyName handle name size) fits h = rw (h.0, named_read body handle name size fits h.1) refl
 
 pub found_if : (opnum : ℕ) (body : List ℕ) (told : Result Request BodyFault) → is_served opnum ≡ true → IsBytes body → Gives (λ r. r) told (request_at opnum body) → IfOk told (λ r. IsBody opnum body r)
 found_if opnum body (Ok r) served fits given = request_found opnum body r served fits given
 found_if opnum body (Err e) served fits given = tt
+
+ranged : (opnum : ℕ) (body : List ℕ) (r : Request) → IsBody opnum body r → IsInRange r
+ranged opnum body (request.QueryConfig handle size) h = absurd h
+ranged opnum body _ h = tt
+
+pub ranged_if : (opnum : ℕ) (body : List ℕ) (told : Result Request BodyFault) → is_served opnum ≡ true → IsBytes body → Gives (λ r. r) told (request_at opnum body) → IfOk told (λ r. IsInRange r)
+ranged_if opnum body (Ok r) served fits given = ranged opnum body r (request_found opnum body r served fits given)
+ranged_if opnum body (Err e) served fits given = tt

@@ -8,8 +8,8 @@ use Rattle.ndr_body.specs.Writing.{blank, put_number, put_handle, put_text, put_
 use Rattle.ndr_body.specs.Laws.{IsSent}
 use Rattle.ndr_body.proofs.Chains.{handle_small, text_sent, pointed_sent, whole, held_before, read_there, blank_referent, ends_there}
 use Rattle.ndr_body.proofs.Written.{number_put, handle_put, text_put, any_text_put}
-use Rattle.scm_calls.specs.Requests.{opnum_of, with_request, request_bytes, lone_handle_at, open_manager_at, open_service_at, request_at}
-use Rattle.scm_calls.specs.Bodies.{IsBody}
+use Rattle.scm_calls.specs.Requests.{opnum_of, with_request, request_bytes, put_named, lone_handle_at, open_manager_at, named_at, request_at}
+use Rattle.scm_calls.specs.Bodies.{IsNamed, IsBody}
 
 -- ## Requests
 
@@ -39,9 +39,12 @@ open_manager_again database access sent lt =
       ends_there d3,
     ) refl
 
-open_service_again : (handle : ℕ) (name : List ℕ) (access : ℕ) → handle < 2 ^ 64 → IsSent name → access < 2 ^ 32 → open_service_at (put_number access (put_text name (put_handle handle blank))).bytes ≡ Ok (request.OpenService handle name access)
-unfolding open_service_at
-open_service_again handle name access small sent lt =
+named_again : (bytes : List ℕ) (handle : ℕ) (name : List ℕ) (access : ℕ) → IsNamed bytes handle name access → named_at (put_named handle name access blank).bytes ≡ Ok (record { handle = handle; name = name; number = access })
+unfolding named_at put_named
+named_again bytes handle name access h =
+    let small = handle_small h.handle_stands.item handle h.handle_stands.is in
+    let sent = text_sent h.name_stands.item name h.name_stands.is in
+    let lt = h.number_stands.is.small in
     let d1 = put_handle handle blank in
     let d2 = put_text name d1 in
     let d3 = put_number access d2 in
@@ -67,7 +70,11 @@ request_again bytes (request.Delete handle) h = rw (lone_again handle (handle_sm
 request_again bytes (request.QueryStatus handle) h = rw (lone_again handle (handle_small h.1.handle_stands.item handle h.1.handle_stands.is)) refl
 request_again bytes (request.Create new) h = absurd h
 request_again bytes (request.OpenManager database access) h = open_manager_again database access (pointed_sent h.1.database_stands.item database h.1.database_stands.is) h.1.access_stands.is.small
-request_again bytes (request.OpenService handle name access) h = open_service_again handle name access (handle_small h.1.handle_stands.item handle h.1.handle_stands.is) (text_sent h.1.name_stands.item name h.1.name_stands.is) h.1.access_stands.is.small
+request_again bytes (request.OpenService handle name access) h = rw (named_again bytes handle name access h.1) refl
+request_again bytes (request.Change change) h = absurd h
+request_again bytes (request.QueryConfig handle size) h = absurd h
+request_again bytes (request.DisplayName handle name size) h = rw (named_again bytes handle name size h.1) refl
+request_again bytes (request.KeyName handle name size) h = rw (named_again bytes handle name size h.1) refl
 
 pub written_again : {E : Type 0} (r : Request) (bytes : List ℕ) (written : Result (List ℕ) E) → IsBody (opnum_of r) bytes r → IfOk written (λ b. b ≡ request_bytes r) → IfOk written (λ b. request_at (opnum_of r) b ≡ Ok r)
 written_again r bytes (Ok b) h form = ap (request_at (opnum_of r)) form ∙ request_again bytes r h

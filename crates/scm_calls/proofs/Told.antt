@@ -8,17 +8,19 @@ use Rattle.scm_model.specs.declared.flat.Status.{Status}
 use Rattle.scm_model.specs.declared.calls.Reply.{Reply}
 use Rattle.scm_model.specs.declared.calls.Reply.TheVariants as reply
 use Rattle.ndr_body.specs.declared.fault.BodyFault.{BodyFault}
-use Rattle.ndr_body.specs.Reading.{◌>>=◌, Gives, aligned, number_at, handle_at, finished}
-use Rattle.ndr_body.specs.Writing.{Draft, blank, put_number, put_handle}
+use Rattle.ndr_body.specs.Reading.{◌>>=◌, Gives, aligned, number_at, handle_at, text_at, finished}
+use Rattle.ndr_body.specs.Writing.{Draft, blank, put_number, put_handle, put_text}
+use Rattle.ndr_body.specs.Laws.{IsSent}
 use Rattle.ndr_body.specs.Spelled.{IsNumber, Stands}
 use Rattle.ndr_body.proofs.Spelled.{IsBytes, bind_ok, ok_is, number_spelled, number_read}
 use Rattle.ndr_body.proofs.SpelledHandles.{handle_spelled, handle_read}
+use Rattle.ndr_body.proofs.SpelledTexts.{text_spelled, text_read}
 use Rattle.ndr_body.proofs.SpelledPointers.{finished_ended, ended_finished}
-use Rattle.ndr_body.proofs.Written.{number_put, handle_put, number_stands}
+use Rattle.ndr_body.proofs.Written.{number_put, handle_put, text_put, number_stands}
 use Rattle.scm_calls.specs.Requests.{is_served}
-use Rattle.scm_calls.specs.Replies.{put_numbers, numbers_of, with_reply, reply_bytes, code_at, handled_at, status_at, state_at, reply_at}
-use Rattle.scm_calls.specs.Bodies.{NumbersStand, IsCodeBody, IsHandledBody, IsStateBody, gives_handle, IsReply}
-use Rattle.ndr_body.proofs.Chains.{Holds, whole, held_before, read_there, blank_referent, ends_there, handle_small}
+use Rattle.scm_calls.specs.Replies.{put_numbers, numbers_of, with_reply, reply_bytes, code_at, handled_at, status_at, state_at, name_at, gives_name, reply_at}
+use Rattle.scm_calls.specs.Bodies.{NumbersStand, IsCodeBody, IsHandledBody, IsStateBody, IsNameBody, gives_handle, IsReply}
+use Rattle.ndr_body.proofs.Chains.{Holds, whole, held_before, read_there, blank_referent, ends_there, handle_small, text_sent}
 
 -- ## What is read is a body
 
@@ -72,23 +74,52 @@ state_found body told fits e =
     } in
     subst (IsReply 6 body) (ok_is (reply.State a.0.0 b.0.0) told c.2) (refl, found)
 
-left_out : (a b c d e : Bool) → (a || b || c || d || e) ≡ true → b ≡ false → c ≡ false → (a || d || e) ≡ true
-left_out true b c d e h no_b no_c = refl
-left_out false true c d e h no_b no_c = absurd cc
-left_out false false true d e h no_b no_c = absurd cc
-left_out false false false d e h no_b no_c = h
+name_found : (opnum : ℕ) (body : List ℕ) (told : Reply) → gives_name opnum ≡ true → IsBytes body → name_at body ≡ Ok told → IsReply opnum body told
+unfolding name_at
+name_found opnum body told gives fits e =
+    let a = bind_ok (text_at body 0) (λ name. number_at body name.1 >>= λ size. number_at body size.1 >>= λ code. finished body code.1 >>= λ ended. Ok (reply.Name name.0 size.0 code.0)) told e in
+    let b = bind_ok (number_at body a.0.1) (λ size. number_at body size.1 >>= λ code. finished body code.1 >>= λ ended. Ok (reply.Name a.0.0 size.0 code.0)) told a.2 in
+    let c = bind_ok (number_at body b.0.1) (λ code. finished body code.1 >>= λ ended. Ok (reply.Name a.0.0 b.0.0 code.0)) told b.2 in
+    let d = bind_ok (finished body c.0.1) (λ ended. Ok (reply.Name a.0.0 b.0.0 c.0.0)) told c.2 in
+    let found : IsNameBody body a.0.0 b.0.0 c.0.0 = record {
+      behind_name = a.0.1;
+      name_stands = text_spelled body 0 0 a.0 fits a.1;
+      behind_size = b.0.1;
+      size_stands = number_spelled body (aligned a.0.1) (aligned a.0.1) b.0 fits b.1;
+      behind_code = c.0.1;
+      code_stands = number_spelled body (aligned b.0.1) (aligned b.0.1) c.0 fits c.1;
+      ends = finished_ended body c.0.1 d.1;
+    } in
+    subst (IsReply opnum body) (ok_is (reply.Name a.0.0 b.0.0 c.0.0) told d.2) (gives, found)
 
-gives_of : (opnum : ℕ) → is_served opnum ≡ true → eqb opnum 2 ≡ false → eqb opnum 6 ≡ false → gives_handle opnum ≡ true
-gives_of opnum served no_2 no_6 = left_out (eqb opnum 0) (eqb opnum 2) (eqb opnum 6) (eqb opnum 15) (eqb opnum 16) served no_2 no_6
+left_out : (a b c d e f g : Bool) → (a || b || c || d || e || f || g) ≡ true → b ≡ false → c ≡ false → (f || g) ≡ false → (a || d || e) ≡ true
+left_out true b c d e f g h no_b no_c no_fg = refl
+left_out false true c d e f g h no_b no_c no_fg = absurd cc
+left_out false false true d e f g h no_b no_c no_fg = absurd cc
+left_out false false false true e f g h no_b no_c no_fg = refl
+left_out false false false false true f g h no_b no_c no_fg = refl
+left_out false false false false false f g h no_b no_c no_fg = absurd cc
 
-not_others : (opnum : ℕ) → gives_handle opnum ≡ true → (eqb opnum 2 ≡ false) × (eqb opnum 6 ≡ false)
+gives_of : (opnum : ℕ) → is_served opnum ≡ true → eqb opnum 2 ≡ false → eqb opnum 6 ≡ false → gives_name opnum ≡ false → gives_handle opnum ≡ true
+gives_of opnum served no_2 no_6 no_name = left_out (eqb opnum 0) (eqb opnum 2) (eqb opnum 6) (eqb opnum 15) (eqb opnum 16) (eqb opnum 20) (eqb opnum 21) served no_2 no_6 no_name
+
+-- an opnum that is answered by a handle is none of the others
+not_others : (opnum : ℕ) → gives_handle opnum ≡ true → (eqb opnum 2 ≡ false) × (eqb opnum 6 ≡ false) × (gives_name opnum ≡ false)
 not_others opnum gives =
     elim (or_cases _ _ gives) [
       | inl front ↦ elim (or_cases _ _ front) [
-        | inl is ↦ let e = eqb-true opnum 0 is in rw e (refl, refl)
-        | inr is ↦ let e = eqb-true opnum 15 is in rw e (refl, refl)
+        | inl is ↦ let e = eqb-true opnum 0 is in rw e (refl, refl, refl)
+        | inr is ↦ let e = eqb-true opnum 15 is in rw e (refl, refl, refl)
       ]
-      | inr is ↦ let e = eqb-true opnum 16 is in rw e (refl, refl)
+      | inr is ↦ let e = eqb-true opnum 16 is in rw e (refl, refl, refl)
+    ]
+
+-- nor is one that is answered by a name
+not_plain : (opnum : ℕ) → gives_name opnum ≡ true → (eqb opnum 2 ≡ false) × (eqb opnum 6 ≡ false)
+not_plain opnum gives =
+    elim (or_cases _ _ gives) [
+      | inl is ↦ let e = eqb-true opnum 20 is in rw e (refl, refl)
+      | inr is ↦ let e = eqb-true opnum 21 is in rw e (refl, refl)
     ]
 
 reply_found : (opnum : ℕ) (body : List ℕ) (told : Reply) → is_served opnum ≡ true → IsBytes body → reply_at opnum body ≡ Ok told → IsReply opnum body told
@@ -98,7 +129,10 @@ reply_found opnum body told served fits e =
       | inl is ↦ subst (λ (o : ℕ). IsReply o body told) (sym (eqb-true _ _ is)) (code_found body told fits (rw is at e))
       | inr no_2 ↦ elim (cases_Bool (eqb opnum 6)) [
         | inl is ↦ subst (λ (o : ℕ). IsReply o body told) (sym (eqb-true _ _ is)) (state_found body told fits (rw (no_2, is) at e))
-        | inr no_6 ↦ handled_found opnum body told (gives_of opnum served no_2 no_6) fits (rw (no_2, no_6) at e)
+        | inr no_6 ↦ elim (cases_Bool (gives_name opnum)) [
+          | inl is ↦ name_found opnum body told is fits (rw (no_2, no_6, is) at e)
+          | inr no_name ↦ handled_found opnum body told (gives_of opnum served no_2 no_6 no_name) fits (rw (no_2, no_6, no_name) at e)
+        ]
       ]
     ]
 
@@ -127,12 +161,20 @@ unfolding state_at
 state_read body s code h =
     rw (status_read body 0 s h.behind_status h.status_stands, number_read body (aligned h.behind_status) (aligned h.behind_status) code h.behind_code h.code_stands, ended_finished body h.behind_code h.ends) refl
 
+name_read : (body name : List ℕ) (size code : ℕ) → IsNameBody body name size code → name_at body ≡ Ok (reply.Name name size code)
+unfolding name_at
+name_read body name size code h =
+    rw (text_read body 0 0 name h.behind_name h.name_stands, number_read body (aligned h.behind_name) (aligned h.behind_name) size h.behind_size h.size_stands, number_read body (aligned h.behind_size) (aligned h.behind_size) code h.behind_code h.code_stands, ended_finished body h.behind_code h.ends) refl
+
 pub reply_read : (opnum : ℕ) (body : List ℕ) (told : Reply) → IsBytes body → IsReply opnum body told → reply_at opnum body ≡ Ok told
 unfolding reply_at
 reply_read opnum body (reply.Code code) fits h = rw (h.0, code_read body code h.1) refl
-reply_read opnum body (reply.Handle handle code) fits h = let n = not_others opnum h.0 in rw (n.0, n.1, handled_read body handle code fits h.1) refl
+reply_read opnum body (reply.Handle handle code) fits h = let n = not_others opnum h.0 in rw (n.0, n.1, n.2, handled_read body handle code fits h.1) refl
 reply_read opnum body (reply.State s code) fits h = rw (h.0, state_read body s code h.1) refl
 reply_read opnum body (reply.Made tag handle code) fits h = absurd h
+reply_read opnum body (reply.Tag tag code) fits h = absurd h
+reply_read opnum body (reply.Shown config needed code) fits h = absurd h
+reply_read opnum body (reply.Name name size code) fits h = let n = not_plain opnum h.0 in rw (n.0, n.1, h.0, name_read body name size code h.1) refl
 
 -- ## What is written is read back
 
@@ -140,16 +182,19 @@ numbers_small : (bytes : List ℕ) (place : ℕ) (ns : List ℕ) (after : ℕ) �
 numbers_small bytes place [] after h = tt
 numbers_small bytes place (n ∷ ns) after h = (h.1.is.small, numbers_small bytes h.0 ns after h.2)
 
-numbers_before : (ns : List ℕ) (body : List ℕ) (d : Draft) → AllByRecursion (λ n. n < 2 ^ 32) ns → Holds body (put_numbers ns d) → Holds body d
+-- a number that is put stands there
+pub number_there : (n : ℕ) (d : Draft) (body : List ℕ) → n < 2 ^ 32 → Holds body (put_number n d) → Stands IsNumber body (length d.bytes) n (length (put_number n d).bytes)
+number_there n d body small held = subst (λ (l : List ℕ). Stands IsNumber l (length d.bytes) n (length (put_number n d).bytes)) (sym held.1) (number_stands n d held.0 small)
+
+pub numbers_before : (ns : List ℕ) (body : List ℕ) (d : Draft) → AllByRecursion (λ n. n < 2 ^ 32) ns → Holds body (put_numbers ns d) → Holds body d
 numbers_before [] body d small held = held
 numbers_before (n ∷ ns) body d small held = held_before number_at (put_number n) n body d (number_put n small.0) (numbers_before ns body (put_number n d) small.1 held)
 
-numbers_again : (ns : List ℕ) (body : List ℕ) (d : Draft) → AllByRecursion (λ n. n < 2 ^ 32) ns → Holds body (put_numbers ns d) → NumbersStand body (length d.bytes) ns (length (put_numbers ns d).bytes)
+pub numbers_again : (ns : List ℕ) (body : List ℕ) (d : Draft) → AllByRecursion (λ n. n < 2 ^ 32) ns → Holds body (put_numbers ns d) → NumbersStand body (length d.bytes) ns (length (put_numbers ns d).bytes)
 numbers_again [] body d small held = refl
 numbers_again (n ∷ ns) body d small held =
     let here = numbers_before ns body (put_number n d) small.1 held in
-    let one : Stands IsNumber body (length d.bytes) n (length (put_number n d).bytes) = subst (λ (l : List ℕ). Stands IsNumber l (length d.bytes) n (length (put_number n d).bytes)) (sym here.1) (number_stands n d here.0 small.0) in
-    (length (put_number n d).bytes, one, numbers_again ns body (put_number n d) small.1 held)
+    (length (put_number n d).bytes, number_there n d body small.0 here, numbers_again ns body (put_number n d) small.1 held)
 
 code_again : (code : ℕ) → code < 2 ^ 32 → code_at (put_number code blank).bytes ≡ Ok (reply.Code code)
 unfolding code_at
@@ -185,13 +230,38 @@ state_again s code small lt =
       ends = inl refl;
     })
 
+name_again : (name : List ℕ) (size code : ℕ) → IsSent name → size < 2 ^ 32 → code < 2 ^ 32 → name_at (put_number code (put_number size (put_text name blank))).bytes ≡ Ok (reply.Name name size code)
+unfolding name_at
+name_again name size code sent small lt =
+    let d1 = put_text name blank in
+    let d2 = put_number size d1 in
+    let d3 = put_number code d2 in
+    let law1 = text_put name sent in
+    let law2 = number_put size small in
+    let law3 = number_put code lt in
+    let held2 = held_before number_at (put_number code) code d3.bytes d2 law3 (whole d3) in
+    let held1 = held_before number_at (put_number size) size d3.bytes d1 law2 held2 in
+    let next1 = law1.next blank blank_referent in
+    let next2 = law2.next d1 next1 in
+    rw (
+      read_there text_at (put_text name) name d3.bytes blank law1 blank_referent held1,
+      read_there number_at (put_number size) size d3.bytes d1 law2 next1 held2,
+      read_there number_at (put_number code) code d3.bytes d2 law3 next2 (whole d3),
+      ends_there d3,
+    ) refl
+
 -- a reply that some body tells is read from the form that is written
 pub reply_again : (opnum : ℕ) (bytes : List ℕ) (told : Reply) → IsReply opnum bytes told → reply_at opnum (reply_bytes told) ≡ Ok told
 unfolding reply_at reply_bytes with_reply
 reply_again opnum bytes (reply.Code code) h = rw (h.0, code_again code h.1.code_stands.is.small) refl
-reply_again opnum bytes (reply.Handle handle code) h = let n = not_others opnum h.0 in rw (n.0, n.1, handled_again handle code (handle_small h.1.handle_stands.item handle h.1.handle_stands.is) h.1.code_stands.is.small) refl
+reply_again opnum bytes (reply.Handle handle code) h = let n = not_others opnum h.0 in rw (n.0, n.1, n.2, handled_again handle code (handle_small h.1.handle_stands.item handle h.1.handle_stands.is) h.1.code_stands.is.small) refl
 reply_again opnum bytes (reply.State s code) h = rw (h.0, state_again s code (numbers_small bytes 0 (numbers_of s) h.1.behind_status h.1.status_stands) h.1.code_stands.is.small) refl
 reply_again opnum bytes (reply.Made tag handle code) h = absurd h
+reply_again opnum bytes (reply.Tag tag code) h = absurd h
+reply_again opnum bytes (reply.Shown config needed code) h = absurd h
+reply_again opnum bytes (reply.Name name size code) h =
+    let n = not_plain opnum h.0 in
+    rw (n.0, n.1, h.0, name_again name size code (text_sent h.1.name_stands.item name h.1.name_stands.is) h.1.size_stands.is.small h.1.code_stands.is.small) refl
 
 pub written_again : {E : Type 0} (opnum : ℕ) (bytes : List ℕ) (told : Reply) (front : List ℕ) (written : Result (Roomed ℕ) E) → IsReply opnum bytes told → front ≡ [] → IfOk written (λ b. b.items ≡ front ++ reply_bytes told)
     → IfOk written (λ b. reply_at opnum b.items ≡ Ok told)

@@ -1,13 +1,14 @@
 -- Replies: the one form that is written, how it is read, and how long it can be.
-use Rattle.std.specs.Prelude.{ℕ, ◌+◌, ◌==◌, List, [], ◌∷◌, Option, None, Some, Result, Ok, if◌then◌else◌}
+use Rattle.std.specs.Prelude.{ℕ, Bool, ◌+◌, ◌-◌, ◌*◌, ◌/◌, ◌≤◌, ◌||◌, ◌==◌, nat_lt, List, [], ◌∷◌, length, replicate, Option, None, Some, IfSome, Result, Ok, if◌then◌else◌}
 use Rattle.scm_model.specs.declared.flat.Status.{Status}
+use Rattle.scm_model.specs.declared.calls.Shown.{Shown}
 use Rattle.scm_model.specs.declared.calls.Request.{Request}
 use Rattle.scm_model.specs.declared.calls.Request.TheVariants as request
 use Rattle.scm_model.specs.declared.calls.Reply.{Reply}
 use Rattle.scm_model.specs.declared.calls.Reply.TheVariants as reply
 use Rattle.ndr_body.specs.declared.fault.BodyFault.{BodyFault}
-use Rattle.ndr_body.specs.Reading.{◌>>=◌, number_at, handle_at, finished}
-use Rattle.ndr_body.specs.Writing.{Draft, blank, put_number, put_handle, put_some_number}
+use Rattle.ndr_body.specs.Reading.{◌>>=◌, aligned, number_at, handle_at, text_at, finished}
+use Rattle.ndr_body.specs.Writing.{Draft, blank, put_number, put_handle, put_text, put_referent, put_some_number}
 
 -- ## Writing
 
@@ -19,12 +20,27 @@ put_numbers (n ∷ ns) d = put_numbers ns (put_number n d)
 abbrev pub numbers_of : Status → List ℕ
 numbers_of s = s.kind ∷ s.state ∷ s.accepted ∷ s.win32 ∷ s.specific ∷ s.checkpoint ∷ s.hint ∷ []
 
+-- the nine numbers of a configuration, five of which point to its texts
+unfoldable pub put_heads : Shown → Draft → Draft
+put_heads shown d = put_referent (put_referent (put_referent (put_number shown.tag (put_referent (put_referent (put_numbers (shown.kind ∷ shown.start ∷ shown.error ∷ []) d))))))
+
+unfoldable pub put_texts : Shown → Draft → Draft
+put_texts shown d = put_text shown.display (put_text shown.account (put_text shown.needs (put_text shown.group (put_text shown.path d))))
+
+-- nine times 0 for none
+unfoldable pub put_config : Option Shown → Draft → Draft
+put_config None d = put_numbers (replicate 9 0) d
+put_config (Some shown) d = put_texts shown (put_heads shown d)
+
 -- a draft with a reply's items
 unfoldable pub with_reply : Reply → Draft → Draft
 with_reply (reply.Code code) d = put_number code d
 with_reply (reply.Handle handle code) d = put_number code (put_handle handle d)
 with_reply (reply.State status code) d = put_number code (put_numbers (numbers_of status) d)
 with_reply (reply.Made tag handle code) d = put_number code (put_handle handle (put_some_number tag d))
+with_reply (reply.Tag tag code) d = put_number code (put_some_number tag d)
+with_reply (reply.Shown config needed code) d = put_number code (put_number needed (put_config config d))
+with_reply (reply.Name name size code) d = put_number code (put_number size (put_text name d))
 
 unfoldable pub reply_bytes : Reply → List ℕ
 reply_bytes told = (with_reply told blank).bytes
@@ -34,54 +50,95 @@ abbrev pub tag_size : Option ℕ → ℕ
 tag_size None = 4
 tag_size (Some tag) = 8
 
+-- three numbers, the units with the last 0, and the padding behind them
+abbrev pub text_size : List ℕ → ℕ
+text_size text = aligned (14 + 2 * length text)
+
+abbrev pub config_size : Option Shown → ℕ
+config_size None = 36
+config_size (Some shown) = 36 + text_size shown.path + text_size shown.group + text_size shown.needs + text_size shown.account + text_size shown.display
+
 abbrev pub reply_size : Reply → ℕ
 reply_size (reply.Code code) = 4
 reply_size (reply.Handle handle code) = 24
 reply_size (reply.State status code) = 32
 reply_size (reply.Made tag handle code) = tag_size tag + 24
+reply_size (reply.Tag tag code) = tag_size tag + 4
+reply_size (reply.Shown config needed code) = config_size config + 8
+reply_size (reply.Name name size code) = text_size name + 8
 
 -- ## Which replies answer a request
 
 abbrev pub IsCode : Reply → Type 0
 IsCode (reply.Code code) = Unit {0}
-IsCode (reply.Handle handle code) = ⊥
-IsCode (reply.State status code) = ⊥
-IsCode (reply.Made tag handle code) = ⊥
+IsCode _ = ⊥
 
 abbrev pub IsHandled : Reply → Type 0
-IsHandled (reply.Code code) = ⊥
 IsHandled (reply.Handle handle code) = Unit {0}
-IsHandled (reply.State status code) = ⊥
-IsHandled (reply.Made tag handle code) = ⊥
+IsHandled _ = ⊥
 
 abbrev pub IsState : Reply → Type 0
-IsState (reply.Code code) = ⊥
-IsState (reply.Handle handle code) = ⊥
 IsState (reply.State status code) = Unit {0}
-IsState (reply.Made tag handle code) = ⊥
+IsState _ = ⊥
 
 abbrev pub IsMade : Reply → Type 0
-IsMade (reply.Code code) = ⊥
-IsMade (reply.Handle handle code) = ⊥
-IsMade (reply.State status code) = ⊥
 IsMade (reply.Made tag handle code) = Unit {0}
+IsMade _ = ⊥
+
+abbrev pub IsTag : Reply → Type 0
+IsTag (reply.Tag tag code) = Unit {0}
+IsTag _ = ⊥
+
+-- how many bytes a text takes in a caller's buffer, with its last 0
+abbrev pub taken_by : List ℕ → ℕ
+taken_by text = 2 * (length text + 1)
+
+-- how many bytes a configuration takes there: its numbers and its texts
+abbrev pub bytes_needed : Shown → ℕ
+bytes_needed shown = 36 + taken_by shown.path + taken_by shown.group + taken_by shown.needs + taken_by shown.account + taken_by shown.display
+
+-- no configuration, or one that takes at most the size
+abbrev pub IsShown : ℕ → Reply → Type 0
+IsShown size (reply.Shown config needed code) = IfSome config (λ shown. bytes_needed shown ≤ size)
+IsShown size _ = ⊥
+
+-- a name of at most 256 units
+abbrev pub IsName : Reply → Type 0
+IsName (reply.Name name size code) = length name ≤ 256
+IsName _ = ⊥
 
 abbrev pub Answers : Request → Reply → Type 0
 Answers (request.Close handle) told = IsHandled told
 Answers (request.Delete handle) told = IsCode told
 Answers (request.QueryStatus handle) told = IsState told
+Answers (request.Change change) told = IsTag told
 Answers (request.Create new) told = IsMade told
 Answers (request.OpenManager database access) told = IsHandled told
 Answers (request.OpenService handle name access) told = IsHandled told
+Answers (request.QueryConfig handle size) told = IsShown size told
+Answers (request.DisplayName handle name size) told = IsName told
+Answers (request.KeyName handle name size) told = IsName told
+
+-- five texts share the units that a size leaves, their last 0s included. Each has at least one, and an odd count takes padding: most bytes come of
+-- five odd counts.
+abbrev pub odd_below : ℕ → ℕ
+odd_below units = (units - 1) / 2 * 2 + 1
+
+abbrev pub shown_bound : ℕ → ℕ
+shown_bound size = let units = (size - 36) / 2 in if nat_lt units 5 then 44 else 114 + 2 * odd_below units
 
 -- the greatest length of a reply that answers a request
 abbrev pub reply_bound : Request → ℕ
 reply_bound (request.Close handle) = 24
 reply_bound (request.Delete handle) = 4
 reply_bound (request.QueryStatus handle) = 32
+reply_bound (request.Change change) = 12
 reply_bound (request.Create new) = 32
 reply_bound (request.OpenManager database access) = 24
 reply_bound (request.OpenService handle name access) = 24
+reply_bound (request.QueryConfig handle size) = shown_bound size
+reply_bound (request.DisplayName handle name size) = 536
+reply_bound (request.KeyName handle name size) = 536
 
 -- ## Reading
 
@@ -116,6 +173,22 @@ state_at body = do
   ended ← finished body code.1
   Ok (reply.State status.0 code.0)
 
+unfoldable pub name_at : List ℕ → Result Reply BodyFault
+name_at body = do
+  name ← text_at body 0
+  size ← number_at body name.1
+  code ← number_at body size.1
+  ended ← finished body code.1
+  Ok (reply.Name name.0 size.0 code.0)
+
+-- the opnums that are answered by a name
+abbrev pub gives_name : ℕ → Bool
+gives_name opnum = opnum == 20 || opnum == 21
+
 -- what a body answers a request of a served opnum, or the first fault
 unfoldable pub reply_at : ℕ → List ℕ → Result Reply BodyFault
-reply_at opnum body = if opnum == 2 then code_at body else if opnum == 6 then state_at body else handled_at body
+reply_at opnum body =
+    if opnum == 2 then code_at body
+    else if opnum == 6 then state_at body
+    else if gives_name opnum then name_at body
+    else handled_at body

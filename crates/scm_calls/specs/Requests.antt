@@ -1,22 +1,32 @@
 -- Requests: how a body is read, and the one form that is written.
-use Rattle.std.specs.Prelude.{ℕ, Bool, ◌||◌, ◌==◌, List, None, Result, Ok, if◌then◌else◌}
+use Rattle.std.specs.Prelude.{ℕ, Bool, ◌≤◌, ◌||◌, ◌==◌, List, None, Result, Ok, if◌then◌else◌}
 use Rattle.scm_model.specs.declared.calls.Request.{Request}
 use Rattle.scm_model.specs.declared.calls.Request.TheVariants as request
 use Rattle.ndr_body.specs.declared.fault.BodyFault.{BodyFault}
 use Rattle.ndr_body.specs.Reading.{◌>>=◌, number_at, handle_at, text_at, some_text_at, finished}
 use Rattle.ndr_body.specs.Writing.{Draft, blank, put_number, put_handle, put_text, put_some_text}
+use Rattle.scm_calls.specs.declared.requests.Named.{Named}
 
 -- the opnums whose bodies are read and written here
 abbrev pub is_served : ℕ → Bool
-is_served opnum = opnum == 0 || opnum == 2 || opnum == 6 || opnum == 15 || opnum == 16
+is_served opnum = opnum == 0 || opnum == 2 || opnum == 6 || opnum == 15 || opnum == 16 || opnum == 20 || opnum == 21
 
 abbrev pub opnum_of : Request → ℕ
 opnum_of (request.Close handle) = 0
 opnum_of (request.Delete handle) = 2
 opnum_of (request.QueryStatus handle) = 6
+opnum_of (request.Change change) = 11
 opnum_of (request.Create new) = 12
 opnum_of (request.OpenManager database access) = 15
 opnum_of (request.OpenService handle name access) = 16
+opnum_of (request.QueryConfig handle size) = 17
+opnum_of (request.DisplayName handle name size) = 20
+opnum_of (request.KeyName handle name size) = 21
+
+-- no body asks for a configuration of more than 8,192 bytes
+abbrev pub IsInRange : Request → Type 0
+IsInRange (request.QueryConfig handle size) = size ≤ 8192
+IsInRange _ = Unit {0}
 
 -- ## Reading
 
@@ -36,13 +46,14 @@ open_manager_at body = do
   ended ← finished body access.1
   Ok (request.OpenManager database.0 access.0)
 
-unfoldable pub open_service_at : List ℕ → Result Request BodyFault
-open_service_at body = do
+-- a handle, a name and a number
+unfoldable pub named_at : List ℕ → Result Named BodyFault
+named_at body = do
   handle ← handle_at body 0
   name ← text_at body handle.1
-  access ← number_at body name.1
-  ended ← finished body access.1
-  Ok (request.OpenService handle.0 name.0 access.0)
+  number ← number_at body name.1
+  ended ← finished body number.1
+  Ok (record { handle = handle.0; name = name.0; number = number.0 })
 
 -- what a body of a served opnum asks, or the first fault
 unfoldable pub request_at : ℕ → List ℕ → Result Request BodyFault
@@ -51,18 +62,27 @@ request_at opnum body =
     else if opnum == 2 then (lone_handle_at body >>= λ handle. Ok (request.Delete handle))
     else if opnum == 6 then (lone_handle_at body >>= λ handle. Ok (request.QueryStatus handle))
     else if opnum == 15 then open_manager_at body
-    else open_service_at body
+    else if opnum == 16 then (named_at body >>= λ named. Ok (request.OpenService named.handle named.name named.number))
+    else if opnum == 20 then (named_at body >>= λ named. Ok (request.DisplayName named.handle named.name named.number))
+    else (named_at body >>= λ named. Ok (request.KeyName named.handle named.name named.number))
 
 -- ## Writing
+
+unfoldable pub put_named : ℕ → List ℕ → ℕ → Draft → Draft
+put_named handle name number d = put_number number (put_text name (put_handle handle d))
 
 -- a draft with a request's items; of an opnum that isn't served nothing
 unfoldable pub with_request : Request → Draft → Draft
 with_request (request.Close handle) d = put_handle handle d
 with_request (request.Delete handle) d = put_handle handle d
 with_request (request.QueryStatus handle) d = put_handle handle d
+with_request (request.Change change) d = d
 with_request (request.Create new) d = d
 with_request (request.OpenManager database access) d = put_number access (put_some_text database (put_some_text None d))
-with_request (request.OpenService handle name access) d = put_number access (put_text name (put_handle handle d))
+with_request (request.OpenService handle name access) d = put_named handle name access d
+with_request (request.QueryConfig handle size) d = d
+with_request (request.DisplayName handle name size) d = put_named handle name size d
+with_request (request.KeyName handle name size) d = put_named handle name size d
 
 unfoldable pub request_bytes : Request → List ℕ
 request_bytes r = (with_request r blank).bytes

@@ -1,5 +1,6 @@
 //! Bodies of requests and replies, both ways: `RCloseServiceHandle`, `RDeleteService`,
-//! `RQueryServiceStatus`, `ROpenSCManagerW` and `ROpenServiceW` of MS-SCMR.
+//! `RQueryServiceStatus`, `ROpenSCManagerW`, `ROpenServiceW`, `RGetServiceDisplayNameW` and
+//! `RGetServiceKeyNameW` of MS-SCMR. All replies are written here, and bounded.
 #![tactic(auto)]
 
 mod replies;

@@ -1,17 +1,41 @@
-ghost use Rattle.std.specs.Prelude.{◌≡◌, ℕ, List, ◌+◌, ◌≤◌, ◌++◌, IsTrue, IfOk, IfErr, IsOk, OnOk, OnErr, Ok, [], length};
+ghost use Rattle.std.specs.Prelude.{◌≡◌, ℕ, List, ◌+◌, ◌^◌, ◌<◌, ◌≤◌, ◌++◌, IsTrue, IfOk, IfErr, IsOk, OnOk, OnErr, Ok, [], length};
 ghost use Rattle.scm_model.specs.declared.calls.Reply.{Reply};
 ghost use Rattle.ndr_body.specs.Reading.{Gives, number_at};
 ghost use Rattle.scm_model.specs.declared.calls.Request.{Request};
 ghost use Rattle.scm_calls.specs.Bodies.{IsReply};
-ghost use Rattle.scm_calls.specs.Requests.{is_served};
-ghost use Rattle.scm_calls.specs.Replies.{put_numbers, with_reply, reply_bytes, reply_size, reply_bound, Answers, code_at, handled_at, status_at, state_at, reply_at};
+ghost use Rattle.scm_calls.specs.Requests.{is_served, IsInRange};
+ghost use Rattle.scm_calls.specs.Replies.{numbers_of, put_numbers, put_heads, put_texts, put_config, with_reply, reply_bytes, text_size, config_size, reply_size, shown_bound, reply_bound, Answers, code_at, handled_at, status_at, state_at, name_at, reply_at};
 
 use ndr_body::{BodyFault, NdrReader, NdrWriter};
-use scm_model::{Reply, Request, Status};
-use scm_text::{Buffer, OutOfMemory};
+use scm_model::{Reply, Request, Shown, Status};
+use scm_text::{Buffer, OutOfMemory, WText};
+use std::alloc::Global;
+
+/// How many bytes a text has with the padding behind it.
+fn size_of_text(text: &WText) -> u128
+    ensures size { result ≡ text_size text.now }
+    ensures small { result < 2 ^ 66 }
+{
+    (14 + 2 * text.units().len() as u128 + 3) / 4 * 4
+}
+
+fn size_of_config(config: &Option<Shown>) -> u128
+    ensures size { result ≡ config_size config.now }
+    ensures small { result < 2 ^ 69 }
+{
+    match config {
+        None => 36,
+        Some(shown) => 36
+            + size_of_text(&shown.path)
+            + size_of_text(&shown.group)
+            + size_of_text(&shown.needs)
+            + size_of_text(&shown.account)
+            + size_of_text(&shown.display),
+    }
+}
 
 /// How many bytes the body of a reply has.
-fn size_of_reply(reply: &Reply) -> usize
+fn size_of_reply(reply: &Reply) -> u128
     ensures { result ≡ reply_size reply.now }
 {
     match reply {
@@ -20,6 +44,10 @@ fn size_of_reply(reply: &Reply) -> usize
         Reply::State { .. } => 32,
         Reply::Made { tag: None, .. } => 28,
         Reply::Made { tag: Some(_), .. } => 32,
+        Reply::Tag { tag: None, .. } => 8,
+        Reply::Tag { tag: Some(_), .. } => 12,
+        Reply::Shown { config, .. } => size_of_config(config) + 8,
+        Reply::Name { name, .. } => size_of_text(name) + 8,
     }
 }
 
@@ -35,6 +63,74 @@ fn put_numbers(writer: &mut NdrWriter, numbers: &[u32]) -> Result<(), OutOfMemor
     Ok(())
 }
 
+/// The seven numbers of a status.
+fn put_status(writer: &mut NdrWriter, status: &Status) -> Result<(), OutOfMemory>
+    ensures front { writer.new.front ≡ writer.old.front }
+    ensures ok { OnOk result (writer.new.draft ≡ put_numbers (numbers_of status.now) writer.old.draft) }
+    ensures space { writer.old.space ≤ writer.new.space }
+    ensures enough { length (put_numbers (numbers_of status.now) writer.old.draft).bytes ≤ writer.old.space → IsOk result }
+{
+    put_numbers(
+        writer,
+        &[
+            status.kind,
+            status.state,
+            status.accepted,
+            status.win32,
+            status.specific,
+            status.checkpoint,
+            status.hint,
+        ],
+    )
+}
+
+/// The nine numbers of a configuration.
+#[tactic(auto, unfolding(crate::specs::Replies::put_heads))]
+fn put_heads(writer: &mut NdrWriter, shown: &Shown) -> Result<(), OutOfMemory>
+    ensures front { writer.new.front ≡ writer.old.front }
+    ensures ok { OnOk result (writer.new.draft ≡ put_heads shown.now writer.old.draft) }
+    ensures space { writer.old.space ≤ writer.new.space }
+    ensures enough { length (put_heads shown.now writer.old.draft).bytes ≤ writer.old.space → IsOk result }
+{
+    put_numbers(writer, &[shown.kind, shown.start, shown.error])?;
+    writer.referent()?;
+    writer.referent()?;
+    writer.number(shown.tag)?;
+    writer.referent()?;
+    writer.referent()?;
+    writer.referent()
+}
+
+#[tactic(auto, unfolding(crate::specs::Replies::put_texts))]
+fn put_texts(writer: &mut NdrWriter, shown: &Shown) -> Result<(), OutOfMemory>
+    ensures front { writer.new.front ≡ writer.old.front }
+    ensures ok { OnOk result (writer.new.draft ≡ put_texts shown.now writer.old.draft) }
+    ensures space { writer.old.space ≤ writer.new.space }
+    ensures enough { length (put_texts shown.now writer.old.draft).bytes ≤ writer.old.space → IsOk result }
+{
+    writer.text(&shown.path)?;
+    writer.text(&shown.group)?;
+    writer.text(&shown.needs)?;
+    writer.text(&shown.account)?;
+    writer.text(&shown.display)
+}
+
+#[tactic(auto, unfolding(crate::specs::Replies::put_config))]
+fn put_config(writer: &mut NdrWriter, config: &Option<Shown>) -> Result<(), OutOfMemory>
+    ensures front { writer.new.front ≡ writer.old.front }
+    ensures ok { OnOk result (writer.new.draft ≡ put_config config.now writer.old.draft) }
+    ensures space { writer.old.space ≤ writer.new.space }
+    ensures enough { length (put_config config.now writer.old.draft).bytes ≤ writer.old.space → IsOk result }
+{
+    match config {
+        None => put_numbers(writer, &[0; 9]),
+        Some(shown) => {
+            put_heads(writer, shown)?;
+            put_texts(writer, shown)
+        }
+    }
+}
+
 #[tactic(auto, unfolding(crate::specs::Replies::with_reply))]
 fn put_reply(writer: &mut NdrWriter, reply: &Reply) -> Result<(), OutOfMemory>
     ensures front { writer.new.front ≡ writer.old.front }
@@ -48,23 +144,30 @@ fn put_reply(writer: &mut NdrWriter, reply: &Reply) -> Result<(), OutOfMemory>
             writer.number(*code)
         }
         Reply::State { status, code } => {
-            put_numbers(
-                writer,
-                &[
-                    status.kind,
-                    status.state,
-                    status.accepted,
-                    status.win32,
-                    status.specific,
-                    status.checkpoint,
-                    status.hint,
-                ],
-            )?;
+            put_status(writer, status)?;
             writer.number(*code)
         }
         Reply::Made { tag, handle, code } => {
             writer.some_number(*tag)?;
             writer.handle(*handle)?;
+            writer.number(*code)
+        }
+        Reply::Tag { tag, code } => {
+            writer.some_number(*tag)?;
+            writer.number(*code)
+        }
+        Reply::Shown {
+            config,
+            needed,
+            code,
+        } => {
+            put_config(writer, config)?;
+            writer.number(*needed)?;
+            writer.number(*code)
+        }
+        Reply::Name { name, size, code } => {
+            writer.text(name)?;
+            writer.number(*size)?;
             writer.number(*code)
         }
     }
@@ -87,8 +190,15 @@ fn written(reply: &Reply, out: Buffer<u8>) -> Result<Buffer<u8>, (OutOfMemory, B
     ensures err { IfErr result (λ failed. failed.1.items ≡ out.items) }
     ensures enough { length (reply_bytes reply.now) ≤ out.room → IsOk result }
 {
+    let size = size_of_reply(reply);
+    if size <= out.room() as u128 {
+        return Ok(fill(reply, out));
+    }
     let mut out = out;
-    match out.reserve(size_of_reply(reply)) {
+    let Ok(more) = usize::try_from(size) else {
+        return Err((OutOfMemory, out));
+    };
+    match out.reserve(more) {
         Ok(()) => Ok(fill(reply, out)),
         Err(fault) => Err((fault, out)),
     }
@@ -108,18 +218,37 @@ pub fn write_reply(reply: &Reply, out: Buffer<u8>) -> Result<Buffer<u8>, (OutOfM
     written(reply, out)
 }
 
+/// The greatest length of a reply with a configuration that takes at most this many bytes.
+fn bound_of_shown(size: u32) -> u32
+    requires { size ≤ 8192 }
+    ensures { result ≡ shown_bound size }
+{
+    let units = size.saturating_sub(36) / 2;
+    if units < 5 {
+        44
+    } else {
+        114 + 2 * ((units - 1) / 2 * 2 + 1)
+    }
+}
+
 fn bound_of(request: &Request) -> u32
+    requires { IsInRange request.now }
     ensures { result ≡ reply_bound request.now }
 {
     match request {
         Request::Close { .. } | Request::OpenManager { .. } | Request::OpenService { .. } => 24,
         Request::Delete { .. } => 4,
+        Request::Change(_) => 12,
         Request::QueryStatus { .. } | Request::Create(_) => 32,
+        Request::QueryConfig { size, .. } => bound_of_shown(*size),
+        Request::DisplayName { .. } | Request::KeyName { .. } => 536,
     }
 }
 
 /// The greatest length of the body of a reply that answers a request.
 pub fn reply_bound(request: &Request) -> u32
+    // What is read is in its ranges. Beyond them no number of 32 bits may be great enough.
+    requires { IsInRange request.now }
     ensures value { result ≡ reply_bound request.now }
     ensures bound { (told : Reply) → Answers request.now told → length (reply_bytes told) ≤ result }
     ensures reached { (told : Reply) × Answers request.now told × (length (reply_bytes told) ≡ result) }
@@ -175,26 +304,39 @@ fn read_state(body: &[u8]) -> Result<Reply, BodyFault>
     Ok(Reply::State { status, code })
 }
 
+#[tactic(auto, unfolding(crate::specs::Replies::name_at))]
+fn read_name(alloc: Global, body: &[u8]) -> Result<Reply, BodyFault>
+    ensures { Gives (λ r. r) result (name_at body.now) }
+{
+    let mut reader = NdrReader::new(body);
+    let name = reader.text(alloc)?;
+    let size = reader.number()?;
+    let code = reader.number()?;
+    reader.finish()?;
+    Ok(Reply::Name { name, size, code })
+}
+
 #[tactic(auto, unfolding(crate::specs::Replies::reply_at))]
-fn reply_of(opnum: u16, body: &[u8]) -> Result<Reply, BodyFault>
+fn reply_of(alloc: Global, opnum: u16, body: &[u8]) -> Result<Reply, BodyFault>
     ensures { Gives (λ r. r) result (reply_at opnum body.now) }
 {
     match opnum {
         2 => read_code(body),
         6 => read_state(body),
+        20 | 21 => read_name(alloc, body),
         _ => read_handled(body),
     }
 }
 
-/// What a body answers a request of an opnum. It takes no memory.
-pub fn read_reply(opnum: u16, body: &[u8]) -> Result<Reply, BodyFault>
+/// What a body answers a request of an opnum.
+pub fn read_reply(alloc: Global, opnum: u16, body: &[u8]) -> Result<Reply, BodyFault>
     requires { IsTrue (is_served opnum) }
     // What is read is told by the body, whatever its padding is.
     ensures found { IfOk result (λ told. IsReply opnum body.now told) }
-    // What the body tells is read.
+    // What the body tells is read, unless memory runs out.
     ensures only { (told : Reply) → IsReply opnum body.now told → Gives (λ r. r) result (Ok told) }
     // Which fault it is.
     ensures exact { Gives (λ r. r) result (reply_at opnum body.now) }
 {
-    reply_of(opnum, body)
+    reply_of(alloc, opnum, body)
 }

@@ -2,12 +2,20 @@ ghost use Rattle.std.specs.Prelude.{◌≡◌, IsTrue, IfOk, OnOk, Ok, List, ℕ
 ghost use Rattle.scm_model.specs.declared.calls.Request.{Request};
 ghost use Rattle.ndr_body.specs.Reading.{Gives};
 ghost use Rattle.scm_calls.specs.Bodies.{IsBody};
-ghost use Rattle.scm_calls.specs.Requests.{is_served, opnum_of, with_request, request_bytes, lone_handle_at, open_manager_at, open_service_at, request_at};
+ghost use Rattle.scm_calls.specs.Requests.{is_served, opnum_of, IsInRange, put_named, with_request, request_bytes, lone_handle_at, open_manager_at, named_at, request_at};
 
 use ndr_body::{BodyFault, NdrReader, NdrWriter};
 use scm_model::Request;
-use scm_text::{Buffer, Items, OutOfMemory};
+use scm_text::{Buffer, Items, OutOfMemory, WText};
 use std::alloc::Global;
+
+/// What a request says of a name.
+#[derive(Drop)]
+struct Named {
+    handle: u64,
+    name: WText,
+    number: u32,
+}
 
 /// A handle and nothing else.
 #[tactic(auto, unfolding(crate::specs::Requests::lone_handle_at))]
@@ -32,19 +40,20 @@ fn open_manager(alloc: Global, body: &[u8]) -> Result<Request, BodyFault>
     Ok(Request::OpenManager { database, access })
 }
 
-#[tactic(auto, unfolding(crate::specs::Requests::open_service_at))]
-fn open_service(alloc: Global, body: &[u8]) -> Result<Request, BodyFault>
-    ensures { Gives (λ r. r) result (open_service_at body.now) }
+/// A handle, a name and a number.
+#[tactic(auto, unfolding(crate::specs::Requests::named_at))]
+fn read_named(alloc: Global, body: &[u8]) -> Result<Named, BodyFault>
+    ensures { Gives (λ named. named) result (named_at body.now) }
 {
     let mut reader = NdrReader::new(body);
     let handle = reader.handle()?;
     let name = reader.text(alloc)?;
-    let access = reader.number()?;
+    let number = reader.number()?;
     reader.finish()?;
-    Ok(Request::OpenService {
+    Ok(Named {
         handle,
         name,
-        access,
+        number,
     })
 }
 
@@ -63,7 +72,34 @@ fn request_of(alloc: Global, opnum: u16, body: &[u8]) -> Result<Request, BodyFau
             handle: lone_handle(body)?,
         }),
         15 => open_manager(alloc, body),
-        _ => open_service(alloc, body),
+        16 => {
+            let Named {
+                handle,
+                name,
+                number: access,
+            } = read_named(alloc, body)?;
+            Ok(Request::OpenService {
+                handle,
+                name,
+                access,
+            })
+        }
+        20 => {
+            let Named {
+                handle,
+                name,
+                number: size,
+            } = read_named(alloc, body)?;
+            Ok(Request::DisplayName { handle, name, size })
+        }
+        _ => {
+            let Named {
+                handle,
+                name,
+                number: size,
+            } = read_named(alloc, body)?;
+            Ok(Request::KeyName { handle, name, size })
+        }
     }
 }
 
@@ -74,10 +110,27 @@ pub fn read_request(alloc: Global, opnum: u16, body: &[u8]) -> Result<Request, B
     ensures found { IfOk result (λ r. IsBody opnum body.now r) }
     // What the body asks is read, unless memory runs out.
     ensures only { (r : Request) → IsBody opnum body.now r → Gives (λ r. r) result (Ok r) }
+    // No size in it is beyond its range.
+    ensures ranged { IfOk result (λ r. IsInRange r) }
     // Which fault it is.
     ensures exact { Gives (λ r. r) result (request_at opnum body.now) }
 {
     request_of(alloc, opnum, body)
+}
+
+#[tactic(auto, unfolding(crate::specs::Requests::put_named))]
+fn put_named(
+    writer: &mut NdrWriter,
+    handle: u64,
+    name: &WText,
+    number: u32,
+) -> Result<(), OutOfMemory>
+    ensures front { writer.new.front ≡ writer.old.front }
+    ensures ok { OnOk result (writer.new.draft ≡ put_named handle name.now number writer.old.draft) }
+{
+    writer.handle(handle)?;
+    writer.text(name)?;
+    writer.number(number)
 }
 
 #[tactic(auto, unfolding(crate::specs::Requests::with_request))]
@@ -88,7 +141,6 @@ fn put_request(writer: &mut NdrWriter, request: &Request) -> Result<(), OutOfMem
     match request {
         Request::Close { handle } | Request::Delete { handle } | Request::QueryStatus { handle } =>
             writer.handle(*handle),
-        Request::Create(_) => Ok(()),
         Request::OpenManager { database, access } => {
             writer.some_text(None)?;
             writer.some_text(database.as_ref())?;
@@ -97,12 +149,19 @@ fn put_request(writer: &mut NdrWriter, request: &Request) -> Result<(), OutOfMem
         Request::OpenService {
             handle,
             name,
-            access,
-        } => {
-            writer.handle(*handle)?;
-            writer.text(name)?;
-            writer.number(*access)
+            access: number,
         }
+        | Request::DisplayName {
+            handle,
+            name,
+            size: number,
+        }
+        | Request::KeyName {
+            handle,
+            name,
+            size: number,
+        } => put_named(writer, *handle, name, *number),
+        Request::Change(_) | Request::Create(_) | Request::QueryConfig { .. } => Ok(()),
     }
 }
 

@@ -1,3 +1,5 @@
+ghost use Rattle.std.specs.Prelude.{◌≤◌};
+
 use super::*;
 use ndr_body::BodyFault;
 use scm_model::{Reply, Request, Status};
@@ -8,6 +10,17 @@ use std::test::*;
 const OPEN_SERVICE: [u8; 44] = [
     0, 0, 0, 0, 1, 0, 0, 0, 0, 0, 0, 0, 0, 0, 0, 0, 0, 0, 0, 0, 3, 0, 0, 0, 0, 0, 0, 0, 3, 0, 0, 0,
     0x44, 0, 0x62, 0, 0, 0, 0, 0, 4, 0, 0, 0,
+];
+
+/// `RGetServiceDisplayNameW` or `RGetServiceKeyNameW` for handle 1, the name `Web` and 64 units.
+const NAMED: [u8; 44] = [
+    0, 0, 0, 0, 1, 0, 0, 0, 0, 0, 0, 0, 0, 0, 0, 0, 0, 0, 0, 0, 4, 0, 0, 0, 0, 0, 0, 0, 4, 0, 0, 0,
+    0x57, 0, 0x65, 0, 0x62, 0, 0, 0, 0x40, 0, 0, 0,
+];
+
+/// The name `Lan`, which has 3 units, and code 0.
+const NAME: [u8; 28] = [
+    4, 0, 0, 0, 0, 0, 0, 0, 4, 0, 0, 0, 0x4C, 0, 0x61, 0, 0x6E, 0, 0, 0, 3, 0, 0, 0, 0, 0, 0, 0,
 ];
 
 /// Handle 1.
@@ -119,15 +132,94 @@ fn replies_are_written_and_read(rt: HostRuntime) -> Result<(), Fail> {
         Err(_) => return Err(Fail::new("there was room")),
     }
     assert!(rt;
-        matches!(read_reply(6, &FRESH)?, Reply::State { status: told, code: 0 } if told == status)
+        matches!(read_reply(rt.alloc(), 6, &FRESH)?, Reply::State { status: told, code: 0 } if told == status)
     );
-    assert!(rt; matches!(read_reply(2, &FRESH[..4])?, Reply::Code(16)));
+    assert!(rt; matches!(read_reply(rt.alloc(), 2, &FRESH[..4])?, Reply::Code(16)));
     assert!(rt;
         matches!(
-            read_reply(15, &OPEN_SERVICE[..24])?,
+            read_reply(rt.alloc(), 15, &OPEN_SERVICE[..24])?,
             Reply::Handle { handle: 1, code: 3 }
         )
     );
     assert_eq!(rt; reply_bound(&Request::QueryStatus { handle: 1 }), 32);
     Ok(())
+}
+
+#[test]
+fn a_display_name_is_asked_for(rt: HostRuntime) -> Result<(), Fail> {
+    match read_request(rt.alloc(), 20, &NAMED)? {
+        Request::DisplayName { handle, name, size } => {
+            assert_eq!(rt; (handle, size), (1, 64));
+            assert_eq!(rt; name.units(), [0x57, 0x65, 0x62].as_slice());
+        }
+        _other => return Err(Fail::new("a display name is asked for")),
+    }
+    Ok(())
+}
+
+#[test]
+fn a_key_name_is_asked_for(rt: HostRuntime) -> Result<(), Fail> {
+    match read_request(rt.alloc(), 21, &NAMED)? {
+        Request::KeyName { handle, name, size } => {
+            assert_eq!(rt; (handle, size), (1, 64));
+            assert_eq!(rt; name.units(), [0x57, 0x65, 0x62].as_slice());
+        }
+        _other => return Err(Fail::new("a key name is asked for")),
+    }
+    Ok(())
+}
+
+#[test]
+fn a_request_for_a_key_name_is_written(rt: HostRuntime) -> Result<(), Fail> {
+    let name = WText::from_units(rt.alloc(), &[0x57, 0x65, 0x62])?;
+    let asked = Request::KeyName {
+        handle: 1,
+        name,
+        size: 64,
+    };
+    assert_eq!(rt;
+        write_request(rt.alloc(), &asked)?.as_slice(),
+        NAMED.as_slice()
+    );
+    Ok(())
+}
+
+#[test]
+fn a_name_is_written(rt: HostRuntime) -> Result<(), Fail> {
+    let told = Reply::Name {
+        name: WText::from_units(rt.alloc(), &[0x4C, 0x61, 0x6E])?,
+        size: 3,
+        code: 0,
+    };
+    match write_reply(&told, Buffer::with_room(rt.alloc(), 28)?) {
+        Ok(written) => assert_eq!(rt; written.as_slice(), NAME.as_slice()),
+        Err(_) => return Err(Fail::new("there was room")),
+    }
+    Ok(())
+}
+
+#[test]
+fn a_name_is_read(rt: HostRuntime) -> Result<(), Fail> {
+    match read_reply(rt.alloc(), 20, &NAME)? {
+        Reply::Name { name, size, code } => {
+            assert_eq!(rt; name.units(), [0x4C, 0x61, 0x6E].as_slice());
+            assert_eq!(rt; (size, code), (3, 0));
+        }
+        _other => return Err(Fail::new("a name is told")),
+    }
+    Ok(())
+}
+
+/// The greatest length of a reply with a configuration, by a size.
+fn bound_of(size: u32) -> u32
+    requires { size ≤ 8192 }
+{
+    reply_bound(&Request::QueryConfig { handle: 1, size })
+}
+
+#[test]
+fn a_configuration_is_bounded_by_its_size(rt: HostRuntime) {
+    assert_eq!(rt; (bound_of(0), bound_of(45)), (44, 44));
+    assert_eq!(rt; (bound_of(46), bound_of(49)), (124, 124));
+    assert_eq!(rt; (bound_of(50), bound_of(8192)), (128, 8268));
 }
