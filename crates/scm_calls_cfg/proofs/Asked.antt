@@ -1,12 +1,11 @@
--- A creation is read exactly where the bytes are its body.
-use Rattle.std.proofs.Common.{◌≡◌, ℕ, Bool, true, false, cond, eqb, List, Option, Some, None, Result, Ok, Err, refl, sym, subst}
-use Rattle.std.specs.Prelude.{IfOk}
-use Rattle.std.proofs.lemmas.Bool.{eqb-true, eq-eqb}
+-- A request is read exactly where the bytes are its body.
+use Rattle.std.proofs.Common.{◌≡◌, ℕ, ◌≤◌, Bool, true, false, cond, eqb, leb, List, Option, Some, None, Result, Ok, Err, refl, subst, inl, inr}
+use Rattle.std.specs.Prelude.{◌||◌, IfOk}
+use Rattle.std.proofs.lemmas.Bool.{eqb-true, eq-eqb, leb-true, le-leb, cases_Bool}
 use Rattle.scm_model.specs.declared.calls.NewService.{NewService}
+use Rattle.scm_model.specs.declared.calls.ChangeService.{ChangeService}
 use Rattle.scm_model.specs.declared.calls.Request.{Request}
 use Rattle.scm_model.specs.declared.calls.Request.TheVariants as request
-use Rattle.scm_model.specs.declared.calls.Reply.{Reply}
-use Rattle.scm_model.specs.declared.calls.Reply.TheVariants as reply
 use Rattle.ndr_body.specs.declared.fault.BodyFault.{BodyFault}
 use Rattle.ndr_body.specs.declared.fault.BodyFault.TheVariants.{BadCount}
 use Rattle.ndr_body.specs.Reading.{◌>>=◌, Gives, aligned, number_at, handle_at, text_at, some_text_at, some_number_at, some_bytes_at, finished}
@@ -18,9 +17,11 @@ use Rattle.ndr_body.proofs.SpelledPointers.{some_text_spelled, some_text_read, s
 use Rattle.scm_calls_cfg.specs.declared.requests.Named.{Named}
 use Rattle.scm_calls_cfg.specs.declared.requests.Shape.{Shape}
 use Rattle.scm_calls_cfg.specs.declared.requests.Belongings.{Belongings}
-use Rattle.scm_calls_cfg.specs.Requests.{is_size, sized_at, named_at, shape_at, belongings_at, asked, create_at, request_at}
-use Rattle.scm_calls_cfg.specs.Replies.{made_at, reply_at}
-use Rattle.scm_calls_cfg.specs.Bodies.{IsSize, SizedStands, IsCreate, IsBody, IsMadeBody, IsReply}
+use Rattle.scm_calls_cfg.specs.declared.requests.Aim.{Aim}
+use Rattle.scm_calls_cfg.specs.declared.requests.Look.{Look}
+use Rattle.scm_calls.specs.Requests.{IsInRange}
+use Rattle.scm_calls_cfg.specs.Requests.{is_served, is_size, sized_at, named_at, shape_at, belongings_at, asked, create_at, aim_at, changed, change_at, within_at, look_at, request_at}
+use Rattle.scm_calls_cfg.specs.Bodies.{IsSize, SizedStands, IsCreate, IsChange, IsLook, IsBody}
 
 -- ## The parts of a body, as relations
 
@@ -53,6 +54,17 @@ pub record BelongingsStand (bytes : List ℕ) (place : ℕ) (belongings : Belong
   pub account_stands : Stands (IsPointed IsText) bytes behind_needs belongings.account behind_account
   pub password : Option (List ℕ)
   pub password_stands : SizedStands bytes behind_account password after
+
+pub record AimStands (bytes : List ℕ) (place : ℕ) (aim : Aim) (after : ℕ) : Type 0 where
+  pub behind_handle : ℕ
+  pub handle_stands : Stands IsHandle bytes place aim.handle behind_handle
+  pub behind_kind : ℕ
+  pub kind_stands : Stands IsNumber bytes behind_handle aim.kind behind_kind
+  pub behind_start : ℕ
+  pub start_stands : Stands IsNumber bytes behind_kind aim.start behind_start
+  pub behind_error : ℕ
+  pub error_stands : Stands IsNumber bytes behind_start aim.error behind_error
+  pub path_stands : Stands (IsPointed IsText) bytes behind_error aim.path after
 
 -- ## What is read is a body
 
@@ -185,16 +197,134 @@ create_found body new fits e =
     } in
     subst (IsCreate body) (ok_is (asked a.0.0 b.0.0 c.0.0) new d.2) found
 
-pub request_found : (body : List ℕ) (r : Request) → IsBytes body → request_at 12 body ≡ Ok r → IsBody 12 body r
-request_found body r fits e =
-    let a = bind_ok (create_at body) (λ new. Ok (request.Create new)) r e in
-    subst (IsBody 12 body) (ok_is (request.Create a.0) r a.2) (refl, create_found body a.0 fits a.1)
+aim_found : (body : List ℕ) (place : ℕ) (x : Aim × ℕ) → IsBytes body → aim_at body place ≡ Ok x → AimStands body place x.0 x.1
+unfolding aim_at
+aim_found body place x fits e =
+    let a = bind_ok (handle_at body place) (λ handle. number_at body handle.1 >>= λ kind. number_at body kind.1 >>= λ start. number_at body start.1 >>= λ error. some_text_at body error.1 >>= λ path. Ok (record { handle = handle.0; kind = kind.0; start = start.0; error = error.0; path = path.0 }, path.1)) x e in
+    let b = bind_ok (number_at body a.0.1) (λ kind. number_at body kind.1 >>= λ start. number_at body start.1 >>= λ error. some_text_at body error.1 >>= λ path. Ok (record { handle = a.0.0; kind = kind.0; start = start.0; error = error.0; path = path.0 }, path.1)) x a.2 in
+    let c = bind_ok (number_at body b.0.1) (λ start. number_at body start.1 >>= λ error. some_text_at body error.1 >>= λ path. Ok (record { handle = a.0.0; kind = b.0.0; start = start.0; error = error.0; path = path.0 }, path.1)) x b.2 in
+    let d = bind_ok (number_at body c.0.1) (λ error. some_text_at body error.1 >>= λ path. Ok (record { handle = a.0.0; kind = b.0.0; start = c.0.0; error = error.0; path = path.0 }, path.1)) x c.2 in
+    let e = bind_ok (some_text_at body d.0.1) (λ path. Ok (record { handle = a.0.0; kind = b.0.0; start = c.0.0; error = d.0.0; path = path.0 }, path.1)) x d.2 in
+    let made : Aim × ℕ = (record { handle = a.0.0; kind = b.0.0; start = c.0.0; error = d.0.0; path = e.0.0 }, e.0.1) in
+    let found : AimStands body place made.0 made.1 = record {
+      behind_handle = a.0.1;
+      handle_stands = handle_spelled body (aligned place) a.0 fits a.1;
+      behind_kind = b.0.1;
+      kind_stands = number_spelled body (aligned a.0.1) (aligned a.0.1) b.0 fits b.1;
+      behind_start = c.0.1;
+      start_stands = number_spelled body (aligned b.0.1) (aligned b.0.1) c.0 fits c.1;
+      behind_error = d.0.1;
+      error_stands = number_spelled body (aligned c.0.1) (aligned c.0.1) d.0 fits d.1;
+      path_stands = some_text_spelled body (aligned d.0.1) e.0 fits e.1;
+    } in
+    subst (λ (y : Aim × ℕ). AimStands body place y.0 y.1) (ok_is made x e.2) found
 
-pub found_if : (opnum : ℕ) (body : List ℕ) (told : Result Request BodyFault) → eqb opnum 12 ≡ true → IsBytes body → Gives (λ r. r) told (request_at opnum body) → IfOk told (λ r. IsBody opnum body r)
-found_if opnum body (Ok r) served fits given =
-    let is : opnum ≡ 12 = eqb-true _ _ served in
-    subst (λ (o : ℕ). IsBody o body r) (sym is) (request_found body r fits (subst (λ (o : ℕ). request_at o body ≡ Ok r) is given))
+change_found : (body : List ℕ) (change : ChangeService) → IsBytes body → change_at body ≡ Ok change → IsChange body change
+unfolding change_at
+change_found body change fits e =
+    let a = bind_ok (aim_at body 0) (λ aim. belongings_at body aim.1 >>= λ belongings. some_text_at body belongings.1 >>= λ display. finished body display.1 >>= λ ended. Ok (changed aim.0 belongings.0 display.0)) change e in
+    let b = bind_ok (belongings_at body a.0.1) (λ belongings. some_text_at body belongings.1 >>= λ display. finished body display.1 >>= λ ended. Ok (changed a.0.0 belongings.0 display.0)) change a.2 in
+    let c = bind_ok (some_text_at body b.0.1) (λ display. finished body display.1 >>= λ ended. Ok (changed a.0.0 b.0.0 display.0)) change b.2 in
+    let d = bind_ok (finished body c.0.1) (λ ended. Ok (changed a.0.0 b.0.0 c.0.0)) change c.2 in
+    let n = aim_found body 0 a.0 fits a.1 in
+    let t = belongings_found body a.0.1 b.0 fits b.1 in
+    let found : IsChange body (changed a.0.0 b.0.0 c.0.0) = record {
+      behind_handle = n.behind_handle;
+      handle_stands = n.handle_stands;
+      behind_kind = n.behind_kind;
+      kind_stands = n.kind_stands;
+      behind_start = n.behind_start;
+      start_stands = n.start_stands;
+      behind_error = n.behind_error;
+      error_stands = n.error_stands;
+      behind_path = a.0.1;
+      path_stands = n.path_stands;
+      behind_group = t.behind_group;
+      group_stands = t.group_stands;
+      behind_tag = t.behind_tag;
+      tag_stands = t.tag_stands;
+      behind_needs = t.behind_needs;
+      needs_stand = t.needs_stand;
+      behind_account = t.behind_account;
+      account_stands = t.account_stands;
+      password = t.password;
+      behind_password = b.0.1;
+      password_stands = t.password_stands;
+      behind_display = c.0.1;
+      display_stands = some_text_spelled body (aligned b.0.1) c.0 fits c.1;
+      ends = finished_ended body c.0.1 d.1;
+    } in
+    subst (IsChange body) (ok_is (changed a.0.0 b.0.0 c.0.0) change d.2) found
+
+-- a number within its range
+pub record WithinStands (most : ℕ) (bytes : List ℕ) (place n after : ℕ) : Type 0 where
+  pub stands : Stands IsNumber bytes place n after
+  pub in_range : n ≤ most
+
+within_found : (most : ℕ) (body : List ℕ) (place : ℕ) (x : ℕ × ℕ) → IsBytes body → within_at most body place ≡ Ok x → WithinStands most body place x.0 x.1
+unfolding within_at
+within_found most body place x fits e =
+    let a = bind_ok (number_at body place) (λ number. cond (leb number.0 most) (Ok number) (Err (BadCount (aligned place)))) x e in
+    let g = guard_true (leb a.0.0 most) (BadCount (aligned place)) a.0 x a.2 in
+    subst (λ (y : ℕ × ℕ). WithinStands most body place y.0 y.1) g.1 (record {
+      stands = number_spelled body (aligned place) (aligned place) a.0 fits a.1;
+      in_range = leb-true a.0.0 most g.0;
+    })
+
+look_found : (body : List ℕ) (look : Look) → IsBytes body → look_at body ≡ Ok look → IsLook body look.handle look.size
+unfolding look_at
+look_found body look fits e =
+    let a = bind_ok (handle_at body 0) (λ handle. within_at 8192 body handle.1 >>= λ size. finished body size.1 >>= λ ended. Ok (record { handle = handle.0; size = size.0 })) look e in
+    let b = bind_ok (within_at 8192 body a.0.1) (λ size. finished body size.1 >>= λ ended. Ok (record { handle = a.0.0; size = size.0 })) look a.2 in
+    let c = bind_ok (finished body b.0.1) (λ ended. Ok (record { handle = a.0.0; size = b.0.0 })) look b.2 in
+    let w = within_found 8192 body a.0.1 b.0 fits b.1 in
+    let made : Look = record { handle = a.0.0; size = b.0.0 } in
+    let found : IsLook body made.handle made.size = record {
+      behind_handle = a.0.1;
+      handle_stands = handle_spelled body 0 a.0 fits a.1;
+      behind_size = b.0.1;
+      size_stands = w.stands;
+      in_range = w.in_range;
+      ends = finished_ended body b.0.1 c.1;
+    } in
+    subst (λ (y : Look). IsLook body y.handle y.size) (ok_is made look c.2) found
+
+left_out : (a b c : Bool) → (a || b || c) ≡ true → a ≡ false → b ≡ false → c ≡ true
+left_out true b c h no_a no_b = absurd cc
+left_out false true c h no_a no_b = absurd cc
+left_out false false c h no_a no_b = h
+
+pub last_is : (opnum : ℕ) → is_served opnum ≡ true → eqb opnum 11 ≡ false → eqb opnum 12 ≡ false → opnum ≡ 17
+last_is opnum served no_11 no_12 = eqb-true _ _ (left_out (eqb opnum 11) (eqb opnum 12) (eqb opnum 17) served no_11 no_12)
+
+request_found : (opnum : ℕ) (body : List ℕ) (r : Request) → is_served opnum ≡ true → IsBytes body → request_at opnum body ≡ Ok r → IsBody opnum body r
+unfolding request_at
+request_found opnum body r served fits e =
+    elim (cases_Bool (eqb opnum 11)) [
+      | inl is ↦
+          let a = bind_ok (change_at body) (λ change. Ok (request.Change change)) r (rw is at e) in
+          subst (IsBody opnum body) (ok_is (request.Change a.0) r a.2) (eqb-true _ _ is, change_found body a.0 fits a.1)
+      | inr no_11 ↦ elim (cases_Bool (eqb opnum 12)) [
+        | inl is ↦
+            let a = bind_ok (create_at body) (λ new. Ok (request.Create new)) r (rw (no_11, is) at e) in
+            subst (IsBody opnum body) (ok_is (request.Create a.0) r a.2) (eqb-true _ _ is, create_found body a.0 fits a.1)
+        | inr no_12 ↦
+            let a = bind_ok (look_at body) (λ look. Ok (request.QueryConfig look.handle look.size)) r (rw (no_11, no_12) at e) in
+            subst (IsBody opnum body) (ok_is (request.QueryConfig a.0.handle a.0.size) r a.2) (last_is opnum served no_11 no_12, look_found body a.0 fits a.1)
+      ]
+    ]
+
+pub found_if : (opnum : ℕ) (body : List ℕ) (told : Result Request BodyFault) → is_served opnum ≡ true → IsBytes body → Gives (λ r. r) told (request_at opnum body) → IfOk told (λ r. IsBody opnum body r)
+found_if opnum body (Ok r) served fits given = request_found opnum body r served fits given
 found_if opnum body (Err e) served fits given = tt
+
+ranged : (opnum : ℕ) (body : List ℕ) (r : Request) → IsBody opnum body r → IsInRange r
+ranged opnum body (request.QueryConfig handle size) h = h.1.in_range
+ranged opnum body _ h = tt
+
+pub ranged_if : (opnum : ℕ) (body : List ℕ) (told : Result Request BodyFault) → is_served opnum ≡ true → IsBytes body → Gives (λ r. r) told (request_at opnum body) → IfOk told (λ r. IsInRange r)
+ranged_if opnum body (Ok r) served fits given = ranged opnum body r (request_found opnum body r served fits given)
+ranged_if opnum body (Err e) served fits given = tt
 
 -- ## A body is read
 
@@ -268,45 +398,59 @@ create_read body new fits h =
     } in
     rw (named_read body 0 named h.behind_display fits n, shape_read body h.behind_display shape h.behind_path s, belongings_read body h.behind_path belongings h.behind_password t, ended_finished body h.behind_password h.ends) refl
 
-pub request_read : (opnum : ℕ) (body : List ℕ) (r : Request) → IsBytes body → IsBody opnum body r → request_at opnum body ≡ Ok r
-request_read opnum body (request.Create new) fits h = rw (create_read body new fits h.1) refl
-request_read opnum body (request.Close handle) fits h = absurd h
-request_read opnum body (request.Delete handle) fits h = absurd h
-request_read opnum body (request.QueryStatus handle) fits h = absurd h
-request_read opnum body (request.OpenManager database access) fits h = absurd h
-request_read opnum body (request.OpenService handle name access) fits h = absurd h
+aim_read : (body : List ℕ) (place : ℕ) (aim : Aim) (after : ℕ) → IsBytes body → AimStands body place aim after → aim_at body place ≡ Ok (aim, after)
+unfolding aim_at
+aim_read body place aim after fits h =
+    rw (
+      handle_read body (aligned place) aim.handle h.behind_handle fits h.handle_stands,
+      number_read body (aligned h.behind_handle) (aligned h.behind_handle) aim.kind h.behind_kind h.kind_stands,
+      number_read body (aligned h.behind_kind) (aligned h.behind_kind) aim.start h.behind_start h.start_stands,
+      number_read body (aligned h.behind_start) (aligned h.behind_start) aim.error h.behind_error h.error_stands,
+      some_text_read body (aligned h.behind_error) aim.path after h.path_stands,
+    ) refl
 
--- ## Replies
-
-made_found : (body : List ℕ) (told : Reply) → IsBytes body → made_at body ≡ Ok told → IsReply 12 body told
-unfolding made_at
-made_found body told fits e =
-    let a = bind_ok (some_number_at body 0) (λ tag. handle_at body tag.1 >>= λ handle. number_at body handle.1 >>= λ code. finished body code.1 >>= λ ended. Ok (reply.Made tag.0 handle.0 code.0)) told e in
-    let b = bind_ok (handle_at body a.0.1) (λ handle. number_at body handle.1 >>= λ code. finished body code.1 >>= λ ended. Ok (reply.Made a.0.0 handle.0 code.0)) told a.2 in
-    let c = bind_ok (number_at body b.0.1) (λ code. finished body code.1 >>= λ ended. Ok (reply.Made a.0.0 b.0.0 code.0)) told b.2 in
-    let d = bind_ok (finished body c.0.1) (λ ended. Ok (reply.Made a.0.0 b.0.0 c.0.0)) told c.2 in
-    let found : IsMadeBody body a.0.0 b.0.0 c.0.0 = record {
-      behind_tag = a.0.1;
-      tag_stands = some_number_spelled body (aligned 0) a.0 fits a.1;
-      behind_handle = b.0.1;
-      handle_stands = handle_spelled body (aligned a.0.1) b.0 fits b.1;
-      behind_code = c.0.1;
-      code_stands = number_spelled body (aligned b.0.1) (aligned b.0.1) c.0 fits c.1;
-      ends = finished_ended body c.0.1 d.1;
+change_read : (body : List ℕ) (change : ChangeService) → IsBytes body → IsChange body change → change_at body ≡ Ok change
+unfolding change_at
+change_read body change fits h =
+    let aim : Aim = record { handle = change.handle; kind = change.kind; start = change.start; error = change.error; path = change.path } in
+    let belongings : Belongings = record { group = change.group; tag = change.tag; needs = change.needs; account = change.account } in
+    let n : AimStands body 0 aim h.behind_path = record {
+      behind_handle = h.behind_handle;
+      handle_stands = h.handle_stands;
+      behind_kind = h.behind_kind;
+      kind_stands = h.kind_stands;
+      behind_start = h.behind_start;
+      start_stands = h.start_stands;
+      behind_error = h.behind_error;
+      error_stands = h.error_stands;
+      path_stands = h.path_stands;
     } in
-    subst (IsReply 12 body) (ok_is (reply.Made a.0.0 b.0.0 c.0.0) told d.2) (refl, found)
+    let t : BelongingsStand body h.behind_path belongings h.behind_password = record {
+      behind_group = h.behind_group;
+      group_stands = h.group_stands;
+      behind_tag = h.behind_tag;
+      tag_stands = h.tag_stands;
+      behind_needs = h.behind_needs;
+      needs_stand = h.needs_stand;
+      behind_account = h.behind_account;
+      account_stands = h.account_stands;
+      password = h.password;
+      password_stands = h.password_stands;
+    } in
+    rw (aim_read body 0 aim h.behind_path fits n, belongings_read body h.behind_path belongings h.behind_password t, some_text_read body (aligned h.behind_password) change.display h.behind_display h.display_stands, ended_finished body h.behind_display h.ends) refl
 
-pub told_if : (opnum : ℕ) (body : List ℕ) (told : Result Reply BodyFault) → eqb opnum 12 ≡ true → IsBytes body → Gives (λ r. r) told (reply_at opnum body) → IfOk told (λ r. IsReply opnum body r)
-told_if opnum body (Ok r) served fits given = subst (λ (o : ℕ). IsReply o body r) (sym (eqb-true _ _ served)) (made_found body r fits given)
-told_if opnum body (Err e) served fits given = tt
+within_read : (most : ℕ) (body : List ℕ) (place n after : ℕ) → Stands IsNumber body place n after → n ≤ most → within_at most body place ≡ Ok (n, after)
+unfolding within_at
+within_read most body place n after h le = rw (number_read body (aligned place) (aligned place) n after h, le-leb n most le) refl
 
-made_read : (body : List ℕ) (tag : Option ℕ) (handle code : ℕ) → IsBytes body → IsMadeBody body tag handle code → made_at body ≡ Ok (reply.Made tag handle code)
-unfolding made_at
-made_read body tag handle code fits h =
-    rw (some_number_read body (aligned 0) tag h.behind_tag h.tag_stands, handle_read body (aligned h.behind_tag) handle h.behind_handle fits h.handle_stands, number_read body (aligned h.behind_handle) (aligned h.behind_handle) code h.behind_code h.code_stands, ended_finished body h.behind_code h.ends) refl
+look_read : (body : List ℕ) (handle size : ℕ) → IsBytes body → IsLook body handle size → look_at body ≡ Ok (record { handle = handle; size = size })
+unfolding look_at
+look_read body handle size fits h =
+    rw (handle_read body 0 handle h.behind_handle fits h.handle_stands, within_read 8192 body h.behind_handle size h.behind_size h.size_stands h.in_range, ended_finished body h.behind_size h.ends) refl
 
-pub reply_read : (opnum : ℕ) (body : List ℕ) (told : Reply) → IsBytes body → IsReply opnum body told → reply_at opnum body ≡ Ok told
-reply_read opnum body (reply.Made tag handle code) fits h = made_read body tag handle code fits h.1
-reply_read opnum body (reply.Code code) fits h = absurd h
-reply_read opnum body (reply.Handle handle code) fits h = absurd h
-reply_read opnum body (reply.State status code) fits h = absurd h
+pub request_read : (opnum : ℕ) (body : List ℕ) (r : Request) → IsBytes body → IsBody opnum body r → request_at opnum body ≡ Ok r
+unfolding request_at
+request_read opnum body (request.Change change) fits h = rw (h.0, change_read body change fits h.1) refl
+request_read opnum body (request.Create new) fits h = rw (h.0, create_read body new fits h.1) refl
+request_read opnum body (request.QueryConfig handle size) fits h = rw (h.0, look_read body handle size fits h.1) refl
+request_read opnum body _ fits h = absurd h

@@ -1,2 +1,4 @@
 pub mod Asked
+pub mod Told
 pub mod Put
+pub mod Again

@@ -1,6 +1,7 @@
--- Creation of a service: how a body is read, and the one form that is written.
-use Rattle.std.specs.Prelude.{ℕ, Bool, true, ◌==◌, List, length, Option, None, Some, Result, Ok, Err, if◌then◌else◌}
+-- Creation of a service, a change of its configuration and a look at it: how a body is read, and the one form that is written.
+use Rattle.std.specs.Prelude.{ℕ, Bool, true, ◌||◌, ◌==◌, nat_le, List, length, Option, None, Some, Result, Ok, Err, if◌then◌else◌}
 use Rattle.scm_model.specs.declared.calls.NewService.{NewService}
+use Rattle.scm_model.specs.declared.calls.ChangeService.{ChangeService}
 use Rattle.scm_model.specs.declared.calls.Request.{Request}
 use Rattle.scm_model.specs.declared.calls.Request.TheVariants as request
 use Rattle.ndr_body.specs.declared.fault.BodyFault.{BodyFault}
@@ -10,10 +11,12 @@ use Rattle.ndr_body.specs.Writing.{Draft, blank, put_number, put_handle, put_tex
 use Rattle.scm_calls_cfg.specs.declared.requests.Named.{Named}
 use Rattle.scm_calls_cfg.specs.declared.requests.Shape.{Shape}
 use Rattle.scm_calls_cfg.specs.declared.requests.Belongings.{Belongings}
+use Rattle.scm_calls_cfg.specs.declared.requests.Aim.{Aim}
+use Rattle.scm_calls_cfg.specs.declared.requests.Look.{Look}
 
 -- the opnums whose bodies are read and written here
 abbrev pub is_served : ℕ → Bool
-is_served opnum = opnum == 12
+is_served opnum = opnum == 11 || opnum == 12 || opnum == 17
 
 -- ## Reading
 
@@ -80,9 +83,57 @@ create_at body = do
   ended ← finished body belongings.1
   Ok (asked named.0 shape.0 belongings.0)
 
+unfoldable pub aim_at : List ℕ → ℕ → Result (Aim × ℕ) BodyFault
+aim_at body place = do
+  handle ← handle_at body place
+  kind ← number_at body handle.1
+  start ← number_at body kind.1
+  error ← number_at body start.1
+  path ← some_text_at body error.1
+  Ok (record { handle = handle.0; kind = kind.0; start = start.0; error = error.0; path = path.0 }, path.1)
+
+-- what the parts of a change ask together
+abbrev pub changed : Aim → Belongings → Option (List ℕ) → ChangeService
+changed aim belongings display = record {
+  handle = aim.handle;
+  kind = aim.kind;
+  start = aim.start;
+  error = aim.error;
+  path = aim.path;
+  group = belongings.group;
+  tag = belongings.tag;
+  needs = belongings.needs;
+  account = belongings.account;
+  display = display;
+}
+
+unfoldable pub change_at : List ℕ → Result ChangeService BodyFault
+change_at body = do
+  aim ← aim_at body 0
+  belongings ← belongings_at body aim.1
+  display ← some_text_at body belongings.1
+  ended ← finished body display.1
+  Ok (changed aim.0 belongings.0 display.0)
+
+-- a number that may not pass its range
+unfoldable pub within_at : ℕ → List ℕ → ℕ → Result (ℕ × ℕ) BodyFault
+within_at most body place = do
+  number ← number_at body place
+  if nat_le number.0 most then Ok number else Err (BadCount (aligned place))
+
+unfoldable pub look_at : List ℕ → Result Look BodyFault
+look_at body = do
+  handle ← handle_at body 0
+  size ← within_at 8192 body handle.1
+  ended ← finished body size.1
+  Ok (record { handle = handle.0; size = size.0 })
+
 -- what a body of a served opnum asks, or the first fault
-abbrev pub request_at : ℕ → List ℕ → Result Request BodyFault
-request_at opnum body = create_at body >>= λ new. Ok (request.Create new)
+unfoldable pub request_at : ℕ → List ℕ → Result Request BodyFault
+request_at opnum body =
+    if opnum == 11 then (change_at body >>= λ change. Ok (request.Change change))
+    else if opnum == 12 then (create_at body >>= λ new. Ok (request.Create new))
+    else (look_at body >>= λ look. Ok (request.QueryConfig look.handle look.size))
 
 -- ## Writing
 
@@ -97,20 +148,30 @@ with_named new d = put_some_text new.display (put_text new.name (put_handle new.
 unfoldable pub with_shape : NewService → Draft → Draft
 with_shape new d = put_text new.path (put_number new.error (put_number new.start (put_number new.kind (put_number new.access d))))
 
-unfoldable pub with_belongings : NewService → Draft → Draft
-with_belongings new d = put_sized None (put_some_text new.account (put_sized new.needs (put_some_number new.tag (put_some_text new.group d))))
+unfoldable pub with_belongings : Option (List ℕ) → Option ℕ → Option (List ℕ) → Option (List ℕ) → Draft → Draft
+with_belongings group tag needs account d = put_sized None (put_some_text account (put_sized needs (put_some_number tag (put_some_text group d))))
 
 unfoldable pub with_create : NewService → Draft → Draft
-with_create new d = with_belongings new (with_shape new (with_named new d))
+with_create new d = with_belongings new.group new.tag new.needs new.account (with_shape new (with_named new d))
+
+unfoldable pub with_aim : ChangeService → Draft → Draft
+with_aim change d = put_some_text change.path (put_number change.error (put_number change.start (put_number change.kind (put_handle change.handle d))))
+
+unfoldable pub with_change : ChangeService → Draft → Draft
+with_change change d = put_some_text change.display (with_belongings change.group change.tag change.needs change.account (with_aim change d))
 
 -- a draft with a request's items; of an opnum that isn't served nothing
 abbrev pub with_request : Request → Draft → Draft
 with_request (request.Close handle) d = d
 with_request (request.Delete handle) d = d
 with_request (request.QueryStatus handle) d = d
+with_request (request.Change change) d = with_change change d
 with_request (request.Create new) d = with_create new d
 with_request (request.OpenManager database access) d = d
 with_request (request.OpenService handle name access) d = d
+with_request (request.QueryConfig handle size) d = put_number size (put_handle handle d)
+with_request (request.DisplayName handle name size) d = d
+with_request (request.KeyName handle name size) d = d
 
 unfoldable pub request_bytes : Request → List ℕ
 request_bytes r = (with_request r blank).bytes

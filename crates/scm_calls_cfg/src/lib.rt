@@ -1,6 +1,8 @@
-//! Bodies of calls on configurations, both ways: `RCreateServiceW` of MS-SCMR.
+//! Bodies of calls on configurations, both ways: `RChangeServiceConfigW`, `RCreateServiceW` and
+//! `RQueryServiceConfigW` of MS-SCMR.
 #![tactic(auto)]
 
+mod places;
 mod replies;
 mod requests;
 

@@ -1,12 +1,13 @@
 ghost use Rattle.std.specs.Prelude.{◌≡◌, ◌&&◌, IsTrue, IfOk, OnOk, Ok, List, ℕ, option_map};
 ghost use Rattle.scm_model.specs.declared.calls.Request.{Request};
 ghost use Rattle.ndr_body.specs.Reading.{Gives};
-ghost use Rattle.scm_calls.specs.Requests.{opnum_of};
+ghost use Rattle.scm_calls.specs.Requests.{opnum_of, IsInRange};
 ghost use Rattle.scm_calls_cfg.specs.Bodies.{IsBody};
-ghost use Rattle.scm_calls_cfg.specs.Requests.{is_served, is_size, sized_at, named_at, shape_at, belongings_at, create_at, request_at, put_sized, with_named, with_shape, with_belongings, with_create, with_request, request_bytes};
+ghost use Rattle.scm_calls_cfg.specs.Requests.{is_served, is_size, sized_at, named_at, shape_at, belongings_at, create_at, aim_at, change_at, within_at, look_at, request_at, put_sized, with_named, with_shape, with_belongings, with_create, with_aim, with_change, with_request, request_bytes};
 
+use crate::places::next_place;
 use ndr_body::{BodyFault, NdrReader, NdrWriter};
-use scm_model::{NewService, Request};
+use scm_model::{ChangeService, NewService, Request};
 use scm_text::{Buffer, Items, OutOfMemory, WText};
 use std::alloc::Global;
 
@@ -37,6 +38,26 @@ struct Belongings {
     account: Option<WText>,
 }
 
+/// Whose configuration is to be changed, and what of it.
+#[derive(Drop)]
+struct Aim {
+    handle: u64,
+    kind: u32,
+    start: u32,
+    error: u32,
+    path: Option<WText>,
+}
+
+/// Whose configuration is to be shown, in at most how many bytes.
+#[derive(Drop)]
+struct Look {
+    handle: u64,
+    size: u32,
+}
+
+/// The most bytes that a configuration may be asked for in.
+const MOST_SHOWN: u32 = 8192;
+
 /// Whether a size is that of the bytes before it.
 fn is_size(held: &Option<Items<u8>>, size: u32) -> bool
     ensures { result ≡ is_size held.now size }
@@ -54,7 +75,7 @@ fn read_sized(reader: &mut NdrReader, alloc: Global) -> Result<Option<Items<u8>>
     ensures body { reader.new.body ≡ reader.old.body }
 {
     let held = reader.some_bytes(alloc)?;
-    let start = (reader.place() + 3) / 4 * 4;
+    let start = next_place(reader);
     let size = reader.number()?;
     if is_size(&held, size) {
         Ok(held)
@@ -140,10 +161,86 @@ fn read_create(alloc: Global, body: &[u8]) -> Result<NewService, BodyFault>
     })
 }
 
-fn request_of(alloc: Global, body: &[u8]) -> Result<Request, BodyFault>
-    ensures { Gives (λ r. r) result (request_at 12 body.now) }
+#[tactic(auto, unfolding(crate::specs::Requests::aim_at))]
+fn read_aim(reader: &mut NdrReader, alloc: Global) -> Result<Aim, BodyFault>
+    ensures value { Gives (λ v. (v, reader.new.place)) result (aim_at reader.old.body reader.old.place) }
+    ensures body { reader.new.body ≡ reader.old.body }
 {
-    Ok(Request::Create(read_create(alloc, body)?))
+    let handle = reader.handle()?;
+    let kind = reader.number()?;
+    let start = reader.number()?;
+    let error = reader.number()?;
+    let path = reader.some_text(alloc)?;
+    Ok(Aim {
+        handle,
+        kind,
+        start,
+        error,
+        path,
+    })
+}
+
+#[tactic(auto, unfolding(crate::specs::Requests::change_at))]
+fn read_change(alloc: Global, body: &[u8]) -> Result<ChangeService, BodyFault>
+    ensures { Gives (λ change. change) result (change_at body.now) }
+{
+    let mut reader = NdrReader::new(body);
+    let aim = read_aim(&mut reader, alloc)?;
+    let belongings = read_belongings(&mut reader, alloc)?;
+    let display = reader.some_text(alloc)?;
+    reader.finish()?;
+    Ok(ChangeService {
+        handle: aim.handle,
+        kind: aim.kind,
+        start: aim.start,
+        error: aim.error,
+        path: aim.path,
+        group: belongings.group,
+        tag: belongings.tag,
+        needs: belongings.needs,
+        account: belongings.account,
+        display,
+    })
+}
+
+/// A number that may not pass its range.
+#[tactic(auto, unfolding(crate::specs::Requests::within_at))]
+fn read_within(reader: &mut NdrReader, most: u32) -> Result<u32, BodyFault>
+    ensures value { Gives (λ v. (v, reader.new.place)) result (within_at most reader.old.body reader.old.place) }
+    ensures body { reader.new.body ≡ reader.old.body }
+{
+    let start = next_place(reader);
+    let number = reader.number()?;
+    if number <= most {
+        Ok(number)
+    } else {
+        Err(BodyFault::BadCount(start))
+    }
+}
+
+#[tactic(auto, unfolding(crate::specs::Requests::look_at))]
+fn read_look(body: &[u8]) -> Result<Look, BodyFault>
+    ensures { Gives (λ look. look) result (look_at body.now) }
+{
+    let mut reader = NdrReader::new(body);
+    let handle = reader.handle()?;
+    let size = read_within(&mut reader, MOST_SHOWN)?;
+    reader.finish()?;
+    Ok(Look { handle, size })
+}
+
+#[tactic(auto, unfolding(crate::specs::Requests::request_at))]
+fn request_of(alloc: Global, opnum: u16, body: &[u8]) -> Result<Request, BodyFault>
+    ensures { Gives (λ r. r) result (request_at opnum body.now) }
+{
+    match opnum {
+        11 => Ok(Request::Change(read_change(alloc, body)?)),
+        12 => Ok(Request::Create(read_create(alloc, body)?)),
+        _ => {
+            let Look { handle, size } = read_look(body)?;
+            Ok(Request::QueryConfig { handle, size })
+        }
+    }
 }
 
 /// What the body of a request asks.
@@ -153,11 +250,12 @@ pub fn read_request(alloc: Global, opnum: u16, body: &[u8]) -> Result<Request, B
     ensures found { IfOk result (λ r. IsBody opnum body.now r) }
     // What the body asks is read, unless memory runs out.
     ensures only { (r : Request) → IsBody opnum body.now r → Gives (λ r. r) result (Ok r) }
+    // No size in it is beyond its range.
+    ensures ranged { IfOk result (λ r. IsInRange r) }
     // Which fault it is.
     ensures exact { Gives (λ r. r) result (request_at opnum body.now) }
 {
-    prove!(opnum == 12);
-    request_of(alloc, body)
+    request_of(alloc, opnum, body)
 }
 
 /// Bytes behind a pointer, and their size. Bytes that are too many for a size find no memory.
@@ -204,15 +302,22 @@ fn put_shape(writer: &mut NdrWriter, new: &NewService) -> Result<(), OutOfMemory
     writer.text(&new.path)
 }
 
+/// The password is left out.
 #[tactic(auto, unfolding(crate::specs::Requests::with_belongings))]
-fn put_belongings(writer: &mut NdrWriter, new: &NewService) -> Result<(), OutOfMemory>
+fn put_belongings(
+    writer: &mut NdrWriter,
+    group: &Option<WText>,
+    tag: Option<u32>,
+    needs: &Option<Items<u8>>,
+    account: &Option<WText>,
+) -> Result<(), OutOfMemory>
     ensures front { writer.new.front ≡ writer.old.front }
-    ensures ok { OnOk result (writer.new.draft ≡ with_belongings new.now writer.old.draft) }
+    ensures ok { OnOk result (writer.new.draft ≡ with_belongings group.now tag needs.now account.now writer.old.draft) }
 {
-    writer.some_text(new.group.as_ref())?;
-    writer.some_number(new.tag)?;
-    put_sized(writer, &new.needs)?;
-    writer.some_text(new.account.as_ref())?;
+    writer.some_text(group.as_ref())?;
+    writer.some_number(tag)?;
+    put_sized(writer, needs)?;
+    writer.some_text(account.as_ref())?;
     put_sized(writer, &None)
 }
 
@@ -223,7 +328,35 @@ fn put_create(writer: &mut NdrWriter, new: &NewService) -> Result<(), OutOfMemor
 {
     put_named(writer, new)?;
     put_shape(writer, new)?;
-    put_belongings(writer, new)
+    put_belongings(writer, &new.group, new.tag, &new.needs, &new.account)
+}
+
+#[tactic(auto, unfolding(crate::specs::Requests::with_aim))]
+fn put_aim(writer: &mut NdrWriter, change: &ChangeService) -> Result<(), OutOfMemory>
+    ensures front { writer.new.front ≡ writer.old.front }
+    ensures ok { OnOk result (writer.new.draft ≡ with_aim change.now writer.old.draft) }
+{
+    writer.handle(change.handle)?;
+    writer.number(change.kind)?;
+    writer.number(change.start)?;
+    writer.number(change.error)?;
+    writer.some_text(change.path.as_ref())
+}
+
+#[tactic(auto, unfolding(crate::specs::Requests::with_change))]
+fn put_change(writer: &mut NdrWriter, change: &ChangeService) -> Result<(), OutOfMemory>
+    ensures front { writer.new.front ≡ writer.old.front }
+    ensures ok { OnOk result (writer.new.draft ≡ with_change change.now writer.old.draft) }
+{
+    put_aim(writer, change)?;
+    put_belongings(
+        writer,
+        &change.group,
+        change.tag,
+        &change.needs,
+        &change.account,
+    )?;
+    writer.some_text(change.display.as_ref())
 }
 
 fn put_request(writer: &mut NdrWriter, request: &Request) -> Result<(), OutOfMemory>
@@ -231,7 +364,12 @@ fn put_request(writer: &mut NdrWriter, request: &Request) -> Result<(), OutOfMem
     ensures ok { OnOk result (writer.new.draft ≡ with_request request.now writer.old.draft) }
 {
     match request {
+        Request::Change(change) => put_change(writer, change),
         Request::Create(new) => put_create(writer, new),
+        Request::QueryConfig { handle, size } => {
+            writer.handle(*handle)?;
+            writer.number(*size)
+        }
         _ => Ok(()),
     }
 }

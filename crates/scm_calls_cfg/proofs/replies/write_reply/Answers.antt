@@ -1,4 +1,4 @@
-use Rattle.scm_calls_cfg.proofs.Put.{told_again}
+use Rattle.scm_calls_cfg.proofs.Again.{told_again}
 use Rattle.scm_calls_cfg.proofs.replies.write_reply.Goals as goal
 
 pub returns-clause-back : goal.returns-clause-back
