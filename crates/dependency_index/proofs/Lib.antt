@@ -6,3 +6,8 @@ pub mod Lists
 pub mod Puts
 pub mod Once
 pub mod Written
+pub mod Named
+pub mod Grown
+pub mod Depending
+pub mod Sifted
+pub mod Reaching

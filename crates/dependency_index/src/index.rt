@@ -1,5 +1,6 @@
 ghost use Rattle.std.specs.Prelude.{◌≡◌, ◌+◌, ◌≤◌, ◌<◌, ◌==◌, true, false, not, [], eqb, filter, length, slice_get, vec_len, vec_capacity, IfSome, IfOk, OnOk, OnErr, IsTrue, IsFalse, Some, Ok};
 ghost use Rattle.std.specs.List.{IsDistinct};
+ghost use Rattle.dependency_index.specs.Dependents.{dependents_in};
 ghost use Rattle.dependency_index.specs.Indexed.{Indexed, empty, reserved, row_with, spare_of, with_needs, without_service};
 ghost use Rattle.dependency_index.specs.Naming.{active_in, naming_in, row_of};
 ghost use Rattle.dependency_index.specs.Needs.{has, needs_of, numbers_of, with_row};
@@ -8,10 +9,10 @@ ghost use Rattle.dependency_index.specs.Walks.{IsAcyclic};
 
 use super::graph::{Graph, NewRow, is_listed};
 use super::naming::{StateLook, active, row_of};
-use super::order;
 use super::rows::NeedRow;
 use super::steps::Steps;
 use super::visit::StateOf;
+use super::{dependents, order};
 use scm_model::Need;
 use scm_text::{Buffer, Items, OutOfMemory, WText};
 use std::alloc::Global;
@@ -212,6 +213,18 @@ impl DependencyIndex {
         ensures few { length room.new.items ≤ length self.now.rows }
     {
         order::order_of(self.rows.as_slice(), target, states, room);
+    }
+
+    /// Writes the order in which the services are stopped that need a service by name, directly or through named needs: each before
+    /// what it names. It takes no memory.
+    pub fn dependents(&self, service: u64, room: &mut Buffer<u64>)
+        requires acyclic { IsAcyclic (needs_of self.now.rows) }
+        requires empty { room.old.items ≡ [] }
+        requires room { length self.now.rows ≤ room.old.room }
+        ensures order { room.new.items ≡ dependents_in self.now.rows service }
+        ensures few { length room.new.items ≤ length self.now.rows }
+    {
+        dependents::dependents(self.rows.as_slice(), service, room);
     }
 
     /// How many services name this one and aren't stopped. A state is looked at by `state_of` alone, and of those services alone.

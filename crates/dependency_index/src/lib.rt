@@ -1,6 +1,7 @@
 //! Needs: which services a service needs, and in which order they are started.
 #![tactic(auto)]
 
+mod dependents;
 mod graph;
 mod index;
 mod naming;
@@ -9,6 +10,7 @@ mod rows;
 mod steps;
 mod visit;
 
+pub use dependents::{dependents_follow_their_rule, dependents_need_it_by_name};
 pub use index::DependencyIndex;
 pub use naming::StateLook;
 pub use order::order_follows_its_rule;

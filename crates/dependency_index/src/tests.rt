@@ -1,4 +1,6 @@
-ghost use Rattle.std.specs.Prelude.{◌≡◌};
+ghost use Rattle.std.specs.Prelude.{◌≡◌, IfOk, OnOk};
+ghost use Rattle.dependency_index.specs.Needs.{needs_of};
+ghost use Rattle.dependency_index.specs.Walks.{IsAcyclic};
 
 use crate::{DependencyIndex, StateLook, StateOf, Steps};
 use scm_model::Need;
@@ -175,6 +177,54 @@ fn only_who_names_a_service_counts(rt: HostRuntime) -> Result<(), Fail> {
     // 1 names 3 and runs; 1 names 3 and is stopped; 3 needs the group of 2
     for (service, runs, want) in [(3, 1, 1), (3, 0, 0), (2, 3, 0)] {
         assert_eq!(rt; active::<Brand>(&index, service, runs, Blank::new(1)), want);
+    }
+    Ok(())
+}
+
+/// Puts a row in, unless it would close a cycle.
+fn put_if_acyclic(
+    alloc: Global,
+    index: &mut DependencyIndex,
+    number: u64,
+    name: u16,
+    needs: &Items<Need>,
+) -> Result<(), Fail>
+    ensures { OnOk result (IsAcyclic (needs_of index.new.rows)) }
+{
+    let name = text(alloc, name)?;
+    let group = text(alloc, GROUP)?;
+    index.reserve(alloc, &name, &group, needs)?;
+    let mut room = Buffer::with_room(alloc, 8)?;
+    if 7 < index.len() || index.would_cycle(number, &name, &group, needs, &mut room) {
+        return Err("a cycle".into());
+    }
+    index.set_needs(number, &name, &group, needs);
+    Ok(())
+}
+
+/// In list order 1 `a`, 2 `d`, 3 `b`, 4 `c`: `b` needs `a`, and `c` needs `d` and `b`.
+fn chain(alloc: Global) -> Result<DependencyIndex, Fail>
+    ensures { IfOk result (λ index. IsAcyclic (needs_of index.rows)) }
+{
+    let mut index = DependencyIndex::new(alloc)?;
+    put_if_acyclic(alloc, &mut index, 1, A, &Items::new(alloc))?;
+    put_if_acyclic(alloc, &mut index, 2, D, &Items::new(alloc))?;
+    let needs = one(alloc, Need::Service(text(alloc, A)?))?;
+    put_if_acyclic(alloc, &mut index, 3, B, &needs)?;
+    let mut needs = one(alloc, Need::Service(text(alloc, D)?))?;
+    needs.push(Need::Service(text(alloc, B)?))?;
+    put_if_acyclic(alloc, &mut index, 4, C, &needs)?;
+    Ok(index)
+}
+
+#[test]
+fn what_needs_a_service_is_stopped_before_it(rt: HostRuntime) -> Result<(), Fail> {
+    let index = chain(rt.alloc())?;
+    assert!(rt; index.len() <= 8);
+    for (service, want) in [(1, [4, 3].as_slice()), (2, &[4]), (4, &[])] {
+        let mut room = Buffer::with_room(rt.alloc(), 8)?;
+        index.dependents(service, &mut room);
+        assert_eq!(rt; room.as_slice(), want);
     }
     Ok(())
 }
