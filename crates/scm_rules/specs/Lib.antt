@@ -6,6 +6,9 @@ pub mod OpenService
 pub mod Query
 pub mod Delete
 pub mod Create
+pub mod Change
+pub mod QueryConfig
+pub mod OtherName
 pub mod Verdicts
 pub mod Steps
 pub mod Opening

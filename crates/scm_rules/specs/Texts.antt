@@ -3,6 +3,7 @@ use Rattle.std.specs.Prelude.{ℕ, ◌+◌, ◌*◌, List, length, Option, None,
 use Rattle.scm_model.specs.declared.calls.Request.{Request}
 use Rattle.scm_model.specs.declared.calls.Request.TheVariants as request
 use Rattle.scm_model.specs.declared.calls.NewService.{NewService}
+use Rattle.scm_model.specs.declared.calls.ChangeService.{ChangeService}
 use Rattle.scm_model.specs.declared.steps.Step.{Step}
 use Rattle.scm_model.specs.declared.steps.Step.TheVariants.{Joined, Call, Gone, NoMemory}
 
@@ -19,13 +20,22 @@ text_of_new new =
     2 * length new.name + some_text new.display + 2 * length new.path + some_text new.group + some_bytes new.needs
     + some_text new.account
 
+abbrev pub text_of_change : ChangeService → ℕ
+text_of_change change =
+    some_text change.path + some_text change.group + some_bytes change.needs + some_text change.account
+    + some_text change.display
+
 abbrev pub text_of_call : Request → ℕ
 text_of_call (request.Close handle) = 0
 text_of_call (request.Delete handle) = 0
 text_of_call (request.QueryStatus handle) = 0
+text_of_call (request.Change change) = text_of_change change
 text_of_call (request.Create new) = text_of_new new
 text_of_call (request.OpenManager database access) = some_text database
 text_of_call (request.OpenService handle name access) = 2 * length name
+text_of_call (request.QueryConfig handle size) = 0
+text_of_call (request.DisplayName handle name size) = 2 * length name
+text_of_call (request.KeyName handle name size) = 2 * length name
 
 abbrev pub text_of : Step → ℕ
 text_of (Joined principal) = 0

@@ -86,7 +86,8 @@ fn has_bad_action(actions: &[Action]) -> bool
     false
 }
 
-fn has_bad_lists(config: &Config) -> bool
+/// Whether a configuration has needs, actions or triggers that no service may have: that is what `ERROR_INVALID_PARAMETER` (87) is for.
+pub fn has_bad_lists(config: &Config) -> bool
     ensures { result ≡ has_bad_lists config.now }
 {
     512 < config.needs.len()

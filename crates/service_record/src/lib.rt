@@ -6,7 +6,7 @@ mod lines;
 mod reading;
 mod writing;
 
-pub use checking::{check_change, check_new, is_bad_account, is_bad_name};
+pub use checking::{check_change, check_new, has_bad_lists, is_bad_account, is_bad_name};
 pub use lines::is_bad_line;
 pub use reading::{RecordFault, read_record};
 pub use writing::record_bytes;

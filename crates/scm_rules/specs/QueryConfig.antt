@@ -1,0 +1,86 @@
+-- QueryConfig: what a service is configured as.
+use Rattle.std.specs.Prelude.{ℕ, Bool, ◌+◌, ◌*◌, ◌++◌, ◌==◌, nat_lt, codes, length, min, List, [], ◌∷◌, Option, None, Some, is_none, if◌then◌else◌}
+use Rattle.std.specs.List.{flat_map}
+use Rattle.scm_model.specs.declared.flat.Flat.{Flat}
+use Rattle.scm_model.specs.declared.flat.Config.{Config}
+use Rattle.scm_model.specs.declared.flat.Service.{Service}
+use Rattle.scm_model.specs.declared.flat.Need.{Need}
+use Rattle.scm_model.specs.declared.flat.Need.TheVariants as needs
+use Rattle.scm_model.specs.declared.calls.Shown.{Shown}
+use Rattle.scm_model.specs.declared.calls.Reply.{Reply}
+use Rattle.scm_model.specs.declared.calls.Reply.TheVariants as reply
+use Rattle.scm_model.specs.Rows.{opened, service_of}
+use Rattle.scm_model.specs.Refused.{answered, first_refusal}
+use Rattle.scm_rules.specs.Rights.{lacks}
+use Rattle.scm_rules.specs.Query.{service_in}
+
+-- ## What is shown
+
+-- a need as it is shown: a group has + before it, and each is followed by /
+abbrev pub shown_need : Need → List ℕ
+shown_need (needs.Service name) = name ++ codes "/"
+shown_need (needs.Group name) = codes "+" ++ name ++ codes "/"
+
+abbrev pub shown_needs : List Need → List ℕ
+shown_needs rows = flat_map shown_need rows
+
+-- services run as LocalSystem
+abbrev pub shown_of : Config → Shown
+shown_of config = record {
+  kind = config.kind;
+  start = config.start;
+  error = config.error;
+  path = config.path;
+  group = config.group;
+  tag = config.tag;
+  needs = shown_needs config.needs;
+  account = codes "LocalSystem";
+  display = config.display;
+}
+
+-- ## How much room it takes
+
+-- a text takes two bytes a unit, and two for its zero
+abbrev pub text_size : List ℕ → ℕ
+text_size text = 2 * (length text + 1)
+
+-- 36 bytes, and the five texts, as far as numbers go
+abbrev pub shown_size : Shown → ℕ
+shown_size s = min 0xFFFFFFFF (36 + text_size s.path + text_size s.group + text_size s.needs + text_size s.account + text_size s.display)
+
+-- what is shown of a service that is there
+abbrev pub shown_in : Option Service → Option Shown
+shown_in None = None
+shown_in (Some row) = Some (shown_of row.config)
+
+abbrev pub size_in : Option Shown → ℕ
+size_in None = 0
+size_in (Some s) = shown_size s
+
+-- what is shown by a caller's handle
+abbrev pub shown_by : Flat → ℕ → ℕ → Option Shown
+shown_by f caller handle = shown_in (service_of f (service_in (opened f caller handle)))
+
+-- ## Refusals and effect
+
+abbrev pub query_config_refusals : Flat → ℕ → ℕ → ℕ → List (Bool × ℕ)
+query_config_refusals f caller handle size =
+    (is_none (opened f caller handle), 6)
+    ∷ (lacks (opened f caller handle) 1, 5)
+    ∷ (nat_lt size (size_in (shown_by f caller handle)), 122)
+    ∷ []
+
+abbrev pub query_config_verdict : Flat → ℕ → ℕ → ℕ → ℕ
+query_config_verdict f caller handle size = first_refusal (query_config_refusals f caller handle size)
+
+-- where the size is too small, it is told how much is needed
+abbrev pub query_config_told : Flat → ℕ → ℕ → ℕ → Reply
+query_config_told f caller handle code = reply.Shown None (if code == 122 then size_in (shown_by f caller handle) else 0) code
+
+abbrev pub query_config_done : Flat → ℕ → ℕ → Reply × Flat
+query_config_done f caller handle = (reply.Shown (shown_by f caller handle) (size_in (shown_by f caller handle)) 0, f)
+
+-- what the call is answered
+abbrev pub query_config_reply : Flat → ℕ → ℕ → ℕ → Reply
+query_config_reply f caller handle size =
+    (answered (query_config_verdict f caller handle size) (query_config_told f caller handle (query_config_verdict f caller handle size)) f (query_config_done f caller handle)).0
