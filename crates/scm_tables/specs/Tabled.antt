@@ -1,6 +1,7 @@
 -- The manager's lists, and for how many rows more there is room in them.
-use Rattle.std.specs.Prelude.{ℕ}
+use Rattle.std.specs.Prelude.{ℕ, ◌<◌, List, All, AllPairs}
 use Rattle.scm_model.specs.declared.flat.Flat.{Flat}
+use Rattle.scm_model.specs.declared.flat.Service.{Service}
 
 -- for how many rows more there is memory
 pub record Spare : Type 0 where
@@ -11,3 +12,8 @@ pub record Spare : Type 0 where
 pub record Tabled : Type 0 where
   pub flat : Flat
   pub spare : Spare
+
+-- services stand in order of number, below the next one
+pub record AreRising (next : ℕ) (rows : List Service) : Type 0 where
+  pub below : All (λ (row : Service). row.number < next) rows
+  pub rising : AllPairs (λ (a b : Service). a.number < b.number) rows

@@ -1,12 +1,12 @@
-ghost use Rattle.std.specs.Prelude.{◌≡◌, ◌==◌, ◌||◌, not, find, filter, length, map, option_copied, vec_capacity};
+ghost use Rattle.std.specs.Prelude.{◌≡◌, ◌≢◌, ◌<◌, ◌==◌, ◌&&◌, ◌||◌, not, find, filter, length, map, option_copied, vec_capacity, slice_get, All, AllPairs, IfSome, IfNone};
 ghost use Rattle.std.specs.List.{list_any};
 ghost use Rattle.scm_text.specs.Fold.{same_text};
-ghost use Rattle.scm_model.specs.Changes.{leaves, marked_if};
+ghost use Rattle.scm_model.specs.Changes.{configured_if, leaves, marked_if};
 ghost use Rattle.scm_rules.specs.Create.{greatest_tag};
 ghost use Rattle.scm_tables.specs.Tags.{tag_in};
 
 use super::handle_rows::is_open_in;
-use scm_model::{HandleRow, Service};
+use scm_model::{Config, HandleRow, Service};
 use scm_text::{WText, same};
 
 /// The service with a number.
@@ -31,6 +31,32 @@ pub fn named_in<'a>(rows: &'a [Service], name: &WText) -> Option<&'a Service>
         }
     }
     None
+}
+
+/// The service with the same display name.
+pub fn displayed_in<'a>(rows: &'a [Service], display: &WText) -> Option<&'a Service>
+    ensures { option_copied result ≡ find (λ row. same_text row.config.display display.now) rows.now }
+{
+    for row in rows {
+        if same(&row.config.display, display) {
+            return Some(row);
+        }
+    }
+    None
+}
+
+/// Whether a text is the same as the name or the display name of a service other than the one with a number.
+pub fn is_shown_by_another_in(rows: &[Service], number: u64, text: &WText) -> bool
+    ensures { result ≡ list_any (λ row. not (row.number == number) && (same_text row.config.name text.now || same_text row.config.display text.now)) rows.now }
+{
+    for row in rows {
+        if row.number != number
+            && (same(&row.config.name, text) || same(&row.config.display, text))
+        {
+            return true;
+        }
+    }
+    false
 }
 
 /// Whether a text is the same as the name or the display name of a service.
@@ -81,6 +107,34 @@ pub fn mark_in(rows: &mut Vec<Service>, number: u64)
 {
     for row in rows.iter_mut() {
         row.marked |= row.number == number;
+    }
+}
+
+/// Where the service with a number stands.
+fn place_of(rows: &[Service], number: u64) -> Option<usize>
+    ensures found { IfSome result (λ place. IfSome (slice_get rows.now place) (λ row. row.number ≡ number)) }
+    ensures within { IfSome result (λ place. place < length rows.now) }
+    ensures none { IfNone result (All (λ row. row.number ≢ number) rows.now) }
+{
+    rows.iter().position(|row| row.number == number)
+}
+
+/// Gives a service another configuration, and its status the type.
+fn configure(row: &mut Service, config: Config)
+    ensures { row.new ≡ record row.old { config = config; status = record row.old.status { kind = config.kind } } }
+{
+    row.status.kind = config.kind;
+    row.config = config;
+}
+
+/// Gives the service with a number another configuration.
+pub fn configure_in(rows: &mut Vec<Service>, number: u64, config: Config)
+    requires { AllPairs (λ a b. a.number < b.number) rows.old.items }
+    ensures rows { rows.new.items ≡ map (configured_if number config) rows.old.items }
+    ensures capacity { vec_capacity rows.new ≡ vec_capacity rows.old }
+{
+    if let Some(place) = place_of(rows.as_slice(), number) {
+        configure(&mut rows[place], config);
     }
 }
 

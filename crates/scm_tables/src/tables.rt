@@ -1,13 +1,14 @@
 ghost use Rattle.std.specs.Prelude.{◌≡◌, ◌+◌, ◌^◌, ◌<◌, ◌≤◌, ◌==◌, filter, OnOk, length, option_copied};
-ghost use Rattle.scm_model.specs.Changes.{with_handle, without_handle, without_handles_of, with_caller, without_caller, with_moment, with_service, with_mark, purged};
-ghost use Rattle.scm_model.specs.Rows.{caller_of, handle_of, held_by, is_caller, is_shown, manager_mask, named, opened, principal_of, service_of};
+ghost use Rattle.scm_model.specs.Changes.{with_handle, without_handle, without_handles_of, with_caller, without_caller, with_config, with_moment, with_service, with_mark, purged};
+ghost use Rattle.scm_model.specs.Rows.{caller_of, displayed, handle_of, held_by, is_caller, is_shown, is_shown_by_another, manager_mask, named, opened, principal_of, service_of};
 ghost use Rattle.scm_rules.specs.Create.{next_tag};
 ghost use Rattle.scm_rules.specs.Opening.{empty_at};
 ghost use Rattle.scm_rules.specs.Query.{service_in};
 
 use super::handle_rows::{caller_in, count_of, drop_caller, drop_caller_row, drop_number, row_of};
 use super::service_rows::{
-    greatest_tag_in, is_shown_in, mark_in, named_in, purge_in, row_with, running_in,
+    configure_in, displayed_in, greatest_tag_in, is_shown_by_another_in, is_shown_in, mark_in,
+    named_in, purge_in, row_with, running_in,
 };
 use scm_model::{
     Caller, Config, Due, HandleKind, HandleRow, LockRow, Next, Opened, Plan, Principal, Process,
@@ -36,7 +37,7 @@ pub struct Tables {
 
 impl Model for Tables {
     ghost use Rattle.std.specs.Prelude.{◌-◌, vec_capacity, vec_len};
-    ghost use Rattle.scm_tables.specs.Tabled.{Tabled};
+    ghost use Rattle.scm_tables.specs.Tabled.{AreRising, Tabled};
 
     ghost Value = { Tabled };
 
@@ -61,6 +62,8 @@ impl Model for Tables {
         callers = vec_capacity t.callers - vec_len t.callers;
       };
     } };
+
+    ghost invariant = { λ t. AreRising t.next.service t.services.items };
 }
 
 /// The numbers that are given first.
@@ -292,6 +295,20 @@ impl Tables {
         named_in(self.services.as_slice(), name)
     }
 
+    /// The service with the same display name.
+    pub fn displayed(&self, display: &WText) -> Option<&Service>
+        ensures { option_copied result ≡ displayed self.now.flat display.now }
+    {
+        displayed_in(self.services.as_slice(), display)
+    }
+
+    /// Whether a text is the same as the name or the display name of another service.
+    pub fn is_shown_by_another(&self, number: u64, text: &WText) -> bool
+        ensures { result ≡ is_shown_by_another self.now.flat number text.now }
+    {
+        is_shown_by_another_in(self.services.as_slice(), number, text)
+    }
+
     /// Whether a text is the same as the name or the display name of a service.
     pub fn is_shown(&self, text: &WText) -> bool
         ensures { result ≡ is_shown self.now.flat text.now }
@@ -339,6 +356,13 @@ impl Tables {
         });
         self.next.service += 1;
         number
+    }
+
+    /// Gives a service another configuration. It takes no memory.
+    pub fn configure(&mut self, number: u64, config: Config)
+        ensures { self.new.flat ≡ with_config self.old.flat number config }
+    {
+        configure_in(&mut self.services, number, config);
     }
 
     /// Marks a service.

@@ -1,0 +1,7 @@
+use Rattle.std.proofs.Common.{refl}
+use Rattle.scm_model.specs.Changes.{marked_if}
+use Rattle.scm_tables.proofs.Rising.{rising_map}
+use Rattle.scm_tables.proofs.tables.Tables.mark.Goals as goal
+
+pub invariant_of-self : goal.invariant_of-self
+invariant_of-self c = rw c.mark_in.ensures.rows (rising_map _ (marked_if c.args.number) (λ row. refl) _ c.self.invariant)
