@@ -1,12 +1,19 @@
 //! The service manager's calls on services.
 #![tactic(auto)]
 
+mod changing;
 mod checking;
 mod creating;
 mod deleting;
 mod making;
+mod naming;
 mod querying;
+mod replacing;
+mod showing;
 
+pub use changing::{asked_config, change, change_verdict, changed, changes};
 pub use creating::{create, create_verdict, created};
 pub use deleting::{delete, delete_verdict, removed, removes};
+pub use naming::{display_name, key_name};
 pub use querying::{query, query_verdict};
+pub use showing::query_config;
