@@ -1,20 +1,28 @@
 -- The room that a step uses.
-use Rattle.std.specs.Prelude.{ℕ, ◌≡◌, ◌≤◌, ◌<◌, ◌^◌, Option, None, Some, List}
+use Rattle.std.specs.Prelude.{ℕ, ◌≡◌, ◌≤◌, ◌<◌, ◌^◌, None, Some}
 use Rattle.scm_model.specs.declared.flat.Flat.{Flat}
 use Rattle.scm_model.specs.declared.calls.Request.{Request}
 use Rattle.scm_model.specs.declared.calls.Request.TheVariants as request
 use Rattle.scm_model.specs.declared.steps.Step.{Step}
 use Rattle.scm_model.specs.declared.steps.Step.TheVariants.{Joined, Call, Gone, NoMemory}
+use Rattle.scm_rules.specs.Change.{asked_config}
+use Rattle.scm_rules.specs.QueryConfig.{query_config_reply}
+use Rattle.scm_rules.specs.OtherName.{display_by_name, name_by_display, other_name_reply}
 use Rattle.scm_tables.specs.Tabled.{Spare}
+use Rattle.scm_core.specs.declared.made.Made.{Made}
 
 -- the rows that a call may add find room
 abbrev pub HasRoomForCall : Spare → Request → Type 0
 HasRoomForCall spare (request.Close handle) = Unit {0}
 HasRoomForCall spare (request.Delete handle) = Unit {0}
 HasRoomForCall spare (request.QueryStatus handle) = Unit {0}
+HasRoomForCall spare (request.Change change) = Unit {0}
 HasRoomForCall spare (request.Create new) = (1 ≤ spare.handles) × (1 ≤ spare.services)
 HasRoomForCall spare (request.OpenManager database access) = 1 ≤ spare.handles
 HasRoomForCall spare (request.OpenService handle name access) = 1 ≤ spare.handles
+HasRoomForCall spare (request.QueryConfig handle size) = Unit {0}
+HasRoomForCall spare (request.DisplayName handle name size) = Unit {0}
+HasRoomForCall spare (request.KeyName handle name size) = Unit {0}
 
 abbrev pub HasRoomFor : Spare → Step → Type 0
 HasRoomFor spare (Joined principal) = 1 ≤ spare.callers
@@ -22,36 +30,29 @@ HasRoomFor spare (Call caller asked append) = HasRoomForCall spare asked
 HasRoomFor spare (Gone caller) = Unit {0}
 HasRoomFor spare (NoMemory caller) = Unit {0}
 
--- a copy of a new service's name is at hand
-abbrev pub HasCopyForCall : Option (List ℕ) → Request → Type 0
-HasCopyForCall copy (request.Close handle) = Unit {0}
-HasCopyForCall copy (request.Delete handle) = Unit {0}
-HasCopyForCall copy (request.QueryStatus handle) = Unit {0}
-HasCopyForCall copy (request.Create new) = copy ≡ Some new.name
-HasCopyForCall copy (request.OpenManager database access) = Unit {0}
-HasCopyForCall copy (request.OpenService handle name access) = Unit {0}
+-- ## What is made beforehand, so that the step takes no memory
 
-abbrev pub HasCopyFor : Option (List ℕ) → Step → Type 0
-HasCopyFor copy (Joined principal) = Unit {0}
-HasCopyFor copy (Call caller asked append) = HasCopyForCall copy asked
-HasCopyFor copy (Gone caller) = Unit {0}
-HasCopyFor copy (NoMemory caller) = Unit {0}
+abbrev pub nothing_made : Made
+nothing_made = record { name = None; config = None; reply = None }
 
--- the name of the service that a step may make
-abbrev pub name_in_call : Request → Option (List ℕ)
-name_in_call (request.Close handle) = None
-name_in_call (request.Delete handle) = None
-name_in_call (request.QueryStatus handle) = None
-name_in_call (request.Create new) = Some new.name
-name_in_call (request.OpenManager database access) = None
-name_in_call (request.OpenService handle name access) = None
+-- for a creation a copy of its name, for a change the new configuration, and for what has texts in its reply the reply
+abbrev pub made_for : Flat → ℕ → Request → Made
+made_for f caller (request.Close handle) = nothing_made
+made_for f caller (request.Delete handle) = nothing_made
+made_for f caller (request.QueryStatus handle) = nothing_made
+made_for f caller (request.Change change) = record nothing_made { config = asked_config f caller change }
+made_for f caller (request.Create new) = record nothing_made { name = Some new.name }
+made_for f caller (request.OpenManager database access) = nothing_made
+made_for f caller (request.OpenService handle name access) = nothing_made
+made_for f caller (request.QueryConfig handle size) = record nothing_made { reply = Some (query_config_reply f caller handle size) }
+made_for f caller (request.DisplayName handle name size) = record nothing_made { reply = Some (other_name_reply f caller handle size (display_by_name f name)) }
+made_for f caller (request.KeyName handle name size) = record nothing_made { reply = Some (other_name_reply f caller handle size (name_by_display f name)) }
 
-abbrev pub name_in : Option Step → Option (List ℕ)
-name_in None = None
-name_in (Some (Joined principal)) = None
-name_in (Some (Call caller asked append)) = name_in_call asked
-name_in (Some (Gone caller)) = None
-name_in (Some (NoMemory caller)) = None
+abbrev pub IsMadeFor : Flat → Made → Step → Type 0
+IsMadeFor f made (Joined principal) = Unit {0}
+IsMadeFor f made (Call caller asked append) = made ≡ made_for f caller asked
+IsMadeFor f made (Gone caller) = Unit {0}
+IsMadeFor f made (NoMemory caller) = Unit {0}
 
 -- the next numbers can still be given
 pub record HasNumbers (f : Flat) : Type 0 where

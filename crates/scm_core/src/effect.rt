@@ -1,44 +1,14 @@
 ghost use Rattle.std.specs.Prelude.{◌≡◌};
 ghost use Rattle.scm_rules.specs.Steps.{at_moment, effect_of, step_of};
 ghost use Rattle.scm_rules.specs.Verdicts.{call_of};
-ghost use Rattle.scm_core.specs.Room.{HasCopyFor, HasCopyForCall, HasNumbers, HasRoomFor, HasRoomForCall, name_in, name_in_call};
+ghost use Rattle.scm_core.specs.Room.{HasNumbers, HasRoomFor, HasRoomForCall, IsMadeFor, made_for};
 
+use super::made::Made;
 use scm_arms_handle::{close, join, leave, open_manager, open_service};
-use scm_arms_service::{create, delete, query};
+use scm_arms_service::{change, create, delete, query};
 use scm_model::{Answer, Kept, Limits, Reply, Request, Step};
 use scm_tables::Tables;
-use scm_text::WText;
 use std::alloc::Global;
-
-/// The name of a service that is asked for.
-fn name_in_call(request: Request) -> Option<WText>
-    ensures { result ≡ name_in_call request }
-{
-    match request {
-        Request::Create(new) => Some(new.name),
-        Request::Close { .. }
-        | Request::Delete { .. }
-        | Request::QueryStatus { .. }
-        | Request::OpenManager { .. }
-        | Request::OpenService { .. } => None,
-    }
-}
-
-/// The name of a service that a step asks for.
-pub fn name_in(step: Option<Step>) -> Option<WText>
-    ensures { result ≡ name_in step }
-{
-    match step {
-        Some(
-            Step::Call {
-                caller: _,
-                request,
-                kept: _,
-            },
-        ) => name_in_call(request),
-        Some(Step::Joined { .. } | Step::Gone { .. } | Step::NoMemory { .. }) | None => None,
-    }
-}
 
 /// Does a call.
 fn call(
@@ -48,9 +18,9 @@ fn call(
     caller: u64,
     request: Request,
     kept: Kept,
-    copy: Option<WText>,
+    made: &mut Made,
 ) -> Reply
-    requires copied { HasCopyForCall copy request }
+    requires made { made.old ≡ made_for tables.old.flat caller request }
     requires room { HasRoomForCall tables.old.spare request }
     requires numbers { HasNumbers tables.old.flat }
     ensures reply { result ≡ (call_of limits.now tables.old.flat caller request kept).0 }
@@ -60,7 +30,8 @@ fn call(
         Request::Close { handle } => close(tables, caller, handle),
         Request::Delete { handle } => delete(tables, caller, handle, kept),
         Request::QueryStatus { handle } => query(tables, caller, handle),
-        Request::Create(new) => create(tables, limits, alloc, caller, new, copy, kept),
+        Request::Change(asked) => change(tables, caller, &asked, made.config.take(), kept),
+        Request::Create(new) => create(tables, limits, alloc, caller, new, made.name.take(), kept),
         Request::OpenManager { database, access } => {
             open_manager(tables, limits, caller, &database, access)
         }
@@ -69,6 +40,9 @@ fn call(
             name,
             access,
         } => open_service(tables, limits, caller, handle, &name, access),
+        Request::QueryConfig { .. } | Request::DisplayName { .. } | Request::KeyName { .. } => {
+            made.reply.take().unwrap()
+        }
     }
 }
 
@@ -89,9 +63,9 @@ fn effect(
     limits: &Limits,
     alloc: Global,
     step: Step,
-    copy: Option<WText>,
+    made: &mut Made,
 ) -> Answer
-    requires copied { HasCopyFor copy step }
+    requires made { IsMadeFor tables.old.flat made.old step }
     requires room { HasRoomFor tables.old.spare step }
     requires numbers { HasNumbers tables.old.flat }
     ensures answer { result ≡ (effect_of limits.now tables.old.flat step).0 }
@@ -103,29 +77,30 @@ fn effect(
             caller,
             request,
             kept,
-        } => Answer::Reply(call(tables, limits, alloc, caller, request, kept, copy)),
+        } => Answer::Reply(call(tables, limits, alloc, caller, request, kept, made)),
         Step::Gone { caller } => leave(tables, caller),
         Step::NoMemory { caller: _ } => Answer::Done,
     }
 }
 
-/// Does a step: its effect, then marked services leave. `copy` is a copy of the name of a service that is asked for.
+#[tactic(auto, using(crate::proofs::Beforehand::is_made_at))]
+/// Does a step: its effect, then marked services leave. `made` was made for it beforehand.
 pub fn act(
     tables: &mut Tables,
     limits: &Limits,
     alloc: Global,
     moment: u64,
     step: Step,
-    copy: Option<WText>,
+    made: &mut Made,
 ) -> Answer
-    requires copied { HasCopyFor copy step }
+    requires made { IsMadeFor tables.old.flat made.old step }
     requires room { HasRoomFor tables.old.spare step }
     requires numbers { HasNumbers tables.old.flat }
     ensures answer { result ≡ (step_of limits.now tables.old.flat moment step).0 }
     ensures flat { tables.new.flat ≡ (step_of limits.now tables.old.flat moment step).1 }
 {
     begin(tables, moment, &step);
-    let answer = effect(tables, limits, alloc, step, copy);
+    let answer = effect(tables, limits, alloc, step, made);
     tables.purge();
     answer
 }

@@ -2,7 +2,9 @@ ghost use Rattle.std.specs.Prelude.{◌≡◌, IfOk, is_some};
 ghost use Rattle.scm_rules.specs.Steps.{keeps_right, may_come};
 ghost use Rattle.scm_rules.specs.Verdicts.{change_of, change_of_call, tells_right};
 
-use scm_arms_service::{create_verdict, created, delete_verdict, removed, removes};
+use scm_arms_service::{
+    change_verdict, changed, changes, create_verdict, created, delete_verdict, removed, removes,
+};
 use scm_model::{Change, Kept, Limits, Request, Step};
 use scm_tables::Tables;
 use scm_text::OutOfMemory;
@@ -34,10 +36,17 @@ fn call_changes(tables: &Tables, limits: &Limits, caller: u64, request: &Request
             delete_verdict(tables, caller, *handle, Kept::Kept) == 0
                 && removes(tables, caller, *handle)
         }
+        Request::Change(change) => {
+            change_verdict(tables, caller, change, Kept::Kept) == 0
+                && changes(tables, caller, change)
+        }
         Request::Close { .. }
         | Request::QueryStatus { .. }
         | Request::OpenManager { .. }
-        | Request::OpenService { .. } => false,
+        | Request::OpenService { .. }
+        | Request::QueryConfig { .. }
+        | Request::DisplayName { .. }
+        | Request::KeyName { .. } => false,
     }
 }
 
@@ -104,10 +113,20 @@ fn change_of_call(
                 Ok(None)
             }
         }
+        Request::Change(change) => {
+            if change_verdict(tables, caller, change, Kept::Kept) == 0 {
+                changed(tables, caller, change, alloc)
+            } else {
+                Ok(None)
+            }
+        }
         Request::Close { .. }
         | Request::QueryStatus { .. }
         | Request::OpenManager { .. }
-        | Request::OpenService { .. } => Ok(None),
+        | Request::OpenService { .. }
+        | Request::QueryConfig { .. }
+        | Request::DisplayName { .. }
+        | Request::KeyName { .. } => Ok(None),
     }
 }
 

@@ -3,6 +3,7 @@
 
 mod effect;
 mod judging;
+mod made;
 mod manager;
 mod room;
 mod texts;

@@ -6,8 +6,9 @@ ghost use Rattle.scm_rules.specs.Verdicts.{change_of};
 ghost use Rattle.scm_model.specs.Unkept.{unkept};
 ghost use Rattle.scm_core.specs.Managed.{AreSmall, WasMadeFor};
 
-use super::effect::{act, name_in};
+use super::effect::act;
 use super::judging::{change_of, is_told, makes_change, may_come};
+use super::made::{Made, make_for, nothing_made};
 use super::room::reserve;
 use super::texts::text_of;
 use scm_model::{Answer, Change, Config, Limits, Step};
@@ -25,6 +26,7 @@ pub struct Manager {
     steps: u64,
     text: u64,
     room: Option<Step>,
+    made: Made,
     alloc: Global,
 }
 
@@ -47,12 +49,13 @@ fn forget(room: &mut Option<Step>)
     *room = None;
 }
 
-/// Takes the room of a step.
-fn taken(room: &mut Option<Step>) -> Option<Step>
-    ensures room { result ≡ room.old }
-    ensures none { room.new ≡ None }
+/// Keeps what was made for a step.
+fn keep(room: &mut Option<Step>, made: &mut Made, step: Step, now: Made)
+    ensures room { room.new ≡ Some step }
+    ensures made { made.new ≡ now }
 {
-    room.take()
+    *room = Some(step);
+    *made = now;
 }
 
 impl Manager {
@@ -77,6 +80,7 @@ impl Manager {
             steps: 0,
             text: 0,
             room: None,
+            made: nothing_made(),
             alloc,
         })
     }
@@ -146,7 +150,9 @@ impl Manager {
     {
         forget(&mut self.room);
         reserve(&mut self.tables, step)?;
-        self.room = Some(step.copy_unkept(self.alloc)?);
+        let made = make_for(&self.tables, step, self.alloc)?;
+        let copy = step.copy_unkept(self.alloc)?;
+        keep(&mut self.room, &mut self.made, copy, made);
         Ok(())
     }
 
@@ -165,14 +171,14 @@ impl Manager {
     {
         self.steps += 1;
         self.text += text_of(&step) as u64;
-        let copy = name_in(taken(&mut self.room));
+        forget(&mut self.room);
         act(
             &mut self.tables,
             &self.limits,
             self.alloc,
             moment,
             step,
-            copy,
+            &mut self.made,
         )
     }
 }

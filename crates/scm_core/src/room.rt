@@ -16,7 +16,13 @@ fn reserve_call(tables: &mut Tables, request: &Request) -> Result<(), OutOfMemor
             tables.reserve_service()?;
             tables.reserve_handle()
         }
-        Request::Close { .. } | Request::Delete { .. } | Request::QueryStatus { .. } => Ok(()),
+        Request::Close { .. }
+        | Request::Delete { .. }
+        | Request::QueryStatus { .. }
+        | Request::Change(_)
+        | Request::QueryConfig { .. }
+        | Request::DisplayName { .. }
+        | Request::KeyName { .. } => Ok(()),
     }
 }
 

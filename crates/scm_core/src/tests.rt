@@ -79,6 +79,21 @@ fn code_of(answer: Answer) -> u32 {
                 code,
             },
         ) => code,
+        Answer::Reply(Reply::Tag { tag: _, code }) => code,
+        Answer::Reply(
+            Reply::Shown {
+                config: _,
+                needed: _,
+                code,
+            },
+        ) => code,
+        Answer::Reply(
+            Reply::Name {
+                name: _,
+                size: _,
+                code,
+            },
+        ) => code,
         Answer::Caller(_) | Answer::Done => 0,
     }
 }

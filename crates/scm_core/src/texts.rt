@@ -1,7 +1,7 @@
 ghost use Rattle.std.specs.Prelude.{◌≡◌, ◌<◌, ◌^◌};
-ghost use Rattle.scm_rules.specs.Texts.{some_bytes, some_text, text_of, text_of_call, text_of_new};
+ghost use Rattle.scm_rules.specs.Texts.{some_bytes, some_text, text_of, text_of_call, text_of_change, text_of_new};
 
-use scm_model::{NewService, Request, Step};
+use scm_model::{ChangeService, NewService, Request, Step};
 use scm_text::{Items, WText};
 
 /// How much text there is in a text that may be absent.
@@ -39,12 +39,25 @@ fn text_of_new(new: &NewService) -> u128
         + some_text(&new.account)
 }
 
+/// How much text the request for a change has.
+fn text_of_change(change: &ChangeService) -> u128
+    ensures text { result ≡ text_of_change change.now }
+    ensures small { result < 2 ^ 70 }
+{
+    some_text(&change.path)
+        + some_text(&change.group)
+        + some_bytes(&change.needs)
+        + some_text(&change.account)
+        + some_text(&change.display)
+}
+
 /// How much text a request has.
 fn text_of_call(request: &Request) -> u128
     ensures text { result ≡ text_of_call request.now }
     ensures small { result < 2 ^ 70 }
 {
     match request {
+        Request::Change(change) => text_of_change(change),
         Request::Create(new) => text_of_new(new),
         Request::OpenManager {
             database,
@@ -54,8 +67,21 @@ fn text_of_call(request: &Request) -> u128
             handle: _,
             name,
             access: _,
+        }
+        | Request::DisplayName {
+            handle: _,
+            name,
+            size: _,
+        }
+        | Request::KeyName {
+            handle: _,
+            name,
+            size: _,
         } => 2 * name.units().len() as u128,
-        Request::Close { .. } | Request::Delete { .. } | Request::QueryStatus { .. } => 0,
+        Request::Close { .. }
+        | Request::Delete { .. }
+        | Request::QueryStatus { .. }
+        | Request::QueryConfig { .. } => 0,
     }
 }
 
