@@ -1,25 +1,25 @@
 -- The law of handles.
-use Rattle.std.proofs.Common.{ℕ, ◌≡◌, ◌≢◌, ◌≤◌, ◌==◌, true, false, not, cond, List, [], filter, sym, subst, arith, eq-eqb, inl, inr}
+use Rattle.std.proofs.Common.{ℕ, ◌≡◌, ◌≢◌, ◌≤◌, ◌==◌, true, not, List, [], Option, None, Some, filter, sym, subst, arith, eq-eqb, inl, inr}
 use Rattle.std.specs.Prelude.{All, Contains}
 use Rattle.std.proofs.lemmas.List.Elements.{All-nil, All-push, All-filter, All-weaker, All-contains_itself, filter_passes}
+use Rattle.scm_model.specs.declared.flat.Config.{Config}
 use Rattle.scm_model.specs.declared.flat.Flat.{Flat}
 use Rattle.scm_model.specs.declared.flat.HandleRow.{HandleRow}
 use Rattle.scm_model.specs.declared.flat.Limits.{Limits}
 use Rattle.scm_model.specs.declared.flat.Plan.{Plan}
 use Rattle.scm_model.specs.declared.flat.Registration.{Registration}
-use Rattle.scm_model.specs.declared.calls.Reply.{Reply}
 use Rattle.scm_model.specs.declared.calls.Request.{Request}
 use Rattle.scm_model.specs.declared.calls.Request.TheVariants as request
 use Rattle.scm_model.specs.declared.steps.Kept.{Kept}
 use Rattle.scm_model.specs.declared.steps.Step.{Step}
 use Rattle.scm_model.specs.declared.steps.Step.TheVariants.{Joined, Call, Gone, NoMemory}
-use Rattle.scm_model.specs.Refused.{outcome, refused}
 use Rattle.scm_model.specs.Changes.{with_moment}
+use Rattle.scm_rules.specs.Change.{asked_config, with_new_config}
 use Rattle.scm_rules.specs.Steps.{step_of}
 use Rattle.scm_rules.specs.Verdicts.{call_of, done_of, verdict}
 use Rattle.scm_laws.specs.Handles.{LawOfHandles, LeavesNothing, StoodOrIsNew}
 use Rattle.scm_laws.proofs.Along.{Gives}
-use Rattle.scm_laws.proofs.Calls.{keeps}
+use Rattle.scm_laws.proofs.Calls.{by_verdict, keeps}
 use Rattle.scm_laws.proofs.Sound.{Sound}
 
 -- ## Each number is given once
@@ -34,22 +34,26 @@ all_stood f = All-weaker (Contains f.handles) (StoodOrIsNew f) (λ row h. inl h)
 same : (f : Flat) → Once f f
 same f = record { rows = all_stood f; rising = omega arith }
 
+configured : (f : Flat) (number : ℕ) (config : Option Config) → Once f (with_new_config f number config)
+configured f number None = same f
+configured f number (Some config) = record { rows = all_stood f; rising = omega arith }
+
 of_done : (f : Flat) (caller : ℕ) (asked : Request) → Once f (done_of f caller asked).1
 of_done f caller (request.Close handle) = record { rows = All-filter _ (StoodOrIsNew f) f.handles (all_stood f); rising = omega arith }
 of_done f caller (request.Delete handle) = record { rows = all_stood f; rising = omega arith }
 of_done f caller (request.QueryStatus handle) = same f
+of_done f caller (request.Change change) = configured f _ (asked_config f caller change)
+of_done f caller (request.QueryConfig handle size) = same f
+of_done f caller (request.DisplayName handle name size) = same f
+of_done f caller (request.KeyName handle name size) = same f
 of_done f caller (request.Create new) = record { rows = All-push (StoodOrIsNew f) f.handles _ (all_stood f) (inr (omega arith)); rising = omega arith }
 of_done f caller (request.OpenManager database access) = record { rows = All-push (StoodOrIsNew f) f.handles _ (all_stood f) (inr (omega arith)); rising = omega arith }
 of_done f caller (request.OpenService handle name access) = record { rows = All-push (StoodOrIsNew f) f.handles _ (all_stood f) (inr (omega arith)); rising = omega arith }
 
-of_outcome : (code : ℕ) (asked : Request) (f : Flat) (done : Reply × Flat) → Once f done.1 → Once f (outcome code asked f done).1
-of_outcome code asked f done after =
-    elim (code == 0) as (λ b. Once f (cond b done (refused asked code, f)).1) [ true ↦ after | false ↦ same f ]
-
 of_call : (l : Limits) (f : Flat) (moment caller : ℕ) (asked : Request) (append : Kept) → Once (with_moment f moment) (call_of l (with_moment f moment) caller asked append).1
 of_call l f moment caller asked append =
-    of_outcome (verdict l (with_moment f moment) caller asked append) asked (with_moment f moment) (done_of (with_moment f moment) caller asked)
-    (of_done (with_moment f moment) caller asked)
+    by_verdict (λ r. Once (with_moment f moment) r.1) (verdict l (with_moment f moment) caller asked append) _ (with_moment f moment) (done_of (with_moment f moment) caller asked)
+    (λ e. of_done (with_moment f moment) caller asked) (λ e. same (with_moment f moment))
 
 of_step : (l : Limits) (f : Flat) (moment : ℕ) (step : Step) → Once f (step_of l f moment step).1
 of_step l f moment (Joined principal) = record { rows = all_stood f; rising = omega arith }

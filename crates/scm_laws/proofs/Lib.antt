@@ -2,7 +2,9 @@ pub mod Along
 pub mod Lists
 pub mod Masks
 pub mod Sound
+pub mod Configured
 pub mod Calls
 pub mod Clear
 pub mod Leaving
 pub mod Handles
+pub mod Sizes

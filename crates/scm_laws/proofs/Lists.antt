@@ -1,6 +1,6 @@
 -- What finds, filters and maps do to lists of rows.
-use Rattle.std.proofs.Common.{◌≡◌, ◌∙◌, ◌<◌, ◌||◌, Bool, true, false, not, cond, List, [], ◌∷◌, ◌++◌, Some, filter, find, length, map, get_or, ap, sym, refl, subst, arith}
-use Rattle.std.specs.Prelude.{All, AllPairs, is_some}
+use Rattle.std.proofs.Common.{ℕ, suc, ◌≡◌, ◌∙◌, ◌<◌, ◌==◌, ◌||◌, Bool, true, false, not, cond, List, [], ◌∷◌, ◌++◌, Some, filter, find, length, map, get_or, ap, sym, refl, subst, arith, eqb-true}
+use Rattle.std.specs.Prelude.{All, AllPairs, is_some, unwrap_or}
 use Rattle.std.specs.List.{list_any}
 use Rattle.std.proofs.lemmas.List.{get_or-map, length-map}
 use Rattle.std.proofs.lemmas.List.Elements.{All-nil, All-cons}
@@ -32,12 +32,37 @@ none_any p (x ∷ xs) e =
     elim (p x) as (λ b. p x ≡ b → (b || list_any p xs) ≡ false → All (λ y. p y ≡ false) (x ∷ xs))
     [ true ↦ λ h g. absurd (cc) | false ↦ λ h g. All-cons (λ y. p y ≡ false) x xs h (none_any p xs g) ] refl e
 
-pub pairs_map : {X : Type 0} (R : X → X → Type 0) (f : X → X) → ((a b : X) → R a b → R (f a) (f b)) → (xs : List X) → AllPairs R xs → AllPairs R (map f xs)
-pairs_map R f keeps xs all i j d below within =
+-- what holds of each pair, and of each element, is kept by a map
+pub pairs_map : {X : Type 0} (Q : X → Type 0) (R S : X → X → Type 0) (f : X → X) → ((a b : X) → Q a → Q b → R a b → S (f a) (f b)) → (xs : List X) → All Q xs → AllPairs R xs → AllPairs S (map f xs)
+pairs_map Q R S f keeps xs each all i j d below within =
     let short : j < length xs = simp length-map at within in
     let shorter : i < length xs = omega arith in
-    subst (λ a. R a (get_or (map f xs) j d)) (sym (get_or-map f xs i d d shorter))
-    (subst (λ b. R (f (get_or xs i d)) b) (sym (get_or-map f xs j d d short)) (keeps _ _ (all i j d below short)))
+    subst (λ a. S a (get_or (map f xs) j d)) (sym (get_or-map f xs i d d shorter))
+    (subst (λ b. S (f (get_or xs i d)) b) (sym (get_or-map f xs j d d short)) (keeps _ _ (each i d shorter) (each j d short) (all i j d below short)))
+
+same_some : {X : Type 0} (x y : X) → Some x ≡ Some y → x ≡ y
+same_some x y e = ap (λ o. unwrap_or o x) e
+
+pub found_passes : {X : Type 0} (p : X → Bool) (x : X) (xs : List X) → find p xs ≡ Some x → p x ≡ true
+found_passes p x [] e = absurd (cc)
+found_passes p x (y ∷ ys) e =
+    elim (p y) as (λ b. p y ≡ b → cond b (Some y) (find p ys) ≡ Some x → p x ≡ true)
+    [ true ↦ λ h g. subst (λ z. p z ≡ true) (same_some y x g) h | false ↦ λ h g. found_passes p x ys g ] refl e
+
+-- where numbers rise, the one that is found by its number is the only one with it
+pub found_only : {X : Type 0} (number : X → ℕ) (n : ℕ) (x : X) (xs : List X) → AllPairs (λ a b. number a < number b) xs → find (λ y. number y == n) xs ≡ Some x → All (λ y. (number y == n) ≡ true → y ≡ x) xs
+found_only number n x [] rising e = All-nil (λ y. (number y == n) ≡ true → y ≡ x)
+found_only number n x (y ∷ ys) rising e =
+    elim (number y == n) as (λ b. (number y == n) ≡ b → cond b (Some y) (find (λ z. number z == n) ys) ≡ Some x → All (λ z. (number z == n) ≡ true → z ≡ x) (y ∷ ys)) [
+      | true ↦ λ h g. All-cons (λ z. (number z == n) ≡ true → z ≡ x) y ys (λ same. same_some y x g)
+          (λ k d lt same. absurd (
+          let here = eqb-true (number y) n h in
+          let there = eqb-true (number (get_or ys k d)) n same in
+          let up : number y < number (get_or ys k d) = rising 0 (suc k) d (omega arith) (omega arith) in
+          omega arith))
+      | false ↦ λ h g. All-cons (λ z. (number z == n) ≡ true → z ≡ x) y ys (λ same. absurd (cc))
+          (found_only number n x ys (λ i j d lt within. rising (suc i) (suc j) d (omega arith) (omega arith)) g)
+    ] refl e
 
 -- a map that changes no number
 pub map_same : {X Y : Type 0} (f : X → X) (g : X → Y) → ((x : X) → g (f x) ≡ g x) → (xs : List X) → map g (map f xs) ≡ map g xs

@@ -69,11 +69,13 @@ numbered_filter number next p rows old = record {
   rising = AllPairs-filter (λ a b. number a < number b) p rows old.rising;
 }
 
-numbered_marked : (number next : ℕ) (rows : List Service) → AreNumbered (λ (row : Service). row.number) next rows → AreNumbered (λ (row : Service). row.number) next (map (marked_if number) rows)
-numbered_marked number next rows old = record {
-  positive = All-map (λ (row : Service). 1 ≤ row.number) (marked_if number) rows old.positive;
-  below = All-map (λ (row : Service). row.number < next) (marked_if number) rows old.below;
-  rising = pairs_map (λ (a b : Service). a.number < b.number) (marked_if number) (λ a b h. h) rows old.rising;
+-- a map that changes no number
+pub numbered_map : (next : ℕ) (change : Service → Service) → ((row : Service) → (change row).number ≡ row.number) → (rows : List Service) → AreNumbered (λ (row : Service). row.number) next rows → AreNumbered (λ (row : Service). row.number) next (map change rows)
+numbered_map next change same rows old = record {
+  positive = All-map (λ (row : Service). 1 ≤ row.number) change rows (λ k d lt. subst (λ n. 1 ≤ n) (sym (same (get_or rows k d))) (old.positive k d lt));
+  below = All-map (λ (row : Service). row.number < next) change rows (λ k d lt. subst (λ n. n < next) (sym (same (get_or rows k d))) (old.below k d lt));
+  rising = pairs_map (λ row. Unit {0}) (λ (a b : Service). a.number < b.number) (λ (a b : Service). a.number < b.number) change
+      (λ a b p q lt. let x = same a in let y = same b in omega arith) rows (λ k d lt. tt) old.rising;
 }
 
 -- ## Changes
@@ -252,14 +254,16 @@ added f config status s names displays checked kind state = record {
 
 pub marked : (f : Flat) (number : ℕ) → Sound f → Sound (with_mark f number)
 marked f number s = record {
-  services = numbered_marked number f.next.service f.services s.services;
+  services = numbered_map f.next.service (marked_if number) (λ row. refl) f.services s.services;
   handles = s.handles;
   callers = s.callers;
   first_service = s.first_service;
   first_handle = s.first_handle;
   first_caller = s.first_caller;
-  names = pairs_map (λ (a b : Service). same_text a.config.name b.config.name ≡ false) (marked_if number) (λ a b h. h) f.services s.names;
-  displays = pairs_map (λ (a b : Service). same_text a.config.display b.config.display ≡ false) (marked_if number) (λ a b h. h) f.services s.displays;
+  names = pairs_map (λ row. Unit {0}) (λ (a b : Service). same_text a.config.name b.config.name ≡ false) (λ (a b : Service). same_text a.config.name b.config.name ≡ false) (marked_if number)
+      (λ a b p q h. h) f.services (λ k d lt. tt) s.names;
+  displays = pairs_map (λ row. Unit {0}) (λ (a b : Service). same_text a.config.display b.config.display ≡ false) (λ (a b : Service). same_text a.config.display b.config.display ≡ false) (marked_if number)
+      (λ a b p q h. h) f.services (λ k d lt. tt) s.displays;
   configs = All-map (λ (row : Service). check_new row.config None ≡ 0) (marked_if number) f.services s.configs;
   kinds = All-map (λ (row : Service). row.status.kind ≡ row.config.kind) (marked_if number) f.services s.kinds;
   stopped = All-map (λ (row : Service). (row.status.state == 1) ≡ (row.process == 0)) (marked_if number) f.services s.stopped;

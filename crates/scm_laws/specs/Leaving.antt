@@ -1,5 +1,6 @@
 -- Who leaves in a step, and nobody else.
-use Rattle.std.specs.Prelude.{ℕ, ◌≡◌, false, not, ◌==◌, ◌++◌, List, [], ◌∷◌, All, filter, map, if◌then◌else◌}
+use Rattle.std.specs.Prelude.{ℕ, Bool, ◌≡◌, false, not, ◌&&◌, ◌||◌, ◌==◌, ◌++◌, List, [], ◌∷◌, All, drop, filter, length, map, take, if◌then◌else◌}
+use Rattle.std.specs.List.{AllZip}
 use Rattle.scm_model.specs.declared.flat.Flat.{Flat}
 use Rattle.scm_model.specs.declared.flat.Limits.{Limits}
 use Rattle.scm_model.specs.declared.flat.Service.{Service}
@@ -9,8 +10,10 @@ use Rattle.scm_model.specs.declared.calls.Request.TheVariants as request
 use Rattle.scm_model.specs.declared.steps.Answer.{Answer}
 use Rattle.scm_model.specs.declared.steps.Answer.TheVariants as answer
 use Rattle.scm_model.specs.declared.steps.Step.{Step}
-use Rattle.scm_model.specs.declared.steps.Step.TheVariants.{Joined, Call, Gone, NoMemory}
+use Rattle.scm_model.specs.declared.steps.Step.TheVariants.{Call}
+use Rattle.scm_model.specs.Rows.{opened}
 use Rattle.scm_model.specs.Changes.{leaves}
+use Rattle.scm_rules.specs.Query.{service_in}
 use Rattle.scm_rules.specs.Steps.{at_moment, effect_of, settled}
 use Rattle.scm_rules.specs.Runs.{Entry}
 
@@ -21,37 +24,67 @@ before_leaving l f e = settled l (effect_of l (at_moment f e.0 e.1) e.1).1
 abbrev pub numbers : List Service → List ℕ
 numbers rows = map (λ (row : Service). row.number) rows
 
--- the number at code 0
-abbrev pub at_zero : ℕ → ℕ → List ℕ
-at_zero number code = if code == 0 then number ∷ [] else []
+-- ## What a step may change
 
--- what a reply tells of the number of a service that was created
-abbrev pub created_by_reply : ℕ → Reply → List ℕ
-created_by_reply number (reply.Code code) = []
-created_by_reply number (reply.Handle handle code) = []
-created_by_reply number (reply.State status code) = []
-created_by_reply number (reply.Made tag handle code) = at_zero number code
+-- whether a reply has code 0
+abbrev pub has_zero : Reply → Bool
+has_zero (reply.Code code) = code == 0
+has_zero (reply.Handle handle code) = code == 0
+has_zero (reply.State status code) = code == 0
+has_zero (reply.Made tag handle code) = code == 0
+has_zero (reply.Tag tag code) = code == 0
+has_zero (reply.Shown config needed code) = code == 0
+has_zero (reply.Name name size code) = code == 0
 
-abbrev pub created_by : ℕ → Answer → List ℕ
-created_by number (answer.Caller caller) = []
-created_by number (answer.Reply told) = created_by_reply number told
-created_by number answer.Done = []
+-- whether a call was not refused
+abbrev pub succeeds : Answer → Bool
+succeeds (answer.Caller caller) = false
+succeeds (answer.Reply told) = has_zero told
+succeeds answer.Done = false
 
--- the number of the service that a Create with code 0 adds; only Create is answered so
+-- the number of the service that a Create with code 0 adds
 abbrev pub created : Flat → Step → Answer → List ℕ
-created f (Joined principal) told = []
-created f (Call caller (request.Create new) append) told = created_by f.next.service told
-created f (Call caller (request.Close handle) append) told = []
-created f (Call caller (request.Delete handle) append) told = []
-created f (Call caller (request.QueryStatus handle) append) told = []
-created f (Call caller (request.OpenManager database access) append) told = []
-created f (Call caller (request.OpenService handle name access) append) told = []
-created f (Gone caller) told = []
-created f (NoMemory caller) told = []
+created f (Call caller (request.Create new) append) told = if succeeds told then f.next.service ∷ [] else []
+created f step told = []
 
--- the services are those that stood, with the one that a Create adds, without those that are marked, STOPPED and named by no handle;
--- and none such stands
+-- whether a handle is of the service with a number
+abbrev pub is_handle_of : Flat → ℕ → ℕ → ℕ → Bool
+is_handle_of f caller handle number = number == service_in (opened f caller handle)
+
+-- whether a step is a Delete of the service with code 0
+abbrev pub marks : Flat → Step → Answer → ℕ → Bool
+marks f (Call caller (request.Delete handle) append) told number = succeeds told && is_handle_of f caller handle number
+marks f step told number = false
+
+-- whether a step is a Change of the service with code 0
+abbrev pub configures : Flat → Step → Answer → ℕ → Bool
+configures f (Call caller (request.Change change) append) told number = succeeds told && is_handle_of f caller change.handle number
+configures f step told number = false
+
+-- a service after a step is the one before it: only its Delete marks it, and only its Change gives it another configuration, with another
+-- type in its status, under the same name
+pub record IsSameService (f : Flat) (step : Step) (told : Answer) (old new : Service) : Type 0 where
+  pub row : new ≡ record old {
+    config = new.config;
+    status = record old.status { kind = new.status.kind };
+    marked = old.marked || marks f step told old.number;
+  }
+  pub config : configures f step told old.number ≡ false → (new.config ≡ old.config) × (new.status.kind ≡ old.status.kind)
+  pub name : new.config.name ≡ old.config.name
+
+-- never run, and not marked
+pub record IsFresh (row : Service) : Type 0 where
+  pub state : row.status.state ≡ 1
+  pub process : row.process ≡ 0
+  pub marked : row.marked ≡ false
+
+-- ## The law
+
+-- the services are those that stood, in their order and each as it was but for its own Delete or Change, with the one that a Create adds,
+-- without those that are marked, STOPPED and named by no handle; and none such stands
 pub record LawOfLeaving (l : Limits) (before : Flat) (e : Entry) (told : Answer) (after : Flat) : Type 0 where
   pub stood : numbers (before_leaving l before e).services ≡ numbers before.services ++ created before e.1 told
+  pub rows : AllZip (IsSameService before e.1 told) before.services (take (length before.services) (before_leaving l before e).services)
+  pub fresh : All IsFresh (drop (length before.services) (before_leaving l before e).services)
   pub left : after.services ≡ filter (λ (row : Service). not (leaves (before_leaving l before e).handles row)) (before_leaving l before e).services
   pub none : All (λ (row : Service). leaves after.handles row ≡ false) after.services
