@@ -14,14 +14,16 @@ use Rattle.scm_model.specs.Refused.{refused}
 use Rattle.scm_model.specs.Rows.{is_caller}
 use Rattle.scm_model.specs.Changes.{with_moment}
 use Rattle.scm_calls.specs.Replies.{Answers}
+use Rattle.scm_calls.specs.Requests.{IsInRange}
 use Rattle.scm_rules.specs.Steps.{step_of, may}
 use Rattle.scm_rules.specs.Verdicts.{call_of, change_of_call, tells_right}
 use Rattle.scm_pipe.specs.Histories.{IsRequest, IsNotLost, told_by}
 use Rattle.scm_pipe.specs.Bodies.{reply_to}
-use Rattle.scm_pipe.specs.Calling.{Called}
+use Rattle.scm_pipe.specs.Calling.{Called, HasRun}
 use Rattle.scm_pipe.proofs.Replying.{of_call, of_refused}
+use Rattle.scm_pipe.proofs.Running.{AllShort, all_short}
 
-both : (b : Bool) → IsTrue b → IsTrue (b && true)
+pub both : (b : Bool) → IsTrue b → IsTrue (b && true)
 both true h = refl
 both false h = absurd cc
 
@@ -80,20 +82,20 @@ heard_is true x heard e = cc
 heard_is false x heard e = absurd cc
 
 by_step : (l : Limits) (f : Flat) (m : ℕ) (s : Step) (asked : Request) (heard : Option Reply) (reply : Reply)
-    → IsRequest 1 asked s → told_by 1 s (step_of l f m s).0 ≡ Some heard → reply_to asked heard ≡ reply → Answers asked reply
-by_step l f m (Call of x k) asked heard reply r e p =
+    → AllShort f → IsInRange asked → IsRequest 1 asked s → told_by 1 s (step_of l f m s).0 ≡ Some heard → reply_to asked heard ≡ reply → Answers asked reply
+by_step l f m (Call of x k) asked heard reply short range r e p =
     let y = (call_of l (with_moment f m) of x k).0 in
     let is : y ≡ reply = sym (ap (reply_to asked) (heard_is (of == 1) (Some y) heard e)) ∙ p in
-    subst (Answers asked) is (subst (λ a. Answers a y) r.1 (of_call l (with_moment f m) of x k))
-by_step l f m (NoMemory of) asked heard reply r e p =
+    subst (Answers asked) is (subst (λ a. Answers a y) r.1 (of_call l (with_moment f m) of x k short (subst IsInRange (sym r.1) range)))
+by_step l f m (NoMemory of) asked heard reply short range r e p =
     let is : refused asked 8 ≡ reply = sym (ap (reply_to asked) (heard_is (of == 1) None heard e)) ∙ p in
     subst (Answers asked) is (of_refused asked 8)
-by_step l f m (Joined principal) asked heard reply r e p = absurd r
-by_step l f m (Gone of) asked heard reply r e p = absurd r
+by_step l f m (Joined principal) asked heard reply short range r e p = absurd r
+by_step l f m (Gone of) asked heard reply short range r e p = absurd r
 
 -- its reply answers it
-pub answers_called : (tells : ℕ → Type 0) (l : Limits) (f g : Flat) (asked : Request) (reply : Reply) → Called tells l f g asked reply → Answers asked reply
-answers_called tells l f g asked reply c = by_step l f c.moment c.step asked c.heard reply c.asked c.answer c.replied
+pub answers_called : (tells : ℕ → Type 0) (l : Limits) (f g : Flat) (asked : Request) (reply : Reply) → HasRun l f → IsInRange asked → Called tells l f g asked reply → Answers asked reply
+answers_called tells l f g asked reply run range c = by_step l f c.moment c.step asked c.heard reply (all_short l f run) range c.asked c.answer c.replied
 
 -- the same under other names of its states
 pub called_from : (tells : ℕ → Type 0) (l m : Limits) (f e g h : Flat) (asked : Request) (reply : Reply) → l ≡ m → f ≡ e → h ≡ g → Called tells l f g asked reply → Called tells m e h asked reply

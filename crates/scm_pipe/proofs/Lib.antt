@@ -1,6 +1,7 @@
 pub mod Callers
+pub mod Talking
+pub mod Running
 pub mod Replying
 pub mod Calls
-pub mod Talking
 pub mod Walking
 pub mod Ends

@@ -1,34 +1,79 @@
 -- What a request is told answers it.
-use Rattle.std.proofs.Common.{ℕ, ◌≡◌, ◌==◌, cond, true, false, Option, None, Some}
+use Rattle.std.proofs.Common.{ℕ, ◌≡◌, ◌≤◌, length, Option, None, Some, refl, arith, ltb-false}
+use Rattle.std.specs.Prelude.{IfSome}
 use Rattle.scm_model.specs.declared.flat.Flat.{Flat}
 use Rattle.scm_model.specs.declared.flat.Limits.{Limits}
+use Rattle.scm_model.specs.declared.flat.Service.{Service}
 use Rattle.scm_model.specs.declared.calls.Request.{Request}
 use Rattle.scm_model.specs.declared.calls.Request.TheVariants as request
-use Rattle.scm_model.specs.declared.calls.Reply.{Reply}
+use Rattle.scm_model.specs.declared.calls.Shown.{Shown}
 use Rattle.scm_model.specs.declared.steps.Kept.{Kept}
-use Rattle.scm_model.specs.Refused.{outcome, refused}
-use Rattle.scm_calls.specs.Replies.{Answers}
-use Rattle.scm_rules.specs.Verdicts.{call_of, done_of, verdict}
+use Rattle.scm_model.specs.Refused.{refused}
+use Rattle.scm_model.specs.Rows.{named, displayed}
+use Rattle.scm_calls.specs.Replies.{Answers, bytes_needed}
+use Rattle.scm_calls.specs.Requests.{IsInRange}
+use Rattle.scm_rules.specs.OtherName.{display_in, name_in, name_or_empty}
+use Rattle.scm_rules.specs.QueryConfig.{query_config_refusals, query_config_verdict, shown_by, size_in}
+use Rattle.scm_rules.specs.Verdicts.{call_of, done_of, told_refused, verdict}
+use Rattle.scm_laws.proofs.Calls.{all_pass, by_verdict}
+use Rattle.scm_laws.proofs.Sizes.{AreShort}
+use Rattle.scm_pipe.proofs.Running.{AllShort, short_by_name, short_by_display}
 
 pub of_refused : (asked : Request) (code : ℕ) → Answers asked (refused asked code)
 of_refused (request.Close handle) code = tt
 of_refused (request.Delete handle) code = tt
 of_refused (request.QueryStatus handle) code = tt
+of_refused (request.Change change) code = tt
 of_refused (request.Create new) code = tt
 of_refused (request.OpenManager database access) code = tt
 of_refused (request.OpenService handle name access) code = tt
+of_refused (request.QueryConfig handle size) code = tt
+of_refused (request.DisplayName handle name size) code = omega arith
+of_refused (request.KeyName handle name size) code = omega arith
 
-of_done : (f : Flat) (caller : ℕ) (asked : Request) → Answers asked (done_of f caller asked).0
-of_done f caller (request.Close handle) = tt
-of_done f caller (request.Delete handle) = tt
-of_done f caller (request.QueryStatus handle) = tt
-of_done f caller (request.Create new) = tt
-of_done f caller (request.OpenManager database access) = tt
-of_done f caller (request.OpenService handle name access) = tt
+of_told : (f : Flat) (caller : ℕ) (asked : Request) (code : ℕ) → Answers asked (told_refused f caller asked code)
+of_told f caller (request.Close handle) code = tt
+of_told f caller (request.Delete handle) code = tt
+of_told f caller (request.QueryStatus handle) code = tt
+of_told f caller (request.Change change) code = tt
+of_told f caller (request.Create new) code = tt
+of_told f caller (request.OpenManager database access) code = tt
+of_told f caller (request.OpenService handle name access) code = tt
+of_told f caller (request.QueryConfig handle size) code = tt
+of_told f caller (request.DisplayName handle name size) code = omega arith
+of_told f caller (request.KeyName handle name size) code = omega arith
 
-of_outcome : (code : ℕ) (asked : Request) (f : Flat) (done : Reply × Flat) → Answers asked done.0 → Answers asked (outcome code asked f done).0
-of_outcome code asked f done h =
-    elim (code == 0) as (λ b. Answers asked (cond b done (refused asked code, f)).0) [ true ↦ h | false ↦ of_refused asked code ]
+-- what fits in a size that is read is told whole
+fits : (shown : Option Shown) (size : ℕ) → size ≤ 8192 → size_in shown ≤ size → IfSome shown (λ s. bytes_needed s ≤ size)
+fits None size most le = tt
+fits (Some s) size most le = omega (arith, most, le)
 
-pub of_call : (l : Limits) (f : Flat) (caller : ℕ) (asked : Request) (append : Kept) → Answers asked (call_of l f caller asked append).0
-of_call l f caller asked append = of_outcome (verdict l f caller asked append) asked f (done_of f caller asked) (of_done f caller asked)
+shown_fits : (f : Flat) (caller handle size : ℕ) → size ≤ 8192 → query_config_verdict f caller handle size ≡ 0 → IfSome (shown_by f caller handle) (λ s. bytes_needed s ≤ size)
+shown_fits f caller handle size most e =
+    let p = all_pass (query_config_refusals f caller handle size) (refl, (refl, (refl, tt))) e in
+    fits (shown_by f caller handle) size most (ltb-false size (size_in (shown_by f caller handle)) p.1.1.0)
+
+short_display : (found : Option Service) → IfSome found (λ row. AreShort row.config) → length (name_or_empty (display_in found)) ≤ 256
+short_display None short = omega arith
+short_display (Some row) short = short.display
+
+short_name : (found : Option Service) → IfSome found (λ row. AreShort row.config) → length (name_or_empty (name_in found)) ≤ 256
+short_name None short = omega arith
+short_name (Some row) short = short.name
+
+of_done : (l : Limits) (f : Flat) (caller : ℕ) (asked : Request) (append : Kept) → AllShort f → IsInRange asked → verdict l f caller asked append ≡ 0 → Answers asked (done_of f caller asked).0
+of_done l f caller (request.Close handle) append short range e = tt
+of_done l f caller (request.Delete handle) append short range e = tt
+of_done l f caller (request.QueryStatus handle) append short range e = tt
+of_done l f caller (request.Change change) append short range e = tt
+of_done l f caller (request.Create new) append short range e = tt
+of_done l f caller (request.OpenManager database access) append short range e = tt
+of_done l f caller (request.OpenService handle name access) append short range e = tt
+of_done l f caller (request.QueryConfig handle size) append short range e = shown_fits f caller handle size range e
+of_done l f caller (request.DisplayName handle name size) append short range e = short_display (named f name) (short_by_name f name short)
+of_done l f caller (request.KeyName handle name size) append short range e = short_name (displayed f name) (short_by_display f name short)
+
+pub of_call : (l : Limits) (f : Flat) (caller : ℕ) (asked : Request) (append : Kept) → AllShort f → IsInRange asked → Answers asked (call_of l f caller asked append).0
+of_call l f caller asked append short range =
+    by_verdict (λ r. Answers asked r.0) (verdict l f caller asked append) (told_refused f caller asked (verdict l f caller asked append)) f (done_of f caller asked)
+    (of_done l f caller asked append short range) (λ e. of_told f caller asked (verdict l f caller asked append))

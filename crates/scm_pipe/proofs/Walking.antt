@@ -200,6 +200,7 @@ turned_by T tells l a b left_now read stop.OutOfMemory h = h
 pub keeps_more : (a b c : Managed) (caller most : ℕ) → Keeps a b caller most → Keeps b c caller 1 → c.steps ≤ a.steps + most → Keeps a c caller most
 keeps_more a b c caller most p q h = record {
   limits = q.limits ∙ p.limits;
+  run = λ before. q.run (p.run before);
   joined = q.joined ∙ p.joined;
   text = λ small. q.text (p.text small);
   steps = h;

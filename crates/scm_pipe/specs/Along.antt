@@ -13,6 +13,7 @@ use Rattle.rpc_session.specs.declared.session.SessionFault.TheVariants as faults
 use Rattle.scm_pipe.specs.declared.stop.Stop.{Stop}
 use Rattle.scm_pipe.specs.declared.stop.Stop.TheVariants as stop
 use Rattle.scm_pipe.specs.Talks.{Answers, CutsShort}
+use Rattle.scm_pipe.specs.Calling.{HasRun}
 
 -- a connection: where its session, its manager and its sink stand
 pub record Point : Type 0 where
@@ -92,12 +93,14 @@ pub record HasStopCause {T : Type 0} (before now : ℕ) (result : Result T Stop)
 -- what a manager keeps over some steps, of which there are at most so many
 pub record Keeps (old new : Managed) (caller most : ℕ) : Type 0 where
   pub limits : new.limits ≡ old.limits
+  pub run : HasRun old.limits old.flat → HasRun new.limits new.flat
   pub joined : is_caller new.flat caller ≡ is_caller old.flat caller
   pub text : old.text < 2 ^ 63 → new.text < 2 ^ 63
   pub steps : new.steps ≤ old.steps + most
 
 -- The manager can make a step for each byte that the session holds, and for so many bytes more.
 pub record IsFit (m : Managed) (s : Seen) (more : ℕ) : Type 0 where
+  pub run : HasRun m.limits m.flat
   pub joined : IsTrue (is_caller m.flat 1)
   pub text : m.text < 2 ^ 63
   pub steps : m.steps + length s.held.rest + more ≤ 2 ^ 50

@@ -18,9 +18,13 @@ use Rattle.rpc_session.specs.declared.state.RequestItem.{RequestItem}
 
 -- ## Requests
 
--- the calls that are served so far, but for RCreateServiceW
+-- the calls on handles and names that are served so far
 abbrev pub is_plain : ℕ → Bool
-is_plain opnum = opnum == 0 || opnum == 2 || opnum == 6 || opnum == 15 || opnum == 16
+is_plain opnum = opnum == 0 || opnum == 2 || opnum == 6 || opnum == 15 || opnum == 16 || opnum == 20 || opnum == 21
+
+-- the calls on configurations that are served so far
+abbrev pub is_on_config : ℕ → Bool
+is_on_config opnum = opnum == 11 || opnum == 12 || opnum == 17
 
 -- a body that can't be read is nca_s_fault_ndr
 abbrev pub or_fault : Result Call BodyFault → Result Call ℕ
@@ -32,7 +36,7 @@ unfoldable pub asked_in : Interface → ℕ → List ℕ → Result Call ℕ
 asked_in Trigger opnum body = Err 0x1C010002
 asked_in Svcctl opnum body =
     if is_plain opnum then or_fault (request_at opnum body) else
-    if opnum == 12 then or_fault (config_request_at opnum body) else Err 0x1C010002
+    if is_on_config opnum then or_fault (config_request_at opnum body) else Err 0x1C010002
 
 abbrev pub asked_of : RequestItem → Result Call ℕ
 asked_of r = asked_in r.interface r.opnum r.body

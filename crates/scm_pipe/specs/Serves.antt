@@ -15,6 +15,7 @@ use Rattle.scm_pipe.specs.Histories.{replies}
 use Rattle.scm_pipe.specs.Talks.{Talks}
 use Rattle.scm_pipe.specs.Connection.{Reached}
 use Rattle.scm_pipe.specs.Along.{Point, GoesOn, GoesBad, Lacks, Breaks}
+use Rattle.scm_pipe.specs.Calling.{HasRun}
 
 pub record Serves (tells : ℕ → Type 0) (l : Limits) (caller : ℕ) (f g : Flat) (left left_now held held_now : Option (List ℕ)) (how : Served) : Type 0 where
   pub read : List ℕ
@@ -29,6 +30,7 @@ pub record Serves (tells : ℕ → Type 0) (l : Limits) (caller : ℕ) (f g : Fl
 
 -- a manager whose first caller has just joined
 pub record IsFresh (m : Managed) : Type 0 where
+  pub run : HasRun m.limits m.flat
   pub joined : IsTrue (is_caller m.flat 1)
   pub text : m.text < 2 ^ 63
   pub steps : m.steps ≤ 1

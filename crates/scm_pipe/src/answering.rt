@@ -1,5 +1,6 @@
 ghost use Rattle.std.specs.Prelude.{◌≡◌, ◌≤◌, ◌++◌, IfOk, OnErr, Some, length};
 ghost use Rattle.scm_calls.specs.Replies.{reply_bytes as body_of};
+ghost use Rattle.scm_calls.specs.Requests.{IsInRange};
 ghost use Rattle.scm_pipe.specs.Along.{Answered, HasStopCause, Keeps, stopped};
 ghost use Rattle.scm_pipe.specs.Calling.{IsReady, Replied};
 ghost use Rattle.rpc_session.specs.Moves.{IsFor};
@@ -48,14 +49,15 @@ fn replied<C: Clock>(
     request: Request,
     clock: &C,
 ) -> Result<Buffer<u8>, OutOfMemory>
-    requires { IsReady manager.old }
+    requires ready { IsReady manager.old }
+    requires ranged { IsInRange request }
     ensures ok { IfOk result (λ body. Replied (C.tells clock.now) manager.old.limits manager.old.flat manager.new.flat request body.items) }
     ensures err { OnErr result (manager.new.flat ≡ manager.old.flat) }
     ensures keeps { Keeps manager.old manager.new 1 1 }
 {
     let bound = reply_bound(&request);
     let out = Buffer::with_room(alloc, bound as usize)?;
-    let reply = call(manager, request, clock);
+    let reply = call(alloc, manager, request, clock);
     Ok(written(&reply, out))
 }
 

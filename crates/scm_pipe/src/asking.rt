@@ -2,7 +2,8 @@ ghost use Rattle.std.specs.Prelude.{◌≡◌, IfOk, Result};
 ghost use Rattle.scm_model.specs.declared.calls.Request.{Request};
 ghost use Rattle.ndr_body.specs.declared.fault.BodyFault.{BodyFault};
 ghost use Rattle.ndr_body.specs.Reading.{Gives};
-ghost use Rattle.scm_pipe.specs.Bodies.{asked_in, asked_of, is_plain, or_fault};
+ghost use Rattle.scm_calls.specs.Requests.{IsInRange};
+ghost use Rattle.scm_pipe.specs.Bodies.{asked_in, asked_of, is_on_config, is_plain, or_fault};
 
 use ndr_body::BodyFault;
 use rpc_session::{Interface, RequestItem};
@@ -16,16 +17,25 @@ const OP_RANGE: u32 = 0x1C01_0002;
 /// nca_s_fault_ndr of MS-RPCE: the body can't be read.
 const BAD_BODY: u32 = 0x6F7;
 
-/// Whether a call is one that is served, other than RCreateServiceW.
+/// Whether a call is one on handles and names that is served.
 fn is_plain(opnum: u16) -> bool
     ensures { result ≡ is_plain opnum }
 {
-    opnum == 0 || opnum == 2 || opnum == 6 || opnum == 15 || opnum == 16
+    matches!(opnum, 0 | 2 | 6 | 15 | 16 | 20 | 21)
+}
+
+/// Whether a call is one on configurations that is served.
+fn is_on_config(opnum: u16) -> bool
+    ensures { result ≡ is_on_config opnum }
+{
+    matches!(opnum, 11 | 12 | 17)
 }
 
 /// What a body that was read asks, or the fault of one that can't be.
 fn or_fault(read: Result<Request, BodyFault>) -> Result<Result<Request, u32>, OutOfMemory>
-    ensures { (at : Result Request BodyFault) → Gives (λ r. r) read at → IfOk result (λ told. told ≡ or_fault at) }
+    requires { IfOk read (λ r. IsInRange r) }
+    ensures told { (at : Result Request BodyFault) → Gives (λ r. r) read at → IfOk result (λ told. told ≡ or_fault at) }
+    ensures ranged { IfOk result (λ told. IfOk told (λ r. IsInRange r)) }
 {
     match read {
         Ok(request) => Ok(Ok(request)),
@@ -47,14 +57,15 @@ fn asked_in(
     opnum: u16,
     body: &[u8],
 ) -> Result<Result<Request, u32>, OutOfMemory>
-    ensures { IfOk result (λ read. read ≡ asked_in interface opnum body.now) }
+    ensures asked { IfOk result (λ read. read ≡ asked_in interface opnum body.now) }
+    ensures ranged { IfOk result (λ read. IfOk read (λ r. IsInRange r)) }
 {
     match interface {
         Interface::Trigger => Ok(Err(OP_RANGE)),
         Interface::Svcctl => {
             if is_plain(opnum) {
                 or_fault(scm_calls::read_request(alloc, opnum, body))
-            } else if opnum == 12 {
+            } else if is_on_config(opnum) {
                 or_fault(scm_calls_cfg::read_request(alloc, opnum, body))
             } else {
                 Ok(Err(OP_RANGE))
@@ -65,7 +76,8 @@ fn asked_in(
 
 /// What a request asks, or the status of the fault that is answered.
 pub fn asked(alloc: Global, item: &RequestItem) -> Result<Result<Request, u32>, OutOfMemory>
-    ensures { IfOk result (λ read. read ≡ asked_of item.now) }
+    ensures asked { IfOk result (λ read. read ≡ asked_of item.now) }
+    ensures ranged { IfOk result (λ read. IfOk read (λ r. IsInRange r)) }
 {
     asked_in(alloc, item.interface, item.opnum, item.body.as_slice())
 }

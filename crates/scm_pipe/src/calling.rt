@@ -10,6 +10,7 @@ use super::answering::CALLER;
 use super::clock::Clock;
 use scm_core::Manager;
 use scm_model::{Answer, Kept, Reply, Request, Step, refused};
+use std::alloc::Global;
 
 /// What becomes of a change where only the manager keeps it.
 fn kept_by(changes: bool) -> Kept
@@ -52,13 +53,13 @@ fn has_room(manager: &mut Manager, step: &Step) -> bool
 }
 
 /// Makes a request at a moment of the clock. Where there is no memory for it, that stands in its place.
-pub fn call<C: Clock>(manager: &mut Manager, request: Request, clock: &C) -> Reply
+pub fn call<C: Clock>(alloc: Global, manager: &mut Manager, request: Request, clock: &C) -> Reply
     requires { IsReady manager.old }
     ensures called { Called (C.tells clock.now) manager.old.limits manager.old.flat manager.new.flat request result }
     ensures keeps { Keeps manager.old manager.new 1 1 }
 {
     let moment = clock.now();
-    let refusal = refused(&request, 8);
+    let refusal = refused(alloc, &request, 8);
     let step = Step::Call {
         caller: CALLER,
         request,

@@ -6,13 +6,13 @@ use Rattle.scm_pipe.proofs.answering.replied.Goals as goal
 pub written-requires : goal.written-requires
 written-requires g c =
     let m = c.args.manager.now in
-    let short = c.reply_bound-bound.ensures.bound c.call-reply.result (answers_called (g.C.Clock.tells c.args.clock.now) m.limits m.flat c.call-reply.new.manager.flat c.args.request c.call-reply.result c.call-reply.ensures.called) in
+    let short = c.reply_bound-bound.ensures.bound c.call-reply.result (answers_called (g.C.Clock.tells c.args.clock.now) m.limits m.flat c.call-reply.new.manager.flat c.args.request c.call-reply.result c.requires.ready.run c.requires.ranged c.call-reply.ensures.called) in
     omega (arith, short, c.in_ok-out.ensures.1)
 
 pub returns-clause-ok : goal.returns-clause-ok
 returns-clause-ok g c =
     let m = c.args.manager.now in
-    let short = c.reply_bound-bound.ensures.bound c.call-reply.result (answers_called (g.C.Clock.tells c.args.clock.now) m.limits m.flat c.call-reply.new.manager.flat c.args.request c.call-reply.result c.call-reply.ensures.called) in
+    let short = c.reply_bound-bound.ensures.bound c.call-reply.result (answers_called (g.C.Clock.tells c.args.clock.now) m.limits m.flat c.call-reply.new.manager.flat c.args.request c.call-reply.result c.requires.ready.run c.requires.ranged c.call-reply.ensures.called) in
     let is = c.written.ensures ∙ ap (λ front. front ++ body_of c.call-reply.result) c.in_ok-out.ensures.0 in
     record {
       reply = c.call-reply.result;

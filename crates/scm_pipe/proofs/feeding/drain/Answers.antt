@@ -1,7 +1,17 @@
-use Rattle.std.proofs.Common.{arith}
+use Rattle.std.proofs.Common.{refl, arith}
 use Rattle.scm_pipe.specs.Along.{Point}
-use Rattle.scm_pipe.proofs.Walking.{one_more, one_stops, keeps_more, gave_item, shorter_item, fault_stops}
+use Rattle.scm_pipe.proofs.Walking.{begins, one_more, one_stops, keeps_more, gave_item, shorter_item, fault_stops}
 use Rattle.scm_pipe.proofs.feeding.drain.Goals as goal
+
+pub loop-item-init : goal.loop-item-init
+loop-item-init g c =
+    let a : Point = record { session = c.args.session.now; flat = c.args.manager.now.flat; held = g.O.Sink.held c.args.output.now } in
+    record {
+      on = begins (g.C.Clock.tells c.args.clock.now) c.args.manager.now.limits a;
+      keeps = record { limits = refl; run = λ before. before; joined = refl; text = λ small. small; steps = omega arith };
+      room = omega arith;
+      grows = omega arith;
+    }
 
 pub returns-in-Err-answer-clause-fed : goal.returns-in-Err-answer-clause-fed
 returns-in-Err-answer-clause-fed g c =

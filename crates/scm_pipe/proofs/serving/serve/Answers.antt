@@ -15,7 +15,7 @@ loop-read-init g c =
       count = refl;
       most = omega arith;
       on = begins (g.C.Clock.tells c.args.clock.now) c.args.manager.now.limits 1 c.args.manager.now.flat (g.O.Sink.held c.args.output.now) c.new-session.result c.new-session.ensures.value c.new-session.ensures.gave;
-      keeps = record { limits = refl; joined = refl; text = λ small. small; steps = omega arith };
+      keeps = record { limits = refl; run = λ before. before; joined = refl; text = λ small. small; steps = omega arith };
       room = omega (arith, rest);
       input = omega arith;
       output = omega arith;
@@ -38,6 +38,7 @@ loop-read-preserved g c =
           (subst (λ x. GoesOn tells x 1 (fed t.read) m b) before.keeps.limits t.turned.2);
       keeps = record {
         limits = now.keeps.limits ∙ before.keeps.limits;
+        run = λ begun. now.keeps.run (before.keeps.run begun);
         joined = now.keeps.joined ∙ before.keeps.joined;
         text = λ small. now.keeps.text (before.keeps.text small);
         steps = omega (arith, now.room, before.room);
