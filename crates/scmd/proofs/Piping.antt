@@ -17,7 +17,8 @@ use Rattle.scm_pipe.specs.declared.served.Served.{Served}
 use Rattle.scm_pipe.specs.declared.served.Served.TheVariants as served
 use Rattle.scm_pipe.specs.Histories.{AreRequests, AsMany, replies, requests_of}
 use Rattle.scmd.specs.Joining.{HasJoined}
-use Rattle.scm_pipe.specs.Serves.{Serves}
+use Rattle.scm_pipe.specs.Calling.{HasRun}
+use Rattle.scm_pipe.specs.Serves.{IsFresh, Serves}
 use Rattle.scm_pipe.specs.Connection.{Reached}
 use Rattle.scmd.specs.Pipe.{IsPiped, program_limits}
 use Rattle.scm_pipe.proofs.Talking.{legal_append, only_requests, replies_append, replies_as_many}
@@ -31,6 +32,29 @@ whole principal joined calls gone = (joined, Joined principal) ∷ calls ++ (gon
 
 abbrev joined_state : Principal → ℕ → ℕ → Flat
 joined_state principal opened moment = (step_of program_limits (opening program_limits [] [] opened) moment (Joined principal)).1
+
+-- the run so far is the caller's joining
+begun : (principal : Principal) (opened moment : ℕ) → HasRun program_limits (joined_state principal opened moment)
+begun principal opened moment = record {
+  opened = opened;
+  history = (moment, Joined principal) ∷ [];
+  legal = (search rules, tt);
+  state = refl;
+}
+
+here : (principal : Principal) (opened moment : ℕ) → IsTrue (is_caller (joined_state principal opened moment) 1)
+here principal opened moment = search rules
+
+pub is_fresh : (tells : ℕ → Type 0) (principal : Principal) (opened : ℕ) (m : Managed) → HasJoined tells principal opened m → IsFresh m
+is_fresh tells principal opened m j =
+    let text = j.text in
+    let steps = j.steps in
+    record {
+      run = subst (λ l. HasRun l m.flat) (sym j.limits) (subst (λ f. HasRun program_limits f) (sym j.flat) (begun principal opened j.moment));
+      joined = subst (λ f. IsTrue (is_caller f 1)) (sym j.flat) (here principal opened j.moment);
+      text = omega (arith, text);
+      steps = omega (arith, steps);
+    }
 
 -- what a run tells its caller is what its calls tell it
 told_calls : (principal : Principal) (opened joined gone : ℕ) (calls : List Entry)
@@ -47,7 +71,7 @@ piped : (tells : ℕ → Type 0) (principal : Principal) (opened joined gone : �
 piped tells principal opened joined gone g left left_now held held_now how o j k s same =
     let f = joined_state principal opened joined in
     let calls = s.talks.calls in
-    let here : IsTrue (is_caller f 1) = search rules in
+    let there : IsTrue (is_caller f 1) = here principal opened joined in
     let own : requests_of 1 (whole principal joined calls gone) ≡ calls = only_requests 1 (asked s.done) calls ((gone, Gone 1) ∷ []) s.talks.asked refl in
     let told = sym (told_calls principal opened joined gone calls) in
     record {
@@ -58,7 +82,7 @@ piped tells principal opened joined gone g left left_now held held_now how o j k
         legal = (
           search rules,
           legal_append program_limits f calls ((gone, Gone 1) ∷ []) s.talks.legal
-              (both (is_caller (state_of program_limits f calls) 1) (subst (λ b. IsTrue b) (sym (ap (λ x. is_caller x 1) s.talks.state ∙ same)) here), tt),
+              (both (is_caller (state_of program_limits f calls) 1) (subst (λ b. IsTrue b) (sym (ap (λ x. is_caller x 1) s.talks.state ∙ same)) there), tt),
         );
         requests = subst (λ es. AreRequests 1 (asked s.done) es) (sym own) s.talks.asked;
         moments = subst (λ es. All (λ (e : Entry). tells e.0) es) (sym own) s.talks.moments;
