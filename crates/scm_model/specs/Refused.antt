@@ -14,12 +14,16 @@ zero_status = record { kind = 0; state = 0; accepted = 0; win32 = 0; specific = 
 abbrev pub refused : Request → ℕ → Reply
 refused (request.Close handle) code = reply.Handle handle code
 refused (request.Delete handle) code = reply.Code code
+refused (request.Lock handle) code = reply.Handle 0 code
 refused (request.QueryStatus handle) code = reply.State zero_status code
+refused (request.Unlock handle) code = reply.Handle handle code
 refused (request.Change change) code = reply.Tag change.tag code
 refused (request.Create new) code = reply.Made new.tag 0 code
 refused (request.OpenManager database access) code = reply.Handle 0 code
 refused (request.OpenService handle name access) code = reply.Handle 0 code
 refused (request.QueryConfig handle size) code = reply.Shown None 0 code
+refused (request.QueryLock handle size) code = reply.LockState 0 None 0 0 code
+refused (request.Start handle words) code = reply.Code code
 refused (request.DisplayName handle name size) code = reply.Name [] 0 code
 refused (request.KeyName handle name size) code = reply.Name [] 0 code
 

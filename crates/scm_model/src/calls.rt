@@ -1,6 +1,7 @@
 ghost use Rattle.std.specs.Prelude.{◌≡◌, IfOk};
 
 use super::Status;
+use super::copying::copy_texts;
 use scm_text::{Items, OutOfMemory, WText};
 use std::alloc::Global;
 
@@ -67,8 +68,16 @@ pub enum Request {
     Delete {
         handle: u64,
     },
+    /// `RLockServiceDatabase`, opnum 3.
+    Lock {
+        handle: u64,
+    },
     /// `RQueryServiceStatus`, opnum 6.
     QueryStatus {
+        handle: u64,
+    },
+    /// `RUnlockServiceDatabase`, opnum 8.
+    Unlock {
         handle: u64,
     },
     /// `RChangeServiceConfigW`, opnum 11.
@@ -90,6 +99,16 @@ pub enum Request {
     QueryConfig {
         handle: u64,
         size: u32,
+    },
+    /// `RQueryServiceLockStatusW`, opnum 18. The size is in bytes.
+    QueryLock {
+        handle: u64,
+        size: u32,
+    },
+    /// `RStartServiceW`, opnum 19. The words are absent where one of them is.
+    Start {
+        handle: u64,
+        words: Option<Items<WText>>,
     },
     /// `RGetServiceDisplayNameW`, opnum 20. The size is in 16-bit units.
     DisplayName {
@@ -132,6 +151,14 @@ pub enum Reply {
         needed: u32,
         code: u32,
     },
+    /// Whether the lock of the database is held, by whom and for how many seconds, and the bytes that this takes.
+    LockState {
+        held: u32,
+        owner: Option<WText>,
+        seconds: u32,
+        needed: u32,
+        code: u32,
+    },
     /// The size is in 16-bit units, without the zero at the end.
     Name {
         name: WText,
@@ -156,6 +183,19 @@ fn copy_of_bytes(bytes: &Option<Items<u8>>, alloc: Global) -> Result<Option<Item
 {
     match bytes {
         Some(bytes) => Ok(Some(Items::from_slice(alloc, bytes.as_slice())?)),
+        None => Ok(None),
+    }
+}
+
+/// A copy of words that may be absent.
+fn copy_of_words(
+    words: &Option<Items<WText>>,
+    alloc: Global,
+) -> Result<Option<Items<WText>>, OutOfMemory>
+    ensures { IfOk result (λ copy. copy ≡ words.now) }
+{
+    match words {
+        Some(words) => Ok(Some(copy_texts(words.as_slice(), alloc)?)),
         None => Ok(None),
     }
 }
@@ -221,7 +261,9 @@ impl Request {
         match self {
             Request::Close { handle } => Ok(Request::Close { handle: *handle }),
             Request::Delete { handle } => Ok(Request::Delete { handle: *handle }),
+            Request::Lock { handle } => Ok(Request::Lock { handle: *handle }),
             Request::QueryStatus { handle } => Ok(Request::QueryStatus { handle: *handle }),
+            Request::Unlock { handle } => Ok(Request::Unlock { handle: *handle }),
             Request::Change(change) => Ok(Request::Change(change.copy(alloc)?)),
             Request::Create(new) => Ok(Request::Create(new.copy(alloc)?)),
             Request::OpenManager { database, access } => Ok(Request::OpenManager {
@@ -240,6 +282,14 @@ impl Request {
             Request::QueryConfig { handle, size } => Ok(Request::QueryConfig {
                 handle: *handle,
                 size: *size,
+            }),
+            Request::QueryLock { handle, size } => Ok(Request::QueryLock {
+                handle: *handle,
+                size: *size,
+            }),
+            Request::Start { handle, words } => Ok(Request::Start {
+                handle: *handle,
+                words: copy_of_words(words, alloc)?,
             }),
             Request::DisplayName { handle, name, size } => Ok(Request::DisplayName {
                 handle: *handle,

@@ -8,7 +8,7 @@ mod refusing;
 mod steps;
 
 pub use calls::{ChangeService, NewService, Reply, Request, Shown};
-pub use copying::copy_needs;
+pub use copying::{copy_needs, copy_texts};
 pub use flat::{
     Action, Caller, Config, Due, DueKind, Flat, HandleKind, HandleRow, Limits, LockRow, Need, Next,
     Opened, Phase, Plan, Principal, Process, ProcessStatus, Registration, Service, Status, Trigger,

@@ -26,11 +26,11 @@ pub fn refused(alloc: Global, request: &Request, code: u32) -> Reply
     ensures { result ≡ refused request.now code }
 {
     match request {
-        Request::Close { handle } => Reply::Handle {
+        Request::Close { handle } | Request::Unlock { handle } => Reply::Handle {
             handle: *handle,
             code,
         },
-        Request::Delete { .. } => Reply::Code(code),
+        Request::Delete { .. } | Request::Start { .. } => Reply::Code(code),
         Request::QueryStatus { .. } => Reply::State {
             status: zero_status(),
             code,
@@ -44,11 +44,18 @@ pub fn refused(alloc: Global, request: &Request, code: u32) -> Reply
             handle: 0,
             code,
         },
-        Request::OpenManager { .. } | Request::OpenService { .. } => {
+        Request::Lock { .. } | Request::OpenManager { .. } | Request::OpenService { .. } => {
             Reply::Handle { handle: 0, code }
         }
         Request::QueryConfig { .. } => Reply::Shown {
             config: None,
+            needed: 0,
+            code,
+        },
+        Request::QueryLock { .. } => Reply::LockState {
+            held: 0,
+            owner: None,
+            seconds: 0,
             needed: 0,
             code,
         },

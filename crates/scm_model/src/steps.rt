@@ -37,6 +37,25 @@ pub enum Step {
         request: Request,
         kept: Kept,
     },
+    /// A start that waited is answered.
+    EndStart {
+        caller: u64,
+        plan: u64,
+    },
+    /// The launch that is wanted first is taken in hand.
+    LaunchTaken,
+    /// A process was launched. The system's number of it is `pid`.
+    Launched {
+        process: u64,
+        pid: u32,
+    },
+    /// A process could not be launched.
+    LaunchFailed {
+        process: u64,
+        code: u32,
+    },
+    /// What is due takes place.
+    Tick,
     /// A connection ends.
     Gone {
         caller: u64,
@@ -53,6 +72,10 @@ pub enum Answer {
     /// The number of a new caller.
     Caller(u64),
     Reply(Reply),
+    /// A start waits: the number of its plan.
+    Begun(u64),
+    /// The process that is to be launched.
+    Launch(u64),
     Done,
 }
 
@@ -77,6 +100,20 @@ impl Step {
                     kept: Kept::NotAsked,
                 })
             }
+            Step::EndStart { caller, plan } => Ok(Step::EndStart {
+                caller: *caller,
+                plan: *plan,
+            }),
+            Step::LaunchTaken => Ok(Step::LaunchTaken),
+            Step::Launched { process, pid } => Ok(Step::Launched {
+                process: *process,
+                pid: *pid,
+            }),
+            Step::LaunchFailed { process, code } => Ok(Step::LaunchFailed {
+                process: *process,
+                code: *code,
+            }),
+            Step::Tick => Ok(Step::Tick),
             Step::Gone { caller } => Ok(Step::Gone { caller: *caller }),
             Step::NoMemory { caller } => Ok(Step::NoMemory { caller: *caller }),
         }
