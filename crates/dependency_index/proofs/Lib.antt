@@ -11,3 +11,4 @@ pub mod Grown
 pub mod Depending
 pub mod Sifted
 pub mod Reaching
+pub mod Cycles

@@ -4,7 +4,7 @@ ghost use Rattle.dependency_index.specs.Dependents.{dependents_in};
 ghost use Rattle.dependency_index.specs.Indexed.{Indexed, empty, reserved, row_with, spare_of, with_needs, without_service};
 ghost use Rattle.dependency_index.specs.Naming.{active_in, naming_in, row_of};
 ghost use Rattle.dependency_index.specs.Needs.{has, needs_of, numbers_of, with_row};
-ghost use Rattle.dependency_index.specs.Order.{order_in};
+ghost use Rattle.dependency_index.specs.Order.{is_cyclic, order_in};
 ghost use Rattle.dependency_index.specs.Walks.{IsAcyclic};
 
 use super::graph::{Graph, NewRow, is_listed};
@@ -13,7 +13,7 @@ use super::rows::NeedRow;
 use super::steps::Steps;
 use super::visit::StateOf;
 use super::{dependents, order};
-use scm_model::Need;
+use scm_model::{Need, copy_needs};
 use scm_text::{Buffer, Items, OutOfMemory, WText};
 use std::alloc::Global;
 use std::marker::Model;
@@ -45,28 +45,6 @@ impl Model for DependencyIndex {
     ghost view = { λ i. record { rows = i.rows.items; spare = i.spare } };
 
     ghost invariant = { λ i. record { once : IsDistinct eqb (numbers_of i.rows.items); room : IsSome i.spare → vec_len i.rows < vec_capacity i.rows } };
-}
-
-fn copy_need(need: &Need, alloc: Global) -> Result<Need, OutOfMemory>
-    ensures { IfOk result (λ copy. copy ≡ need.now) }
-{
-    match need {
-        Need::Service(name) => Ok(Need::Service(name.copy(alloc)?)),
-        Need::Group(name) => Ok(Need::Group(name.copy(alloc)?)),
-    }
-}
-
-fn copy_needs(needs: &[Need], alloc: Global) -> Result<Items<Need>, OutOfMemory>
-    ensures { IfOk result (λ copy. copy ≡ needs.now) }
-{
-    let mut copy = Items::new(alloc);
-    for need in needs {
-        let need = copy_need(need, alloc)?;
-        if copy.push(need).is_err() {
-            return Err(OutOfMemory);
-        }
-    }
-    Ok(copy)
 }
 
 /// Where a service's row is, or past the end.
@@ -190,6 +168,7 @@ impl DependencyIndex {
         requires room { length self.now.rows < room.old.room }
         ensures no { IsFalse result → IsAcyclic (needs_of (with_row self.now.rows (row_with service name.now group.now needs.now))) }
         ensures yes { IsTrue result → IsAcyclic (needs_of (with_row self.now.rows (row_with service name.now group.now needs.now))) → ⊥ }
+        ensures value { result ≡ is_cyclic (with_row self.now.rows (row_with service name.now group.now needs.now)) }
     {
         let new = NewRow {
             number: service,

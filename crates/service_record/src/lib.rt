@@ -7,7 +7,7 @@ mod reading;
 mod writing;
 
 pub use checking::{check_change, check_new, has_bad_lists, is_bad_account, is_bad_name};
-pub use lines::is_bad_line;
+pub use lines::{is_bad_line, is_broken};
 pub use reading::{RecordFault, read_record};
 pub use writing::record_bytes;
 

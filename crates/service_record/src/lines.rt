@@ -48,8 +48,8 @@ fn is_low(unit: u16) -> bool
 }
 
 #[tactic(auto, unfolding(crate::proofs::Halves::is_unpaired))]
-/// Whether the units are no UTF-16.
-fn is_broken(units: &[u16]) -> bool
+/// Whether the units are no well-formed UTF-16.
+pub fn is_broken(units: &[u16]) -> bool
     ensures { result ≡ has_unpaired_surrogate units.now }
 {
     let mut pending = false;

@@ -1,7 +1,7 @@
 use crate::Plans;
 use crate::bench::{Bench, status};
 use scm_model::{Config, LockRow, Need, Plan, Service};
-use scm_text::{Buffer, Items, WText};
+use scm_text::{Items, WText};
 use std::alloc::Global;
 use std::test::Fail;
 
@@ -87,7 +87,7 @@ fn begun(alloc: Global, caller: u64, entries: &[u64]) -> Result<Plans, Fail> {
     }
     let mut words = Items::new(alloc);
     words.push(text(alloc, 120)?)?;
-    let tried = Buffer::with_room(alloc, list.len())?;
+    let tried = Vec::with_capacity(alloc, list.len())?;
     let plan = Plan {
         number: 7,
         caller,
