@@ -3,6 +3,8 @@ use Rattle.std.specs.Prelude.{ℕ, Bool, false, ◌||◌, ◌&&◌, ◌==◌, Li
 use Rattle.std.specs.Cmp.Lexicographic.{pointwise}
 use Rattle.scm_model.specs.declared.flat.Flat.{Flat}
 use Rattle.scm_model.specs.declared.flat.Config.{Config}
+use Rattle.scm_model.specs.declared.flat.Need.{Need}
+use Rattle.scm_model.specs.declared.flat.Need.TheVariants as needs
 use Rattle.scm_model.specs.declared.flat.Service.{Service}
 use Rattle.scm_model.specs.declared.calls.ChangeService.{ChangeService}
 use Rattle.scm_model.specs.declared.calls.Reply.{Reply}
@@ -18,6 +20,7 @@ use Rattle.scm_rules.specs.Rights.{lacks}
 use Rattle.scm_rules.specs.Query.{service_in}
 use Rattle.scm_rules.specs.Delete.{is_marked, is_failed}
 use Rattle.scm_rules.specs.Create.{display_of, next_tag, told_tag}
+use Rattle.scm_rules.specs.Needs.{are_unreadable, makes_cycle, needs_or}
 
 -- ## The new configuration
 
@@ -45,6 +48,7 @@ config_with tag old change = record old {
   path = unwrap_or change.path old.path;
   group = unwrap_or change.group old.group;
   tag = tag;
+  needs = needs_or old.needs change.needs;
   delayed = old.delayed && number_or old.start change.start == 2;
 }
 
@@ -76,16 +80,21 @@ abbrev pub takes_name : Flat → ChangeService → Option Service → Bool
 takes_name f change None = false
 takes_name f change (Some row) = is_some change.display && is_shown_by_another f row.number (display_or row.config change.display)
 
--- needs are not taken yet: where some are given, 87 stands in their place
+-- whether needs would have a cycle with the new configuration
+abbrev pub loops : Flat → ChangeService → Option Service → Bool
+loops f change None = false
+loops f change (Some row) = makes_cycle f row.number (new_config f change row)
+
 abbrev pub change_refusals : Flat → ℕ → ChangeService → Kept → List (Bool × ℕ)
 change_refusals f caller change append =
     (is_none (opened f caller change.handle), 6)
     ∷ (lacks (opened f caller change.handle) 2, 5)
     ∷ (is_marked (changed_service f caller change), 1072)
     ∷ (checked f change (changed_service f caller change) == 123, 123)
-    ∷ (checked f change (changed_service f caller change) == 87 || tags_no_group change (changed_service f caller change) || is_some change.needs, 87)
+    ∷ (checked f change (changed_service f caller change) == 87 || tags_no_group change (changed_service f caller change) || are_unreadable change.needs, 87)
     ∷ (checked f change (changed_service f caller change) == 1057, 1057)
     ∷ (takes_name f change (changed_service f caller change), 1078)
+    ∷ (loops f change (changed_service f caller change), 1059)
     ∷ (is_failed append, 1013)
     ∷ []
 
@@ -119,12 +128,20 @@ change_done f caller change = (
 abbrev pub is_equal : List ℕ → List ℕ → Bool
 is_equal = pointwise ◌==◌
 
+-- whether two needs are of the same kind and have the same units
+abbrev pub is_equal_need : Need → Need → Bool
+is_equal_need (needs.Service a) (needs.Service b) = is_equal a b
+is_equal_need (needs.Service a) (needs.Group b) = false
+is_equal_need (needs.Group a) (needs.Service b) = false
+is_equal_need (needs.Group a) (needs.Group b) = is_equal a b
+
 -- whether a new configuration has all that a change can ask for as the old one has it
 abbrev pub is_as_before : Config → Config → Bool
 is_as_before old new =
     is_equal old.display new.display
     && old.kind == new.kind && old.start == new.start && old.error == new.error
     && is_equal old.path new.path && is_equal old.group new.group && old.tag == new.tag
+    && pointwise is_equal_need old.needs new.needs
 
 -- a change that changes nothing isn't kept
 abbrev pub changed_from : Config → Config → Option Change

@@ -19,6 +19,7 @@ use Rattle.service_record.specs.Checks.{check_new}
 use Rattle.scm_rules.specs.Rights.{manager_lacks}
 use Rattle.scm_rules.specs.OpenService.{service_granted}
 use Rattle.scm_rules.specs.Delete.{is_marked, is_failed}
+use Rattle.scm_rules.specs.Needs.{are_unreadable, makes_cycle, needs_or}
 
 -- the display name of a new service: its name where none is given
 abbrev pub display_of : List ℕ → Option (List ℕ) → List ℕ
@@ -49,7 +50,7 @@ config_at tag new = record {
   path = new.path;
   group = unwrap_or new.group [];
   tag = tag;
-  needs = [];
+  needs = needs_or [] new.needs;
   description = [];
   reset = 0;
   actions = [];
@@ -70,17 +71,17 @@ tags_nothing new = is_some new.tag && length (unwrap_or new.group []) == 0
 abbrev pub new_status : ℕ → Status
 new_status kind = record { kind = kind; state = 1; accepted = 0; win32 = 1077; specific = 0; checkpoint = 0; hint = 0 }
 
--- needs are not taken yet: where some are given, 87 stands in their place
 abbrev pub create_refusals : Limits → Flat → ℕ → NewService → Kept → List (Bool × ℕ)
 create_refusals l f caller new append =
     (is_none (manager_mask f caller new.handle), 6)
     ∷ (manager_lacks (manager_mask f caller new.handle) 2 || is_none (service_granted f caller new.access), 5)
     ∷ (check_new (config_of f new) new.account == 123, 123)
-    ∷ (check_new (config_of f new) new.account == 87 || tags_nothing new || is_some new.needs, 87)
+    ∷ (check_new (config_of f new) new.account == 87 || tags_nothing new || are_unreadable new.needs, 87)
     ∷ (check_new (config_of f new) new.account == 1057, 1057)
     ∷ (is_marked (named f new.name), 1072)
     ∷ (is_some (named f new.name), 1073)
     ∷ (is_shown f (config_of f new).display, 1078)
+    ∷ (makes_cycle f f.next.service (config_of f new), 1059)
     ∷ (nat_le l.services (length f.services) || nat_le l.handles (held_by f caller), 1816)
     ∷ (is_failed append, 1013)
     ∷ []

@@ -5,11 +5,15 @@ pub mod OpenManager
 pub mod OpenService
 pub mod Query
 pub mod Delete
+pub mod Needs
 pub mod Create
 pub mod Change
 pub mod QueryConfig
 pub mod OtherName
+pub mod Locks
+pub mod Start
 pub mod Verdicts
+pub mod Launches
 pub mod Steps
 pub mod Opening
 pub mod Texts

@@ -1,59 +1,106 @@
--- One step of the manager: its effect, then the plans are settled, then marked services are purged.
-use Rattle.std.specs.Prelude.{ℕ, Bool, true, ◌&&◌, nat_lt, length, is_some}
+-- One step of the manager: its effect, then the plans are settled, then a start that this decided is answered, then marked services
+-- are purged.
+use Rattle.std.specs.Prelude.{ℕ, Bool, true, false, not, ◌&&◌, ◌==◌, nat_lt, length, max, List, [], ◌∷◌, Option, None, Some, is_some, unwrap_or, if◌then◌else◌}
+use Rattle.std.specs.List.{list_any}
 use Rattle.scm_model.specs.declared.flat.Flat.{Flat}
 use Rattle.scm_model.specs.declared.flat.Limits.{Limits}
+use Rattle.scm_model.specs.declared.flat.Wanted.{Wanted}
 use Rattle.scm_model.specs.declared.calls.Reply.{Reply}
+use Rattle.scm_model.specs.declared.calls.Reply.TheVariants as reply
+use Rattle.scm_model.specs.declared.calls.Request.{Request}
+use Rattle.scm_model.specs.declared.calls.Request.TheVariants as request
 use Rattle.scm_model.specs.declared.steps.Step.{Step}
-use Rattle.scm_model.specs.declared.steps.Step.TheVariants.{Joined, Call, Gone, NoMemory}
+use Rattle.scm_model.specs.declared.steps.Step.TheVariants.{Joined, Call, EndStart, LaunchTaken, Launched, LaunchFailed, Tick, Gone, NoMemory}
 use Rattle.scm_model.specs.declared.steps.Answer.{Answer}
 use Rattle.scm_model.specs.declared.steps.Answer.TheVariants as answer
 use Rattle.scm_model.specs.Rows.{is_caller}
-use Rattle.scm_model.specs.Changes.{with_moment, with_caller, without_caller, without_handles_of, purged}
-use Rattle.scm_rules.specs.Verdicts.{call_of, change_of_call, tells_right}
+use Rattle.scm_model.specs.Changes.{with_moment, with_caller, without_caller, without_handles_of, without_lock_of, purged}
+use Rattle.start_plan.specs.Decided.{code_of, without_plans_of}
+use Rattle.start_plan.specs.Settle.{settled}
+use Rattle.scm_rules.specs.Launches.{first_wanted, is_taken, launch_failed, launch_taken, launched, process_of}
+use Rattle.scm_rules.specs.Start.{can_end, ended, is_due, ticked}
+use Rattle.scm_rules.specs.Verdicts.{call_of, change_of_call, tells_right, verdict}
 
--- what a caller leaves when it goes
+-- a caller's plans leave
+abbrev pub without_plans : Flat → ℕ → Flat
+without_plans f caller = record f { plans = without_plans_of f.plans caller }
+
+-- what a caller leaves when it goes: its handles and plans leave too, and a lock that one of its handles held is free
 abbrev pub gone : Flat → ℕ → Flat
-gone f caller = without_caller (without_handles_of f caller) caller
+gone f caller = without_caller (without_plans (without_handles_of (without_lock_of f caller) caller) caller) caller
 
-abbrev pub replied : Reply × Flat → Answer × Flat
-replied done = (answer.Reply done.0, done.1)
+-- a start that isn't refused tells its plan, and every other call its reply
+abbrev pub tells_plan : Request → ℕ → Bool
+tells_plan (request.Start handle words) code = code == 0
+tells_plan asked code = false
+
+abbrev pub answer_of : Bool → ℕ → Reply → Answer
+answer_of begins plan told = if begins then answer.Begun plan else answer.Reply told
 
 -- the state that a step's effect begins in: a call that found no memory moves nothing
 abbrev pub at_moment : Flat → ℕ → Step → Flat
-at_moment f moment (Joined principal) = with_moment f moment
-at_moment f moment (Call caller asked append) = with_moment f moment
-at_moment f moment (Gone caller) = with_moment f moment
 at_moment f moment (NoMemory caller) = f
+at_moment f moment step = with_moment f moment
 
 abbrev pub effect_of : Limits → Flat → Step → Answer × Flat
 effect_of l f (Joined principal) = (answer.Caller f.next.caller, with_caller f principal)
-effect_of l f (Call caller asked append) = replied (call_of l f caller asked append)
+effect_of l f (Call caller asked append) =
+    let done = call_of l f caller asked append in
+    (answer_of (tells_plan asked (verdict l f caller asked append)) f.next.plan done.0, done.1)
+effect_of l f (EndStart caller plan) = (answer.Reply (reply.Code (unwrap_or (code_of f.plans plan) 0)), ended f plan)
+effect_of l f LaunchTaken = (answer.Launch (first_wanted f.wanted), launch_taken f)
+effect_of l f (Launched process pid) = (answer.Done, launched f process pid)
+effect_of l f (LaunchFailed process code) = (answer.Done, launch_failed f process code)
+effect_of l f Tick = (answer.Done, ticked f)
 effect_of l f (Gone caller) = (answer.Done, gone f caller)
 effect_of l f (NoMemory caller) = (answer.Done, f)
 
--- there are no plans yet
-abbrev pub settled : Limits → Flat → Flat
-settled l f = f
+-- a start that is decided by now is answered its code, and its plan leaves
+abbrev pub answered_by : ℕ → Option ℕ → Answer
+answered_by plan None = answer.Begun plan
+answered_by plan (Some code) = answer.Reply (reply.Code code)
+
+abbrev pub left_by : Flat → ℕ → Option ℕ → Flat
+left_by f plan None = f
+left_by f plan (Some code) = ended f plan
+
+abbrev pub finished : Flat → Answer → Answer × Flat
+finished f (answer.Begun plan) = (answered_by plan (code_of f.plans plan), left_by f plan (code_of f.plans plan))
+finished f told = (told, f)
+
+-- what a step answers, and the state before marked services leave
+abbrev pub finished_step : Limits → Flat → ℕ → Step → Answer × Flat
+finished_step l f moment step =
+    let done = effect_of l (at_moment f moment step) step in
+    finished (settled l done.1) done.0
 
 -- what a step answers, and the state after it
 abbrev pub step_of : Limits → Flat → ℕ → Step → Answer × Flat
 step_of l f moment step =
-    let done = effect_of l (at_moment f moment step) step in
-    (done.0, purged (settled l done.1))
+    let done = finished_step l f moment step in
+    (done.0, purged done.1)
+
+-- whether a launch is wanted
+abbrev pub is_wanted : List Wanted → Bool
+is_wanted [] = false
+is_wanted (row ∷ rows) = true
 
 -- whether a step may come at a moment, whatever it tells of what was kept
 abbrev pub may_come : Limits → Flat → ℕ → Step → Bool
 may_come l f moment (Joined principal) = nat_lt (length f.callers) l.callers
 may_come l f moment (Call caller asked append) = is_caller f caller
+may_come l f moment (EndStart caller plan) = is_caller f caller && can_end f caller plan
+may_come l f moment LaunchTaken = is_wanted f.wanted
+may_come l f moment (Launched process pid) = is_taken (process_of f process)
+may_come l f moment (LaunchFailed process code) = is_taken (process_of f process) && not (code == 0)
+may_come l f moment Tick = list_any (is_due (max f.moment moment)) f.dues
 may_come l f moment (Gone caller) = is_caller f caller
 may_come l f moment (NoMemory caller) = is_caller f caller
 
 -- whether a step tells that a change was kept or not exactly where it makes one
 abbrev pub keeps_right : Limits → Flat → Step → Bool
-keeps_right l f (Joined principal) = true
 keeps_right l f (Call caller asked append) = tells_right (is_some (change_of_call l f caller asked)) append
-keeps_right l f (Gone caller) = true
-keeps_right l f (NoMemory caller) = true
+keeps_right l f step = true
 
 -- whether a step may be done, apart from its room and from the number and text of the steps
 abbrev pub may : Limits → Flat → ℕ → Step → Bool

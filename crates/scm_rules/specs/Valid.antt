@@ -1,18 +1,32 @@
 -- What is true of every state that a run reaches.
-use Rattle.std.specs.Prelude.{ℕ, ◌≡◌, ◌<◌, ◌≤◌, false, ◌==◌, IsTrue, None, List, AllPairs, All}
+use Rattle.std.specs.Prelude.{ℕ, Bool, ◌≡◌, ◌<◌, ◌≤◌, true, false, ◌==◌, ◌||◌, ◌&&◌, IsTrue, IfSome, None, List, AllPairs, All, filter, is_none, length, map}
+use Rattle.std.specs.List.{list_any}
 use Rattle.scm_text.specs.Fold.{same_text}
 use Rattle.scm_model.specs.declared.flat.Flat.{Flat}
 use Rattle.scm_model.specs.declared.flat.Limits.{Limits}
 use Rattle.scm_model.specs.declared.flat.Service.{Service}
+use Rattle.scm_model.specs.declared.flat.HandleKind.{HandleKind}
+use Rattle.scm_model.specs.declared.flat.HandleKind.TheVariants as kinds
 use Rattle.scm_model.specs.declared.flat.HandleRow.{HandleRow}
+use Rattle.scm_model.specs.declared.flat.Phase.{Phase}
+use Rattle.scm_model.specs.declared.flat.Phase.TheVariants as phases
 use Rattle.scm_model.specs.declared.flat.Process.{Process}
+use Rattle.scm_model.specs.declared.flat.Wanted.{Wanted}
 use Rattle.scm_model.specs.declared.flat.Plan.{Plan}
 use Rattle.scm_model.specs.declared.flat.Registration.{Registration}
 use Rattle.scm_model.specs.declared.flat.Due.{Due}
+use Rattle.scm_model.specs.declared.flat.DueKind.{DueKind}
+use Rattle.scm_model.specs.declared.flat.DueKind.TheVariants as dues
 use Rattle.scm_model.specs.declared.flat.Caller.{Caller}
-use Rattle.scm_model.specs.Rows.{is_caller}
+use Rattle.scm_model.specs.Rows.{is_caller, is_lock}
 use Rattle.scm_model.specs.Changes.{purged}
+use Rattle.database_lock.specs.Locking.{is_held_by}
+use Rattle.dependency_index.specs.Needs.{needs_of}
+use Rattle.dependency_index.specs.Walks.{IsAcyclic}
 use Rattle.service_record.specs.Checks.{check_new}
+use Rattle.start_plan.specs.Settle.{is_due_still, settled, stays}
+use Rattle.start_plan.specs.Started.{TriedOnce}
+use Rattle.scm_rules.specs.Needs.{need_rows}
 
 -- numbers are at least 1, rise, and lie below the next one
 pub record AreNumbered {A : Type 0} (number : A → ℕ) (next : ℕ) (rows : List A) : Type 0 where
@@ -20,7 +34,64 @@ pub record AreNumbered {A : Type 0} (number : A → ℕ) (next : ℕ) (rows : Li
   pub below : All (λ row. number row < next) rows
   pub rising : AllPairs (λ a b. number a < number b) rows
 
+-- ## Handles
+
+-- handles of the lock and of registrations have no rights
+abbrev pub HasPlainMask : HandleKind → ℕ → Type 0
+HasPlainMask kinds.Lock granted = granted ≡ 0
+HasPlainMask (kinds.Notify number) granted = granted ≡ 0
+HasPlainMask kind granted = Unit {0}
+
+-- ## Processes
+
+-- whether a process is still to be launched
+abbrev pub is_wanted_phase : Phase → Bool
+is_wanted_phase phases.Wanted = true
+is_wanted_phase phases.Taken = false
+is_wanted_phase phases.Launched = false
+
+abbrev pub is_to_launch : Process → Bool
+is_to_launch row = is_wanted_phase row.phase
+
+abbrev pub is_launched : Phase → Bool
+is_launched phases.Wanted = false
+is_launched phases.Taken = false
+is_launched phases.Launched = true
+
+abbrev pub has_process : List Process → ℕ → Bool
+has_process rows number = list_any (λ (row : Process). row.number == number) rows
+
+-- a service's current process, if it has one, is listed
+abbrev pub HasListed : List Process → Service → Type 0
+HasListed processes row = (row.process == 0 || has_process processes row.process) ≡ true
+
+-- whether a service is START_PENDING by this process
+abbrev pub is_started_by : Process → Service → Bool
+is_started_by process row = row.number == process.service && row.process == process.number && row.status.state == 2
+
+-- until a service's process is launched, it is that service's current one, which is START_PENDING
+abbrev pub HasStarting : List Service → Process → Type 0
+HasStarting services row = (row.service == 0 || is_launched row.phase || list_any (is_started_by row) services) ≡ true
+
+-- ## Plans
+
+-- who began a plan has joined, where anybody did
+abbrev pub HasCaller : Flat → Plan → Type 0
+HasCaller f plan = (plan.caller == 0 || is_caller f plan.caller) ≡ true
+
+-- whether a row that becomes due is the deadline of a plan
+abbrev pub is_deadline_of : ℕ → DueKind → Bool
+is_deadline_of plan (dues.Deadline number) = number == plan
+is_deadline_of plan kind = false
+
+-- a plan that is undecided has one deadline
+abbrev pub HasDeadline : List Due → Plan → Type 0
+HasDeadline rows plan = is_none plan.code ≡ true → length (filter (λ (due : Due). is_deadline_of plan.number due.kind) rows) ≡ 1
+
+-- ## States
+
 pub record IsValid (l : Limits) (f : Flat) : Type 0 where
+  -- numbers
   pub services : AreNumbered (λ (row : Service). row.number) f.next.service f.services
   pub handles : AreNumbered (λ (row : HandleRow). row.number) f.next.handle f.handles
   pub processes : AreNumbered (λ (row : Process). row.number) f.next.process f.processes
@@ -28,10 +99,29 @@ pub record IsValid (l : Limits) (f : Flat) : Type 0 where
   pub registrations : AreNumbered (λ (row : Registration). row.number) f.next.registration f.registrations
   pub dues : AreNumbered (λ (row : Due). row.number) f.next.due f.dues
   pub callers : AreNumbered (λ (row : Caller). row.number) f.next.caller f.callers
+  -- no two services share a name or a display name, each has a configuration that is accepted, and is STOPPED exactly where it has no
+  -- process; needs have no cycle
   pub names : AllPairs (λ (a b : Service). same_text a.config.name b.config.name ≡ false) f.services
   pub displays : AllPairs (λ (a b : Service). same_text a.config.display b.config.display ≡ false) f.services
   pub configs : All (λ (row : Service). check_new row.config None ≡ 0) f.services
   pub kinds : All (λ (row : Service). row.status.kind ≡ row.config.kind) f.services
   pub stopped : All (λ (row : Service). (row.status.state == 1) ≡ (row.process == 0)) f.services
+  pub acyclic : IsAcyclic (needs_of (need_rows f.services))
+  -- the launches that are wanted are those of the processes that are still to be launched, in order
+  pub current : All (HasListed f.processes) f.services
+  pub wanted : map (λ (row : Wanted). row.process) f.wanted ≡ map (λ (row : Process). row.number) (filter is_to_launch f.processes)
+  pub starting : All (HasStarting f.services) f.processes
+  -- plans try no service twice; an undecided one has one deadline, a decided one has a caller, and no other deadline stands
+  pub tried : TriedOnce f.plans
+  pub known : All (HasCaller f) f.plans
+  pub deadlines : All (HasDeadline f.dues) f.plans
+  pub decided : All (λ (plan : Plan). stays plan ≡ true) f.plans
+  pub due_still : All (λ (due : Due). is_due_still f.plans due.kind ≡ true) f.dues
+  -- handles are of callers, and one is the lock's exactly where it holds the lock
   pub held : All (λ (row : HandleRow). IsTrue (is_caller f row.caller)) f.handles
+  pub locks : All (λ (row : HandleRow). is_lock row.kind ≡ is_held_by row.number f.lock) f.handles
+  pub holder : IfSome f.lock (λ lock. IsTrue (list_any (λ (row : HandleRow). row.number == lock.handle) f.handles))
+  pub masks : All (λ (row : HandleRow). HasPlainMask row.kind row.granted) f.handles
+  -- no plan goes on by itself, and nobody is to leave
+  pub settled : settled l f ≡ f
   pub purged : purged f ≡ f

@@ -9,13 +9,15 @@ use Rattle.scm_model.specs.declared.steps.Change.{Change}
 use Rattle.scm_model.specs.declared.steps.Kept.{Kept}
 use Rattle.scm_model.specs.declared.steps.Kept.TheVariants as appended
 use Rattle.scm_model.specs.declared.steps.Step.{Step}
-use Rattle.scm_model.specs.declared.steps.Step.TheVariants.{Joined, Call, Gone, NoMemory}
+use Rattle.scm_model.specs.declared.steps.Step.TheVariants.{Call}
 use Rattle.scm_model.specs.Refused.{answered, refused}
 use Rattle.scm_rules.specs.Create.{create_verdict, create_done, create_change}
 use Rattle.scm_rules.specs.Delete.{delete_verdict, delete_done, delete_change}
 use Rattle.scm_rules.specs.Query.{query_verdict, query_done}
 use Rattle.scm_rules.specs.Change.{change_verdict, change_done, change_change}
 use Rattle.scm_rules.specs.QueryConfig.{query_config_verdict, query_config_told, query_config_done}
+use Rattle.scm_rules.specs.Locks.{lock_verdict, lock_done, unlock_verdict, unlock_done, query_lock_verdict, query_lock_told, query_lock_done}
+use Rattle.scm_rules.specs.Start.{start_verdict, start_done}
 use Rattle.scm_rules.specs.OtherName.{display_by_name, name_by_display, other_name_verdict, other_name_told, other_name_done}
 use Rattle.scm_rules.specs.Close.{close_verdict, close_done}
 use Rattle.scm_rules.specs.OpenManager.{open_manager_verdict, open_manager_done}
@@ -25,38 +27,41 @@ use Rattle.scm_rules.specs.OpenService.{open_service_verdict, open_service_done}
 abbrev pub verdict : Limits → Flat → ℕ → Request → Kept → ℕ
 verdict l f caller (request.Close handle) append = close_verdict f caller handle
 verdict l f caller (request.Delete handle) append = delete_verdict f caller handle append
+verdict l f caller (request.Lock handle) append = lock_verdict l f caller handle
 verdict l f caller (request.QueryStatus handle) append = query_verdict f caller handle
+verdict l f caller (request.Unlock handle) append = unlock_verdict f caller handle
 verdict l f caller (request.Change change) append = change_verdict f caller change append
 verdict l f caller (request.Create new) append = create_verdict l f caller new append
 verdict l f caller (request.OpenManager database access) append = open_manager_verdict l f caller database access
 verdict l f caller (request.OpenService handle name access) append = open_service_verdict l f caller handle name access
 verdict l f caller (request.QueryConfig handle size) append = query_config_verdict f caller handle size
+verdict l f caller (request.QueryLock handle size) append = query_lock_verdict f caller handle size
+verdict l f caller (request.Start handle words) append = start_verdict f caller handle words
 verdict l f caller (request.DisplayName handle name size) append = other_name_verdict f caller handle size (display_by_name f name)
 verdict l f caller (request.KeyName handle name size) append = other_name_verdict f caller handle size (name_by_display f name)
 
 -- what a call is told that is refused: where a size is too small, how much is needed
 abbrev pub told_refused : Flat → ℕ → Request → ℕ → Reply
-told_refused f caller (request.Close handle) code = refused (request.Close handle) code
-told_refused f caller (request.Delete handle) code = refused (request.Delete handle) code
-told_refused f caller (request.QueryStatus handle) code = refused (request.QueryStatus handle) code
-told_refused f caller (request.Change change) code = refused (request.Change change) code
-told_refused f caller (request.Create new) code = refused (request.Create new) code
-told_refused f caller (request.OpenManager database access) code = refused (request.OpenManager database access) code
-told_refused f caller (request.OpenService handle name access) code = refused (request.OpenService handle name access) code
 told_refused f caller (request.QueryConfig handle size) code = query_config_told f caller handle code
+told_refused f caller (request.QueryLock handle size) code = query_lock_told f code
 told_refused f caller (request.DisplayName handle name size) code = other_name_told (display_by_name f name) code
 told_refused f caller (request.KeyName handle name size) code = other_name_told (name_by_display f name) code
+told_refused f caller asked code = refused asked code
 
 -- the reply and the state of a call that is not refused
 abbrev pub done_of : Flat → ℕ → Request → Reply × Flat
 done_of f caller (request.Close handle) = close_done f handle
 done_of f caller (request.Delete handle) = delete_done f caller handle
+done_of f caller (request.Lock handle) = lock_done f caller
 done_of f caller (request.QueryStatus handle) = query_done f caller handle
+done_of f caller (request.Unlock handle) = unlock_done f handle
 done_of f caller (request.Change change) = change_done f caller change
 done_of f caller (request.Create new) = create_done f caller new
 done_of f caller (request.OpenManager database access) = open_manager_done f caller access
 done_of f caller (request.OpenService handle name access) = open_service_done f caller name access
 done_of f caller (request.QueryConfig handle size) = query_config_done f caller handle
+done_of f caller (request.QueryLock handle size) = query_lock_done f
+done_of f caller (request.Start handle words) = start_done f caller handle words
 done_of f caller (request.DisplayName handle name size) = other_name_done f (display_by_name f name)
 done_of f caller (request.KeyName handle name size) = other_name_done f (name_by_display f name)
 
@@ -71,23 +76,15 @@ unless_refused code change = if code == 0 then change else None
 
 -- the change that a call would make if it were kept: none where it is refused before
 abbrev pub change_of_call : Limits → Flat → ℕ → Request → Option Change
-change_of_call l f caller (request.Close handle) = None
 change_of_call l f caller (request.Delete handle) = unless_refused (delete_verdict f caller handle appended.Kept) (delete_change f caller handle)
-change_of_call l f caller (request.QueryStatus handle) = None
 change_of_call l f caller (request.Change change) = unless_refused (change_verdict f caller change appended.Kept) (change_change f caller change)
 change_of_call l f caller (request.Create new) = unless_refused (create_verdict l f caller new appended.Kept) (create_change f new)
-change_of_call l f caller (request.OpenManager database access) = None
-change_of_call l f caller (request.OpenService handle name access) = None
-change_of_call l f caller (request.QueryConfig handle size) = None
-change_of_call l f caller (request.DisplayName handle name size) = None
-change_of_call l f caller (request.KeyName handle name size) = None
+change_of_call l f caller asked = None
 
 -- the change of the configurations that a step would make if it were kept, or none
 abbrev pub change_of : Limits → Flat → Step → Option Change
-change_of l f (Joined principal) = None
 change_of l f (Call caller asked append) = change_of_call l f caller asked
-change_of l f (Gone caller) = None
-change_of l f (NoMemory caller) = None
+change_of l f step = None
 
 -- what became of a change is told exactly where there is one
 abbrev pub tells_right : Bool → Kept → Bool

@@ -1,0 +1,106 @@
+-- Processes: what is launched, and what becomes of it.
+use Rattle.std.specs.Prelude.{ℕ, Bool, false, true, not, ◌==◌, List, [], ◌∷◌, Option, None, Some, find, filter, map, if◌then◌else◌}
+use Rattle.scm_model.specs.declared.flat.Flat.{Flat}
+use Rattle.scm_model.specs.declared.flat.Phase.{Phase}
+use Rattle.scm_model.specs.declared.flat.Phase.TheVariants as phases
+use Rattle.scm_model.specs.declared.flat.Plan.{Plan}
+use Rattle.scm_model.specs.declared.flat.Process.{Process}
+use Rattle.scm_model.specs.declared.flat.Service.{Service}
+use Rattle.scm_model.specs.declared.flat.Wanted.{Wanted}
+use Rattle.scm_model.specs.Rows.{service_of}
+use Rattle.start_plan.specs.Decided.{aims_at, decided_in}
+use Rattle.status_machine.specs.Moves.{take_end}
+
+-- ## Reads
+
+abbrev pub process_of : Flat → ℕ → Option Process
+process_of f number = find (λ (row : Process). row.number == number) f.processes
+
+abbrev pub service_in_process : Option Process → ℕ
+service_in_process None = 0
+service_in_process (Some row) = row.service
+
+-- the service that a process is of, or 0
+abbrev pub service_of_process : Flat → ℕ → ℕ
+service_of_process f number = service_in_process (process_of f number)
+
+abbrev pub is_taken_phase : Phase → Bool
+is_taken_phase phases.Wanted = false
+is_taken_phase phases.Taken = true
+is_taken_phase phases.Launched = false
+
+abbrev pub is_taken : Option Process → Bool
+is_taken None = false
+is_taken (Some row) = is_taken_phase row.phase
+
+-- the process that is to be launched first, or 0
+abbrev pub first_wanted : List Wanted → ℕ
+first_wanted [] = 0
+first_wanted (row ∷ rows) = row.process
+
+-- ## Changes of processes
+
+abbrev pub taken_if : ℕ → Process → Process
+taken_if number row = if row.number == number then record row { phase = phases.Taken } else row
+
+abbrev pub launched_if : ℕ → ℕ → Process → Process
+launched_if number pid row = if row.number == number then record row { phase = phases.Launched; pid = pid } else row
+
+-- the launches that are wanted of other processes
+abbrev pub wanted_of_others : ℕ → List Wanted → List Wanted
+wanted_of_others number rows = filter (λ (row : Wanted). not (row.process == number)) rows
+
+-- the launch of a process is taken in hand
+abbrev pub with_taken : Flat → ℕ → Flat
+with_taken f number = record f { processes = map (taken_if number) f.processes; wanted = wanted_of_others number f.wanted }
+
+-- a process is launched
+abbrev pub with_launched : Flat → ℕ → ℕ → Flat
+with_launched f number pid = record f { processes = map (launched_if number pid) f.processes; wanted = wanted_of_others number f.wanted }
+
+abbrev pub without_process : Flat → ℕ → Flat
+without_process f number = record f {
+  processes = filter (λ (row : Process). not (row.number == number)) f.processes;
+  wanted = wanted_of_others number f.wanted;
+}
+
+-- a service falls whose current process this is: it is STOPPED, with this code
+abbrev pub fallen_if : ℕ → ℕ → Service → Service
+fallen_if process code row = if row.process == process then record row { status = take_end row.status code; process = 0 } else row
+
+abbrev pub with_fallen : Flat → ℕ → ℕ → Flat
+with_fallen f process code = record f { services = map (fallen_if process code) f.services }
+
+-- the undecided plans with this target are decided
+abbrev pub with_decided : Flat → ℕ → ℕ → Flat
+with_decided f target code = record f { plans = decided_in (aims_at target) code f.plans }
+
+-- ## What is launched
+
+abbrev pub path_in : Option Service → List ℕ
+path_in None = []
+path_in (Some row) = row.config.path
+
+abbrev pub first_word : List (List ℕ) → List ℕ
+first_word [] = []
+first_word (word ∷ words) = word
+
+-- the path and the words of a launch: of a service's process its path, of a command's the one word as the path
+abbrev pub line_of : Flat → Wanted → List ℕ × List (List ℕ)
+line_of f row =
+    if row.command then (first_word row.words, [])
+    else (path_in (service_of f (service_of_process f row.process)), row.words)
+
+-- ## Steps
+
+-- the launch that is wanted first is taken in hand
+abbrev pub launch_taken : Flat → Flat
+launch_taken f = with_taken f (first_wanted f.wanted)
+
+-- a process is launched, and the starts of its service succeed
+abbrev pub launched : Flat → ℕ → ℕ → Flat
+launched f process pid = with_decided (with_launched f process pid) (service_of_process f process) 0
+
+-- a launch failed: the starts of its service fail, the service falls, and the process leaves
+abbrev pub launch_failed : Flat → ℕ → ℕ → Flat
+launch_failed f process code = without_process (with_fallen (with_decided f (service_of_process f process) code) process code) process

@@ -1,0 +1,120 @@
+-- Start: a plan to start a service after what it needs.
+use Rattle.std.specs.Prelude.{ℕ, Bool, true, false, not, ◌||◌, ◌&&◌, ◌==◌, ◌+◌, ◌-◌, ◌^◌, ◌++◌, nat_le, min, List, [], ◌∷◌, Option, None, Some, filter, is_none, is_some, unwrap_or, if◌then◌else◌}
+use Rattle.std.specs.List.{list_any}
+use Rattle.std.specs.Char.Utf16.{has_unpaired_surrogate}
+use Rattle.scm_model.specs.declared.flat.Due.{Due}
+use Rattle.scm_model.specs.declared.flat.DueKind.{DueKind}
+use Rattle.scm_model.specs.declared.flat.DueKind.TheVariants as dues
+use Rattle.scm_model.specs.declared.flat.Flat.{Flat}
+use Rattle.scm_model.specs.declared.flat.Need.{Need}
+use Rattle.scm_model.specs.declared.flat.Need.TheVariants as needs
+use Rattle.scm_model.specs.declared.flat.Plan.{Plan}
+use Rattle.scm_model.specs.declared.flat.Service.{Service}
+use Rattle.scm_model.specs.declared.calls.Reply.{Reply}
+use Rattle.scm_model.specs.declared.calls.Reply.TheVariants as reply
+use Rattle.scm_model.specs.Rows.{named, opened, service_of}
+use Rattle.scm_model.specs.Refused.{first_refusal}
+use Rattle.start_plan.specs.Decided.{caller_of, code_of, decided_in, is_numbered, is_target, without_plan}
+use Rattle.start_plan.specs.Ready.{state_in}
+use Rattle.scm_rules.specs.Delete.{is_marked}
+use Rattle.scm_rules.specs.Needs.{start_order}
+use Rattle.scm_rules.specs.Query.{service_in}
+use Rattle.scm_rules.specs.Rights.{lacks}
+
+-- ## Refusals
+
+-- words that are absent, or of which one is no text
+abbrev pub are_bad_words : Option (List (List ℕ)) → Bool
+are_bad_words None = true
+are_bad_words (Some words) = list_any has_unpaired_surrogate words
+
+abbrev pub is_disabled : Option Service → Bool
+is_disabled None = false
+is_disabled (Some row) = row.config.start == 4
+
+-- whether a service that is needed by name isn't there or is marked
+abbrev pub is_missing : Flat → Need → Bool
+is_missing f (needs.Service name) = is_none (named f name) || is_marked (named f name)
+is_missing f (needs.Group group) = false
+
+abbrev pub lacks_need : Flat → Option Service → Bool
+lacks_need f None = false
+lacks_need f (Some row) = list_any (is_missing f) row.config.needs
+
+-- the service that a start is of
+abbrev pub started_service : Flat → ℕ → ℕ → Option Service
+started_service f caller handle = service_of f (service_in (opened f caller handle))
+
+abbrev pub start_refusals : Flat → ℕ → ℕ → Option (List (List ℕ)) → List (Bool × ℕ)
+start_refusals f caller handle words =
+    (is_none (opened f caller handle), 6)
+    ∷ (are_bad_words words, 87)
+    ∷ (lacks (opened f caller handle) 0x10, 5)
+    ∷ (is_marked (started_service f caller handle), 1072)
+    ∷ (is_some f.lock, 1055)
+    ∷ (not (state_in (started_service f caller handle) == 1) || is_target f.plans (service_in (opened f caller handle)), 1056)
+    ∷ (is_disabled (started_service f caller handle), 1058)
+    ∷ (lacks_need f (started_service f caller handle), 1075)
+    ∷ []
+
+abbrev pub start_verdict : Flat → ℕ → ℕ → Option (List (List ℕ)) → ℕ
+start_verdict f caller handle words = first_refusal (start_refusals f caller handle words)
+
+-- ## Effect
+
+-- the moment at which a plan that begins now is given up
+abbrev pub deadline_at : ℕ → ℕ
+deadline_at moment = min (moment + 120000) (2 ^ 64 - 1)
+
+abbrev pub new_plan : Flat → ℕ → ℕ → List ℕ → List (List ℕ) → Plan
+new_plan f caller target entries words = record { number = f.next.plan; caller = caller; target = target; entries = entries; tried = []; words = words; code = None }
+
+-- a plan more, which has the next number, and its deadline
+abbrev pub with_plan : Flat → Plan → Flat
+with_plan f plan = record f {
+  plans = f.plans ++ plan ∷ [];
+  dues = f.dues ++ record { moment = deadline_at f.moment; number = f.next.due; kind = dues.Deadline f.next.plan } ∷ [];
+  next = record f.next { plan = f.next.plan + 1; due = f.next.due + 1 };
+}
+
+-- a plan begins that goes by the start order; it is not answered until it is decided
+abbrev pub start_done : Flat → ℕ → ℕ → Option (List (List ℕ)) → Reply × Flat
+start_done f caller handle words =
+    let target = service_in (opened f caller handle) in
+    (reply.Code 0, with_plan f (new_plan f caller target (start_order f target) (unwrap_or words [])))
+
+-- ## What ends a start
+
+abbrev pub is_caller_of : Option ℕ → ℕ → Bool
+is_caller_of None caller = false
+is_caller_of (Some of) caller = of == caller
+
+-- whether a plan is the caller's and decided
+abbrev pub can_end : Flat → ℕ → ℕ → Bool
+can_end f caller plan = is_caller_of (caller_of f.plans plan) caller && is_some (code_of f.plans plan)
+
+-- the plan leaves
+abbrev pub ended : Flat → ℕ → Flat
+ended f plan = record f { plans = without_plan f.plans plan }
+
+-- ## What is due
+
+abbrev pub is_due : ℕ → Due → Bool
+is_due moment due = nat_le due.moment moment
+
+-- a plan is given up whose deadline comes
+abbrev pub expired : List Plan → DueKind → List Plan
+expired plans (dues.Deadline plan) = decided_in (is_numbered plan) 1053 plans
+expired plans kind = plans
+
+abbrev pub fired_by : ℕ → List Plan → Due → List Plan
+fired_by moment plans due = if is_due moment due then expired plans due.kind else plans
+
+-- the rows that are due take place, one after another
+abbrev pub fired : ℕ → List Plan → List Due → List Plan
+fired moment plans [] = plans
+fired moment plans (due ∷ dues) = fired moment (fired_by moment plans due) dues
+
+-- they take place and leave
+abbrev pub ticked : Flat → Flat
+ticked f = record f { plans = fired f.moment f.plans f.dues; dues = filter (λ (due : Due). not (is_due f.moment due)) f.dues }
