@@ -1,6 +1,6 @@
 -- Each step keeps what is true of every state.
-use Rattle.std.proofs.Common.{ℕ, ◌≡◌, ◌==◌, ◌||◌, ◌&&◌, Bool, true, false, cond, IsTrue, List, [], ◌∷◌, Option, None, Some, find, refl, eq-eqb, eqb-true}
-use Rattle.std.specs.Prelude.{All, is_some, is_none, option_map}
+use Rattle.std.proofs.Common.{ℕ, ◌≡◌, ◌<◌, ◌==◌, ◌||◌, ◌&&◌, Bool, true, false, not, cond, IsTrue, List, [], ◌∷◌, Option, None, Some, find, map, refl, subst, eq-eqb, eqb-true}
+use Rattle.std.specs.Prelude.{All, is_none, option_map, unwrap_or}
 use Rattle.std.proofs.lemmas.List.Elements.{All-weaker}
 use Rattle.scm_text.specs.Fold.{same_text}
 use Rattle.scm_model.specs.declared.flat.Config.{Config}
@@ -13,26 +13,39 @@ use Rattle.scm_model.specs.declared.calls.NewService.{NewService}
 use Rattle.scm_model.specs.declared.calls.Reply.{Reply}
 use Rattle.scm_model.specs.declared.calls.Request.{Request}
 use Rattle.scm_model.specs.declared.calls.Request.TheVariants as request
+use Rattle.scm_model.specs.declared.steps.Answer.{Answer}
+use Rattle.scm_model.specs.declared.steps.Answer.TheVariants as answer
 use Rattle.scm_model.specs.declared.steps.Kept.{Kept}
 use Rattle.scm_model.specs.declared.steps.Step.{Step}
-use Rattle.scm_model.specs.declared.steps.Step.TheVariants.{Joined, Call, Gone, NoMemory}
+use Rattle.scm_model.specs.declared.steps.Step.TheVariants.{Joined, Call, EndStart, LaunchTaken, Launched, LaunchFailed, Tick, Gone, NoMemory}
 use Rattle.scm_model.specs.Refused.{answered, first_refusal}
-use Rattle.scm_model.specs.Rows.{is_caller, manager_mask, opened, principal_of}
-use Rattle.scm_model.specs.Changes.{with_moment, with_service}
+use Rattle.scm_model.specs.Rows.{handle_of, is_caller, manager_mask, opened, principal_of}
+use Rattle.scm_model.specs.Changes.{configured_if, with_moment, with_service}
 use Rattle.service_record.specs.Checks.{check_new, has_bad_names, has_bad_numbers, has_bad_texts, has_bad_lists, is_bad_account}
-use Rattle.scm_rules.specs.Change.{change_done, change_refusals, change_verdict, changed_service, checked, new_config, tags_no_group, takes_name, with_new_config}
+use Rattle.scm_rules.specs.Change.{change_done, change_refusals, change_verdict, changed_service, checked, loops, new_config, tags_no_group, takes_name, with_new_config}
+use Rattle.scm_rules.specs.Close.{close_refusals}
+use Rattle.scm_rules.specs.Locks.{lock_refusals}
+use Rattle.scm_rules.specs.Needs.{are_unreadable, makes_cycle, start_order}
+use Rattle.scm_rules.specs.Start.{start_done, start_refusals, start_verdict, started_service}
+use Rattle.start_plan.specs.Decided.{code_of, is_target}
+use Rattle.start_plan.specs.Ready.{state_in}
+use Rattle.start_plan.specs.Settle.{settled}
 use Rattle.scm_rules.specs.Query.{service_in}
 use Rattle.scm_rules.specs.Create.{config_of, create_refusals, create_verdict, new_status, tags_nothing}
 use Rattle.scm_rules.specs.OpenManager.{open_manager_refusals}
 use Rattle.scm_rules.specs.OpenService.{open_service_refusals, service_granted}
 use Rattle.scm_rules.specs.Rights.{manager_lacks}
-use Rattle.scm_rules.specs.Steps.{at_moment, effect_of, may}
+use Rattle.scm_rules.specs.Steps.{at_moment, effect_of, finished, finished_step, left_by, may}
 use Rattle.scm_rules.specs.Verdicts.{call_of, done_of, verdict}
 use Rattle.scm_laws.proofs.Along.{Keeps}
 use Rattle.scm_laws.proofs.Configured.{configured}
-use Rattle.scm_laws.proofs.Lists.{none_found, none_any}
+use Rattle.scm_laws.proofs.Lists.{found_has, found_passes, none_found, none_any}
+use Rattle.scm_laws.proofs.Locked.{not_unlocked}
 use Rattle.scm_laws.proofs.Masks.{granted_within}
-use Rattle.scm_laws.proofs.Sound.{Sound, moved, joined, left, handed, closed, added, marked, cleared}
+use Rattle.scm_laws.proofs.Needed.{rows_added, rows_configured, tested}
+use Rattle.scm_laws.proofs.Ordered.{order_below}
+use Rattle.scm_laws.proofs.Settling.{settles}
+use Rattle.scm_laws.proofs.Sound.{Sound, moved, joined, left, handed, taken, given_back, closed, added, marked, cleared, planned, over, due, in_hand, running, not_running}
 
 -- ## A verdict of 0
 
@@ -60,6 +73,10 @@ pub neither : (a b : Bool) → (a || b) ≡ false → (a ≡ false) × (b ≡ fa
 neither true b e = absurd (cc)
 neither false b e = (refl, e)
 
+positive : (b : Bool) → not b ≡ false → b ≡ true
+positive true e = refl
+positive false e = absurd (cc)
+
 checked_by : (a b c : Bool) → (cond a 123 (cond b 87 (cond c 1057 0)) == 123) ≡ false → (cond a 123 (cond b 87 (cond c 1057 0)) == 87) ≡ false → ◌≡◌ {A = ℕ} (cond a 123 (cond b 87 0)) 0
 checked_by true b c x y = absurd (cc)
 checked_by false true c x y = absurd (cc)
@@ -81,54 +98,81 @@ record Passed (f : Flat) (caller : ℕ) (new : NewService) : Type 0 where
   displays : All (λ (row : Service). same_text row.config.display (config_of f new).display ≡ false) f.services
   config : check_new (config_of f new) None ≡ 0
   given : is_none (service_granted f caller new.access) ≡ false
+  free : makes_cycle f f.next.service (config_of f new) ≡ false
 
 create_passed : (l : Limits) (f : Flat) (caller : ℕ) (new : NewService) (append : Kept) → create_verdict l f caller new append ≡ 0 → Passed f caller new
 create_passed l f caller new append e =
-    let p = all_pass (create_refusals l f caller new append) (refl, (refl, (refl, (refl, (refl, (refl, (refl, (refl, (refl, (refl, tt)))))))))) e in
+    let p = all_pass (create_refusals l f caller new append) (refl, (refl, (refl, (refl, (refl, (refl, (refl, (refl, (refl, (refl, (refl, tt))))))))))) e in
     record {
       names = none_found (λ (row : Service). same_text row.config.name new.name) f.services p.1.1.1.1.1.1.0;
       displays = All-weaker (λ (row : Service). (same_text row.config.name (config_of f new).display || same_text row.config.display (config_of f new).display) ≡ false)
           (λ (row : Service). same_text row.config.display (config_of f new).display ≡ false)
           (λ row h. (neither (same_text row.config.name (config_of f new).display) (same_text row.config.display (config_of f new).display) h).1) f.services
           (none_any (λ (row : Service). same_text row.config.name (config_of f new).display || same_text row.config.display (config_of f new).display) f.services p.1.1.1.1.1.1.1.0);
-      config = checked_alone (config_of f new) new.account p.1.1.0 (neither _ _ (neither (check_new (config_of f new) new.account == 87 || tags_nothing new) (is_some new.needs) p.1.1.1.0).0).0;
+      config = checked_alone (config_of f new) new.account p.1.1.0 (neither _ _ (neither (check_new (config_of f new) new.account == 87 || tags_nothing new) (are_unreadable new.needs) p.1.1.1.0).0).0;
       given = (neither (manager_lacks (manager_mask f caller new.handle) 2) (is_none (service_granted f caller new.access)) p.1.0).1;
+      free = p.1.1.1.1.1.1.1.1.0;
     }
 
 -- a Change with verdict 0
 changed : (f : Flat) (number caller : ℕ) (change : ChangeService) (found : Option Service) → Sound f → find (λ (row : Service). row.number == number) f.services ≡ found
-    → (checked f change found == 123) ≡ false → (checked f change found == 87) ≡ false → takes_name f change found ≡ false → Sound (with_new_config f number (option_map (new_config f change) found))
-changed f number caller change None s e x y free = s
-changed f number caller change (Some row) s e x y free =
-    configured f number row (new_config f change row) change.display s e refl refl free (checked_alone (new_config f change row) change.account x y)
+    → (checked f change found == 123) ≡ false → (checked f change found == 87) ≡ false → takes_name f change found ≡ false → loops f change found ≡ false → Sound (with_new_config f number (option_map (new_config f change) found))
+changed f number caller change None s e x y free loop = s
+changed f number caller change (Some row) s e x y free loop =
+    let config = new_config f change row in
+    let is = eqb-true row.number number (found_passes (λ (r : Service). r.number == number) row f.services e) in
+    configured f number row config change.display s e refl refl free (checked_alone config change.account x y)
+    (tested (map (configured_if number config) f.services) _ (rows_configured number config row f.services e) (subst (λ n. makes_cycle f n config ≡ false) is loop))
 
 change_done_sound : (f : Flat) (caller : ℕ) (change : ChangeService) (append : Kept) → Sound f → change_verdict f caller change append ≡ 0 → Sound (change_done f caller change).1
 change_done_sound f caller change append s e =
-    let p = all_pass (change_refusals f caller change append) (refl, (refl, (refl, (refl, (refl, (refl, (refl, (refl, tt)))))))) e in
+    let p = all_pass (change_refusals f caller change append) (refl, (refl, (refl, (refl, (refl, (refl, (refl, (refl, (refl, tt))))))))) e in
     let found = changed_service f caller change in
     changed f (service_in (opened f caller change.handle)) caller change found s refl p.1.1.1.0
-    (neither _ _ (neither (checked f change found == 87 || tags_no_group change found) (is_some change.needs) p.1.1.1.1.0).0).0 p.1.1.1.1.1.1.0
+    (neither _ _ (neither (checked f change found == 87 || tags_no_group change found) (are_unreadable change.needs) p.1.1.1.1.0).0).0 p.1.1.1.1.1.1.0 p.1.1.1.1.1.1.1.0
+
+-- a service that is STOPPED is there
+target_below : (f : Flat) (target : ℕ) (found : Option Service) → Sound f → find (λ (row : Service). row.number == target) f.services ≡ found → (state_in found == 1) ≡ true → target < f.next.service
+target_below f target None s e stopped = absurd (cc)
+target_below f target (Some row) s e stopped =
+    let is = eqb-true row.number target (found_passes (λ (r : Service). r.number == target) row f.services e) in
+    subst (λ n. n < f.next.service) is (found_has (λ (r : Service). r.number < f.next.service) (λ (r : Service). r.number == target) row f.services s.services.numbered.below e)
+
+-- a Start with verdict 0
+started : (f : Flat) (caller handle : ℕ) (words : Option (List (List ℕ))) → Sound f → is_caller f caller ≡ true → start_verdict f caller handle words ≡ 0 → Sound (start_done f caller handle words).1
+started f caller handle words s there e =
+    let p = all_pass (start_refusals f caller handle words) (refl, (refl, (refl, (refl, (refl, (refl, (refl, (refl, tt)))))))) e in
+    let target = service_in (opened f caller handle) in
+    let stopped = neither (not (state_in (started_service f caller handle) == 1)) (is_target f.plans target) p.1.1.1.1.1.0 in
+    let below = target_below f target (started_service f caller handle) s refl (positive _ stopped.0) in
+    planned f caller target (start_order f target) (unwrap_or words []) s there (order_below f f.next.service target s.services.numbered.below below)
 
 -- ## Calls
 
-of_done : (l : Limits) (f : Flat) (caller : ℕ) (asked : Request) (append : Kept) → Sound f → is_caller f caller ≡ true → verdict l f caller asked append ≡ 0 → Sound (done_of f caller asked).1
-of_done l f caller (request.Close handle) append s there e = closed f handle s
+pub of_done : (l : Limits) (f : Flat) (caller : ℕ) (asked : Request) (append : Kept) → Sound f → is_caller f caller ≡ true → verdict l f caller asked append ≡ 0 → Sound (done_of f caller asked).1
+of_done l f caller (request.Close handle) append s there e =
+    let p = all_pass (close_refusals f caller handle) (refl, tt) e in
+    closed f handle s (not_unlocked f.lock f.handles caller handle (handle_of f caller handle) refl (positive _ p.0) s.handles.lock)
 of_done l f caller (request.Delete handle) append s there e = marked f _ s
-of_done l f caller (request.QueryStatus handle) append s there e = s
+of_done l f caller (request.Lock handle) append s there e =
+    let p = all_pass (lock_refusals l f caller handle) (refl, (refl, (refl, (refl, tt)))) e in
+    taken f caller s there p.1.1.0
+of_done l f caller (request.Unlock handle) append s there e = given_back f handle s
 of_done l f caller (request.Change change) append s there e = change_done_sound f caller change append s e
-of_done l f caller (request.QueryConfig handle size) append s there e = s
-of_done l f caller (request.DisplayName handle name size) append s there e = s
-of_done l f caller (request.KeyName handle name size) append s there e = s
 of_done l f caller (request.Create new) append s there e =
     let p = create_passed l f caller new append e in
     handed (with_service f (config_of f new) (new_status new.kind)) caller _ _
-    (added f (config_of f new) (new_status new.kind) s p.names p.displays p.config refl refl) there (granted_within (principal_of f caller) false new.access p.given)
+    (added f (config_of f new) (new_status new.kind) s p.names p.displays p.config refl refl
+    (tested (with_service f (config_of f new) (new_status new.kind)).services _ (rows_added f.services _ s.services.numbered.below) p.free)) there (granted_within (principal_of f caller) false new.access p.given) refl
 of_done l f caller (request.OpenManager database access) append s there e =
     let p = all_pass (open_manager_refusals l f caller database access) (refl, (refl, (refl, (refl, tt)))) e in
-    handed f caller kinds.Manager _ s there (granted_within (principal_of f caller) true access p.1.1.0)
+    handed f caller kinds.Manager _ s there (granted_within (principal_of f caller) true access p.1.1.0) refl
+of_done l f caller (request.Start handle words) append s there e = started f caller handle words s there e
 of_done l f caller (request.OpenService handle name access) append s there e =
     let p = all_pass (open_service_refusals l f caller handle name access) (refl, (refl, (refl, (refl, (refl, tt))))) e in
-    handed f caller (kinds.Service _) _ s there (granted_within (principal_of f caller) false access p.1.1.1.0)
+    handed f caller (kinds.Service _) _ s there (granted_within (principal_of f caller) false access p.1.1.1.0) refl
+-- the others only read
+of_done l f caller asked append s there e = s
 
 of_call : (l : Limits) (f : Flat) (caller : ℕ) (asked : Request) (append : Kept) → Sound f → is_caller f caller ≡ true → Sound (call_of l f caller asked append).1
 of_call l f caller asked append s there =
@@ -136,7 +180,7 @@ of_call l f caller asked append s there =
 
 -- ## Steps
 
-came : (a b : Bool) → (a && b) ≡ true → a ≡ true
+pub came : (a b : Bool) → (a && b) ≡ true → a ≡ true
 came true b e = refl
 came false b e = absurd (cc)
 
@@ -144,8 +188,27 @@ pub of_effect : (l : Limits) (f : Flat) (moment : ℕ) (step : Step) → Sound f
 of_effect l f moment (Joined principal) s ok = joined (with_moment f moment) principal (moved f moment s)
 of_effect l f moment (Call caller asked append) s ok =
     of_call l (with_moment f moment) caller asked append (moved f moment s) (came _ _ ok)
+of_effect l f moment (EndStart caller plan) s ok = over (with_moment f moment) plan (moved f moment s)
+of_effect l f moment LaunchTaken s ok = in_hand (with_moment f moment) (came _ _ ok) (moved f moment s)
+of_effect l f moment (Launched process pid) s ok = running (with_moment f moment) process pid (moved f moment s)
+of_effect l f moment (LaunchFailed process code) s ok = not_running (with_moment f moment) process code (moved f moment s)
+of_effect l f moment Tick s ok = due (with_moment f moment) (moved f moment s)
 of_effect l f moment (Gone caller) s ok = left (with_moment f moment) caller (moved f moment s)
 of_effect l f moment (NoMemory caller) s ok = s
 
+left_by_code : (g : Flat) (plan : ℕ) (code : Option ℕ) → Sound g → Sound (left_by g plan code)
+left_by_code g plan None s = s
+left_by_code g plan (Some code) s = over g plan s
+
+-- what is answered leaves
+pub finishes : (g : Flat) (told : Answer) → Sound g → Sound (finished g told).1
+finishes g (answer.Begun plan) s = left_by_code g plan (code_of g.plans plan) s
+finishes g told s = s
+
+pub before_sound : (l : Limits) (f : Flat) (moment : ℕ) (step : Step) → Sound f → IsTrue (may l f moment step) → Sound (finished_step l f moment step).1
+before_sound l f moment step s ok =
+    let done = effect_of l (at_moment f moment step) step in
+    finishes (settled l done.1) done.0 (settles l done.1 (of_effect l f moment step s ok))
+
 pub keeps : (l : Limits) → Keeps Sound l
-keeps l f e s ok = cleared _ (of_effect l f e.0 e.1 s ok)
+keeps l f e s ok = cleared (finished_step l f e.0 e.1).1 (before_sound l f e.0 e.1 s ok)

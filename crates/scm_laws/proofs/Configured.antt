@@ -6,13 +6,19 @@ use Rattle.std.proofs.lemmas.List.Elements.{All-map, All-weaker}
 use Rattle.scm_text.specs.Fold.{fold_unit, same_text}
 use Rattle.scm_model.specs.declared.flat.Config.{Config}
 use Rattle.scm_model.specs.declared.flat.Flat.{Flat}
+use Rattle.scm_model.specs.declared.flat.Process.{Process}
 use Rattle.scm_model.specs.declared.flat.Service.{Service}
 use Rattle.scm_model.specs.Rows.{is_shown_by_another}
 use Rattle.scm_model.specs.Changes.{configured_if, with_config}
 use Rattle.service_record.specs.Checks.{check_new}
 use Rattle.scm_rules.specs.Change.{display_or}
+use Rattle.scm_rules.specs.Valid.{HasListed, is_started_by}
 use Rattle.scm_laws.proofs.Lists.{found_only, found_passes, none_any, pairs_map}
-use Rattle.scm_laws.proofs.Sound.{Sound, numbered_map}
+use Rattle.scm_laws.proofs.Needed.{HasNoCycle}
+use Rattle.scm_laws.proofs.Numbers.{numbered_map}
+use Rattle.scm_laws.proofs.Processes.{beside, starts_kept}
+use Rattle.scm_laws.proofs.Rows.{AreServices, HasKind, IsChecked, IsStoppedWithout}
+use Rattle.scm_laws.proofs.Sound.{Sound}
 
 -- ## Rows
 
@@ -93,13 +99,13 @@ display_apart number config a b p q pair =
 abbrev pub IsFound : Flat → ℕ → Service → Type 0
 IsFound f number row = find (λ (r : Service). r.number == number) f.services ≡ Some row
 
-pub names_found : (f : Flat) (number : ℕ) (row : Service) (config : Config) → Sound f → IsFound f number row → config.name ≡ row.config.name → All (HasText number name config.name) f.services
+pub names_found : (f : Flat) (number : ℕ) (row : Service) (config : Config) → AreServices f.next.service f.next.process f.services → IsFound f number row → config.name ≡ row.config.name → All (HasText number name config.name) f.services
 names_found f number row config s found same k d lt is =
-    ap name (found_only (λ (r : Service). r.number) number row f.services s.services.rising found k d lt is) ∙ sym same
+    ap name (found_only (λ (r : Service). r.number) number row f.services s.numbered.rising found k d lt is) ∙ sym same
 
-displays_found : (f : Flat) (number : ℕ) (row : Service) (config : Config) → Sound f → IsFound f number row → config.display ≡ row.config.display → All (HasText number display config.display) f.services
+displays_found : (f : Flat) (number : ℕ) (row : Service) (config : Config) → AreServices f.next.service f.next.process f.services → IsFound f number row → config.display ≡ row.config.display → All (HasText number display config.display) f.services
 displays_found f number row config s found same k d lt is =
-    ap display (found_only (λ (r : Service). r.number) number row f.services s.services.rising found k d lt is) ∙ sym same
+    ap display (found_only (λ (r : Service). r.number) number row f.services s.numbered.rising found k d lt is) ∙ sym same
 
 -- who shows a text neither as its name nor as its display name has another display name
 shows_another : (here named shown : Bool) → (not here && (named || shown)) ≡ false → here ≡ false → shown ≡ false
@@ -115,7 +121,7 @@ others_shown f number row config text found same free =
     (ShowsAnother number config) (λ r h. shows_another (r.number == number) (same_text r.config.name config.display) (same_text r.config.display config.display) h) f.services
     (none_any (λ (r : Service). not (r.number == number) && (same_text r.config.name config.display || same_text r.config.display config.display)) f.services here)
 
-displays_apart : (f : Flat) (number : ℕ) (row : Service) (config : Config) (asked : Option (List ℕ)) → Sound f → IsFound f number row → config.display ≡ display_or row.config asked
+displays_apart : (f : Flat) (number : ℕ) (row : Service) (config : Config) (asked : Option (List ℕ)) → AreServices f.next.service f.next.process f.services → IsFound f number row → config.display ≡ display_or row.config asked
     → (is_some asked && is_shown_by_another f row.number (display_or row.config asked)) ≡ false → AllPairs (AreOther display) (map (configured_if number config) f.services)
 displays_apart f number row config None s found same free =
     pairs_map (HasText number display config.display) (AreOther display) (AreOther display) (configured_if number config)
@@ -123,28 +129,45 @@ displays_apart f number row config None s found same free =
 displays_apart f number row config (Some asked) s found same free =
     pairs_map (ShowsAnother number config) (λ a b. AreOther display a b × (a.number < b.number)) (AreOther display) (configured_if number config) (display_apart number config) f.services
     (others_shown f number row config (display_or row.config (Some asked)) found same free)
-    (λ i j d lt within. (s.displays i j d lt within, s.services.rising i j d lt within))
+    (λ i j d lt within. (s.displays i j d lt within, s.numbered.rising i j d lt within))
 
-pub configured : (f : Flat) (number : ℕ) (row : Service) (config : Config) (asked : Option (List ℕ)) → Sound f → IsFound f number row → config.name ≡ row.config.name → config.display ≡ display_or row.config asked
-    → (is_some asked && is_shown_by_another f row.number (display_or row.config asked)) ≡ false → check_new config None ≡ 0 → Sound (with_config f number config)
-configured f number row config asked s found name_same display_same free checked = record {
-  services = numbered_map f.next.service (configured_if number config) (number_kept number config) f.services s.services;
-  handles = s.handles;
-  callers = s.callers;
-  first_service = s.first_service;
-  first_handle = s.first_handle;
-  first_caller = s.first_caller;
+-- a service keeps its process
+listed_kept : (number : ℕ) (config : Config) (processes : List Process) (row : Service) → HasListed processes row → HasListed processes (configured_if number config row)
+listed_kept number config processes row old = elim (row.number == number) as (λ b. HasListed processes (cond b (replaced config row) row)) [ true ↦ old | false ↦ old ]
+
+start_still : (number : ℕ) (config : Config) (process : Process) (row : Service) → is_started_by process row ≡ true → is_started_by process (configured_if number config row) ≡ true
+start_still number config process row is = elim (row.number == number) as (λ b. is_started_by process (cond b (replaced config row) row) ≡ true) [ true ↦ is | false ↦ is ]
+
+process_kept : (number : ℕ) (config : Config) (next : ℕ) (row : Service) → row.process < next → (configured_if number config row).process < next
+process_kept number config next row old = elim (row.number == number) as (λ b. (cond b (replaced config row) row).process < next) [ true ↦ old | false ↦ old ]
+
+configured_rows : (f : Flat) (number : ℕ) (row : Service) (config : Config) (asked : Option (List ℕ)) → AreServices f.next.service f.next.process f.services → IsFound f number row → config.name ≡ row.config.name → config.display ≡ display_or row.config asked
+    → (is_some asked && is_shown_by_another f row.number (display_or row.config asked)) ≡ false → check_new config None ≡ 0 → HasNoCycle (map (configured_if number config) f.services)
+    → AreServices f.next.service f.next.process (map (configured_if number config) f.services)
+configured_rows f number row config asked s found name_same display_same free checked acyclic = record {
+  numbered = numbered_map (λ (r : Service). r.number) f.next.service (configured_if number config) (number_kept number config) f.services s.numbered;
+  first = s.first;
+  first_process = s.first_process;
   names = pairs_map (HasText number name config.name) (AreOther name) (AreOther name) (configured_if number config)
       (λ a b p q h. others_kept _ _ a.config.name b.config.name (name_kept number config a p) (name_kept number config b q) h) f.services (names_found f number row config s found name_same) s.names;
   displays = displays_apart f number row config asked s found display_same free;
-  configs = All-map (λ (r : Service). check_new r.config None ≡ 0) (configured_if number config) f.services (λ k d lt. check_kept number config _ checked (s.configs k d lt));
-  kinds = All-map (λ (r : Service). r.status.kind ≡ r.config.kind) (configured_if number config) f.services (λ k d lt. kind_kept number config _ (s.kinds k d lt));
-  stopped = All-map (λ (r : Service). (r.status.state == 1) ≡ (r.process == 0)) (configured_if number config) f.services (λ k d lt. stopped_kept number config _ (s.stopped k d lt));
-  held = s.held;
-  rights = s.rights;
-  processes = s.processes;
+  configs = All-map IsChecked (configured_if number config) f.services (λ k d lt. check_kept number config _ checked (s.configs k d lt));
+  kinds = All-map HasKind (configured_if number config) f.services (λ k d lt. kind_kept number config _ (s.kinds k d lt));
+  stopped = All-map IsStoppedWithout (configured_if number config) f.services (λ k d lt. stopped_kept number config _ (s.stopped k d lt));
+  current = All-map (λ (r : Service). r.process < f.next.process) (configured_if number config) f.services (λ k d lt. process_kept number config f.next.process _ (s.current k d lt));
+  acyclic = acyclic;
+}
+
+pub configured : (f : Flat) (number : ℕ) (row : Service) (config : Config) (asked : Option (List ℕ)) → Sound f → IsFound f number row → config.name ≡ row.config.name → config.display ≡ display_or row.config asked
+    → (is_some asked && is_shown_by_another f row.number (display_or row.config asked)) ≡ false → check_new config None ≡ 0 → HasNoCycle (with_config f number config).services → Sound (with_config f number config)
+configured f number row config asked s found name_same display_same free checked acyclic = record {
+  services = configured_rows f number row config asked s.services found name_same display_same free checked acyclic;
+  handles = s.handles;
+  processes = beside f.next.process f.processes f.wanted f.services _ s.processes
+      (All-map (HasListed f.processes) (configured_if number config) f.services (λ k d lt. listed_kept number config f.processes _ (s.processes.listed k d lt)))
+      (starts_kept f.processes (configured_if number config) f.services (start_still number config) s.processes.starting);
   plans = s.plans;
-  registrations = s.registrations;
   dues = s.dues;
-  lock = s.lock;
+  deadlines = s.deadlines;
+  registrations = s.registrations;
 }

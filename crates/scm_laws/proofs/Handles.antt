@@ -1,7 +1,9 @@
 -- The law of handles.
-use Rattle.std.proofs.Common.{ℕ, ◌≡◌, ◌≢◌, ◌≤◌, ◌==◌, true, not, List, [], Option, None, Some, filter, sym, subst, arith, eq-eqb, inl, inr}
-use Rattle.std.specs.Prelude.{All, Contains}
-use Rattle.std.proofs.lemmas.List.Elements.{All-nil, All-push, All-filter, All-weaker, All-contains_itself, filter_passes}
+use Rattle.std.proofs.Common.{ℕ, ◌≡◌, ◌≢◌, ◌≤◌, ◌==◌, ◌||◌, Bool, true, false, not, cond, IsTrue, List, [], ◌∷◌, Option, None, Some, filter, find, ap, sym, refl, subst, arith, eq-eqb, eqb-true, ne_eqb, inl, inr}
+use Rattle.std.specs.Prelude.{All, Contains, is_some}
+use Rattle.std.proofs.lemmas.List.Elements.{All-from_recursion, All-nil, All-push, All-filter, All-weaker, All-contains_itself, filter_passes}
+use Rattle.std.proofs.lemmas.Option.{IfSome_then}
+use Rattle.scm_model.specs.declared.flat.Caller.{Caller}
 use Rattle.scm_model.specs.declared.flat.Config.{Config}
 use Rattle.scm_model.specs.declared.flat.Flat.{Flat}
 use Rattle.scm_model.specs.declared.flat.HandleRow.{HandleRow}
@@ -12,14 +14,21 @@ use Rattle.scm_model.specs.declared.calls.Request.{Request}
 use Rattle.scm_model.specs.declared.calls.Request.TheVariants as request
 use Rattle.scm_model.specs.declared.steps.Kept.{Kept}
 use Rattle.scm_model.specs.declared.steps.Step.{Step}
-use Rattle.scm_model.specs.declared.steps.Step.TheVariants.{Joined, Call, Gone, NoMemory}
+use Rattle.scm_model.specs.declared.steps.Step.TheVariants.{Call, Gone}
+use Rattle.scm_model.specs.Rows.{is_caller}
 use Rattle.scm_model.specs.Changes.{with_moment}
+use Rattle.start_plan.specs.Settle.{settled}
 use Rattle.scm_rules.specs.Change.{asked_config, with_new_config}
-use Rattle.scm_rules.specs.Steps.{step_of}
+use Rattle.scm_rules.specs.Steps.{at_moment, effect_of, finished_step, may, step_of}
+use Rattle.scm_rules.specs.Valid.{AreNumbered}
 use Rattle.scm_rules.specs.Verdicts.{call_of, done_of, verdict}
-use Rattle.scm_laws.specs.Handles.{LawOfHandles, LeavesNothing, StoodOrIsNew}
+use Rattle.scm_laws.specs.Handles.{HoldsNothing, LawOfHandles, LeavesNothing, StoodOrIsNew}
 use Rattle.scm_laws.proofs.Along.{Gives}
-use Rattle.scm_laws.proofs.Calls.{by_verdict, keeps}
+use Rattle.scm_laws.proofs.Calls.{by_verdict, came, keeps}
+use Rattle.scm_laws.proofs.Frames.{Frame, finished_frame, settled_frame}
+use Rattle.scm_laws.proofs.Handled.{has_caller}
+use Rattle.scm_laws.proofs.Lists.{any_both, found_has, found_passes}
+use Rattle.scm_laws.proofs.Plans.{IsKnown, IsPlan}
 use Rattle.scm_laws.proofs.Sound.{Sound}
 
 -- ## Each number is given once
@@ -41,58 +50,114 @@ configured f number (Some config) = record { rows = all_stood f; rising = omega 
 of_done : (f : Flat) (caller : ℕ) (asked : Request) → Once f (done_of f caller asked).1
 of_done f caller (request.Close handle) = record { rows = All-filter _ (StoodOrIsNew f) f.handles (all_stood f); rising = omega arith }
 of_done f caller (request.Delete handle) = record { rows = all_stood f; rising = omega arith }
-of_done f caller (request.QueryStatus handle) = same f
+of_done f caller (request.Lock handle) = record { rows = All-push (StoodOrIsNew f) f.handles _ (all_stood f) (inr (omega arith)); rising = omega arith }
+of_done f caller (request.Unlock handle) = record { rows = All-filter _ (StoodOrIsNew f) f.handles (all_stood f); rising = omega arith }
 of_done f caller (request.Change change) = configured f _ (asked_config f caller change)
-of_done f caller (request.QueryConfig handle size) = same f
-of_done f caller (request.DisplayName handle name size) = same f
-of_done f caller (request.KeyName handle name size) = same f
 of_done f caller (request.Create new) = record { rows = All-push (StoodOrIsNew f) f.handles _ (all_stood f) (inr (omega arith)); rising = omega arith }
 of_done f caller (request.OpenManager database access) = record { rows = All-push (StoodOrIsNew f) f.handles _ (all_stood f) (inr (omega arith)); rising = omega arith }
 of_done f caller (request.OpenService handle name access) = record { rows = All-push (StoodOrIsNew f) f.handles _ (all_stood f) (inr (omega arith)); rising = omega arith }
+of_done f caller (request.Start handle words) = record { rows = all_stood f; rising = omega arith }
+of_done f caller asked = same f
 
 of_call : (l : Limits) (f : Flat) (moment caller : ℕ) (asked : Request) (append : Kept) → Once (with_moment f moment) (call_of l (with_moment f moment) caller asked append).1
 of_call l f moment caller asked append =
     by_verdict (λ r. Once (with_moment f moment) r.1) (verdict l (with_moment f moment) caller asked append) _ (with_moment f moment) (done_of (with_moment f moment) caller asked)
     (λ e. of_done (with_moment f moment) caller asked) (λ e. same (with_moment f moment))
 
-of_step : (l : Limits) (f : Flat) (moment : ℕ) (step : Step) → Once f (step_of l f moment step).1
-of_step l f moment (Joined principal) = record { rows = all_stood f; rising = omega arith }
-of_step l f moment (Call caller asked append) =
+of_effect : (l : Limits) (f : Flat) (moment : ℕ) (step : Step) → Once f (effect_of l (at_moment f moment step) step).1
+of_effect l f moment (Call caller asked append) =
     let once = of_call l f moment caller asked append in
     record { rows = once.rows; rising = once.rising }
-of_step l f moment (Gone caller) = record { rows = All-filter _ (StoodOrIsNew f) f.handles (all_stood f); rising = omega arith }
-of_step l f moment (NoMemory caller) = record { rows = all_stood f; rising = omega arith }
+of_effect l f moment (Gone caller) = record { rows = All-filter _ (StoodOrIsNew f) f.handles (all_stood f); rising = omega arith }
+of_effect l f moment step = record { rows = all_stood f; rising = omega arith }
+
+-- what settling leaves, and answering
+once_still : (f g h : Flat) → Frame g h → Once f g → Once f h
+once_still f g h frame once = record {
+  rows = subst (λ rows. All (StoodOrIsNew f) rows) (sym (ap (λ (x : Flat). x.handles) frame)) once.rows;
+  rising = (let e : h.next.handle ≡ g.next.handle = ap (λ (x : Flat). x.next.handle) frame in let up = once.rising in omega (arith, e, up));
+}
+
+-- what stands before services leave differs from the effect in its frame
+framed : (l : Limits) (f : Flat) (moment : ℕ) (step : Step) → Frame (effect_of l (at_moment f moment step) step).1 (finished_step l f moment step).1
+framed l f moment step =
+    let done = effect_of l (at_moment f moment step) step in
+    finished_frame done.1 (settled l done.1) done.0 (settled_frame l done.1)
+
+of_step : (l : Limits) (f : Flat) (moment : ℕ) (step : Step) → Once f (step_of l f moment step).1
+of_step l f moment step =
+    let done = effect_of l (at_moment f moment step) step in
+    let once = once_still f done.1 (finished_step l f moment step).1 (framed l f moment step) (of_effect l f moment step) in
+    record { rows = once.rows; rising = once.rising }
 
 -- ## Who is gone has nothing
 
-others : (caller : ℕ) (rows : List HandleRow) → All (λ (row : HandleRow). row.caller ≢ caller) (filter (λ (row : HandleRow). not (row.caller == caller)) rows)
-others caller rows =
+others : (caller : ℕ) (rows : List HandleRow) → All (λ (row : HandleRow). not (row.caller == caller) ≡ true) rows → All (λ (row : HandleRow). row.caller ≢ caller) rows
+others caller rows passes =
     All-weaker (λ (row : HandleRow). not (row.caller == caller) ≡ true) (λ (row : HandleRow). row.caller ≢ caller)
-    (λ row h same. let t = eq-eqb row.caller caller same in absurd (let u : not true ≡ true = subst (λ b. not b ≡ true) t h in cc)) _
-    (filter_passes (λ (row : HandleRow). not (row.caller == caller)) rows)
+    (λ row h same. let t = eq-eqb row.caller caller same in absurd (let u : not true ≡ true = subst (λ b. not b ≡ true) t h in cc)) rows passes
 
 none_of : {A : Type 0} (P : A → Type 0) (rows : List A) → rows ≡ [] → All P rows
 none_of P rows e = subst (λ rs. All P rs) (sym e) (All-nil P)
 
-leaves_nothing : (l : Limits) (f : Flat) (moment : ℕ) (step : Step) → Sound f → LeavesNothing step (step_of l f moment step).1
-leaves_nothing l f moment (Joined principal) s = tt
-leaves_nothing l f moment (Call caller asked append) s = tt
-leaves_nothing l f moment (Gone caller) s = record {
-  handles = others caller f.handles;
-  registrations = none_of (λ (row : Registration). row.caller ≢ caller) f.registrations s.registrations;
-  plans = none_of (λ (row : Plan). row.caller ≢ caller) f.plans s.plans;
-  lock = s.lock;
-}
-leaves_nothing l f moment (NoMemory caller) s = tt
+-- a caller isn't among the others
+not_there : (callers : List Caller) (caller : ℕ) → has_caller (filter (λ (row : Caller). not (row.number == caller)) callers) caller ≡ false
+not_there [] caller = refl
+not_there (row ∷ callers) caller =
+    elim (row.number == caller) as (λ b. (row.number == caller) ≡ b
+    → has_caller (cond (not b) (row ∷ filter (λ (row : Caller). not (row.number == caller)) callers) (filter (λ (row : Caller). not (row.number == caller)) callers)) caller ≡ false) [
+      | true ↦ λ e. not_there callers caller
+      | false ↦ λ e. rw e (not_there callers caller)
+    ] refl
+
+-- nobody has the number 0
+not_nobody : (callers : List Caller) (next caller : ℕ) (found : Option Caller) → AreNumbered (λ (row : Caller). row.number) next callers → find (λ (row : Caller). row.number == caller) callers ≡ found → is_some found ≡ true → (caller == 0) ≡ false
+not_nobody callers next caller None numbered e there = absurd cc
+not_nobody callers next caller (Some row) numbered e there =
+    let is = eqb-true row.number caller (found_passes (λ (r : Caller). r.number == caller) row callers e) in
+    let first = found_has (λ (r : Caller). 1 ≤ r.number) (λ (r : Caller). r.number == caller) row callers numbered.positive e in
+    ne_eqb caller 0 (λ zero. absurd (omega (arith, is, first, zero)))
+
+neither_known : (a b : Bool) → a ≡ false → b ≡ false → (a || b) ≡ true → ⊥
+neither_known a b x y h = absurd cc
+
+-- its plans are gone with it
+no_plan : (next service caller : ℕ) (before after : List Caller) (plans : List Plan) → AreNumbered (λ (row : Caller). row.number) next before → has_caller before caller ≡ true
+    → after ≡ filter (λ (row : Caller). not (row.number == caller)) before → All (IsKnown after) plans → All (λ (row : Plan). row.caller ≢ caller) plans
+no_plan next service caller before after plans numbered there e known =
+    All-weaker (IsKnown after) (λ (row : Plan). row.caller ≢ caller)
+    (λ row h same. neither_known (caller == 0) (has_caller after caller) (not_nobody before next caller _ numbered refl there) (rw e (not_there before caller))
+    (subst (λ n. (n == 0 || has_caller after n) ≡ true) same h)) plans known
+
+holds_nothing : (l : Limits) (f : Flat) (moment caller : ℕ) → Sound f → is_caller f caller ≡ true → Sound (step_of l f moment (Gone caller)).1 → HoldsNothing caller (step_of l f moment (Gone caller)).1
+holds_nothing l f moment caller before there s =
+    let after = (step_of l f moment (Gone caller)).1 in
+    let frame = framed l f moment (Gone caller) in
+    let handles : after.handles ≡ filter (λ (row : HandleRow). not (row.caller == caller)) f.handles = ap (λ (x : Flat). x.handles) frame in
+    let passes : All (λ (row : HandleRow). not (row.caller == caller) ≡ true) after.handles =
+    subst (λ (rows : List HandleRow). All (λ (row : HandleRow). not (row.caller == caller) ≡ true) rows) (sym handles) (filter_passes (λ (row : HandleRow). not (row.caller == caller)) f.handles) in
+    record {
+      handles = others caller after.handles passes;
+      registrations = none_of (λ (row : Registration). row.caller ≢ caller) after.registrations s.registrations;
+      plans = no_plan f.next.caller f.next.service caller f.callers after.callers after.plans before.handles.callers there (ap (λ (x : Flat). x.callers) frame)
+          (All-weaker (IsPlan after.next.plan after.next.service after.callers) (IsKnown after.callers) (λ plan is. is.known) after.plans
+          (All-from_recursion (IsPlan after.next.plan after.next.service after.callers) after.plans s.plans.each));
+      lock = IfSome_then after.lock s.handles.lock.holder
+          (λ held. any_both (λ (row : HandleRow). row.number == held.handle) (λ (row : HandleRow). not (row.caller == caller)) after.handles passes);
+    }
+
+leaves_nothing : (l : Limits) (f : Flat) (moment : ℕ) (step : Step) → Sound f → IsTrue (may l f moment step) → Sound (step_of l f moment step).1 → LeavesNothing step (step_of l f moment step).1
+leaves_nothing l f moment (Gone caller) before ok s = holds_nothing l f moment caller before (came _ _ ok) s
+leaves_nothing l f moment step before ok s = tt
 
 pub gives : (l : Limits) → Gives Sound (LawOfHandles l) l
 gives l f e s ok =
     let after = keeps l f e s ok in
     let once = of_step l f e.0 e.1 in
     record {
-      numbered = after.handles;
+      numbered = after.handles.handles;
       once = once.rows;
       rising = once.rising;
-      rights = after.rights;
-      gone = leaves_nothing l f e.0 e.1 s;
+      rights = after.handles.rights;
+      gone = leaves_nothing l f e.0 e.1 s ok after;
     }

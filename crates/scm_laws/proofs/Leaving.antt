@@ -1,5 +1,5 @@
 -- The law of leaving.
-use Rattle.std.proofs.Common.{ℕ, ◌≡◌, ◌≤◌, ◌∙◌, ◌==◌, ◌||◌, ◌&&◌, Bool, true, false, cond, List, [], ◌∷◌, ◌++◌, Option, None, Some, find, length, map, take, drop, ap, sym, refl, subst, arith}
+use Rattle.std.proofs.Common.{ℕ, zero, suc, ◌≡◌, ◌<◌, ◌≤◌, ◌∙◌, ◌==◌, ◌||◌, ◌&&◌, Bool, true, false, cond, IsTrue, List, [], ◌∷◌, ◌++◌, Option, None, Some, find, length, map, take, drop, ap, sym, refl, subst, arith, eqb-true, inl, inr}
 use Rattle.std.specs.Prelude.{All, option_map}
 use Rattle.std.specs.List.{AllZip}
 use Rattle.std.proofs.lemmas.List.{append-nil, drop_all, drop_at, length-map, map-append, map-id, take-append-le, take_all}
@@ -7,8 +7,11 @@ use Rattle.std.proofs.lemmas.List.Elements.{All-cons, All-head, All-nil, All-tai
 use Rattle.scm_model.specs.declared.flat.Config.{Config}
 use Rattle.scm_model.specs.declared.flat.Flat.{Flat}
 use Rattle.scm_model.specs.declared.flat.Limits.{Limits}
+use Rattle.scm_model.specs.declared.flat.Process.{Process}
 use Rattle.scm_model.specs.declared.flat.Service.{Service}
+use Rattle.scm_model.specs.declared.flat.Status.{Status}
 use Rattle.scm_model.specs.declared.calls.ChangeService.{ChangeService}
+use Rattle.scm_model.specs.declared.calls.NewService.{NewService}
 use Rattle.scm_model.specs.declared.calls.Reply.TheVariants as reply
 use Rattle.scm_model.specs.declared.calls.Request.{Request}
 use Rattle.scm_model.specs.declared.calls.Request.TheVariants as request
@@ -16,19 +19,28 @@ use Rattle.scm_model.specs.declared.steps.Answer.{Answer}
 use Rattle.scm_model.specs.declared.steps.Answer.TheVariants as answer
 use Rattle.scm_model.specs.declared.steps.Kept.{Kept}
 use Rattle.scm_model.specs.declared.steps.Step.{Step}
-use Rattle.scm_model.specs.declared.steps.Step.TheVariants.{Joined, Call, Gone, NoMemory}
+use Rattle.scm_model.specs.declared.steps.Step.TheVariants.{Call, LaunchFailed}
 use Rattle.scm_model.specs.Rows.{opened}
 use Rattle.scm_model.specs.Changes.{configured_if, leaves, marked_if, with_moment}
+use Rattle.start_plan.specs.Entered.{started, starting}
+use Rattle.start_plan.specs.Settle.{settled}
+use Rattle.status_machine.specs.Moves.{take_end}
 use Rattle.scm_rules.specs.Change.{changed_service, new_config, tag_in, with_new_config}
 use Rattle.scm_rules.specs.Create.{told_tag}
+use Rattle.scm_rules.specs.Delete.{delete_done}
+use Rattle.scm_rules.specs.Launches.{fallen_if, is_taken, process_of}
 use Rattle.scm_rules.specs.Query.{service_in}
-use Rattle.scm_rules.specs.Steps.{step_of}
+use Rattle.scm_rules.specs.Steps.{at_moment, effect_of, may, step_of}
 use Rattle.scm_rules.specs.Verdicts.{call_of, done_of, told_refused, verdict}
 use Rattle.scm_laws.specs.Leaving.{IsFresh, IsSameService, LawOfLeaving, before_leaving, created, marks, numbers}
 use Rattle.scm_laws.proofs.Along.{Gives}
-use Rattle.scm_laws.proofs.Calls.{by_verdict}
+use Rattle.scm_laws.proofs.Calls.{by_verdict, came}
 use Rattle.scm_laws.proofs.Configured.{HasText, name, name_kept, names_found, number_kept, replaced}
-use Rattle.scm_laws.proofs.Lists.{map_same, passes_not}
+use Rattle.scm_laws.proofs.Effects.{step_settled}
+use Rattle.scm_laws.proofs.Frames.{finished_keeps}
+use Rattle.scm_laws.proofs.Lists.{found_has, found_passes, map_same, passes_not}
+use Rattle.scm_laws.proofs.Rows.{fallen_or}
+use Rattle.scm_laws.proofs.Settling.{AreSettled, IsSettled}
 use Rattle.scm_laws.proofs.Sound.{Sound}
 
 -- what the law says of the services before some of them leave
@@ -36,6 +48,7 @@ record Stood (f : Flat) (step : Step) (told : Answer) (after : List Service) : T
   stood : numbers after ≡ numbers f.services ++ created f step told
   rows : AllZip (IsSameService f step told) f.services (take (length f.services) after)
   fresh : All IsFresh (drop (length f.services) after)
+  numbered : All (λ (row : Service). f.next.service ≤ row.number) (drop (length f.services) after)
 
 -- ## Rows
 
@@ -55,6 +68,7 @@ zip_map R g (x ∷ xs) each = (All-head (λ y. R y (g y)) x xs each, zip_map R g
 same_row : (f : Flat) (step : Step) (told : Answer) (row : Service) → marks f step told row.number ≡ false → IsSameService f step told row row
 same_row f step told row unmarked = record {
   row = ap (λ (marked : Bool). record row { marked = marked }) (or_false row.marked ∙ ap (λ marked. row.marked || marked) (sym unmarked));
+  state = λ same. refl;
   config = λ other. (refl, refl);
   name = refl;
 }
@@ -68,6 +82,7 @@ stood_mapped f step told g same none each =
       stood = map_same g (λ (row : Service). row.number) same f.services ∙ none_more (numbers f.services) ∙ ap (λ more. numbers f.services ++ more) (sym none);
       rows = subst (λ rows. AllZip (IsSameService f step told) f.services rows) (sym (take_all (length f.services) (map g f.services) long)) (zip_map (IsSameService f step told) g f.services each);
       fresh = subst (λ rows. All IsFresh rows) (sym (drop_all (length f.services) (map g f.services) long)) (All-nil IsFresh);
+      numbered = subst (λ rows. All (λ (row : Service). f.next.service ≤ row.number) rows) (sym (drop_all (length f.services) (map g f.services) long)) (All-nil (λ (row : Service). f.next.service ≤ row.number));
     }
 
 -- a step that changes no row
@@ -76,14 +91,16 @@ stood_same f step told none unmarked =
     subst (λ rows. Stood f step told rows) (map-id f.services) (stood_mapped f step told (λ row. row) (λ row. refl) none (λ k d lt. same_row f step told _ (unmarked _)))
 
 -- a step that adds a row
-stood_added : (f : Flat) (step : Step) (told : Answer) (row : Service) → created f step told ≡ row.number ∷ [] → ((number : ℕ) → marks f step told number ≡ false) → IsFresh row → Stood f step told (f.services ++ row ∷ [])
-stood_added f step told row one unmarked fresh = record {
+stood_added : (f : Flat) (step : Step) (told : Answer) (row : Service) → created f step told ≡ row.number ∷ [] → ((number : ℕ) → marks f step told number ≡ false) → IsFresh row → f.next.service ≤ row.number → Stood f step told (f.services ++ row ∷ [])
+stood_added f step told row one unmarked fresh up = record {
   stood = map-append (λ (r : Service). r.number) f.services (row ∷ []) ∙ ap (λ more. numbers f.services ++ more) (sym one);
   rows = subst (λ rows. AllZip (IsSameService f step told) f.services rows)
       (sym (take-append-le (length f.services) f.services (row ∷ []) (omega arith) ∙ take_all (length f.services) f.services (omega arith)))
       (subst (λ rows. AllZip (IsSameService f step told) f.services rows) (map-id f.services)
       (zip_map (IsSameService f step told) (λ r. r) f.services (λ k d lt. same_row f step told _ (unmarked _))));
   fresh = subst (λ rows. All IsFresh rows) (sym (drop_at f.services (row ∷ []) (length f.services) refl)) (All-cons IsFresh row [] fresh (All-nil IsFresh));
+  numbered = subst (λ rows. All (λ (r : Service). f.next.service ≤ r.number) rows) (sym (drop_at f.services (row ∷ []) (length f.services) refl))
+      (All-cons (λ (r : Service). f.next.service ≤ r.number) row [] up (All-nil (λ (r : Service). f.next.service ≤ r.number)));
 }
 
 -- ## Change
@@ -95,12 +112,15 @@ configured_row f caller change append tag config row has =
     record {
       row = elim (row.number == number) as (λ b. cond b (replaced config row) row ≡ record row {
         config = (cond b (replaced config row) row).config;
-        status = record row.status { kind = (cond b (replaced config row) row).status.kind };
+        status = (cond b (replaced config row) row).status;
+        process = (cond b (replaced config row) row).process;
         marked = row.marked || false;
       }) [
         | true ↦ ap (λ (marked : Bool). record (replaced config row) { marked = marked }) (or_false row.marked)
         | false ↦ ap (λ (marked : Bool). record row { marked = marked }) (or_false row.marked)
       ];
+      state = elim (row.number == number) as (λ b. (cond b (replaced config row) row).process ≡ row.process
+          → (cond b (replaced config row) row).status ≡ record row.status { kind = (cond b (replaced config row) row).status.kind }) [ true ↦ λ same. refl | false ↦ λ same. refl ];
       config = elim (row.number == number) as (λ b. b ≡ false → ((cond b (replaced config row) row).config ≡ row.config)
           × ((cond b (replaced config row) row).status.kind ≡ row.status.kind))
           [ true ↦ λ e. absurd (cc) | false ↦ λ e. (refl, refl) ];
@@ -115,56 +135,167 @@ stood_change f moment caller change append (Some row) s e =
     let number = service_in (opened f caller change.handle) in
     let config = new_config (with_moment f moment) change row in
     stood_mapped f _ _ (configured_if number config) (number_kept number config) refl
-    (λ k d lt. configured_row f caller change append _ config _ (names_found f number row config s e refl k d lt))
+    (λ k d lt. configured_row f caller change append _ config _ (names_found f number row config s.services e refl k d lt))
 
 -- ## Calls
 
-stood_done : (f : Flat) (moment caller : ℕ) (asked : Request) (append : Kept) → Sound f
-    → Stood f (Call caller asked append) (answer.Reply (done_of (with_moment f moment) caller asked).0) (done_of (with_moment f moment) caller asked).1.services
-stood_done f moment caller (request.Close handle) append s = stood_same f _ _ refl (λ number. refl)
-stood_done f moment caller (request.Delete handle) append s =
-    stood_mapped f _ _ (marked_if (service_in (opened f caller handle))) (λ row. refl) refl (λ k d lt. record { row = refl; config = λ other. (refl, refl); name = refl })
-stood_done f moment caller (request.QueryStatus handle) append s = stood_same f _ _ refl (λ number. refl)
-stood_done f moment caller (request.Change change) append s = stood_change f moment caller change append (changed_service f caller change) s refl
-stood_done f moment caller (request.Create new) append s = stood_added f _ _ _ refl (λ number. refl) (record { state = refl; process = refl; marked = refl })
-stood_done f moment caller (request.OpenManager database access) append s = stood_same f _ _ refl (λ number. refl)
-stood_done f moment caller (request.OpenService handle name access) append s = stood_same f _ _ refl (λ number. refl)
-stood_done f moment caller (request.QueryConfig handle size) append s = stood_same f _ _ refl (λ number. refl)
-stood_done f moment caller (request.DisplayName handle name size) append s = stood_same f _ _ refl (λ number. refl)
-stood_done f moment caller (request.KeyName handle name size) append s = stood_same f _ _ refl (λ number. refl)
+stood_marked : (f : Flat) (moment caller handle : ℕ) (append : Kept) → Stood f (Call caller (request.Delete handle) append) (answer.Reply (reply.Code 0)) (delete_done (with_moment f moment) caller handle).1.services
+stood_marked f moment caller handle append =
+    stood_mapped f _ _ (marked_if (service_in (opened f caller handle))) (λ row. refl) refl (λ k d lt. record { row = refl; state = λ same. refl; config = λ other. (refl, refl); name = refl })
 
 -- a call that is refused adds none and marks none
-stood_refused : (f : Flat) (moment caller : ℕ) (asked : Request) (append : Kept) (code : ℕ) → (code == 0) ≡ false
-    → Stood f (Call caller asked append) (answer.Reply (told_refused (with_moment f moment) caller asked code)) f.services
-stood_refused f moment caller (request.Close handle) append code e = stood_same f _ _ refl (λ number. refl)
-stood_refused f moment caller (request.Delete handle) append code e = stood_same f _ _ refl (λ number. ap (λ b. b && number == service_in (opened f caller handle)) e)
-stood_refused f moment caller (request.QueryStatus handle) append code e = stood_same f _ _ refl (λ number. refl)
-stood_refused f moment caller (request.Change change) append code e = stood_same f _ _ refl (λ number. refl)
-stood_refused f moment caller (request.Create new) append code e = stood_same f _ _ (ap (λ b. cond b (f.next.service ∷ []) []) e) (λ number. refl)
-stood_refused f moment caller (request.OpenManager database access) append code e = stood_same f _ _ refl (λ number. refl)
-stood_refused f moment caller (request.OpenService handle name access) append code e = stood_same f _ _ refl (λ number. refl)
-stood_refused f moment caller (request.QueryConfig handle size) append code e = stood_same f _ _ refl (λ number. refl)
-stood_refused f moment caller (request.DisplayName handle name size) append code e = stood_same f _ _ refl (λ number. refl)
-stood_refused f moment caller (request.KeyName handle name size) append code e = stood_same f _ _ refl (λ number. refl)
+not_marked : (f : Flat) (caller handle : ℕ) (append : Kept) (code : ℕ) → (code == 0) ≡ false → Stood f (Call caller (request.Delete handle) append) (answer.Reply (reply.Code code)) f.services
+not_marked f caller handle append code e = stood_same f _ _ refl (λ number. ap (λ b. b && number == service_in (opened f caller handle)) e)
+
+not_added : (f : Flat) (caller : ℕ) (new : NewService) (append : Kept) (tag : Option ℕ) (handle code : ℕ) → (code == 0) ≡ false → Stood f (Call caller (request.Create new) append) (answer.Reply (reply.Made tag handle code)) f.services
+not_added f caller new append tag handle code e = stood_same f _ _ (ap (λ b. cond b (f.next.service ∷ []) []) e) (λ number. refl)
 
 stood_call : (l : Limits) (f : Flat) (moment caller : ℕ) (asked : Request) (append : Kept) → Sound f
-    → Stood f (Call caller asked append) (answer.Reply (call_of l (with_moment f moment) caller asked append).0) (call_of l (with_moment f moment) caller asked append).1.services
+    → Stood f (Call caller asked append) (step_of l f moment (Call caller asked append)).0 (call_of l (with_moment f moment) caller asked append).1.services
+stood_call l f moment caller (request.Delete handle) append s =
+    let g = with_moment f moment in
+    let asked = request.Delete handle in
+    let code = verdict l g caller asked append in
+    by_verdict (λ r. Stood f (Call caller asked append) (answer.Reply r.0) r.1.services) code (told_refused g caller asked code) g (done_of g caller asked)
+    (λ e. stood_marked f moment caller handle append) (not_marked f caller handle append code)
+stood_call l f moment caller (request.Change change) append s =
+    let g = with_moment f moment in
+    let asked = request.Change change in
+    let code = verdict l g caller asked append in
+    by_verdict (λ r. Stood f (Call caller asked append) (answer.Reply r.0) r.1.services) code (told_refused g caller asked code) g (done_of g caller asked)
+    (λ e. stood_change f moment caller change append (changed_service f caller change) s refl) (λ e. stood_same f _ _ refl (λ number. refl))
+stood_call l f moment caller (request.Create new) append s =
+    let g = with_moment f moment in
+    let asked = request.Create new in
+    let code = verdict l g caller asked append in
+    by_verdict (λ r. Stood f (Call caller asked append) (answer.Reply r.0) r.1.services) code (told_refused g caller asked code) g (done_of g caller asked)
+    (λ e. stood_added f _ _ _ refl (λ number. refl) (record { state = refl; process = refl; marked = refl }) (omega arith)) (not_added f caller new append new.tag 0 code)
 stood_call l f moment caller asked append s =
-    let code = verdict l (with_moment f moment) caller asked append in
-    by_verdict (λ r. Stood f (Call caller asked append) (answer.Reply r.0) r.1.services) code (told_refused (with_moment f moment) caller asked code) (with_moment f moment) (done_of (with_moment f moment) caller asked)
-    (λ e. stood_done f moment caller asked append s) (stood_refused f moment caller asked append code)
+    let g = with_moment f moment in
+    let code = verdict l g caller asked append in
+    by_verdict (λ r. Stood f (Call caller asked append) (step_of l f moment (Call caller asked append)).0 r.1.services) code (told_refused g caller asked code) g (done_of g caller asked)
+    (λ e. stood_same f _ _ refl (λ number. refl)) (λ e. stood_same f _ _ refl (λ number. refl))
+
+-- ## A launch that failed
+
+fallen_row : (f : Flat) (step : Step) (told : Answer) (process code : ℕ) (row : Service) → ((number : ℕ) → marks f step told number ≡ false) → 1 ≤ process → IsSameService f step told row (fallen_if process code row)
+fallen_row f step told process code row unmarked first =
+    fallen_or (IsSameService f step told row) process code row
+    (λ is. record {
+      row = ap (λ (marked : Bool). record row { status = take_end row.status code; process = 0; marked = marked }) (or_false row.marked ∙ ap (λ marked. row.marked || marked) (sym (unmarked row.number)));
+      state = λ none. absurd (let e = eqb-true row.process process is in omega (arith, none, e, first));
+      config = λ other. (refl, refl);
+      name = refl;
+    }) (same_row f step told row (unmarked row.number))
+
+-- a process that is in hand has a number
+in_hand_first : (f : Flat) (process : ℕ) (found : Option Process) → Sound f → find (λ (row : Process). row.number == process) f.processes ≡ found → is_taken found ≡ true → 1 ≤ process
+in_hand_first f process None s e taken = absurd cc
+in_hand_first f process (Some row) s e taken =
+    let is = eqb-true row.number process (found_passes (λ (r : Process). r.number == process) row f.processes e) in
+    subst (λ n. 1 ≤ n) is (found_has (λ (r : Process). 1 ≤ r.number) (λ (r : Process). r.number == process) row f.processes s.processes.numbered.positive e)
+
+-- ## Effects
+
+stood_effect : (l : Limits) (f : Flat) (moment : ℕ) (step : Step) → Sound f → IsTrue (may l f moment step) → Stood f step (step_of l f moment step).0 (effect_of l (at_moment f moment step) step).1.services
+stood_effect l f moment (Call caller asked append) s ok = stood_call l f moment caller asked append s
+stood_effect l f moment (LaunchFailed process code) s ok =
+    stood_mapped f _ _ (fallen_if process code) (λ row. fallen_or (λ new. new.number ≡ row.number) process code row (λ e. refl) refl) refl
+    (λ k d lt. fallen_row f _ _ process code _ (λ number. refl) (in_hand_first f process (process_of f process) s refl (came _ _ (came _ _ ok))))
+stood_effect l f moment step s ok = stood_same f _ _ refl (λ number. refl)
+
+-- ## Settling
+
+zip_take : {X : Type 0} (R : X → X → Type 0) (n : ℕ) (xs ys : List X) → AllZip R xs ys → AllZip R (take n xs) (take n ys)
+zip_take R zero xs ys each = tt
+zip_take R (suc n) [] [] each = tt
+zip_take R (suc n) [] (y ∷ ys) each = absurd each
+zip_take R (suc n) (x ∷ xs) [] each = absurd each
+zip_take R (suc n) (x ∷ xs) (y ∷ ys) each = (each.0, zip_take R n xs ys each.1)
+
+zip_drop : {X : Type 0} (R : X → X → Type 0) (n : ℕ) (xs ys : List X) → AllZip R xs ys → AllZip R (drop n xs) (drop n ys)
+zip_drop R zero xs ys each = each
+zip_drop R (suc n) [] [] each = tt
+zip_drop R (suc n) [] (y ∷ ys) each = absurd each
+zip_drop R (suc n) (x ∷ xs) [] each = absurd each
+zip_drop R (suc n) (x ∷ xs) (y ∷ ys) each = zip_drop R n xs ys each.1
+
+-- one relation after another, where each of the first has a fact
+zip_then : {X : Type 0} (P : X → Type 0) (R S T : X → X → Type 0) → ((x y z : X) → P x → R x y → S y z → T x z) → (xs ys zs : List X) → All P xs → AllZip R xs ys → AllZip S ys zs → AllZip T xs zs
+zip_then P R S T chain [] [] [] all r s = tt
+zip_then P R S T chain [] [] (z ∷ zs) all r s = s
+zip_then P R S T chain [] (y ∷ ys) zs all r s = absurd r
+zip_then P R S T chain (x ∷ xs) [] zs all r s = absurd r
+zip_then P R S T chain (x ∷ xs) (y ∷ ys) [] all r s = absurd s
+zip_then P R S T chain (x ∷ xs) (y ∷ ys) (z ∷ zs) all r s =
+    (chain x y z (All-head P x xs all) r.0 s.0, zip_then P R S T chain xs ys zs (All-tail P x xs all) r.1 s.1)
+
+zip_all : {X : Type 0} (P Q : X → Type 0) (R : X → X → Type 0) → ((x y : X) → P x → R x y → Q y) → (xs ys : List X) → All P xs → AllZip R xs ys → All Q ys
+zip_all P Q R keeps [] [] all r = All-nil Q
+zip_all P Q R keeps [] (y ∷ ys) all r = absurd r
+zip_all P Q R keeps (x ∷ xs) [] all r = absurd r
+zip_all P Q R keeps (x ∷ xs) (y ∷ ys) all r = All-cons Q y ys (keeps x y (All-head P x xs all) r.0) (zip_all P Q R keeps xs ys (All-tail P x xs all) r.1)
+
+settled_number : (next bound : ℕ) (before after : Service) → IsSettled next bound before after → after.number ≡ before.number
+settled_number next bound before after (inl same) = ap (λ (r : Service). r.number) same
+settled_number next bound before after (inr is) = ap (λ (r : Service). r.number) is.entered
+
+settled_numbers : (next bound : ℕ) (befores afters : List Service) → AreSettled next bound befores afters → numbers afters ≡ numbers befores
+settled_numbers next bound [] [] each = refl
+settled_numbers next bound [] (after ∷ afters) each = absurd each
+settled_numbers next bound (before ∷ befores) [] each = absurd each
+settled_numbers next bound (before ∷ befores) (after ∷ afters) each =
+    ap (λ n. n ∷ numbers afters) (settled_number next bound before after each.0) ∙ ap (λ ns. before.number ∷ ns) (settled_numbers next bound befores afters each.1)
+
+-- the row before a step, after its effect, and after settling
+settled_row : (f : Flat) (step : Step) (told : Answer) (next bound : ℕ) (old mid new : Service) → old.process < next → IsSameService f step told old mid → IsSettled next bound mid new → IsSameService f step told old new
+settled_row f step told next bound old mid new small is (inl same) = subst (IsSameService f step told old) (sym same) is
+settled_row f step told next bound old mid new small is (inr entered) =
+    let e = entered.entered in
+    let config : new.config ≡ mid.config = ap (λ (r : Service). r.config) e in
+    let kind : new.status.kind ≡ mid.status.kind = ap (λ (r : Service). r.status.kind) e in
+    record {
+      row = e ∙ ap (started new.process) is.row
+          ∙ ap (λ (c : Config). record old { config = c; status = starting mid.status; process = new.process; marked = old.marked || marks f step told old.number }) (sym config)
+          ∙ ap (λ (st : Status). record old { config = new.config; status = st; process = new.process; marked = old.marked || marks f step told old.number }) (sym (ap (λ (r : Service). r.status) e));
+      state = λ same. absurd (let up = entered.process in omega (arith, up, same, small));
+      config = λ other. (let was = is.config other in (config ∙ was.0, kind ∙ was.1));
+      name = ap (λ (c : Config). c.name) config ∙ is.name;
+    }
+
+-- a service that was just added isn't entered
+still_fresh : (next bound : ℕ) (mid new : Service) → (IsFresh mid × (bound ≤ mid.number)) → IsSettled next bound mid new → IsFresh new
+still_fresh next bound mid new is (inl same) = subst IsFresh (sym same) is.0
+still_fresh next bound mid new is (inr entered) = absurd (let up = is.1 in let small = entered.number in omega (arith, up, small))
+
+still_numbered : (least next bound : ℕ) (mid new : Service) → least ≤ mid.number → IsSettled next bound mid new → least ≤ new.number
+still_numbered least next bound mid new up is = (let e = settled_number next bound mid new is in omega (arith, up, e))
+
+settled_stood : (f : Flat) (step : Step) (told : Answer) (next : ℕ) (mids news : List Service) → All (λ (row : Service). row.process < next) f.services → Stood f step told mids → AreSettled next f.next.service mids news → Stood f step told news
+settled_stood f step told next mids news small stood each =
+    let n = length f.services in
+    record {
+      stood = settled_numbers next f.next.service mids news each ∙ stood.stood;
+      rows = zip_then (λ (row : Service). row.process < next) (IsSameService f step told) (IsSettled next f.next.service) (IsSameService f step told)
+          (settled_row f step told next f.next.service) f.services (take n mids) (take n news) small stood.rows (zip_take (IsSettled next f.next.service) n mids news each);
+      fresh = zip_all (λ (row : Service). IsFresh row × (f.next.service ≤ row.number)) IsFresh (IsSettled next f.next.service) (still_fresh next f.next.service) (drop n mids) (drop n news)
+          (λ k d lt. (stood.fresh k d lt, stood.numbered k d lt)) (zip_drop (IsSettled next f.next.service) n mids news each);
+      numbered = zip_all (λ (row : Service). f.next.service ≤ row.number) (λ (row : Service). f.next.service ≤ row.number) (IsSettled next f.next.service)
+          (still_numbered f.next.service next f.next.service) (drop n mids) (drop n news) stood.numbered (zip_drop (IsSettled next f.next.service) n mids news each);
+    }
 
 -- ## Steps
 
-stood_step : (l : Limits) (f : Flat) (moment : ℕ) (step : Step) → Sound f → Stood f step (step_of l f moment step).0 (before_leaving l f (moment, step)).services
-stood_step l f moment (Joined principal) s = stood_same f _ _ refl (λ number. refl)
-stood_step l f moment (Call caller asked append) s = stood_call l f moment caller asked append s
-stood_step l f moment (Gone caller) s = stood_same f _ _ refl (λ number. refl)
-stood_step l f moment (NoMemory caller) s = stood_same f _ _ refl (λ number. refl)
+stood_step : (l : Limits) (f : Flat) (moment : ℕ) (step : Step) → Sound f → IsTrue (may l f moment step) → Stood f step (step_of l f moment step).0 (before_leaving l f (moment, step)).services
+stood_step l f moment step s ok =
+    let done = effect_of l (at_moment f moment step) step in
+    let told = (step_of l f moment step).0 in
+    finished_keeps (λ (g : Flat). Stood f step told g.services) (λ g plans stood. stood) (settled l done.1) done.0
+    (settled_stood f step told f.next.process done.1.services (settled l done.1).services s.services.current (stood_effect l f moment step s ok) (step_settled l f moment step s ok))
 
 pub gives : (l : Limits) → Gives Sound (LawOfLeaving l) l
 gives l f e s ok =
-    let stood = stood_step l f e.0 e.1 s in
+    let stood = stood_step l f e.0 e.1 s ok in
     record {
       stood = stood.stood;
       rows = stood.rows;

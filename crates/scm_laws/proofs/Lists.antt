@@ -1,9 +1,10 @@
 -- What finds, filters and maps do to lists of rows.
-use Rattle.std.proofs.Common.{ℕ, suc, ◌≡◌, ◌∙◌, ◌<◌, ◌==◌, ◌||◌, Bool, true, false, not, cond, List, [], ◌∷◌, ◌++◌, Some, filter, find, length, map, get_or, ap, sym, refl, subst, arith, eqb-true}
+use Rattle.std.proofs.Common.{ℕ, zero, suc, ◌≡◌, ◌∙◌, ◌<◌, ◌==◌, ◌||◌, ◌&&◌, Bool, true, false, not, cond, List, [], ◌∷◌, ◌++◌, Some, filter, find, length, map, get_or, ap, sym, refl, subst, arith, eqb-true, ne_eqb}
 use Rattle.std.specs.Prelude.{All, AllPairs, is_some, unwrap_or}
 use Rattle.std.specs.List.{list_any}
 use Rattle.std.proofs.lemmas.List.{get_or-map, length-map}
-use Rattle.std.proofs.lemmas.List.Elements.{All-nil, All-cons}
+use Rattle.std.proofs.lemmas.List.Elements.{All-nil, All-cons, All-head, All-tail}
+use Rattle.std.proofs.lemmas.List.Folds.{list_any_none}
 
 pub find_more : {X : Type 0} (p : X → Bool) (xs ys : List X) → is_some (find p xs) ≡ true → find p (xs ++ ys) ≡ find p xs
 find_more p [] ys e = absurd (cc)
@@ -49,6 +50,18 @@ found_passes p x (y ∷ ys) e =
     elim (p y) as (λ b. p y ≡ b → cond b (Some y) (find p ys) ≡ Some x → p x ≡ true)
     [ true ↦ λ h g. subst (λ z. p z ≡ true) (same_some y x g) h | false ↦ λ h g. found_passes p x ys g ] refl e
 
+-- what holds of each holds of the one that is found
+pub found_has : {X : Type 0} (P : X → Type 0) (p : X → Bool) (x : X) (xs : List X) → All P xs → find p xs ≡ Some x → P x
+found_has P p x [] each e = absurd (cc)
+found_has P p x (y ∷ ys) each e =
+    elim (p y) as (λ b. cond b (Some y) (find p ys) ≡ Some x → P x)
+    [ true ↦ λ g. subst P (same_some y x g) (All-head P y ys each) | false ↦ λ g. found_has P p x ys (All-tail P y ys each) g ] e
+
+-- one is found exactly where there is one
+is_some-find : {X : Type 0} (p : X → Bool) (xs : List X) → is_some (find p xs) ≡ list_any p xs
+is_some-find p [] = refl
+is_some-find p (x ∷ xs) = elim (p x) as (λ b. is_some (cond b (Some x) (find p xs)) ≡ (b || list_any p xs)) [ true ↦ refl | false ↦ is_some-find p xs ]
+
 -- where numbers rise, the one that is found by its number is the only one with it
 pub found_only : {X : Type 0} (number : X → ℕ) (n : ℕ) (x : X) (xs : List X) → AllPairs (λ a b. number a < number b) xs → find (λ y. number y == n) xs ≡ Some x → All (λ y. (number y == n) ≡ true → y ≡ x) xs
 found_only number n x [] rising e = All-nil (λ y. (number y == n) ≡ true → y ≡ x)
@@ -63,6 +76,53 @@ found_only number n x (y ∷ ys) rising e =
       | false ↦ λ h g. All-cons (λ z. (number z == n) ≡ true → z ≡ x) y ys (λ same. absurd (cc))
           (found_only number n x ys (λ i j d lt within. rising (suc i) (suc j) d (omega arith) (omega arith)) g)
     ] refl e
+
+-- a test fails where its second part does
+and_false : (a b : Bool) → b ≡ false → (a && b) ≡ false
+and_false true b e = e
+and_false false b e = refl
+
+-- where numbers rise, who has the number of one that is found with a property has the property
+pub found_owns : {X : Type 0} (q : X → Bool) (number : X → ℕ) (n : ℕ) (xs : List X) → AllPairs (λ a b. number a < number b) xs → is_some (find (λ x. q x && number x == n) xs) ≡ true → All (λ x. (number x == n) ≡ true → q x ≡ true) xs
+found_owns q number n [] rising e = All-nil (λ x. (number x == n) ≡ true → q x ≡ true)
+found_owns q number n (y ∷ ys) rising e =
+    let rest = found_owns q number n ys (λ i j d lt within. rising (suc i) (suc j) d (omega arith) (omega arith)) in
+    let later : (number y == n) ≡ true → All (λ x. (number x == n) ≡ false) ys =
+    λ same k d lt. ne_eqb (number (get_or ys k d)) n (λ there.
+    let here = eqb-true (number y) n same in
+    let up : number y < number (get_or ys k d) = rising 0 (suc k) d (omega arith) (omega arith) in
+    omega arith) in
+    elim (q y) as (λ b. q y ≡ b → is_some (cond (b && number y == n) (Some y) (find (λ x. q x && number x == n) ys)) ≡ true → All (λ x. (number x == n) ≡ true → q x ≡ true) (y ∷ ys)) [
+      | true ↦ λ own. elim (number y == n) as (λ b. (number y == n) ≡ b → is_some (cond b (Some y) (find (λ x. q x && number x == n) ys)) ≡ true → All (λ x. (number x == n) ≡ true → q x ≡ true) (y ∷ ys)) [
+        | true ↦ λ h g. All-cons (λ x. (number x == n) ≡ true → q x ≡ true) y ys (λ same. own) (λ k d lt same. absurd (let none = later h k d lt in cc))
+        | false ↦ λ h g. All-cons (λ x. (number x == n) ≡ true → q x ≡ true) y ys (λ same. own) (rest g)
+      ] refl
+      | false ↦ λ own g. All-cons (λ x. (number x == n) ≡ true → q x ≡ true) y ys
+          (λ same. absurd (
+          let none = list_any_none (λ x. q x && number x == n) ys (λ k d lt. and_false _ _ (later same k d lt)) in
+          let found = is_some-find (λ x. q x && number x == n) ys in
+          cc)) (rest g)
+    ] refl e
+
+-- a filter that keeps who passes a test leaves one that passes it
+pub any_filter : {X : Type 0} (p q : X → Bool) (xs : List X) → All (λ x. p x ≡ true → q x ≡ true) xs → list_any p xs ≡ true → list_any p (filter q xs) ≡ true
+any_filter p q [] keeps e = absurd (cc)
+any_filter p q (x ∷ xs) keeps e =
+    let here = All-head (λ y. p y ≡ true → q y ≡ true) x xs keeps in
+    let rest = any_filter p q xs (All-tail (λ y. p y ≡ true → q y ≡ true) x xs keeps) in
+    elim (p x) as (λ b. p x ≡ b → (b || list_any p xs) ≡ true → list_any p (cond (q x) (x ∷ filter q xs) (filter q xs)) ≡ true) [
+      | true ↦ λ h g. subst (λ b. list_any p (cond b (x ∷ filter q xs) (filter q xs)) ≡ true) (sym (here h)) (ap (λ b. b || list_any p (filter q xs)) h)
+      | false ↦ λ h g. (elim (q x) as (λ b. list_any p (cond b (x ∷ filter q xs) (filter q xs)) ≡ true) [ true ↦ ap (λ b. b || list_any p (filter q xs)) h ∙ rest g | false ↦ rest g ])
+    ] refl e
+
+-- where each passes the second test, one that passes the first passes both
+pub any_both : {X : Type 0} (p q : X → Bool) (xs : List X) → All (λ x. q x ≡ true) xs → list_any p xs ≡ true → list_any (λ x. p x && q x) xs ≡ true
+any_both p q [] each e = absurd (cc)
+any_both p q (x ∷ xs) each e =
+    elim (p x) as (λ b. (b || list_any p xs) ≡ true → ((b && q x) || list_any (λ y. p y && q y) xs) ≡ true) [
+      | true ↦ λ g. ap (λ b. b || list_any (λ y. p y && q y) xs) (All-head (λ y. q y ≡ true) x xs each)
+      | false ↦ λ g. any_both p q xs (All-tail (λ y. q y ≡ true) x xs each) g
+    ] e
 
 -- a map that changes no number
 pub map_same : {X Y : Type 0} (f : X → X) (g : X → Y) → ((x : X) → g (f x) ≡ g x) → (xs : List X) → map g (map f xs) ≡ map g xs
@@ -82,3 +142,9 @@ passes_not p [] = All-nil (λ y. p y ≡ false)
 passes_not p (x ∷ xs) =
     elim (p x) as (λ b. p x ≡ b → All (λ y. p y ≡ false) (cond (not b) (x ∷ filter (λ y. not (p y)) xs) (filter (λ y. not (p y)) xs)))
     [ true ↦ λ e. passes_not p xs | false ↦ λ e. All-cons (λ y. p y ≡ false) x (filter (λ y. not (p y)) xs) e (passes_not p xs) ] refl
+
+-- one that passes, at its place
+pub any_at : {X : Type 0} (p : X → Bool) (xs : List X) (k : ℕ) (d : X) → k < length xs → p (get_or xs k d) ≡ true → list_any p xs ≡ true
+any_at p [] k d lt h = absurd (omega arith)
+any_at p (x ∷ xs) zero d lt h = rw h refl
+any_at p (x ∷ xs) (suc k) d lt h = elim (p x) as (λ b. (b || list_any p xs) ≡ true) [ true ↦ refl | false ↦ any_at p xs k d (omega arith) h ]

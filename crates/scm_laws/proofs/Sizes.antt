@@ -64,7 +64,7 @@ are_short config e =
     }
 
 pub all_short : (f : Flat) → Sound f → All (λ (row : Service). AreShort row.config) f.services
-all_short f s = All-weaker (λ (row : Service). check_new row.config None ≡ 0) (λ (row : Service). AreShort row.config) (λ row e. are_short row.config e) f.services s.configs
+all_short f s = All-weaker (λ (row : Service). check_new row.config None ≡ 0) (λ (row : Service). AreShort row.config) (λ row e. are_short row.config e) f.services s.services.configs
 
 whole : (row : Service) → check_new row.config None ≡ 0 → IsToldWhole row
 whole row e =
@@ -77,4 +77,4 @@ whole row e =
     record { config = omega arith; name = omega arith; display = omega arith }
 
 pub told_whole : (f : Flat) → Sound f → All IsToldWhole f.services
-told_whole f s = All-weaker (λ (row : Service). check_new row.config None ≡ 0) IsToldWhole whole f.services s.configs
+told_whole f s = All-weaker (λ (row : Service). check_new row.config None ≡ 0) IsToldWhole whole f.services s.services.configs

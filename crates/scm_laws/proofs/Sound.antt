@@ -1,304 +1,262 @@
 -- What is true of every state, before and after services leave, and that each change keeps it.
-use Rattle.std.proofs.Common.{ℕ, ◌≡◌, ◌∙◌, ◌+◌, ◌<◌, ◌≤◌, ◌==◌, Bool, true, false, not, IsTrue, List, [], ◌∷◌, ◌++◌, None, filter, find, map, get_or, ap, sym, refl, subst, arith, eqb-true}
-use Rattle.std.specs.Prelude.{All, AllPairs, is_some}
-use Rattle.std.proofs.lemmas.List.Elements.{All-filter, All-push, All-map, filter_passes, All-nil}
-use Rattle.std.proofs.lemmas.List.Kept.{AllPairs-filter}
-use Rattle.std.proofs.lemmas.List.Quantifiers.{all_pairs_push}
+use Rattle.std.proofs.Common.{ℕ, ◌≡◌, ◌<◌, ◌≤◌, ◌==◌, true, false, not, List, [], ◌∷◌, Option, None, ap, refl, subst, arith, eqb}
+use Rattle.std.specs.Prelude.{All, is_some}
+use Rattle.std.proofs.lemmas.List.Elements.{All-filter, All-map, All-push, All-weaker, All-from_recursion}
+use Rattle.std.specs.List.{AllByRecursion, IsDistinct}
 use Rattle.scm_text.specs.Fold.{same_text}
-use Rattle.scm_model.specs.declared.flat.Caller.{Caller}
 use Rattle.scm_model.specs.declared.flat.Config.{Config}
 use Rattle.scm_model.specs.declared.flat.Due.{Due}
 use Rattle.scm_model.specs.declared.flat.Flat.{Flat}
 use Rattle.scm_model.specs.declared.flat.HandleKind.{HandleKind}
+use Rattle.scm_model.specs.declared.flat.HandleKind.TheVariants as kinds
 use Rattle.scm_model.specs.declared.flat.HandleRow.{HandleRow}
 use Rattle.scm_model.specs.declared.flat.Limits.{Limits}
+use Rattle.scm_model.specs.declared.flat.LockRow.{LockRow}
 use Rattle.scm_model.specs.declared.flat.Plan.{Plan}
 use Rattle.scm_model.specs.declared.flat.Principal.{Principal}
-use Rattle.scm_model.specs.declared.flat.Process.{Process}
 use Rattle.scm_model.specs.declared.flat.Registration.{Registration}
 use Rattle.scm_model.specs.declared.flat.Service.{Service}
 use Rattle.scm_model.specs.declared.flat.Status.{Status}
-use Rattle.scm_model.specs.Rows.{is_caller, principal_in, principal_of}
-use Rattle.scm_model.specs.Changes.{leaves, marked_if, purged, with_caller, with_handle, with_mark, with_moment, with_service, without_caller, without_handle}
+use Rattle.scm_model.specs.Rows.{is_caller, is_lock, principal_of}
+use Rattle.scm_model.specs.Changes.{leaves, marked_if, purged, with_caller, with_handle, with_mark, with_moment, with_service, without_handle}
+use Rattle.database_lock.specs.Locking.{unlocked}
+use Rattle.dependency_index.proofs.Lists.{or_right}
 use Rattle.service_record.specs.Checks.{check_new}
+use Rattle.start_plan.specs.Decided.{aims_at, is_callers, is_numbered}
+use Rattle.start_plan.specs.Settle.{settled, stays}
+use Rattle.start_plan.specs.Started.{TriedOnce}
+use Rattle.scm_rules.specs.Launches.{launch_failed, launch_taken, launched, service_of_process}
+use Rattle.scm_rules.specs.Locks.{lock_done, unlock_done}
 use Rattle.scm_rules.specs.Opening.{empty_at}
-use Rattle.scm_rules.specs.Steps.{gone}
-use Rattle.scm_rules.specs.Valid.{AreNumbered, IsValid}
-use Rattle.scm_laws.specs.Handles.{AreRights, HasRights}
-use Rattle.scm_laws.proofs.Lists.{find_more, find_filter, pairs_map, filter_twice}
+use Rattle.scm_rules.specs.Start.{ended, is_due, new_plan, ticked, with_plan}
+use Rattle.scm_rules.specs.Steps.{gone, is_wanted}
+use Rattle.scm_rules.specs.Valid.{AreNumbered, HasDeadline, HasListed, HasPlainMask, IsValid}
+use Rattle.scm_laws.specs.Handles.{AreRights}
+use Rattle.scm_laws.proofs.Deadlines.{AreDeadlines, AreStill, no_deadlines, plan_more, plans_decided, plans_fewer, ticked as deadlines_ticked}
+use Rattle.scm_laws.proofs.Handled.{AreHandled, HasRightsIn, caller_joined, caller_left as handles_left, handle_given, handle_left, no_handles}
+use Rattle.scm_laws.proofs.Lists.{filter_twice}
+use Rattle.scm_laws.proofs.Locked.{Locked, one_holds, one_more}
+use Rattle.scm_laws.proofs.Needed.{HasNoCycle}
+use Rattle.scm_laws.proofs.Numbers.{numbered_empty, numbered_filter, numbered_none, numbered_push}
+use Rattle.scm_laws.proofs.Plans.{AreBelow, ArePlans, IsKnown, IsPlan, all_weaker, caller_left as plans_left, caller_more, decided, fewer, more, no_plans, numbered, service_more, ticked as plans_ticked}
+use Rattle.scm_laws.proofs.Processes.{AreProcesses, beside, failed, first_taken, no_processes, one_launched, starts_kept, starts_more, starts_stay}
+use Rattle.scm_laws.proofs.Rows.{AreServices, added as row_added, cleared as rows_cleared, fallen, marked as rows_marked, no_services}
+
+-- rows that become due have numbers
+pub record AreDues (next : ℕ) (rows : List Due) : Type 0 where
+  pub numbered : AreNumbered (λ (row : Due). row.number) next rows
+  pub first : 1 ≤ next
 
 pub record Sound (f : Flat) : Type 0 where
-  pub services : AreNumbered (λ (row : Service). row.number) f.next.service f.services
-  pub handles : AreNumbered (λ (row : HandleRow). row.number) f.next.handle f.handles
-  pub callers : AreNumbered (λ (row : Caller). row.number) f.next.caller f.callers
-  pub first_service : 1 ≤ f.next.service
-  pub first_handle : 1 ≤ f.next.handle
-  pub first_caller : 1 ≤ f.next.caller
-  pub names : AllPairs (λ (a b : Service). same_text a.config.name b.config.name ≡ false) f.services
-  pub displays : AllPairs (λ (a b : Service). same_text a.config.display b.config.display ≡ false) f.services
-  pub configs : All (λ (row : Service). check_new row.config None ≡ 0) f.services
-  pub kinds : All (λ (row : Service). row.status.kind ≡ row.config.kind) f.services
-  pub stopped : All (λ (row : Service). (row.status.state == 1) ≡ (row.process == 0)) f.services
-  pub held : All (λ (row : HandleRow). IsTrue (is_caller f row.caller)) f.handles
-  pub rights : All (HasRights f) f.handles
-  pub processes : f.processes ≡ []
-  pub plans : f.plans ≡ []
+  pub services : AreServices f.next.service f.next.process f.services
+  pub handles : AreHandled f.next.caller f.callers f.next.handle f.handles f.lock
+  pub processes : AreProcesses f.next.process f.processes f.wanted f.services
+  pub plans : ArePlans f.next.plan f.next.service f.callers f.plans
+  pub dues : AreDues f.next.due f.dues
+  pub deadlines : AreDeadlines f.next.plan f.plans f.dues
   pub registrations : f.registrations ≡ []
-  pub dues : f.dues ≡ []
-  pub lock : f.lock ≡ None
-
--- ## Numbers
-
-numbered_none : {A : Type 0} (number : A → ℕ) (next : ℕ) → AreNumbered number next []
-numbered_none number next = record { positive = All-nil (λ r. 1 ≤ number r); below = All-nil (λ r. number r < next); rising = λ i j d lt within. absurd (omega arith) }
-
-numbered_empty : {A : Type 0} (number : A → ℕ) (next : ℕ) (rows : List A) → rows ≡ [] → AreNumbered number next rows
-numbered_empty number next rows e = subst (λ rs. AreNumbered number next rs) (sym e) (numbered_none number next)
-
-numbered_push : {A : Type 0} (number : A → ℕ) (next : ℕ) (rows : List A) (row : A) → AreNumbered number next rows → 1 ≤ next → number row ≡ next → AreNumbered number (next + 1) (rows ++ row ∷ [])
-numbered_push number next rows row old first new = record {
-  positive = All-push (λ r. 1 ≤ number r) rows row old.positive (omega arith);
-  below = All-push (λ r. number r < next + 1) rows row (λ k d lt. let b = old.below k d lt in omega arith) (omega arith);
-  rising = all_pairs_push (λ a b. number a < number b) rows row old.rising (λ k d lt. let b = old.below k d lt in omega arith);
-}
-
-numbered_filter : {A : Type 0} (number : A → ℕ) (next : ℕ) (p : A → Bool) (rows : List A) → AreNumbered number next rows → AreNumbered number next (filter p rows)
-numbered_filter number next p rows old = record {
-  positive = All-filter p (λ r. 1 ≤ number r) rows old.positive;
-  below = All-filter p (λ r. number r < next) rows old.below;
-  rising = AllPairs-filter (λ a b. number a < number b) p rows old.rising;
-}
-
--- a map that changes no number
-pub numbered_map : (next : ℕ) (change : Service → Service) → ((row : Service) → (change row).number ≡ row.number) → (rows : List Service) → AreNumbered (λ (row : Service). row.number) next rows → AreNumbered (λ (row : Service). row.number) next (map change rows)
-numbered_map next change same rows old = record {
-  positive = All-map (λ (row : Service). 1 ≤ row.number) change rows (λ k d lt. subst (λ n. 1 ≤ n) (sym (same (get_or rows k d))) (old.positive k d lt));
-  below = All-map (λ (row : Service). row.number < next) change rows (λ k d lt. subst (λ n. n < next) (sym (same (get_or rows k d))) (old.below k d lt));
-  rising = pairs_map (λ row. Unit {0}) (λ (a b : Service). a.number < b.number) (λ (a b : Service). a.number < b.number) change
-      (λ a b p q lt. let x = same a in let y = same b in omega arith) rows (λ k d lt. tt) old.rising;
-}
 
 -- ## Changes
 
 pub begun : (moment : ℕ) → Sound (empty_at moment)
 begun moment = record {
-  services = numbered_none (λ (row : Service). row.number) 1;
-  handles = numbered_none (λ (row : HandleRow). row.number) 1;
-  callers = numbered_none (λ (row : Caller). row.number) 1;
-  first_service = omega arith;
-  first_handle = omega arith;
-  first_caller = omega arith;
-  names = λ i j d lt within. absurd (omega arith);
-  displays = λ i j d lt within. absurd (omega arith);
-  configs = All-nil (λ (row : Service). check_new row.config None ≡ 0);
-  kinds = All-nil (λ (row : Service). row.status.kind ≡ row.config.kind);
-  stopped = All-nil (λ (row : Service). (row.status.state == 1) ≡ (row.process == 0));
-  held = All-nil (λ (row : HandleRow). IsTrue (is_caller (empty_at moment) row.caller));
-  rights = All-nil (HasRights (empty_at moment));
-  processes = refl;
-  plans = refl;
+  services = no_services;
+  handles = no_handles;
+  processes = no_processes;
+  plans = no_plans;
+  dues = record { numbered = numbered_none (λ (row : Due). row.number) 1; first = omega arith };
+  deadlines = no_deadlines;
   registrations = refl;
-  dues = refl;
-  lock = refl;
 }
 
 pub moved : (f : Flat) (moment : ℕ) → Sound f → Sound (with_moment f moment)
-moved f moment s = record {
-  services = s.services;
-  handles = s.handles;
-  callers = s.callers;
-  first_service = s.first_service;
-  first_handle = s.first_handle;
-  first_caller = s.first_caller;
-  names = s.names;
-  displays = s.displays;
-  configs = s.configs;
-  kinds = s.kinds;
-  stopped = s.stopped;
-  held = s.held;
-  rights = s.rights;
-  processes = s.processes;
-  plans = s.plans;
-  registrations = s.registrations;
-  dues = s.dues;
-  lock = s.lock;
-}
+moved f moment s = record { services = s.services; handles = s.handles; processes = s.processes; plans = s.plans; dues = s.dues; deadlines = s.deadlines; registrations = s.registrations }
 
--- a caller more is not found in place of another
-still_found : (f : Flat) (principal : Principal) (number : ℕ) → is_caller f number ≡ true → find (λ (row : Caller). row.number == number) (with_caller f principal).callers ≡ find (λ (row : Caller). row.number == number) f.callers
-still_found f principal number there = find_more (λ (row : Caller). row.number == number) f.callers (record { number = f.next.caller; principal = principal } ∷ []) there
+-- ## Callers and handles
 
 pub joined : (f : Flat) (principal : Principal) → Sound f → Sound (with_caller f principal)
 joined f principal s = record {
   services = s.services;
-  handles = s.handles;
-  callers = numbered_push (λ (row : Caller). row.number) f.next.caller f.callers _ s.callers s.first_caller refl;
-  first_service = s.first_service;
-  first_handle = s.first_handle;
-  first_caller = (let first = s.first_caller in omega arith);
-  names = s.names;
-  displays = s.displays;
-  configs = s.configs;
-  kinds = s.kinds;
-  stopped = s.stopped;
-  held = (λ k d lt. let there = s.held k d lt in ap is_some (still_found f principal _ there) ∙ there);
-  rights = (λ k d lt. subst (λ who. AreRights who (get_or f.handles k d).kind (get_or f.handles k d).granted) (sym (ap principal_in (still_found f principal _ (s.held k d lt)))) (s.rights k d lt));
+  handles = caller_joined f.next.caller f.callers f.next.handle f.handles f.lock principal s.handles;
   processes = s.processes;
-  plans = s.plans;
-  registrations = s.registrations;
+  plans = caller_more f.next.plan f.next.service f.callers (record { number = f.next.caller; principal = principal }) f.plans s.plans;
   dues = s.dues;
-  lock = s.lock;
+  deadlines = s.deadlines;
+  registrations = s.registrations;
 }
-
--- another caller is found once one is gone
-found_still : (f : Flat) (caller number : ℕ) → not (number == caller) ≡ true → find (λ (row : Caller). row.number == number) (without_caller f caller).callers ≡ find (λ (row : Caller). row.number == number) f.callers
-found_still f caller number other =
-    find_filter (λ (row : Caller). row.number == number) (λ (row : Caller). not (row.number == caller))
-    (λ row same. subst (λ n. not (n == caller) ≡ true) (sym (eqb-true row.number number same)) other) f.callers
 
 pub left : (f : Flat) (caller : ℕ) → Sound f → Sound (gone f caller)
-left f caller s =
-    let p = λ (row : HandleRow). not (row.caller == caller) in
-    record {
-      services = s.services;
-      handles = numbered_filter (λ (row : HandleRow). row.number) f.next.handle p f.handles s.handles;
-      callers = numbered_filter (λ (row : Caller). row.number) f.next.caller (λ (row : Caller). not (row.number == caller)) f.callers s.callers;
-      first_service = s.first_service;
-      first_handle = s.first_handle;
-      first_caller = s.first_caller;
-      names = s.names;
-      displays = s.displays;
-      configs = s.configs;
-      kinds = s.kinds;
-      stopped = s.stopped;
-      held = (λ k d lt. ap is_some (found_still f caller _ (filter_passes p f.handles k d lt)) ∙ All-filter p (λ (row : HandleRow). IsTrue (is_caller f row.caller)) f.handles s.held k d lt);
-      rights = (λ k d lt. subst (λ who. AreRights who (get_or (filter p f.handles) k d).kind (get_or (filter p f.handles) k d).granted)
-          (sym (ap principal_in (found_still f caller _ (filter_passes p f.handles k d lt)))) (All-filter p (HasRights f) f.handles s.rights k d lt));
-      processes = s.processes;
-      plans = s.plans;
-      registrations = s.registrations;
-      dues = s.dues;
-      lock = s.lock;
-    }
-
-pub handed : (f : Flat) (caller : ℕ) (kind : HandleKind) (granted : ℕ) → Sound f → is_caller f caller ≡ true → AreRights (principal_of f caller) kind granted → Sound (with_handle f caller kind granted)
-handed f caller kind granted s there rights = record {
+left f caller s = record {
   services = s.services;
-  handles = numbered_push (λ (row : HandleRow). row.number) f.next.handle f.handles _ s.handles s.first_handle refl;
-  callers = s.callers;
-  first_service = s.first_service;
-  first_handle = (let first = s.first_handle in omega arith);
-  first_caller = s.first_caller;
-  names = s.names;
-  displays = s.displays;
-  configs = s.configs;
-  kinds = s.kinds;
-  stopped = s.stopped;
-  held = All-push (λ (row : HandleRow). IsTrue (is_caller f row.caller)) f.handles _ s.held there;
-  rights = All-push (HasRights f) f.handles _ s.rights rights;
+  handles = handles_left f.next.caller f.callers f.next.handle f.handles f.lock caller s.handles;
   processes = s.processes;
-  plans = s.plans;
-  registrations = s.registrations;
+  plans = plans_left f.next.plan f.next.service f.callers caller f.plans s.plans;
   dues = s.dues;
-  lock = s.lock;
+  deadlines = plans_fewer f.next.plan (λ (plan : Plan). not (is_callers caller plan)) f.plans f.dues s.deadlines;
+  registrations = s.registrations;
 }
 
-pub closed : (f : Flat) (number : ℕ) → Sound f → Sound (without_handle f number)
-closed f number s =
-    let p = λ (row : HandleRow). not (row.number == number) in
-    record {
-      services = s.services;
-      handles = numbered_filter (λ (row : HandleRow). row.number) f.next.handle p f.handles s.handles;
-      callers = s.callers;
-      first_service = s.first_service;
-      first_handle = s.first_handle;
-      first_caller = s.first_caller;
-      names = s.names;
-      displays = s.displays;
-      configs = s.configs;
-      kinds = s.kinds;
-      stopped = s.stopped;
-      held = All-filter p (λ (row : HandleRow). IsTrue (is_caller f row.caller)) f.handles s.held;
-      rights = All-filter p (HasRights f) f.handles s.rights;
-      processes = s.processes;
-      plans = s.plans;
-      registrations = s.registrations;
-      dues = s.dues;
-      lock = s.lock;
-    }
+-- a handle more, and who then holds the lock
+given : (f : Flat) (held : Option LockRow) (caller : ℕ) (kind : HandleKind) (granted : ℕ) → Sound f → is_caller f caller ≡ true → AreRights (principal_of f caller) kind granted
+    → Locked held (with_handle f caller kind granted).handles → Sound (with_handle (record f { lock = held }) caller kind granted)
+given f held caller kind granted s there rights lock = record {
+  services = s.services;
+  handles = handle_given f.next.caller f.callers f.next.handle f.handles f.lock held (record { number = f.next.handle; caller = caller; kind = kind; granted = granted }) s.handles refl there rights lock;
+  processes = s.processes;
+  plans = s.plans;
+  dues = s.dues;
+  deadlines = s.deadlines;
+  registrations = s.registrations;
+}
+
+pub handed : (f : Flat) (caller : ℕ) (kind : HandleKind) (granted : ℕ) → Sound f → is_caller f caller ≡ true → AreRights (principal_of f caller) kind granted → is_lock kind ≡ false
+    → Sound (with_handle f caller kind granted)
+handed f caller kind granted s there rights other = given f f.lock caller kind granted s there rights (one_more f.lock f.handles _ other s.handles.handles.below s.handles.lock)
+
+pub taken : (f : Flat) (caller : ℕ) → Sound f → is_caller f caller ≡ true → is_some f.lock ≡ false → Sound (lock_done f caller).1
+taken f caller s there free = given f _ caller kinds.Lock 0 s there refl (one_holds f.lock f.handles _ f.moment free refl s.handles.handles.below s.handles.lock)
+
+-- a handle leaves, and the lock is free if it held it
+pub given_back : (f : Flat) (number : ℕ) → Sound f → Sound (unlock_done f number).1
+given_back f number s = record {
+  services = s.services;
+  handles = handle_left f.next.caller f.callers f.next.handle f.handles f.lock number s.handles;
+  processes = s.processes;
+  plans = s.plans;
+  dues = s.dues;
+  deadlines = s.deadlines;
+  registrations = s.registrations;
+}
+
+pub closed : (f : Flat) (number : ℕ) → Sound f → unlocked f.lock number ≡ f.lock → Sound (without_handle f number)
+closed f number s same = subst (λ (held : Option LockRow). Sound (without_handle (record f { lock = held }) number)) same (given_back f number s)
+
+-- ## Services
 
 pub added : (f : Flat) (config : Config) (status : Status) → Sound f
     → All (λ (row : Service). same_text row.config.name config.name ≡ false) f.services
     → All (λ (row : Service). same_text row.config.display config.display ≡ false) f.services
-    → check_new config None ≡ 0 → status.kind ≡ config.kind → (status.state == 1) ≡ true → Sound (with_service f config status)
-added f config status s names displays checked kind state = record {
-  services = numbered_push (λ (row : Service). row.number) f.next.service f.services _ s.services s.first_service refl;
+    → check_new config None ≡ 0 → status.kind ≡ config.kind → (status.state == 1) ≡ true → HasNoCycle (with_service f config status).services → Sound (with_service f config status)
+added f config status s names displays checked kind state free = record {
+  services = row_added f.next.service f.next.process f.services _ s.services refl names displays checked kind state refl free;
   handles = s.handles;
-  callers = s.callers;
-  first_service = (let first = s.first_service in omega arith);
-  first_handle = s.first_handle;
-  first_caller = s.first_caller;
-  names = all_pairs_push (λ (a b : Service). same_text a.config.name b.config.name ≡ false) f.services _ s.names names;
-  displays = all_pairs_push (λ (a b : Service). same_text a.config.display b.config.display ≡ false) f.services _ s.displays displays;
-  configs = All-push (λ (row : Service). check_new row.config None ≡ 0) f.services _ s.configs checked;
-  kinds = All-push (λ (row : Service). row.status.kind ≡ row.config.kind) f.services _ s.kinds kind;
-  stopped = All-push (λ (row : Service). (row.status.state == 1) ≡ (row.process == 0)) f.services _ s.stopped state;
-  held = s.held;
-  rights = s.rights;
-  processes = s.processes;
-  plans = s.plans;
-  registrations = s.registrations;
+  processes = beside f.next.process f.processes f.wanted f.services _ s.processes (All-push (HasListed f.processes) f.services _ s.processes.listed refl)
+      (starts_more f.processes f.services _ s.processes.starting);
+  plans = service_more f.next.plan f.next.service f.callers f.plans s.plans;
   dues = s.dues;
-  lock = s.lock;
+  deadlines = s.deadlines;
+  registrations = s.registrations;
 }
 
 pub marked : (f : Flat) (number : ℕ) → Sound f → Sound (with_mark f number)
 marked f number s = record {
-  services = numbered_map f.next.service (marked_if number) (λ row. refl) f.services s.services;
+  services = rows_marked f.next.service f.next.process number f.services s.services;
   handles = s.handles;
-  callers = s.callers;
-  first_service = s.first_service;
-  first_handle = s.first_handle;
-  first_caller = s.first_caller;
-  names = pairs_map (λ row. Unit {0}) (λ (a b : Service). same_text a.config.name b.config.name ≡ false) (λ (a b : Service). same_text a.config.name b.config.name ≡ false) (marked_if number)
-      (λ a b p q h. h) f.services (λ k d lt. tt) s.names;
-  displays = pairs_map (λ row. Unit {0}) (λ (a b : Service). same_text a.config.display b.config.display ≡ false) (λ (a b : Service). same_text a.config.display b.config.display ≡ false) (marked_if number)
-      (λ a b p q h. h) f.services (λ k d lt. tt) s.displays;
-  configs = All-map (λ (row : Service). check_new row.config None ≡ 0) (marked_if number) f.services s.configs;
-  kinds = All-map (λ (row : Service). row.status.kind ≡ row.config.kind) (marked_if number) f.services s.kinds;
-  stopped = All-map (λ (row : Service). (row.status.state == 1) ≡ (row.process == 0)) (marked_if number) f.services s.stopped;
-  held = s.held;
-  rights = s.rights;
-  processes = s.processes;
+  processes = beside f.next.process f.processes f.wanted f.services _ s.processes (All-map (HasListed f.processes) (marked_if number) f.services s.processes.listed)
+      (starts_kept f.processes (marked_if number) f.services (λ process row is. is) s.processes.starting);
   plans = s.plans;
-  registrations = s.registrations;
   dues = s.dues;
-  lock = s.lock;
+  deadlines = s.deadlines;
+  registrations = s.registrations;
 }
 
 pub cleared : (f : Flat) → Sound f → Sound (purged f)
 cleared f s =
     let p = λ (row : Service). not (leaves f.handles row) in
     record {
-      services = numbered_filter (λ (row : Service). row.number) f.next.service p f.services s.services;
+      services = rows_cleared f.next.service f.next.process p f.services s.services;
       handles = s.handles;
-      callers = s.callers;
-      first_service = s.first_service;
-      first_handle = s.first_handle;
-      first_caller = s.first_caller;
-      names = AllPairs-filter (λ (a b : Service). same_text a.config.name b.config.name ≡ false) p f.services s.names;
-      displays = AllPairs-filter (λ (a b : Service). same_text a.config.display b.config.display ≡ false) p f.services s.displays;
-      configs = All-filter p (λ (row : Service). check_new row.config None ≡ 0) f.services s.configs;
-      kinds = All-filter p (λ (row : Service). row.status.kind ≡ row.config.kind) f.services s.kinds;
-      stopped = All-filter p (λ (row : Service). (row.status.state == 1) ≡ (row.process == 0)) f.services s.stopped;
-      held = s.held;
-      rights = s.rights;
-      processes = s.processes;
+      processes = beside f.next.process f.processes f.wanted f.services _ s.processes (All-filter p (HasListed f.processes) f.services s.processes.listed)
+          (starts_stay f.handles f.processes f.services s.processes.starting);
       plans = s.plans;
-      registrations = s.registrations;
       dues = s.dues;
-      lock = s.lock;
+      deadlines = s.deadlines;
+      registrations = s.registrations;
     }
+
+-- ## Plans
+
+none_tried : IsDistinct eqb []
+unfolding IsDistinct
+none_tried = tt
+
+pub planned : (f : Flat) (caller target : ℕ) (entries : List ℕ) (words : List (List ℕ)) → Sound f → is_caller f caller ≡ true → AreBelow f.next.service entries → Sound (with_plan f (new_plan f caller target entries words))
+planned f caller target entries words s there below = record {
+  services = s.services;
+  handles = s.handles;
+  processes = s.processes;
+  plans = more f.next.plan f.next.service f.callers f.plans (new_plan f caller target entries words) s.plans refl (record {
+    positive = s.plans.first;
+    below = omega arith;
+    known = or_right (caller == 0) (is_caller f caller) there;
+    once = none_tried;
+    within = below;
+  });
+  dues = record {
+    numbered = numbered_push (λ (row : Due). row.number) f.next.due f.dues _ s.dues.numbered s.dues.first refl;
+    first = (let first = s.dues.first in omega arith);
+  };
+  deadlines = plan_more f.next.plan f.plans f.dues _ _ refl refl
+      (all_weaker (IsPlan f.next.plan f.next.service f.callers) (λ (plan : Plan). plan.number < f.next.plan) (λ plan is. is.below) f.plans s.plans.each) s.deadlines;
+  registrations = s.registrations;
+}
+
+pub over : (f : Flat) (plan : ℕ) → Sound f → Sound (ended f plan)
+over f plan s = record {
+  services = s.services;
+  handles = s.handles;
+  processes = s.processes;
+  plans = fewer f.next.plan f.next.service f.callers (λ (row : Plan). not (is_numbered plan row)) f.plans s.plans;
+  dues = s.dues;
+  deadlines = plans_fewer f.next.plan (λ (row : Plan). not (is_numbered plan row)) f.plans f.dues s.deadlines;
+  registrations = s.registrations;
+}
+
+pub due : (f : Flat) → Sound f → Sound (ticked f)
+due f s = record {
+  services = s.services;
+  handles = s.handles;
+  processes = s.processes;
+  plans = plans_ticked f.next.plan f.next.service f.callers f.moment f.plans f.dues s.plans;
+  dues = record { numbered = numbered_filter (λ (row : Due). row.number) f.next.due (λ (due : Due). not (is_due f.moment due)) f.dues s.dues.numbered; first = s.dues.first };
+  deadlines = deadlines_ticked f.next.plan f.moment f.plans f.dues s.deadlines;
+  registrations = s.registrations;
+}
+
+-- ## Processes
+
+pub in_hand : (f : Flat) → is_wanted f.wanted ≡ true → Sound f → Sound (launch_taken f)
+in_hand f is s = record {
+  services = s.services;
+  handles = s.handles;
+  processes = first_taken f.next.process f.processes f.wanted f.services is s.processes;
+  plans = s.plans;
+  dues = s.dues;
+  deadlines = s.deadlines;
+  registrations = s.registrations;
+}
+
+pub running : (f : Flat) (number pid : ℕ) → Sound f → Sound (launched f number pid)
+running f number pid s = record {
+  services = s.services;
+  handles = s.handles;
+  processes = one_launched f.next.process number pid f.processes f.wanted f.services s.processes;
+  plans = decided f.next.plan f.next.service f.callers (aims_at (service_of_process f number)) 0 f.plans s.plans;
+  dues = s.dues;
+  deadlines = plans_decided f.next.plan (aims_at (service_of_process f number)) 0 f.plans f.dues s.deadlines;
+  registrations = s.registrations;
+}
+
+pub not_running : (f : Flat) (number code : ℕ) → Sound f → Sound (launch_failed f number code)
+not_running f number code s = record {
+  services = fallen f.next.service f.next.process number code f.services s.services;
+  handles = s.handles;
+  processes = failed f.next.process number code f.processes f.wanted f.services s.processes;
+  plans = decided f.next.plan f.next.service f.callers (aims_at (service_of_process f number)) code f.plans s.plans;
+  dues = s.dues;
+  deadlines = plans_decided f.next.plan (aims_at (service_of_process f number)) code f.plans f.dues s.deadlines;
+  registrations = s.registrations;
+}
 
 -- ## What it says
 
@@ -306,21 +264,44 @@ pub purged_twice : (f : Flat) → purged (purged f) ≡ purged f
 purged_twice f =
     ap (λ (services : List Service). record f { services = services }) (filter_twice (λ (row : Service). not (leaves f.handles row)) f.services)
 
--- a sound state that nobody is to leave is valid
-pub is_valid : (l : Limits) (f : Flat) → Sound f → purged f ≡ f → IsValid l f
-is_valid l f s p = record {
-  services = s.services;
-  handles = s.handles;
-  processes = numbered_empty (λ (row : Process). row.number) f.next.process f.processes s.processes;
-  plans = numbered_empty (λ (row : Plan). row.number) f.next.plan f.plans s.plans;
+pub tried_once : (f : Flat) (plans : List Plan) → AllByRecursion (IsPlan f.next.plan f.next.service f.callers) plans → TriedOnce plans
+tried_once f [] each = tt
+tried_once f (plan ∷ plans) each = (each.0.once, tried_once f plans each.1)
+
+plain : (principal : Principal) (kind : HandleKind) (granted : ℕ) → AreRights principal kind granted → HasPlainMask kind granted
+plain principal kinds.Lock granted none = none
+plain principal (kinds.Notify number) granted none = none
+plain principal kind granted rights = tt
+
+-- a sound state that nobody is to leave, neither a service nor a plan nor a deadline, and that is settled, is valid
+pub is_valid : (l : Limits) (f : Flat) → Sound f → purged f ≡ f → AreStill f.plans f.dues → All (λ (plan : Plan). stays plan ≡ true) f.plans → settled l f ≡ f → IsValid l f
+is_valid l f s p still stay rest = record {
+  services = s.services.numbered;
+  handles = s.handles.handles;
+  processes = s.processes.numbered;
+  plans = numbered f.next.plan f.next.service f.callers f.plans s.plans;
   registrations = numbered_empty (λ (row : Registration). row.number) f.next.registration f.registrations s.registrations;
-  dues = numbered_empty (λ (row : Due). row.number) f.next.due f.dues s.dues;
-  callers = s.callers;
-  names = s.names;
-  displays = s.displays;
-  configs = s.configs;
-  kinds = s.kinds;
-  stopped = s.stopped;
-  held = s.held;
+  dues = s.dues.numbered;
+  callers = s.handles.callers;
+  names = s.services.names;
+  displays = s.services.displays;
+  configs = s.services.configs;
+  kinds = s.services.kinds;
+  stopped = s.services.stopped;
+  current = s.processes.listed;
+  wanted = s.processes.wanted;
+  starting = s.processes.starting;
+  acyclic = s.services.acyclic;
+  tried = tried_once f f.plans s.plans.each;
+  known = All-weaker (IsPlan f.next.plan f.next.service f.callers) (IsKnown f.callers) (λ plan is. is.known) f.plans
+      (All-from_recursion (IsPlan f.next.plan f.next.service f.callers) f.plans s.plans.each);
+  deadlines = All-from_recursion (HasDeadline f.dues) f.plans s.deadlines.each;
+  due_still = still;
+  decided = stay;
+  held = s.handles.held;
+  locks = s.handles.lock.locks;
+  holder = s.handles.lock.holder;
+  masks = All-weaker (HasRightsIn f.callers) (λ (row : HandleRow). HasPlainMask row.kind row.granted) (λ row rights. plain _ row.kind row.granted rights) f.handles s.handles.rights;
+  settled = rest;
   purged = p;
 }

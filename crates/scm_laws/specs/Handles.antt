@@ -1,16 +1,18 @@
 -- What is always true of handles.
-use Rattle.std.specs.Prelude.{ℕ, ◌≡◌, ◌≢◌, ◌≤◌, ◌⊎◌, true, false, All, Contains, None}
+use Rattle.std.specs.Prelude.{ℕ, ◌≡◌, ◌≢◌, ◌≤◌, ◌⊎◌, true, false, not, ◌==◌, ◌&&◌, IsTrue, IfSome, All, Contains}
+use Rattle.std.specs.List.{list_any}
 use Rattle.scm_model.specs.declared.flat.Flat.{Flat}
 use Rattle.scm_model.specs.declared.flat.Limits.{Limits}
 use Rattle.scm_model.specs.declared.flat.HandleRow.{HandleRow}
 use Rattle.scm_model.specs.declared.flat.HandleKind.{HandleKind}
 use Rattle.scm_model.specs.declared.flat.HandleKind.TheVariants as kinds
+use Rattle.scm_model.specs.declared.flat.LockRow.{LockRow}
 use Rattle.scm_model.specs.declared.flat.Plan.{Plan}
 use Rattle.scm_model.specs.declared.flat.Principal.{Principal}
 use Rattle.scm_model.specs.declared.flat.Registration.{Registration}
 use Rattle.scm_model.specs.declared.steps.Answer.{Answer}
 use Rattle.scm_model.specs.declared.steps.Step.{Step}
-use Rattle.scm_model.specs.declared.steps.Step.TheVariants.{Joined, Call, Gone, NoMemory}
+use Rattle.scm_model.specs.declared.steps.Step.TheVariants.{Gone}
 use Rattle.scm_model.specs.Rows.{principal_of}
 use Rattle.access_mask.specs.Granted.{has, rights_of}
 use Rattle.scm_rules.specs.Runs.{Entry}
@@ -30,19 +32,21 @@ HasRights f row = AreRights (principal_of f row.caller) row.kind row.granted
 abbrev pub StoodOrIsNew : Flat → HandleRow → Type 0
 StoodOrIsNew before row = Contains before.handles row ⊎ (before.next.handle ≤ row.number)
 
--- nothing is the caller's, and nothing is locked
+-- the lock is held by a handle that is there, of another caller
+abbrev pub IsHeldByAnother : ℕ → Flat → LockRow → Type 0
+IsHeldByAnother caller f held = IsTrue (list_any (λ (row : HandleRow). row.number == held.handle && not (row.caller == caller)) f.handles)
+
+-- nothing is the caller's, and where the lock is held, it is another's
 pub record HoldsNothing (caller : ℕ) (f : Flat) : Type 0 where
   pub handles : All (λ (row : HandleRow). row.caller ≢ caller) f.handles
   pub registrations : All (λ (row : Registration). row.caller ≢ caller) f.registrations
   pub plans : All (λ (row : Plan). row.caller ≢ caller) f.plans
-  pub lock : f.lock ≡ None
+  pub lock : IfSome f.lock (IsHeldByAnother caller f)
 
 -- once a caller is gone it has nothing
 abbrev pub LeavesNothing : Step → Flat → Type 0
-LeavesNothing (Joined principal) after = Unit {0}
-LeavesNothing (Call caller asked append) after = Unit {0}
 LeavesNothing (Gone caller) after = HoldsNothing caller after
-LeavesNothing (NoMemory caller) after = Unit {0}
+LeavesNothing step after = Unit {0}
 
 -- each number is given once, and none is given again; each mask lies in the rights of its caller's principal; who is gone has nothing
 pub record LawOfHandles (l : Limits) (before : Flat) (e : Entry) (told : Answer) (after : Flat) : Type 0 where

@@ -1,5 +1,5 @@
 -- Who leaves in a step, and nobody else.
-use Rattle.std.specs.Prelude.{ℕ, Bool, ◌≡◌, false, not, ◌&&◌, ◌||◌, ◌==◌, ◌++◌, List, [], ◌∷◌, All, drop, filter, length, map, take, if◌then◌else◌}
+use Rattle.std.specs.Prelude.{ℕ, Bool, ◌≡◌, true, false, not, ◌&&◌, ◌||◌, ◌==◌, ◌++◌, List, [], ◌∷◌, All, drop, filter, length, map, take, if◌then◌else◌}
 use Rattle.std.specs.List.{AllZip}
 use Rattle.scm_model.specs.declared.flat.Flat.{Flat}
 use Rattle.scm_model.specs.declared.flat.Limits.{Limits}
@@ -14,12 +14,12 @@ use Rattle.scm_model.specs.declared.steps.Step.TheVariants.{Call}
 use Rattle.scm_model.specs.Rows.{opened}
 use Rattle.scm_model.specs.Changes.{leaves}
 use Rattle.scm_rules.specs.Query.{service_in}
-use Rattle.scm_rules.specs.Steps.{at_moment, effect_of, settled}
+use Rattle.scm_rules.specs.Steps.{finished_step}
 use Rattle.scm_rules.specs.Runs.{Entry}
 
--- the state after a step's effect and settling, before services leave
+-- the state that a step makes, before services leave
 abbrev pub before_leaving : Limits → Flat → Entry → Flat
-before_leaving l f e = settled l (effect_of l (at_moment f e.0 e.1) e.1).1
+before_leaving l f e = (finished_step l f e.0 e.1).1
 
 abbrev pub numbers : List Service → List ℕ
 numbers rows = map (λ (row : Service). row.number) rows
@@ -34,12 +34,15 @@ has_zero (reply.State status code) = code == 0
 has_zero (reply.Made tag handle code) = code == 0
 has_zero (reply.Tag tag code) = code == 0
 has_zero (reply.Shown config needed code) = code == 0
+has_zero (reply.LockState held owner seconds needed code) = code == 0
 has_zero (reply.Name name size code) = code == 0
 
 -- whether a call was not refused
 abbrev pub succeeds : Answer → Bool
 succeeds (answer.Caller caller) = false
 succeeds (answer.Reply told) = has_zero told
+succeeds (answer.Begun plan) = true
+succeeds (answer.Launch process) = false
 succeeds answer.Done = false
 
 -- the number of the service that a Create with code 0 adds
@@ -62,13 +65,15 @@ configures f (Call caller (request.Change change) append) told number = succeeds
 configures f step told number = false
 
 -- a service after a step is the one before it: only its Delete marks it, and only its Change gives it another configuration, with another
--- type in its status, under the same name
+-- type in its status, under the same name; as long as its current process is the same, so is its status but for the type
 pub record IsSameService (f : Flat) (step : Step) (told : Answer) (old new : Service) : Type 0 where
   pub row : new ≡ record old {
     config = new.config;
-    status = record old.status { kind = new.status.kind };
+    status = new.status;
+    process = new.process;
     marked = old.marked || marks f step told old.number;
   }
+  pub state : new.process ≡ old.process → new.status ≡ record old.status { kind = new.status.kind }
   pub config : configures f step told old.number ≡ false → (new.config ≡ old.config) × (new.status.kind ≡ old.status.kind)
   pub name : new.config.name ≡ old.config.name
 

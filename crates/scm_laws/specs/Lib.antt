@@ -1,3 +1,5 @@
 pub mod Leaving
 pub mod Handles
 pub mod Sizes
+pub mod Starts
+pub mod Plans

@@ -5,5 +5,5 @@ use Rattle.scm_laws.proofs.law_of_states.Goals as goal
 
 pub returns : goal.returns
 returns c =
-    is_valid_clear c.args.limits.now _ (at_end Clear c.args.limits.now (clear_keeps c.args.limits.now) c.args.opening.now c.args.steps.now
-    (subst Clear (sym c.requires.begins) (clear_begun c.args.opening.now.moment)) c.requires.legal)
+    is_valid_clear c.args.limits.now _ (at_end (Clear c.args.limits.now) c.args.limits.now (clear_keeps c.args.limits.now) c.args.opening.now c.args.steps.now
+    (subst (Clear c.args.limits.now) (sym c.requires.begins) (clear_begun c.args.limits.now c.args.opening.now.moment)) c.requires.legal)

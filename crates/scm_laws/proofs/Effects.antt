@@ -1,0 +1,74 @@
+-- What effects leave of numbers and plans, and what settling then makes of services.
+use Rattle.std.proofs.Common.{ℕ, ◌≡◌, Option, None, Some, IsTrue, refl, subst}
+use Rattle.scm_model.specs.declared.flat.Config.{Config}
+use Rattle.scm_model.specs.declared.flat.Flat.{Flat}
+use Rattle.scm_model.specs.declared.flat.Limits.{Limits}
+use Rattle.scm_model.specs.declared.calls.Request.{Request}
+use Rattle.scm_model.specs.declared.calls.Request.TheVariants as request
+use Rattle.scm_model.specs.declared.steps.Kept.{Kept}
+use Rattle.scm_model.specs.declared.steps.Step.{Step}
+use Rattle.scm_model.specs.declared.steps.Step.TheVariants.{Call}
+use Rattle.scm_model.specs.Rows.{is_caller}
+use Rattle.scm_model.specs.Changes.{with_moment}
+use Rattle.start_plan.specs.Settle.{settled}
+use Rattle.scm_rules.specs.Change.{asked_config, with_new_config}
+use Rattle.scm_rules.specs.Steps.{at_moment, effect_of, may}
+use Rattle.scm_rules.specs.Verdicts.{call_of, done_of, told_refused, verdict}
+use Rattle.scm_laws.proofs.Calls.{by_verdict, came, of_done, of_effect}
+use Rattle.scm_laws.proofs.Plans.{ArePlans}
+use Rattle.scm_laws.proofs.Settling.{AreSettled, all_grown}
+use Rattle.scm_laws.proofs.Sound.{Sound, moved}
+
+-- ## Numbers of processes
+
+process_configured : (f : Flat) (number : ℕ) (config : Option Config) → (with_new_config f number config).next.process ≡ f.next.process
+process_configured f number None = refl
+process_configured f number (Some config) = refl
+
+process_done : (f : Flat) (caller : ℕ) (asked : Request) → (done_of f caller asked).1.next.process ≡ f.next.process
+process_done f caller (request.Change change) = process_configured f _ (asked_config f caller change)
+process_done f caller asked = refl
+
+process_call : (l : Limits) (f : Flat) (caller : ℕ) (asked : Request) (append : Kept) → (call_of l f caller asked append).1.next.process ≡ f.next.process
+process_call l f caller asked append =
+    by_verdict (λ r. r.1.next.process ≡ f.next.process) (verdict l f caller asked append) (told_refused f caller asked (verdict l f caller asked append)) f (done_of f caller asked)
+    (λ e. process_done f caller asked) (λ e. refl)
+
+-- an effect gives no number of a process
+pub same_process : (l : Limits) (f : Flat) (moment : ℕ) (step : Step) → (effect_of l (at_moment f moment step) step).1.next.process ≡ f.next.process
+same_process l f moment (Call caller asked append) = process_call l (with_moment f moment) caller asked append
+same_process l f moment step = refl
+
+-- ## Entries of plans
+
+-- the entries of the plans are below the number that the next service had
+abbrev AreOld : ℕ → Flat → Type 0
+AreOld bound g = ArePlans g.next.plan bound g.callers g.plans
+
+old_configured : (f : Flat) (bound number : ℕ) (config : Option Config) → AreOld bound f → AreOld bound (with_new_config f number config)
+old_configured f bound number None old = old
+old_configured f bound number (Some config) old = old
+
+old_done : (l : Limits) (f : Flat) (caller : ℕ) (asked : Request) (append : Kept) → Sound f → IsTrue (is_caller f caller) → verdict l f caller asked append ≡ 0 → AreOld f.next.service (done_of f caller asked).1
+old_done l f caller (request.Start handle words) append s there e = (of_done l f caller (request.Start handle words) append s there e).plans
+old_done l f caller (request.Change change) append s there e = old_configured f f.next.service _ (asked_config f caller change) s.plans
+old_done l f caller asked append s there e = s.plans
+
+old_call : (l : Limits) (f : Flat) (caller : ℕ) (asked : Request) (append : Kept) → Sound f → IsTrue (is_caller f caller) → AreOld f.next.service (call_of l f caller asked append).1
+old_call l f caller asked append s there =
+    by_verdict (λ r. AreOld f.next.service r.1) (verdict l f caller asked append) (told_refused f caller asked (verdict l f caller asked append)) f (done_of f caller asked)
+    (old_done l f caller asked append s there) (λ e. s.plans)
+
+pub old_plans : (l : Limits) (f : Flat) (moment : ℕ) (step : Step) → Sound f → IsTrue (may l f moment step) → AreOld f.next.service (effect_of l (at_moment f moment step) step).1
+old_plans l f moment (Call caller asked append) s ok = old_call l (with_moment f moment) caller asked append (moved f moment s) (came _ _ ok)
+old_plans l f moment step s ok = (of_effect l f moment step s ok).plans
+
+-- ## Services
+
+-- settling enters services that stood before the step, with new processes
+pub step_settled : (l : Limits) (f : Flat) (moment : ℕ) (step : Step) → Sound f → IsTrue (may l f moment step)
+    → AreSettled f.next.process f.next.service (effect_of l (at_moment f moment step) step).1.services (settled l (effect_of l (at_moment f moment step) step).1).services
+step_settled l f moment step s ok =
+    let g = (effect_of l (at_moment f moment step) step).1 in
+    subst (λ n. AreSettled n f.next.service g.services (settled l g).services) (same_process l f moment step)
+    (all_grown l g f.next.service (of_effect l f moment step s ok) (old_plans l f moment step s ok)).flat.rows
