@@ -1,2 +1,6 @@
 pub mod Greatest
 pub mod Rising
+pub mod Keeping
+pub mod Listing
+pub mod Wording
+pub mod NeedRows

@@ -1,2 +1,5 @@
 pub mod Tabled
+pub mod Listed
+pub mod Lines
+pub mod Inside
 pub mod Tags

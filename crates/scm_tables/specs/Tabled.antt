@@ -1,6 +1,7 @@
 -- The manager's lists, and for how many rows more there is room in them.
 use Rattle.std.specs.Prelude.{ℕ, ◌<◌, List, All, AllPairs}
 use Rattle.scm_model.specs.declared.flat.Flat.{Flat}
+use Rattle.scm_model.specs.declared.flat.Limits.{Limits}
 use Rattle.scm_model.specs.declared.flat.Service.{Service}
 
 -- for how many rows more there is memory
@@ -8,9 +9,13 @@ pub record Spare : Type 0 where
   pub services : ℕ
   pub handles : ℕ
   pub callers : ℕ
+  pub plans : ℕ
+  pub dues : ℕ
+  pub tried : ℕ  -- for how many services that the next plan will have tried
 
 pub record Tabled : Type 0 where
   pub flat : Flat
+  pub limits : Limits
   pub spare : Spare
 
 -- services stand in order of number, below the next one

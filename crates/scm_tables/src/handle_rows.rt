@@ -1,8 +1,8 @@
 ghost use Rattle.std.specs.Prelude.{◌≡◌, ◌==◌, ◌&&◌, not, find, filter, vec_capacity, length};
 ghost use Rattle.std.specs.List.{list_any};
-ghost use Rattle.scm_model.specs.Rows.{is_of};
+ghost use Rattle.scm_model.specs.Rows.{is_held_by, is_of, owner_at};
 
-use scm_model::{Caller, HandleKind, HandleRow};
+use scm_model::{Caller, HandleKind, HandleRow, LockRow};
 
 /// The row of a caller's handle.
 pub fn row_of(rows: &[HandleRow], caller: u64, number: u64) -> Option<HandleRow>
@@ -71,4 +71,36 @@ pub fn drop_caller_row(rows: &mut Vec<Caller>, number: u64)
     ensures capacity { vec_capacity rows.new ≡ vec_capacity rows.old }
 {
     rows.retain(|row| !(row.number == number));
+}
+
+/// Whether a handle of the caller holds the lock.
+pub fn is_held_by(rows: &[HandleRow], caller: u64, lock: Option<LockRow>) -> bool
+    ensures { result ≡ is_held_by rows.now caller lock }
+{
+    match lock {
+        Some(held) => row_of(rows, caller, held.handle).is_some(),
+        None => false,
+    }
+}
+
+/// The handle with a number, whoever has it.
+fn row_with(rows: &[HandleRow], number: u64) -> Option<HandleRow>
+    ensures { result ≡ find (λ row. row.number == number) rows.now }
+{
+    for row in rows {
+        if row.number == number {
+            return Some(*row);
+        }
+    }
+    None
+}
+
+/// The caller of the handle that holds the lock, or 0.
+pub fn owner_at(rows: &[HandleRow], held: LockRow) -> u64
+    ensures { result ≡ owner_at rows.now held }
+{
+    match row_with(rows, held.handle) {
+        Some(row) => row.caller,
+        None => 0,
+    }
 }

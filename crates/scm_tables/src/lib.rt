@@ -1,8 +1,13 @@
 //! The lists of the service manager: the one set of reads and writes through which its calls reach them.
 #![tactic(auto)]
 
+mod due_rows;
 mod handle_rows;
+mod indexing;
+mod planning;
+mod process_rows;
 mod service_rows;
+mod settling;
 mod tables;
 
 ghost use Rattle.std.specs.Prelude.{◌≡◌};

@@ -3,10 +3,13 @@ ghost use Rattle.std.specs.List.{list_any};
 ghost use Rattle.scm_text.specs.Fold.{same_text};
 ghost use Rattle.scm_model.specs.Changes.{configured_if, leaves, marked_if};
 ghost use Rattle.scm_rules.specs.Create.{greatest_tag};
+ghost use Rattle.scm_rules.specs.Launches.{fallen_if};
+ghost use Rattle.start_plan.specs.Entered.{started_if};
+ghost use Rattle.start_plan.specs.Ready.{is_running};
 ghost use Rattle.scm_tables.specs.Tags.{tag_in};
 
 use super::handle_rows::is_open_in;
-use scm_model::{Config, HandleRow, Service};
+use scm_model::{Config, HandleRow, Service, Status};
 use scm_text::{WText, same};
 
 /// The service with a number.
@@ -151,4 +154,66 @@ pub fn purge_in(rows: &mut Vec<Service>, handles: &[HandleRow])
     ensures capacity { vec_capacity rows.new ≡ vec_capacity rows.old }
 {
     rows.retain(|row| !leaves(handles, row));
+}
+
+/// Whether a group has a RUNNING member.
+pub fn has_running(rows: &[Service], group: &WText) -> bool
+    ensures { result ≡ list_any is_running (filter (λ row. same_text row.config.group group.now) rows.now) }
+{
+    rows.iter()
+        .filter(|row| same(&row.config.group, group))
+        .any(|row| row.status.state == 4)
+}
+
+/// A status with nothing but a type, a state and an exit code.
+fn bare_status(kind: u32, state: u32, win32: u32) -> Status
+    ensures { result ≡ record { kind = kind; state = state; accepted = 0; win32 = win32; specific = 0; checkpoint = 0; hint = 0 } }
+{
+    Status {
+        kind,
+        state,
+        accepted: 0,
+        win32,
+        specific: 0,
+        checkpoint: 0,
+        hint: 0,
+    }
+}
+
+/// The service with this number is started where it is STOPPED, by this process.
+fn start_row(row: &mut Service, number: u64, process: u64)
+    ensures { row.new ≡ started_if number process row.old }
+{
+    if row.number == number && row.status.state == 1 {
+        row.status = bare_status(row.status.kind, 2, 0);
+        row.process = process;
+    }
+}
+
+/// The service with this number is START_PENDING where it was STOPPED, by this process.
+pub fn start_in(rows: &mut Vec<Service>, number: u64, process: u64)
+    ensures { rows.new.items ≡ map (started_if number process) rows.old.items }
+{
+    for row in rows.iter_mut() {
+        start_row(row, number, process);
+    }
+}
+
+/// A service whose current process this is falls.
+fn fall_row(row: &mut Service, process: u64, code: u32)
+    ensures { row.new ≡ fallen_if process code row.old }
+{
+    if row.process == process {
+        row.status = bare_status(row.status.kind, 1, code);
+        row.process = 0;
+    }
+}
+
+/// The service falls whose current process this is.
+pub fn fall_in(rows: &mut Vec<Service>, process: u64, code: u32)
+    ensures { rows.new.items ≡ map (fallen_if process code) rows.old.items }
+{
+    for row in rows.iter_mut() {
+        fall_row(row, process, code);
+    }
 }

@@ -1,69 +1,58 @@
-ghost use Rattle.std.specs.Prelude.{◌≡◌, ◌+◌, ◌^◌, ◌<◌, ◌≤◌, ◌==◌, filter, OnOk, length, option_copied};
-ghost use Rattle.scm_model.specs.Changes.{with_handle, without_handle, without_handles_of, with_caller, without_caller, with_config, with_moment, with_service, with_mark, purged};
-ghost use Rattle.scm_model.specs.Rows.{caller_of, displayed, handle_of, held_by, is_caller, is_shown, is_shown_by_another, manager_mask, named, opened, principal_of, service_of};
+ghost use Rattle.std.specs.Prelude.{◌≡◌, ◌+◌, ◌^◌, ◌<◌, ◌≤◌, ◌==◌, filter, IfOk, OnOk, length, option_copied};
+ghost use Rattle.scm_model.specs.Changes.{with_handle, without_handle, without_handles_of, with_caller, without_caller, with_config, with_moment, with_service, with_mark, without_lock_of, purged};
+ghost use Rattle.scm_model.specs.Rows.{caller_of, displayed, handle_of, held_by, is_caller, is_shown, is_shown_by_another, manager_mask, named, opened, owner_at, principal_of, service_of};
 ghost use Rattle.scm_rules.specs.Create.{next_tag};
+ghost use Rattle.scm_rules.specs.Locks.{with_lock, without_lock};
 ghost use Rattle.scm_rules.specs.Opening.{empty_at};
 ghost use Rattle.scm_rules.specs.Query.{service_in};
 
-use super::handle_rows::{caller_in, count_of, drop_caller, drop_caller_row, drop_number, row_of};
+use super::handle_rows::{
+    caller_in, count_of, drop_caller, drop_caller_row, drop_number, is_held_by, owner_at, row_of,
+};
+use super::process_rows::ProcessRow;
 use super::service_rows::{
     configure_in, displayed_in, greatest_tag_in, is_shown_by_another_in, is_shown_in, mark_in,
     named_in, purge_in, row_with, running_in,
 };
+use database_lock::DatabaseLock;
 use scm_model::{
-    Caller, Config, Due, HandleKind, HandleRow, LockRow, Next, Opened, Plan, Principal, Process,
-    Registration, Service, Status, Wanted,
+    Caller, Config, Due, HandleKind, HandleRow, Limits, LockRow, Next, Opened, Principal,
+    Registration, Service, Status,
 };
 use scm_text::{Items, OutOfMemory, WText};
+use start_plan::Plans;
 use std::alloc::Global;
 use std::marker::Model;
 
-/// The manager's lists. Contracts see the flat state, and for how many rows more there is room.
+/// The manager's lists. Contracts see the flat state, the limits, and for how many rows more there is room.
 #[derive(Drop)]
 pub struct Tables {
-    services: Vec<Service>,
+    pub(crate) services: Vec<Service>,
     handles: Vec<HandleRow>,
-    processes: Items<Process>,
-    wanted: Items<Wanted>,
-    plans: Items<Plan>,
+    pub(crate) processes: Vec<ProcessRow>,
+    pub(crate) plans: Plans,
+    /// For what the next plan will have tried.
+    pub(crate) tried: Vec<u64>,
     registrations: Items<Registration>,
-    dues: Items<Due>,
+    pub(crate) dues: Vec<Due>,
     callers: Vec<Caller>,
-    lock: Option<LockRow>,
-    moment: u64,
-    next: Next,
+    pub(crate) lock: DatabaseLock,
+    pub(crate) moment: u64,
+    pub(crate) next: Next,
     reboots: u64,
+    pub(crate) limits: Limits,
+    pub(crate) alloc: Global,
 }
 
 impl Model for Tables {
-    ghost use Rattle.std.specs.Prelude.{◌-◌, vec_capacity, vec_len};
-    ghost use Rattle.scm_tables.specs.Tabled.{AreRising, Tabled};
+    ghost use Rattle.scm_tables.specs.Inside.{IsKept, tabled};
+    ghost use Rattle.scm_tables.specs.Tabled.{Tabled};
 
     ghost Value = { Tabled };
 
-    ghost view = { λ t. record {
-      flat = record {
-        services = t.services.items;
-        handles = t.handles.items;
-        processes = t.processes;
-        wanted = t.wanted;
-        plans = t.plans;
-        registrations = t.registrations;
-        dues = t.dues;
-        callers = t.callers.items;
-        lock = t.lock;
-        moment = t.moment;
-        next = t.next;
-        reboots = t.reboots;
-      };
-      spare = record {
-        services = vec_capacity t.services - vec_len t.services;
-        handles = vec_capacity t.handles - vec_len t.handles;
-        callers = vec_capacity t.callers - vec_len t.callers;
-      };
-    } };
+    ghost view = { tabled };
 
-    ghost invariant = { λ t. AreRising t.next.service t.services.items };
+    ghost invariant = { IsKept };
 }
 
 /// The numbers that are given first.
@@ -78,24 +67,37 @@ const FIRST: Next = Next {
 };
 
 impl Tables {
-    /// Empty lists, which take no memory.
-    pub fn new(alloc: Global, moment: u64) -> Self
-        ensures { result.flat ≡ empty_at moment }
+    /// Empty lists, with room for as many processes as may be listed.
+    pub fn new(alloc: Global, limits: Limits, moment: u64) -> Result<Self, OutOfMemory>
+        ensures flat { IfOk result (λ tables. tables.flat ≡ empty_at moment) }
+        ensures limits { IfOk result (λ tables. tables.limits ≡ limits) }
     {
-        Tables {
+        let Ok(processes) = Vec::with_capacity(alloc, limits.processes as usize) else {
+            return Err(OutOfMemory);
+        };
+        Ok(Tables {
             services: Vec::new(alloc),
             handles: Vec::new(alloc),
-            processes: Items::new(alloc),
-            wanted: Items::new(alloc),
-            plans: Items::new(alloc),
+            processes,
+            plans: Plans::none(alloc),
+            tried: Vec::new(alloc),
             registrations: Items::new(alloc),
-            dues: Items::new(alloc),
+            dues: Vec::new(alloc),
             callers: Vec::new(alloc),
-            lock: None,
+            lock: DatabaseLock::new(),
             moment,
             next: FIRST,
             reboots: 0,
-        }
+            limits,
+            alloc,
+        })
+    }
+
+    /// How much may stand at once.
+    pub fn limits(&self) -> Limits
+        ensures { result ≡ self.now.limits }
+    {
+        self.limits
     }
 
     /// The handle of a caller.
@@ -156,6 +158,7 @@ impl Tables {
         ensures flat { self.new.flat ≡ self.old.flat }
         ensures room { OnOk result (1 ≤ self.new.spare.handles) }
         ensures others { self.new.spare.services ≡ self.old.spare.services }
+        ensures limits { self.new.limits ≡ self.old.limits }
     {
         match self.handles.reserve(1) {
             Ok(()) => Ok(()),
@@ -169,6 +172,7 @@ impl Tables {
         requires next { self.old.flat.next.handle < 2 ^ 63 }
         ensures number { result ≡ self.old.flat.next.handle }
         ensures flat { self.new.flat ≡ with_handle self.old.flat caller kind granted }
+        ensures limits { self.new.limits ≡ self.old.limits }
     {
         let number = self.next.handle;
         self.handles.push_reserved(HandleRow {
@@ -183,16 +187,66 @@ impl Tables {
 
     /// Takes a handle away.
     pub fn remove_handle(&mut self, number: u64)
-        ensures { self.new.flat ≡ without_handle self.old.flat number }
+        ensures flat { self.new.flat ≡ without_handle self.old.flat number }
+        ensures limits { self.new.limits ≡ self.old.limits }
     {
         drop_number(&mut self.handles, number);
     }
 
     /// Takes all handles of a caller away.
     pub fn remove_handles_of(&mut self, caller: u64)
-        ensures { self.new.flat ≡ without_handles_of self.old.flat caller }
+        ensures flat { self.new.flat ≡ without_handles_of self.old.flat caller }
+        ensures limits { self.new.limits ≡ self.old.limits }
     {
         drop_caller(&mut self.handles, caller);
+    }
+
+    /// Who holds the lock of the database, and since when.
+    pub fn lock(&self) -> Option<LockRow>
+        ensures { result ≡ self.now.flat.lock }
+    {
+        self.lock.holder()
+    }
+
+    /// The caller of the handle that holds the lock, or 0.
+    pub fn owner_at(&self, held: LockRow) -> u64
+        ensures { result ≡ owner_at self.now.flat.handles held }
+    {
+        owner_at(self.handles.as_slice(), held)
+    }
+
+    /// A handle takes the lock at the present moment, if it is free.
+    pub fn take_lock(&mut self, handle: u64)
+        ensures flat { self.new.flat ≡ with_lock self.old.flat handle }
+        ensures spare { self.new.spare ≡ self.old.spare }
+        ensures limits { self.new.limits ≡ self.old.limits }
+    {
+        let _taken = self.lock.lock(handle, self.moment);
+    }
+
+    /// A handle gives the lock back, if it holds it.
+    pub fn free_lock(&mut self, handle: u64)
+        ensures flat { self.new.flat ≡ without_lock self.old.flat handle }
+        ensures limits { self.new.limits ≡ self.old.limits }
+    {
+        let _freed = self.lock.unlock(handle);
+    }
+
+    /// Frees the lock, if a handle of the caller holds it.
+    pub fn free_lock_of(&mut self, caller: u64)
+        ensures flat { self.new.flat ≡ without_lock_of self.old.flat caller }
+        ensures limits { self.new.limits ≡ self.old.limits }
+    {
+        if is_held_by(self.handles.as_slice(), caller, self.lock.holder()) {
+            self.lock = DatabaseLock::new();
+        }
+    }
+
+    /// The moment up to which the manager has come, in milliseconds.
+    pub fn moment(&self) -> u64
+        ensures { result ≡ self.now.flat.moment }
+    {
+        self.moment
     }
 
     /// The caller with a number.
@@ -230,6 +284,7 @@ impl Tables {
     pub fn reserve_caller(&mut self) -> Result<(), OutOfMemory>
         ensures flat { self.new.flat ≡ self.old.flat }
         ensures room { OnOk result (1 ≤ self.new.spare.callers) }
+        ensures limits { self.new.limits ≡ self.old.limits }
     {
         match self.callers.reserve(1) {
             Ok(()) => Ok(()),
@@ -243,6 +298,7 @@ impl Tables {
         requires next { self.old.flat.next.caller < 2 ^ 63 }
         ensures number { result ≡ self.old.flat.next.caller }
         ensures flat { self.new.flat ≡ with_caller self.old.flat principal }
+        ensures limits { self.new.limits ≡ self.old.limits }
     {
         let number = self.next.caller;
         self.callers.push_reserved(Caller { number, principal });
@@ -252,7 +308,8 @@ impl Tables {
 
     /// Takes a caller away.
     pub fn remove_caller(&mut self, number: u64)
-        ensures { self.new.flat ≡ without_caller self.old.flat number }
+        ensures flat { self.new.flat ≡ without_caller self.old.flat number }
+        ensures limits { self.new.limits ≡ self.old.limits }
     {
         drop_caller_row(&mut self.callers, number);
     }
@@ -261,6 +318,7 @@ impl Tables {
     pub fn move_to(&mut self, moment: u64)
         ensures flat { self.new.flat ≡ with_moment self.old.flat moment }
         ensures spare { self.new.spare ≡ self.old.spare }
+        ensures limits { self.new.limits ≡ self.old.limits }
     {
         if self.moment < moment {
             self.moment = moment;
@@ -272,6 +330,13 @@ impl Tables {
         ensures { result ≡ length self.now.flat.services }
     {
         self.services.len()
+    }
+
+    /// The services, in order of number.
+    pub fn rows(&self) -> &[Service]
+        ensures { result.now ≡ self.now.flat.services }
+    {
+        self.services.as_slice()
     }
 
     /// How many services are RUNNING.
@@ -329,6 +394,7 @@ impl Tables {
         ensures flat { self.new.flat ≡ self.old.flat }
         ensures room { OnOk result (1 ≤ self.new.spare.services) }
         ensures others { self.new.spare.handles ≡ self.old.spare.handles }
+        ensures limits { self.new.limits ≡ self.old.limits }
     {
         match self.services.reserve(1) {
             Ok(()) => Ok(()),
@@ -340,9 +406,11 @@ impl Tables {
     pub fn add_service(&mut self, config: Config, status: Status) -> u64
         requires room { 1 ≤ self.old.spare.services }
         requires next { self.old.flat.next.service < 2 ^ 63 }
+        requires path { length config.path ≤ 2048 }
         ensures number { result ≡ self.old.flat.next.service }
         ensures flat { self.new.flat ≡ with_service self.old.flat config status }
         ensures others { self.new.spare.handles ≡ self.old.spare.handles }
+        ensures limits { self.new.limits ≡ self.old.limits }
     {
         let number = self.next.service;
         self.services.push_reserved(Service {
@@ -360,21 +428,25 @@ impl Tables {
 
     /// Gives a service another configuration. It takes no memory.
     pub fn configure(&mut self, number: u64, config: Config)
-        ensures { self.new.flat ≡ with_config self.old.flat number config }
+        requires { length config.path ≤ 2048 }
+        ensures flat { self.new.flat ≡ with_config self.old.flat number config }
+        ensures limits { self.new.limits ≡ self.old.limits }
     {
         configure_in(&mut self.services, number, config);
     }
 
     /// Marks a service.
     pub fn mark(&mut self, number: u64)
-        ensures { self.new.flat ≡ with_mark self.old.flat number }
+        ensures flat { self.new.flat ≡ with_mark self.old.flat number }
+        ensures limits { self.new.limits ≡ self.old.limits }
     {
         mark_in(&mut self.services, number);
     }
 
     /// Lets each service go that is marked, STOPPED and named by no handle.
     pub fn purge(&mut self)
-        ensures { self.new.flat ≡ purged self.old.flat }
+        ensures flat { self.new.flat ≡ purged self.old.flat }
+        ensures limits { self.new.limits ≡ self.old.limits }
     {
         purge_in(&mut self.services, self.handles.as_slice());
     }

@@ -1,7 +1,16 @@
 use Rattle.std.proofs.Common.{refl}
 use Rattle.scm_model.specs.Changes.{marked_if}
+use Rattle.scm_tables.proofs.Keeping.{paths_map}
 use Rattle.scm_tables.proofs.Rising.{rising_map}
 use Rattle.scm_tables.proofs.tables.Tables.mark.Goals as goal
 
 pub invariant_of-self : goal.invariant_of-self
-invariant_of-self c = rw c.mark_in.ensures.rows (rising_map _ (marked_if c.args.number) (λ row. refl) _ c.self.invariant)
+invariant_of-self c =
+    let kept = c.self.invariant in
+    record {
+      rising = rw c.mark_in.ensures.rows (rising_map _ (marked_if c.args.number) (λ row. refl) _ kept.rising);
+      paths = rw c.mark_in.ensures.rows (paths_map (marked_if c.args.number) (λ row. refl) _ kept.paths);
+      room = kept.room;
+      plans = kept.plans;
+      untried = kept.untried;
+    }

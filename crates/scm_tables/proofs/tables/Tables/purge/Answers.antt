@@ -1,5 +1,15 @@
+use Rattle.std.proofs.lemmas.List.Elements.{All-filter}
+use Rattle.scm_tables.specs.Inside.{HasShortPath}
 use Rattle.scm_tables.proofs.Rising.{rising_filter}
 use Rattle.scm_tables.proofs.tables.Tables.purge.Goals as goal
 
 pub invariant_of-self : goal.invariant_of-self
-invariant_of-self c = rw c.purge_in.ensures.rows (rising_filter _ _ _ c.self.invariant)
+invariant_of-self c =
+    let kept = c.self.invariant in
+    record {
+      rising = rw c.purge_in.ensures.rows (rising_filter _ _ _ kept.rising);
+      paths = rw c.purge_in.ensures.rows (All-filter _ HasShortPath _ kept.paths);
+      room = kept.room;
+      plans = kept.plans;
+      untried = kept.untried;
+    }

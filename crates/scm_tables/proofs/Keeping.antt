@@ -1,0 +1,96 @@
+-- What the changes keep of paths and of the numbers of plans.
+use Rattle.std.proofs.Common.{ℕ, ◌≡◌, ◌≤◌, ◌+◌, ◌==◌, ◌&&◌, Bool, true, false, cond, List, [], ◌∷◌, ◌++◌, filter, map, get_or, length, sym, refl, subst, arith}
+use Rattle.std.specs.Prelude.{All}
+use Rattle.std.specs.List.{AllByRecursion}
+use Rattle.std.proofs.lemmas.List.Elements.{All-map}
+use Rattle.scm_model.specs.declared.flat.Config.{Config}
+use Rattle.scm_model.specs.declared.flat.Flat.{Flat}
+use Rattle.scm_model.specs.declared.flat.Limits.{Limits}
+use Rattle.scm_model.specs.declared.flat.Plan.{Plan}
+use Rattle.scm_model.specs.declared.flat.Service.{Service}
+use Rattle.scm_model.specs.Changes.{configured_if}
+use Rattle.scm_rules.specs.Launches.{fallen_if}
+use Rattle.start_plan.specs.Decided.{decided_if, decided_in}
+use Rattle.start_plan.specs.Entered.{started_if}
+use Rattle.start_plan.specs.Settle.{is_due_still, settle_all, settled, stays, with_plans}
+use Rattle.start_plan.proofs.Plain.{settles_beside}
+use Rattle.start_plan.proofs.Keeps.{all_filter, keeps_all}
+use Rattle.start_plan.proofs.Enterings.{all_units}
+use Rattle.scm_rules.specs.Start.{expired, fired, fired_by, is_due}
+use Rattle.scm_model.specs.declared.flat.Due.{Due}
+use Rattle.scm_model.specs.declared.flat.DueKind.{DueKind}
+use Rattle.scm_model.specs.declared.flat.DueKind.TheVariants as dues
+use Rattle.scm_tables.specs.Inside.{HasShortPath, IsBelow}
+
+-- ## Paths
+
+-- a change that keeps each path
+pub paths_map : (change : Service → Service) → ((row : Service) → (change row).config.path ≡ row.config.path) → (rows : List Service) → All HasShortPath rows → All HasShortPath (map change rows)
+paths_map change same rows old = All-map HasShortPath change rows (λ k d lt. subst (λ (path : List ℕ). length path ≤ 2048) (sym (same (get_or rows k d))) (old k d lt))
+
+pub started_path : (number process : ℕ) (row : Service) → (started_if number process row).config.path ≡ row.config.path
+started_path number process row =
+    elim (row.number == number && row.status.state == 1) as (λ b. (cond b (record row { status = record { kind = row.status.kind; state = 2; accepted = 0; win32 = 0; specific = 0; checkpoint = 0; hint = 0 }; process = process }) row).config.path ≡ row.config.path)
+    [ true ↦ refl | false ↦ refl ]
+
+pub fallen_path : (process code : ℕ) (row : Service) → (fallen_if process code row).config.path ≡ row.config.path
+fallen_path process code row =
+    elim (row.process == process) as (λ b. (cond b (record row { status = record { kind = row.status.kind; state = 1; accepted = 0; win32 = code; specific = 0; checkpoint = 0; hint = 0 }; process = 0 }) row).config.path ≡ row.config.path)
+    [ true ↦ refl | false ↦ refl ]
+
+pub started_number : (number process : ℕ) (row : Service) → (started_if number process row).number ≡ row.number
+started_number number process row =
+    elim (row.number == number && row.status.state == 1) as (λ b. (cond b (record row { status = record { kind = row.status.kind; state = 2; accepted = 0; win32 = 0; specific = 0; checkpoint = 0; hint = 0 }; process = process }) row).number ≡ row.number)
+    [ true ↦ refl | false ↦ refl ]
+
+pub fallen_number : (process code : ℕ) (row : Service) → (fallen_if process code row).number ≡ row.number
+fallen_number process code row =
+    elim (row.process == process) as (λ b. (cond b (record row { status = record { kind = row.status.kind; state = 1; accepted = 0; win32 = code; specific = 0; checkpoint = 0; hint = 0 }; process = 0 }) row).number ≡ row.number)
+    [ true ↦ refl | false ↦ refl ]
+
+-- another configuration has a short path too
+pub paths_configured : (number : ℕ) (config : Config) (rows : List Service) → length config.path ≤ 2048 → All HasShortPath rows → All HasShortPath (map (configured_if number config) rows)
+paths_configured number config rows short old =
+    All-map HasShortPath (configured_if number config) rows (λ k d lt.
+    elim ((get_or rows k d).number == number) as (λ b. length (cond b (record (get_or rows k d) { config = config; status = record (get_or rows k d).status { kind = config.kind } }) (get_or rows k d)).config.path ≤ 2048)
+    [ true ↦ short | false ↦ old k d lt ])
+
+-- ## Plans
+
+pub below_decided : (n : ℕ) (test : Plan → Bool) (code : ℕ) (plans : List Plan) → AllByRecursion (IsBelow n) plans → AllByRecursion (IsBelow n) (decided_in test code plans)
+below_decided n test code plans all = all_filter (IsBelow n) stays (map (decided_if test code) plans) (changed plans all)
+  where
+    changed : (ps : List Plan) → AllByRecursion (IsBelow n) ps → AllByRecursion (IsBelow n) (map (decided_if test code) ps)
+    changed [] a = tt
+    changed (p ∷ ps) a = (a.0, changed ps a.1)
+
+pub below_settled : (l : Limits) (f : Flat) (n : ℕ) (plans : List Plan) → AllByRecursion (IsBelow n) plans → AllByRecursion (IsBelow n) (filter stays (settle_all l f plans).1)
+below_settled l f n plans all =
+    all_filter (IsBelow n) stays (settle_all l f plans).1
+    (keeps_all l (λ g. Unit {0}) (IsBelow n) (record { enters = λ g plan s words entry p. tt; tries = λ g plan s entry q. q; drops = λ plan s rest code q. q }) f plans tt all).plans
+
+pub next_settled : (l : Limits) (f : Flat) (plans : List Plan) → (settle_all l f plans).0.next.plan ≡ f.next.plan
+next_settled l f plans =
+    (keeps_all l (λ g. g.next.plan ≡ f.next.plan) (λ plan. Unit {0}) (record { enters = λ g plan s words entry p. p; tries = λ g plan s entry q. tt; drops = λ plan s rest code q. tt }) f plans refl (all_units plans)).flat
+
+pub below_more : (n : ℕ) (plans : List Plan) (plan : Plan) → AllByRecursion (IsBelow n) plans → plan.number ≡ n → AllByRecursion (IsBelow (n + 1)) (plans ++ plan ∷ [])
+below_more n [] plan all e = (omega (arith, e), tt)
+below_more n (p ∷ ps) plan all e = (let lt = all.0 in omega arith, below_more n ps plan all.1 e)
+
+expired_below : (n : ℕ) (plans : List Plan) (kind : DueKind) → AllByRecursion (IsBelow n) plans → AllByRecursion (IsBelow n) (expired plans kind)
+expired_below n plans (dues.Deadline plan) all = below_decided n _ 1053 plans all
+expired_below n plans (dues.Start service) all = all
+expired_below n plans (dues.Command service) all = all
+expired_below n plans (dues.Reboot service) all = all
+
+pub below_fired : (n moment : ℕ) (plans : List Plan) (rows : List Due) → AllByRecursion (IsBelow n) plans → AllByRecursion (IsBelow n) (fired moment plans rows)
+below_fired n moment plans [] all = all
+below_fired n moment plans (due ∷ rows) all =
+    below_fired n moment (fired_by moment plans due) rows
+    (elim (is_due moment due) as (λ b. AllByRecursion (IsBelow n) (cond b (expired plans due.kind) plans)) [ true ↦ expired_below n plans due.kind all | false ↦ all ])
+
+-- plans that are settled beside the rest of the state, and the deadlines that are left
+pub settles : (l : Limits) (f g : Flat) (plans ended : List Plan) (rows : List Due) → ended ≡ filter stays (settle_all l f plans).1 → g ≡ (settle_all l f plans).0
+    → rows ≡ filter (λ (due : Due). is_due_still ended due.kind) g.dues → record g { plans = ended; dues = rows } ≡ settled l (with_plans f plans)
+settles l f g plans ended rows plans_are flat_is rows_are =
+    rw (rows_are, flat_is, plans_are) (sym (settles_beside l f plans))

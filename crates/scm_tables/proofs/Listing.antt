@@ -1,0 +1,66 @@
+-- Changes of the processes, in both lists of the flat state.
+use Rattle.std.proofs.Common.{ℕ, ◌≡◌, ◌==◌, true, false, not, cond, List, [], ◌∷◌, refl, sym, ap, subst, map, filter}
+use Rattle.scm_model.specs.declared.flat.Process.{Process}
+use Rattle.scm_model.specs.declared.flat.Wanted.{Wanted}
+use Rattle.scm_rules.specs.Launches.{taken_if, launched_if}
+use Rattle.scm_tables.specs.declared.process_rows.ProcessRow.{ProcessRow}
+use Rattle.scm_tables.specs.Listed.{processes_in, wanted_in, listed_as, process_of, is_wanted, wanted_of}
+
+pub processes_changed : (change : Process → Process) (rows : List ProcessRow) → processes_in (map (listed_as change) rows) ≡ map change (processes_in rows)
+processes_changed change [] = refl
+processes_changed change (row ∷ rows) = ap (λ x. change (process_of row) ∷ x) (processes_changed change rows)
+
+pub processes_kept : (number : ℕ) (rows : List ProcessRow) → processes_in (filter (λ (row : ProcessRow). not (row.number == number)) rows) ≡ filter (λ (row : Process). not (row.number == number)) (processes_in rows)
+processes_kept number [] = refl
+processes_kept number (row ∷ rows) =
+    elim (not (row.number == number)) as (λ b. processes_in (cond b (row ∷ filter (λ (row : ProcessRow). not (row.number == number)) rows) (filter (λ (row : ProcessRow). not (row.number == number)) rows))
+    ≡ cond b (process_of row ∷ filter (λ (row : Process). not (row.number == number)) (processes_in rows)) (filter (λ (row : Process). not (row.number == number)) (processes_in rows))) [
+      | true ↦ ap (λ x. process_of row ∷ x) (processes_kept number rows)
+      | false ↦ processes_kept number rows
+    ]
+
+-- the rows that are wanted, but for those of a process
+abbrev pub others : ℕ → List Wanted → List Wanted
+others number rows = filter (λ (row : Wanted). not (row.process == number)) rows
+
+pub wanted_kept : (number : ℕ) (rows : List ProcessRow) → wanted_in (filter (λ (row : ProcessRow). not (row.number == number)) rows) ≡ others number (wanted_in rows)
+wanted_kept number [] = refl
+wanted_kept number (row ∷ rows) =
+    elim (row.number == number) as (λ b. (row.number == number) ≡ b →
+    map wanted_of (filter is_wanted (cond (not b) (row ∷ filter (λ (row : ProcessRow). not (row.number == number)) rows) (filter (λ (row : ProcessRow). not (row.number == number)) rows)))
+    ≡ others number (map wanted_of (cond (is_wanted row) (row ∷ filter is_wanted rows) (filter is_wanted rows)))) [
+      | true ↦ λ e. elim (is_wanted row) as (λ w. wanted_in (filter (λ (row : ProcessRow). not (row.number == number)) rows) ≡ others number (map wanted_of (cond w (row ∷ filter is_wanted rows) (filter is_wanted rows)))) [
+        | true ↦ rw e (wanted_kept number rows)
+        | false ↦ wanted_kept number rows
+      ]
+      | false ↦ λ e. elim (is_wanted row) as (λ w. map wanted_of (cond w (row ∷ filter is_wanted (filter (λ (row : ProcessRow). not (row.number == number)) rows)) (filter is_wanted (filter (λ (row : ProcessRow). not (row.number == number)) rows))) ≡ others number (map wanted_of (cond w (row ∷ filter is_wanted rows) (filter is_wanted rows)))) [
+        | true ↦ rw e (ap (λ x. wanted_of row ∷ x) (wanted_kept number rows))
+        | false ↦ wanted_kept number rows
+      ]
+    ] refl
+
+-- a change of the rows with a number, after which none of them is wanted
+pub wanted_changed : (number : ℕ) (change : Process → Process)
+    → ((row : ProcessRow) → (row.number == number) ≡ true → is_wanted (listed_as change row) ≡ false)
+    → ((row : ProcessRow) → (row.number == number) ≡ false → listed_as change row ≡ row)
+    → (rows : List ProcessRow) → wanted_in (map (listed_as change) rows) ≡ others number (wanted_in rows)
+wanted_changed number change there elsewhere [] = refl
+wanted_changed number change there elsewhere (row ∷ rows) =
+    elim (row.number == number) as (λ b. (row.number == number) ≡ b →
+    map wanted_of (cond (is_wanted (listed_as change row)) (listed_as change row ∷ filter is_wanted (map (listed_as change) rows)) (filter is_wanted (map (listed_as change) rows)))
+    ≡ others number (map wanted_of (cond (is_wanted row) (row ∷ filter is_wanted rows) (filter is_wanted rows)))) [
+      | true ↦ λ e. rw (there row e) (elim (is_wanted row) as (λ w. wanted_in (map (listed_as change) rows) ≡ others number (map wanted_of (cond w (row ∷ filter is_wanted rows) (filter is_wanted rows)))) [
+        | true ↦ rw e (wanted_changed number change there elsewhere rows)
+        | false ↦ wanted_changed number change there elsewhere rows
+      ])
+      | false ↦ λ e. subst (λ (r : ProcessRow). map wanted_of (cond (is_wanted r) (r ∷ filter is_wanted (map (listed_as change) rows)) (filter is_wanted (map (listed_as change) rows))) ≡ others number (map wanted_of (cond (is_wanted row) (row ∷ filter is_wanted rows) (filter is_wanted rows)))) (sym (elsewhere row e)) (elim (is_wanted row) as (λ w. map wanted_of (cond w (row ∷ filter is_wanted (map (listed_as change) rows)) (filter is_wanted (map (listed_as change) rows))) ≡ others number (map wanted_of (cond w (row ∷ filter is_wanted rows) (filter is_wanted rows)))) [
+        | true ↦ rw e (ap (λ x. wanted_of row ∷ x) (wanted_changed number change there elsewhere rows))
+        | false ↦ wanted_changed number change there elsewhere rows
+      ])
+    ] refl
+
+pub wanted_taken : (number : ℕ) (rows : List ProcessRow) → wanted_in (map (listed_as (taken_if number)) rows) ≡ others number (wanted_in rows)
+wanted_taken number rows = wanted_changed number (taken_if number) (λ row e. rw e refl) (λ row e. rw e refl) rows
+
+pub wanted_launched : (number pid : ℕ) (rows : List ProcessRow) → wanted_in (map (listed_as (launched_if number pid)) rows) ≡ others number (wanted_in rows)
+wanted_launched number pid rows = wanted_changed number (launched_if number pid) (λ row e. rw e refl) (λ row e. rw e refl) rows

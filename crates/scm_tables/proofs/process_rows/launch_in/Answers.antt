@@ -1,0 +1,11 @@
+use Rattle.std.proofs.Common.{arith}
+use Rattle.std.proofs.lemmas.List.Edits.{map_over_more}
+use Rattle.scm_rules.specs.Launches.{launched_if}
+use Rattle.scm_tables.specs.Listed.{listed_as}
+use Rattle.scm_tables.proofs.process_rows.launch_in.Goals as goal
+
+pub loop-row-preserved : goal.loop-row-preserved
+loop-row-preserved c =
+    rw (c.launch_row.ensures, ← c.row-item.is)
+    (map_over_more (listed_as (launched_if c.args.number c.args.pid)) c.deref_mut-row-items.result.now c.loop-row.row-items c.loop-row.row-index c.row-item.result
+    (omega arith) c.loop-row.invariant c.row-item.is)

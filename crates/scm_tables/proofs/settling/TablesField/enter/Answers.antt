@@ -1,0 +1,15 @@
+use Rattle.start_plan.specs.Entered.{started_if}
+use Rattle.scm_tables.proofs.Keeping.{paths_map, started_number, started_path}
+use Rattle.scm_tables.proofs.Rising.{rising_map}
+use Rattle.scm_tables.proofs.settling.TablesField.enter.Goals as goal
+
+pub invariant_of-self : goal.invariant_of-self
+invariant_of-self c =
+    let kept = c.self.invariant in
+    record {
+      rising = rw c.start_in.ensures (rising_map _ (started_if c.args.service c.self.inside.next.process) (started_number c.args.service c.self.inside.next.process) _ kept.rising);
+      paths = rw c.start_in.ensures (paths_map (started_if c.args.service c.self.inside.next.process) (started_path c.args.service c.self.inside.next.process) _ kept.paths);
+      room = rw c.push_reserved.ensures.capacity kept.room;
+      plans = kept.plans;
+      untried = kept.untried;
+    }

@@ -1,0 +1,15 @@
+use Rattle.scm_rules.specs.Launches.{fallen_if}
+use Rattle.scm_tables.proofs.Keeping.{fallen_number, fallen_path, paths_map}
+use Rattle.scm_tables.proofs.Rising.{rising_map}
+use Rattle.scm_tables.proofs.tables.Tables.fall.Goals as goal
+
+pub invariant_of-self : goal.invariant_of-self
+invariant_of-self c =
+    let kept = c.self.invariant in
+    record {
+      rising = rw c.fall_in.ensures (rising_map _ (fallen_if c.args.process c.args.code) (fallen_number c.args.process c.args.code) _ kept.rising);
+      paths = rw c.fall_in.ensures (paths_map (fallen_if c.args.process c.args.code) (fallen_path c.args.process c.args.code) _ kept.paths);
+      room = kept.room;
+      plans = kept.plans;
+      untried = kept.untried;
+    }

@@ -1,0 +1,11 @@
+use Rattle.std.proofs.Common.{◌∙◌, ap}
+use Rattle.scm_tables.specs.Inside.{tabled}
+use Rattle.scm_tables.specs.Lines.{first_line}
+use Rattle.scm_tables.specs.Tabled.{Tabled}
+use Rattle.scm_tables.proofs.Wording.{first_words}
+use Rattle.scm_tables.proofs.tables.Tables.take_words.Goals as goal
+
+pub returns-clause-words : goal.returns-clause-words
+returns-clause-words c =
+    c.take_words.ensures.words ∙ first_words (tabled c.self.inside).flat c.self.inside.processes.items
+    ∙ ap (λ (t : Tabled). (first_line t.flat t.flat.wanted).1) c.self.view_is

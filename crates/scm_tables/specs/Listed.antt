@@ -1,0 +1,44 @@
+-- The processes, each with the words that its launch is to have: two lists of the flat state in one.
+use Rattle.std.specs.Prelude.{ℕ, Bool, true, false, List, [], ◌∷◌, map, filter}
+use Rattle.scm_model.specs.declared.flat.Process.{Process}
+use Rattle.scm_model.specs.declared.flat.Phase.{Phase}
+use Rattle.scm_model.specs.declared.flat.Phase.TheVariants as phases
+use Rattle.scm_model.specs.declared.flat.Wanted.{Wanted}
+use Rattle.scm_tables.specs.declared.process_rows.ProcessRow.{ProcessRow}
+
+abbrev pub process_of : ProcessRow → Process
+process_of row = record { number = row.number; service = row.service; phase = row.phase; pid = row.pid; controls = row.controls }
+
+abbrev pub is_wanted_phase : Phase → Bool
+is_wanted_phase phases.Wanted = true
+is_wanted_phase phases.Taken = false
+is_wanted_phase phases.Launched = false
+
+-- whether a process is still to be launched
+abbrev pub is_wanted : ProcessRow → Bool
+is_wanted row = is_wanted_phase row.phase
+
+abbrev pub wanted_of : ProcessRow → Wanted
+wanted_of row = record { process = row.number; command = false; words = row.words }
+
+abbrev pub processes_in : List ProcessRow → List Process
+processes_in rows = map process_of rows
+
+abbrev pub wanted_in : List ProcessRow → List Wanted
+wanted_in rows = map wanted_of (filter is_wanted rows)
+
+-- the words of the launch that is wanted first
+abbrev pub words_in : List Wanted → List (List ℕ)
+words_in [] = []
+words_in (row ∷ rows) = row.words
+
+-- they are taken out of it
+abbrev pub without_words : List Wanted → List Wanted
+without_words [] = []
+without_words (row ∷ rows) = record row { words = [] } ∷ rows
+
+-- a row whose process is changed
+abbrev pub listed_as : (Process → Process) → ProcessRow → ProcessRow
+listed_as change row =
+    let process = change (process_of row) in
+    record row { number = process.number; service = process.service; phase = process.phase; pid = process.pid; controls = process.controls }

@@ -1,0 +1,235 @@
+ghost use Rattle.std.specs.Prelude.{◌≡◌, ◌≤◌, ◌<◌, ◌^◌, None, [], length, OnOk};
+ghost use Rattle.std.specs.List.{list_any};
+ghost use Rattle.scm_rules.specs.Launches.{first_wanted, is_taken, path_in, process_of, service_of_process, with_decided, with_fallen, with_launched, with_taken, without_process};
+ghost use Rattle.scm_rules.specs.Start.{can_end, ended, is_due, ticked, with_plan};
+ghost use Rattle.scm_rules.specs.Steps.{is_wanted, without_plans};
+ghost use Rattle.scm_model.specs.Rows.{service_of};
+ghost use Rattle.start_plan.specs.Decided.{caller_of, code_of, is_target};
+ghost use Rattle.scm_tables.specs.Lines.{first_line};
+ghost use Rattle.scm_tables.specs.Listed.{without_words};
+
+use super::due_rows::{drop_due, fire, is_any_due};
+use super::process_rows::{
+    drop_process, first_wanted, is_any_wanted, is_taken_in, launch_in, service_of, take_in,
+    take_words,
+};
+use super::service_rows::fall_in;
+use super::tables::Tables;
+use scm_model::{Due, DueKind, Plan};
+use scm_text::{Items, OutOfMemory, TextRoom, WText};
+use std::mem::replace;
+
+/// After how many milliseconds a plan is given up.
+const PATIENCE: u64 = 120_000;
+
+impl Tables {
+    /// The process that is to be launched first, or 0.
+    pub fn first_wanted(&self) -> u64
+        ensures { result ≡ first_wanted self.now.flat.wanted }
+    {
+        first_wanted(self.processes.as_slice())
+    }
+
+    /// Whether a launch is wanted.
+    pub fn is_wanted(&self) -> bool
+        ensures { result ≡ is_wanted self.now.flat.wanted }
+    {
+        is_any_wanted(self.processes.as_slice())
+    }
+
+    /// Whether the launch of a process is taken in hand.
+    pub fn is_taken(&self, process: u64) -> bool
+        ensures { result ≡ is_taken (process_of self.now.flat process) }
+    {
+        is_taken_in(self.processes.as_slice(), process)
+    }
+
+    /// The service that a process is of, or 0.
+    pub fn service_of_process(&self, process: u64) -> u64
+        ensures { result ≡ service_of_process self.now.flat process }
+    {
+        service_of(self.processes.as_slice(), process)
+    }
+
+    /// The launch of a process is taken in hand.
+    pub fn take_launch(&mut self, process: u64)
+        ensures flat { self.new.flat ≡ with_taken self.old.flat process }
+        ensures limits { self.new.limits ≡ self.old.limits }
+    {
+        take_in(&mut self.processes, process);
+    }
+
+    /// Takes the words of the launch that is wanted first.
+    pub fn take_words(&mut self) -> Items<WText>
+        ensures words { result ≡ (first_line self.old.flat self.old.flat.wanted).1 }
+        ensures flat { self.new.flat ≡ record self.old.flat { wanted = without_words self.old.flat.wanted } }
+        ensures limits { self.new.limits ≡ self.old.limits }
+        ensures spare { self.new.spare ≡ self.old.spare }
+    {
+        take_words(&mut self.processes, self.alloc)
+    }
+
+    /// Writes the path of the launch that is wanted first, or the empty one where none is. It takes no memory.
+    pub fn write_first_path(&self, path: &mut TextRoom)
+        requires { 2048 ≤ path.old.room }
+        ensures { path.new ≡ record { units = (first_line self.now.flat self.now.flat.wanted).0; room = path.old.room } }
+    {
+        if !self.is_wanted() {
+            path.set(&WText::new(self.alloc));
+            return;
+        }
+        self.write_path(self.service_of_process(self.first_wanted()), path);
+    }
+
+    /// Writes the path of a service, or the empty one where there is none. It takes no memory.
+    fn write_path(&self, service: u64, path: &mut TextRoom)
+        requires { 2048 ≤ path.old.room }
+        ensures { path.new ≡ record { units = path_in (service_of self.now.flat service); room = path.old.room } }
+    {
+        match self.service(service) {
+            Some(row) => path.set(&row.config.path),
+            None => path.set(&WText::new(self.alloc)),
+        }
+    }
+
+    /// A process is launched.
+    pub fn launch(&mut self, process: u64, pid: u32)
+        ensures flat { self.new.flat ≡ with_launched self.old.flat process pid }
+        ensures limits { self.new.limits ≡ self.old.limits }
+    {
+        launch_in(&mut self.processes, process, pid);
+    }
+
+    /// Takes a process away.
+    pub fn remove_process(&mut self, process: u64)
+        ensures flat { self.new.flat ≡ without_process self.old.flat process }
+        ensures limits { self.new.limits ≡ self.old.limits }
+    {
+        drop_process(&mut self.processes, process);
+    }
+
+    /// The service falls whose current process this is.
+    pub fn fall(&mut self, process: u64, code: u32)
+        ensures flat { self.new.flat ≡ with_fallen self.old.flat process code }
+        ensures limits { self.new.limits ≡ self.old.limits }
+    {
+        fall_in(&mut self.services, process, code);
+    }
+
+    /// Decides the undecided plans with a target.
+    pub fn decide(&mut self, target: u64, code: u32)
+        ensures flat { self.new.flat ≡ with_decided self.old.flat target code }
+        ensures limits { self.new.limits ≡ self.old.limits }
+    {
+        self.plans.failed(target, code);
+    }
+
+    /// The code of a plan; none where it is undecided or absent.
+    pub fn decided(&self, plan: u64) -> Option<u32>
+        ensures { result ≡ code_of self.now.flat.plans plan }
+    {
+        self.plans.decided(plan)
+    }
+
+    /// Whether a plan is the caller's and decided.
+    pub fn can_end(&self, caller: u64, plan: u64) -> bool
+        ensures { result ≡ can_end self.now.flat caller plan }
+    {
+        self.plans.caller_of(plan) == Some(caller) && self.plans.decided(plan).is_some()
+    }
+
+    /// The caller of a plan, or 0 where no caller began it; none where it is absent.
+    pub fn caller_of_plan(&self, plan: u64) -> Option<u64>
+        ensures { result ≡ caller_of self.now.flat.plans plan }
+    {
+        self.plans.caller_of(plan)
+    }
+
+    /// Whether an undecided plan has this target.
+    pub fn is_target(&self, service: u64) -> bool
+        ensures { result ≡ is_target self.now.flat.plans service }
+    {
+        self.plans.is_target(service)
+    }
+
+    /// Takes a plan away.
+    pub fn remove_plan(&mut self, plan: u64)
+        ensures flat { self.new.flat ≡ ended self.old.flat plan }
+        ensures limits { self.new.limits ≡ self.old.limits }
+    {
+        let _plan = self.plans.take(plan);
+    }
+
+    /// Takes the plans of a caller away.
+    pub fn remove_plans_of(&mut self, caller: u64)
+        ensures flat { self.new.flat ≡ without_plans self.old.flat caller }
+        ensures limits { self.new.limits ≡ self.old.limits }
+    {
+        self.plans.gone(caller);
+    }
+
+    /// Makes room for a plan more that tries so many services, and for its deadline.
+    pub fn reserve_plan(&mut self, entries: usize) -> Result<(), OutOfMemory>
+        ensures flat { self.new.flat ≡ self.old.flat }
+        ensures limits { self.new.limits ≡ self.old.limits }
+        ensures plans { OnOk result (1 ≤ self.new.spare.plans) }
+        ensures dues { OnOk result (1 ≤ self.new.spare.dues) }
+        ensures tried { OnOk result (entries ≤ self.new.spare.tried) }
+    {
+        self.plans.reserve(1)?;
+        if self.dues.reserve(1).is_err() {
+            return Err(OutOfMemory);
+        }
+        match self.tried.reserve(entries) {
+            Ok(()) => Ok(()),
+            Err(_) => Err(OutOfMemory),
+        }
+    }
+
+    /// The number of the next plan.
+    pub fn next_plan(&self) -> u64
+        ensures { result ≡ self.now.flat.next.plan }
+    {
+        self.next.plan
+    }
+
+    /// Begins a plan that has the next number, and its deadline. It takes no memory.
+    pub fn begin_plan(&mut self, plan: Plan)
+        requires plans { 1 ≤ self.old.spare.plans }
+        requires dues { 1 ≤ self.old.spare.dues }
+        requires tried { length plan.entries ≤ self.old.spare.tried }
+        requires number { plan.number ≡ self.old.flat.next.plan }
+        requires undecided { plan.code ≡ None }
+        requires fresh { plan.tried ≡ [] }
+        requires next_plan { self.old.flat.next.plan < 2 ^ 63 }
+        requires next_due { self.old.flat.next.due < 2 ^ 63 }
+        ensures flat { self.new.flat ≡ with_plan self.old.flat plan }
+        ensures limits { self.new.limits ≡ self.old.limits }
+    {
+        let tried = replace(&mut self.tried, Vec::new(self.alloc));
+        self.plans.begin(plan, tried);
+        self.dues.push_reserved(Due {
+            moment: self.moment.saturating_add(PATIENCE),
+            number: self.next.due,
+            kind: DueKind::Deadline(self.next.plan),
+        });
+        self.next.plan += 1;
+        self.next.due += 1;
+    }
+
+    /// Whether a row is due at a moment.
+    pub fn is_due(&self, moment: u64) -> bool
+        ensures { result ≡ list_any (is_due moment) self.now.flat.dues }
+    {
+        is_any_due(self.dues.as_slice(), moment)
+    }
+
+    /// The rows that are due take place, and leave.
+    pub fn tick(&mut self)
+        ensures flat { self.new.flat ≡ ticked self.old.flat }
+        ensures limits { self.new.limits ≡ self.old.limits }
+    {
+        fire(&mut self.plans, self.moment, self.dues.as_slice());
+        drop_due(&mut self.dues, self.moment);
+    }
+}

@@ -1,0 +1,147 @@
+ghost use Rattle.std.specs.Prelude.{◌≡◌, ◌==◌, [], length, nat_le, not, position, map, filter, find, option_copied, vec_capacity};
+ghost use Rattle.scm_model.specs.declared.flat.Process.{Process};
+ghost use Rattle.scm_rules.specs.Launches.{first_wanted, is_taken, launched_if, service_in_process, taken_if};
+ghost use Rattle.scm_rules.specs.Steps.{is_wanted as is_any_wanted};
+ghost use Rattle.scm_tables.specs.Listed.{is_wanted, listed_as, processes_in, wanted_in, without_words, words_in};
+
+use scm_model::Phase;
+use scm_text::{Items, WText};
+use std::alloc::Global;
+use std::mem::replace;
+
+/// A process, with the words that its launch is to have.
+#[derive(Drop)]
+pub struct ProcessRow {
+    pub number: u64,
+    /// 0 for a command.
+    pub service: u64,
+    pub phase: Phase,
+    /// The system's number of it, or 0.
+    pub pid: u32,
+    /// The controls that wait.
+    pub controls: Items<u32>,
+    pub words: Items<WText>,
+}
+
+/// The launch of a process is taken in hand.
+fn take_row(row: &mut ProcessRow, number: u64)
+    ensures { row.new ≡ listed_as (taken_if number) row.old }
+{
+    if row.number == number {
+        row.phase = Phase::Taken;
+    }
+}
+
+/// The launch of a process is taken in hand.
+pub fn take_in(rows: &mut Vec<ProcessRow>, number: u64)
+    ensures rows { rows.new.items ≡ map (listed_as (taken_if number)) rows.old.items }
+    ensures capacity { vec_capacity rows.new ≡ vec_capacity rows.old }
+{
+    for row in rows.iter_mut() {
+        take_row(row, number);
+    }
+}
+
+/// A process is launched.
+fn launch_row(row: &mut ProcessRow, number: u64, pid: u32)
+    ensures { row.new ≡ listed_as (launched_if number pid) row.old }
+{
+    if row.number == number {
+        row.phase = Phase::Launched;
+        row.pid = pid;
+    }
+}
+
+/// A process is launched.
+pub fn launch_in(rows: &mut Vec<ProcessRow>, number: u64, pid: u32)
+    ensures rows { rows.new.items ≡ map (listed_as (launched_if number pid)) rows.old.items }
+    ensures capacity { vec_capacity rows.new ≡ vec_capacity rows.old }
+{
+    for row in rows.iter_mut() {
+        launch_row(row, number, pid);
+    }
+}
+
+/// Keeps the other processes.
+pub fn drop_process(rows: &mut Vec<ProcessRow>, number: u64)
+    ensures rows { rows.new.items ≡ filter (λ row. not (row.number == number)) rows.old.items }
+    ensures capacity { vec_capacity rows.new ≡ vec_capacity rows.old }
+{
+    rows.retain(|row| !(row.number == number));
+}
+
+/// The service that a process is of, or 0.
+pub fn service_of(rows: &[ProcessRow], number: u64) -> u64
+    ensures { result ≡ service_in_process (find (λ row. row.number == number) (processes_in rows.now)) }
+{
+    for row in rows {
+        if row.number == number {
+            return row.service;
+        }
+    }
+    0
+}
+
+/// Whether a process is listed and its launch is taken in hand.
+pub fn is_taken_in(rows: &[ProcessRow], number: u64) -> bool
+    ensures { result ≡ is_taken (find (λ row. row.number == number) (processes_in rows.now)) }
+{
+    for row in rows {
+        if row.number == number {
+            return matches!(row.phase, Phase::Taken);
+        }
+    }
+    false
+}
+
+/// The process that is to be launched first, or 0.
+pub fn first_wanted(rows: &[ProcessRow]) -> u64
+    ensures { result ≡ first_wanted (wanted_in rows.now) }
+{
+    for row in rows {
+        if let Phase::Wanted = row.phase {
+            return row.number;
+        }
+    }
+    0
+}
+
+/// Whether a launch is wanted.
+pub fn is_any_wanted(rows: &[ProcessRow]) -> bool
+    ensures { result ≡ is_any_wanted (wanted_in rows.now) }
+{
+    for row in rows {
+        if let Phase::Wanted = row.phase {
+            return true;
+        }
+    }
+    false
+}
+
+/// Where the first process stands that is to be launched.
+fn place_of_wanted(rows: &[ProcessRow]) -> Option<usize>
+    ensures { result ≡ position is_wanted rows.now }
+{
+    rows.iter()
+        .position(|row| matches!(row.phase, Phase::Wanted))
+}
+
+/// Takes the words of the launch that is wanted first out of its row. It takes no memory.
+pub fn take_words(rows: &mut Vec<ProcessRow>, alloc: Global) -> Items<WText>
+    ensures words { result ≡ words_in (wanted_in rows.old.items) }
+    ensures wanted { wanted_in rows.new.items ≡ without_words (wanted_in rows.old.items) }
+    ensures processes { processes_in rows.new.items ≡ processes_in rows.old.items }
+    ensures capacity { vec_capacity rows.new ≡ vec_capacity rows.old }
+{
+    match place_of_wanted(rows.as_slice()) {
+        Some(place) => replace(&mut rows[place].words, Items::new(alloc)),
+        None => Items::new(alloc),
+    }
+}
+
+/// Whether no more processes may be listed.
+pub fn is_full(rows: &[ProcessRow], limit: u32) -> bool
+    ensures { result ≡ nat_le limit (length (processes_in rows.now)) }
+{
+    limit as usize <= rows.len()
+}
