@@ -12,6 +12,7 @@ pub fn join(tables: &mut Tables, principal: Principal) -> Answer
     requires next { tables.old.flat.next.caller < 2 ^ 63 }
     ensures answer { result ≡ answer.Caller tables.old.flat.next.caller }
     ensures flat { tables.new.flat ≡ with_caller tables.old.flat principal }
+    ensures limits { tables.new.limits ≡ tables.old.limits }
 {
     Answer::Caller(tables.add_caller(principal))
 }
@@ -20,8 +21,11 @@ pub fn join(tables: &mut Tables, principal: Principal) -> Answer
 pub fn leave(tables: &mut Tables, caller: u64) -> Answer
     ensures answer { result ≡ answer.Done }
     ensures flat { tables.new.flat ≡ gone tables.old.flat caller }
+    ensures limits { tables.new.limits ≡ tables.old.limits }
 {
+    tables.free_lock_of(caller);
     tables.remove_handles_of(caller);
+    tables.remove_plans_of(caller);
     tables.remove_caller(caller);
     Answer::Done
 }

@@ -31,6 +31,7 @@ pub fn close_verdict(tables: &Tables, caller: u64, handle: u64) -> u32
 pub fn close(tables: &mut Tables, caller: u64, handle: u64) -> Reply
     ensures reply { result ≡ (outcome (close_verdict tables.old.flat caller handle) (request.Close handle) tables.old.flat (close_done tables.old.flat handle)).0 }
     ensures flat { tables.new.flat ≡ (outcome (close_verdict tables.old.flat caller handle) (request.Close handle) tables.old.flat (close_done tables.old.flat handle)).1 }
+    ensures limits { tables.new.limits ≡ tables.old.limits }
 {
     let code = close_verdict(tables, caller, handle);
     if code != 0 {

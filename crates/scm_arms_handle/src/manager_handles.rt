@@ -54,6 +54,7 @@ pub fn open_manager(
     requires next { tables.old.flat.next.handle < 2 ^ 63 }
     ensures reply { result ≡ (outcome (open_manager_verdict limits.now tables.old.flat caller database.now access) (request.OpenManager database.now access) tables.old.flat (open_manager_done tables.old.flat caller access)).0 }
     ensures flat { tables.new.flat ≡ (outcome (open_manager_verdict limits.now tables.old.flat caller database.now access) (request.OpenManager database.now access) tables.old.flat (open_manager_done tables.old.flat caller access)).1 }
+    ensures limits { tables.new.limits ≡ tables.old.limits }
 {
     let code = open_manager_verdict(tables, limits, caller, database, access);
     if code != 0 {

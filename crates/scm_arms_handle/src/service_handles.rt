@@ -70,6 +70,7 @@ pub fn open_service(
     requires next { tables.old.flat.next.handle < 2 ^ 63 }
     ensures reply { result ≡ (outcome (open_service_verdict limits.now tables.old.flat caller handle name.now access) (request.OpenService handle name.now access) tables.old.flat (open_service_done tables.old.flat caller name.now access)).0 }
     ensures flat { tables.new.flat ≡ (outcome (open_service_verdict limits.now tables.old.flat caller handle name.now access) (request.OpenService handle name.now access) tables.old.flat (open_service_done tables.old.flat caller name.now access)).1 }
+    ensures limits { tables.new.limits ≡ tables.old.limits }
 {
     let code = open_service_verdict(tables, limits, caller, handle, name, access);
     if code != 0 {

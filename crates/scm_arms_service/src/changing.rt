@@ -1,15 +1,20 @@
-ghost use Rattle.std.specs.Prelude.{◌≡◌, IfOk, is_some, option_copied};
-ghost use Rattle.scm_model.specs.declared.flat.Flat.{Flat};
-ghost use Rattle.scm_model.specs.Refused.{outcome};
+ghost use Rattle.std.specs.Prelude.{◌≡◌, IfOk, is_some, option_copied, Some, if◌then◌else◌};
+ghost use Rattle.scm_model.specs.Refused.{first_refusal, outcome};
 ghost use Rattle.scm_model.specs.declared.calls.Request.TheVariants as request;
-ghost use Rattle.scm_rules.specs.Change.{asked_config, new_config, change_change, change_done, change_verdict, changed_row, changed_service, checked, tag_in, tags_no_group, takes_name};
+ghost use Rattle.scm_model.specs.declared.steps.Kept.TheVariants as appended;
+ghost use Rattle.scm_rules.specs.Change.{asked_config, change_change, change_done, change_verdict, changed_row, changed_service, new_config, tag_in, tags_no_group, takes_name};
+ghost use Rattle.scm_rules.specs.Needs.{are_unreadable};
+ghost use Rattle.scm_rules.specs.Verdicts.{unless_refused};
+ghost use Rattle.scm_arms_service.specs.Judged.{asked_refusals, clash_refusals, row_refusals};
 
-use super::deleting::{is_failed, is_marked};
+use super::deleting::code_once_kept;
 use super::making::told_tag;
-use super::replacing::{check, config_with, display_or, is_as_before, tag_or, text_or};
+use super::needing::are_unreadable;
+use super::replacing::{config_with, is_as_before, tag_or, text_or};
 use scm_model::{Change, ChangeService, Config, Kept, Reply, Service};
 use scm_tables::{Tables, mask_lacks};
 use scm_text::OutOfMemory;
+use service_record::check_change;
 use std::alloc::Global;
 
 const SERVICE_CHANGE_CONFIG: u32 = 2;
@@ -23,76 +28,6 @@ fn changed_service<'a>(
     ensures { option_copied result ≡ changed_service tables.now.flat caller change.now }
 {
     tables.service(tables.opened_service(caller, change.handle))
-}
-
-/// What the new configuration of a service is refused with, or 0.
-fn checked(change: &ChangeService, service: Option<&Service>) -> u32
-    ensures { (f : Flat) → result ≡ checked f change.now (option_copied service.entry) }
-{
-    match service {
-        Some(row) => check(&row.config, change),
-        None => 0,
-    }
-}
-
-/// Whether a tag is asked for without a group.
-fn tags_no_group(change: &ChangeService, service: Option<&Service>) -> bool
-    ensures { result ≡ tags_no_group change.now (option_copied service.entry) }
-{
-    match service {
-        Some(row) => {
-            change.tag.is_some() && text_or(&row.config.group, &change.group).units().len() == 0
-        }
-        None => false,
-    }
-}
-
-/// Whether a display name is given that another service has as its name or display name.
-fn takes_name(tables: &Tables, change: &ChangeService, service: Option<&Service>) -> bool
-    ensures { result ≡ takes_name tables.now.flat change.now (option_copied service.entry) }
-{
-    match service {
-        Some(row) => {
-            change.display.is_some()
-                && tables.is_shown_by_another(row.number, display_or(&row.config, &change.display))
-        }
-        None => false,
-    }
-}
-
-/// What `RChangeServiceConfigW` is refused with, or 0: `ERROR_INVALID_HANDLE` (6), `ERROR_ACCESS_DENIED` (5),
-/// `ERROR_SERVICE_MARKED_FOR_DELETE` (1072), `ERROR_INVALID_NAME` (123), `ERROR_INVALID_PARAMETER` (87),
-/// `ERROR_INVALID_SERVICE_ACCOUNT` (1057), `ERROR_DUPLICATE_SERVICE_NAME` (1078) or `ERROR_CANTWRITE` (1013).
-pub fn change_verdict(tables: &Tables, caller: u64, change: &ChangeService, kept: Kept) -> u32
-    ensures { result ≡ change_verdict tables.now.flat caller change.now kept }
-{
-    let Some(opened) = tables.opened(caller, change.handle) else {
-        return 6;
-    };
-    if mask_lacks(opened.granted, SERVICE_CHANGE_CONFIG) {
-        return 5;
-    }
-    let service = changed_service(tables, caller, change);
-    if is_marked(service) {
-        return 1072;
-    }
-    let checked = checked(change, service);
-    if checked == 123 {
-        return 123;
-    }
-    if checked == 87 || tags_no_group(change, service) || change.needs.is_some() {
-        return 87;
-    }
-    if checked == 1057 {
-        return 1057;
-    }
-    if takes_name(tables, change, service) {
-        return 1078;
-    }
-    if is_failed(kept) {
-        return 1013;
-    }
-    0
 }
 
 /// The new configuration of a service.
@@ -123,24 +58,118 @@ pub fn asked_config(
     }
 }
 
-/// Whether a service's new configuration is another than its old one.
-fn is_new(tables: &Tables, change: &ChangeService, service: &Service) -> bool
-    ensures { result ≡ is_some (changed_row tables.now.flat change.now service.now) }
+/// Whether a tag is asked for without a group.
+fn tags_no_group(change: &ChangeService, service: &Service) -> bool
+    ensures { result ≡ tags_no_group change.now (Some service.now) }
 {
-    !is_as_before(
-        &service.config,
-        change,
-        tag_or(tables, &service.config, change),
-    )
+    change.tag.is_some() && text_or(&service.config.group, &change.group).units().len() == 0
 }
 
-/// Whether a configuration is changed, where the call isn't refused.
-pub fn changes(tables: &Tables, caller: u64, change: &ChangeService) -> bool
-    ensures { result ≡ is_some (change_change tables.now.flat caller change.now) }
+/// Whether a display name is given that another service has as its name or display name.
+fn takes_name(tables: &Tables, change: &ChangeService, service: &Service, new: &Config) -> bool
+    requires { new.now ≡ new_config tables.now.flat change.now service.now }
+    ensures { result ≡ takes_name tables.now.flat change.now (Some service.now) }
 {
+    change.display.is_some() && tables.is_shown_by_another(service.number, &new.display)
+}
+
+/// What a change of a service is refused with for what is asked, or 0.
+fn asked_verdict(
+    tables: &Tables,
+    change: &ChangeService,
+    service: &Service,
+    new: &Config,
+    alloc: Global,
+) -> Result<u32, OutOfMemory>
+    requires { new.now ≡ new_config tables.now.flat change.now service.now }
+    ensures { IfOk result (λ code. code ≡ first_refusal (asked_refusals tables.now.flat change.now (Some service.now))) }
+{
+    let checked = check_change(&service.config, new, change.account.as_ref());
+    if checked == 123 {
+        return Ok(123);
+    }
+    if checked == 87 || tags_no_group(change, service) {
+        return Ok(87);
+    }
+    if are_unreadable(&change.needs, alloc)? {
+        return Ok(87);
+    }
+    if checked == 1057 {
+        return Ok(1057);
+    }
+    Ok(0)
+}
+
+/// What a change of a service is refused with for the services that there are, or 0.
+fn clash_verdict(
+    tables: &Tables,
+    change: &ChangeService,
+    service: &Service,
+    new: &Config,
+    alloc: Global,
+) -> Result<u32, OutOfMemory>
+    requires { new.now ≡ new_config tables.now.flat change.now service.now }
+    ensures { IfOk result (λ code. code ≡ first_refusal (clash_refusals tables.now.flat change.now (Some service.now))) }
+{
+    if takes_name(tables, change, service, new) {
+        return Ok(1078);
+    }
+    if tables.makes_cycle(service.number, new, alloc)? {
+        return Ok(1059);
+    }
+    Ok(0)
+}
+
+/// What a change of a service that is there is refused with, or 0, where the caller may change it.
+fn row_verdict(
+    tables: &Tables,
+    change: &ChangeService,
+    service: &Service,
+    alloc: Global,
+) -> Result<u32, OutOfMemory>
+    ensures { IfOk result (λ code. code ≡ first_refusal (row_refusals tables.now.flat change.now (Some service.now))) }
+{
+    if service.marked {
+        return Ok(1072);
+    }
+    let new = new_config(tables, change, service, alloc)?;
+    let wrong = asked_verdict(tables, change, service, &new, alloc)?;
+    if wrong != 0 {
+        return Ok(wrong);
+    }
+    clash_verdict(tables, change, service, &new, alloc)
+}
+
+/// The same of a service that isn't there.
+fn absent_verdict(change: &ChangeService, alloc: Global) -> Result<u32, OutOfMemory>
+    ensures { IfOk result (λ code. code ≡ (if are_unreadable change.now.needs then 87 else 0)) }
+{
+    if are_unreadable(&change.needs, alloc)? {
+        return Ok(87);
+    }
+    Ok(0)
+}
+
+/// What `RChangeServiceConfigW` is refused with before anything is kept, or 0: `ERROR_INVALID_HANDLE` (6), `ERROR_ACCESS_DENIED` (5),
+/// `ERROR_SERVICE_MARKED_FOR_DELETE` (1072), `ERROR_INVALID_NAME` (123), `ERROR_INVALID_PARAMETER` (87),
+/// `ERROR_INVALID_SERVICE_ACCOUNT` (1057), `ERROR_DUPLICATE_SERVICE_NAME` (1078) or `ERROR_CIRCULAR_DEPENDENCY` (1059).
+pub fn change_verdict(
+    tables: &Tables,
+    caller: u64,
+    change: &ChangeService,
+    alloc: Global,
+) -> Result<u32, OutOfMemory>
+    ensures { IfOk result (λ code. code ≡ change_verdict tables.now.flat caller change.now appended.Kept) }
+{
+    let Some(opened) = tables.opened(caller, change.handle) else {
+        return Ok(6);
+    };
+    if mask_lacks(opened.granted, SERVICE_CHANGE_CONFIG) {
+        return Ok(5);
+    }
     match changed_service(tables, caller, change) {
-        Some(row) => is_new(tables, change, row),
-        None => false,
+        Some(row) => row_verdict(tables, change, row, alloc),
+        None => absent_verdict(change, alloc),
     }
 }
 
@@ -153,27 +182,42 @@ fn changed_row(
 ) -> Result<Option<Change>, OutOfMemory>
     ensures { IfOk result (λ told. told ≡ changed_row tables.now.flat change.now service.now) }
 {
-    let tag = tag_or(tables, &service.config, change);
-    if is_as_before(&service.config, change, tag) {
+    let config = new_config(tables, change, service, alloc)?;
+    if is_as_before(&service.config, &config) {
         return Ok(None);
     }
-    let config = config_with(&service.config, change, tag, alloc)?;
     Ok(Some(Change::Changed(config)))
 }
 
-/// The change of the configurations that a call asks for where it isn't refused.
+/// The change of the configurations that a call makes, unless it is refused.
 pub fn changed(
     tables: &Tables,
     caller: u64,
     change: &ChangeService,
     alloc: Global,
 ) -> Result<Option<Change>, OutOfMemory>
-    ensures { IfOk result (λ told. told ≡ change_change tables.now.flat caller change.now) }
+    ensures { IfOk result (λ told. told ≡ unless_refused (change_verdict tables.now.flat caller change.now appended.Kept) (change_change tables.now.flat caller change.now)) }
 {
+    let code = change_verdict(tables, caller, change, alloc)?;
+    if code != 0 {
+        return Ok(None);
+    }
     match changed_service(tables, caller, change) {
         Some(row) => changed_row(tables, change, row, alloc),
         None => Ok(None),
     }
+}
+
+/// Whether a call changes the configurations.
+pub fn changes(
+    tables: &Tables,
+    caller: u64,
+    change: &ChangeService,
+    alloc: Global,
+) -> Result<bool, OutOfMemory>
+    ensures { IfOk result (λ changes. changes ≡ is_some (unless_refused (change_verdict tables.now.flat caller change.now appended.Kept) (change_change tables.now.flat caller change.now))) }
+{
+    Ok(changed(tables, caller, change, alloc)?.is_some())
 }
 
 /// The tag of a new configuration.
@@ -186,19 +230,23 @@ fn tag_in(config: &Option<Config>) -> u32
     }
 }
 
-/// Gives a service the configuration that was made for it. It takes no memory.
+/// Gives a service the configuration that was made for it. The code is what the call is refused with before anything is kept; where
+/// that fails it is `ERROR_CANTWRITE` (1013). It takes no memory.
 pub fn change(
     tables: &mut Tables,
     caller: u64,
     change: &ChangeService,
+    code: u32,
     config: Option<Config>,
     kept: Kept,
 ) -> Reply
+    requires verdict { code ≡ change_verdict tables.old.flat caller change.now appended.Kept }
     requires made { config ≡ asked_config tables.old.flat caller change.now }
     ensures reply { result ≡ (outcome (change_verdict tables.old.flat caller change.now kept) (request.Change change.now) tables.old.flat (change_done tables.old.flat caller change.now)).0 }
     ensures flat { tables.new.flat ≡ (outcome (change_verdict tables.old.flat caller change.now kept) (request.Change change.now) tables.old.flat (change_done tables.old.flat caller change.now)).1 }
+    ensures limits { tables.new.limits ≡ tables.old.limits }
 {
-    let code = change_verdict(tables, caller, change, kept);
+    let code = code_once_kept(code, kept);
     if code != 0 {
         return Reply::Tag {
             tag: change.tag,

@@ -1,18 +1,21 @@
-ghost use Rattle.std.specs.Prelude.{◌≡◌, ◌<◌, ◌≤◌, ◌^◌, ◌∷◌, [], Some, IfOk, is_some};
+ghost use Rattle.std.specs.Prelude.{◌≡◌, ◌<◌, ◌≤◌, ◌^◌, ◌||◌, Some, nat_le, length, IfOk, is_some};
 ghost use Rattle.scm_model.specs.Refused.{first_refusal, outcome};
-ghost use Rattle.scm_model.specs.Rows.{is_shown, named};
+ghost use Rattle.scm_model.specs.Rows.{held_by};
 ghost use Rattle.scm_model.specs.declared.calls.Request.TheVariants as request;
-ghost use Rattle.scm_rules.specs.Create.{create_change, create_done, create_verdict, display_of};
-ghost use Rattle.scm_rules.specs.Delete.{is_marked};
+ghost use Rattle.scm_model.specs.declared.steps.Kept.TheVariants as appended;
+ghost use Rattle.scm_rules.specs.Create.{config_of, create_change, create_done, create_verdict, tags_nothing};
 ghost use Rattle.scm_rules.specs.OpenService.{service_granted};
+ghost use Rattle.scm_rules.specs.Verdicts.{unless_refused};
+ghost use Rattle.scm_arms_service.specs.Judged.{config_refusals, place_refusals, right_refusals};
 
-use super::checking::{asks_wrongly, check, shown};
-use super::deleting::{is_failed, is_marked};
-use super::making::{config_at, new_status, tag_of, told_tag};
+use super::deleting::{code_once_kept, is_marked};
+use super::making::{config_of, new_status, told_tag};
+use super::needing::are_unreadable;
 use access_mask::granted;
-use scm_model::{Change, HandleKind, Kept, Limits, NewService, Reply};
+use scm_model::{Change, Config, HandleKind, Kept, Limits, NewService, Reply};
 use scm_tables::{Tables, mask_lacks};
-use scm_text::{OutOfMemory, WText};
+use scm_text::OutOfMemory;
+use service_record::check_new;
 use std::alloc::Global;
 
 const SC_MANAGER_CREATE_SERVICE: u32 = 2;
@@ -24,33 +27,9 @@ fn service_granted(tables: &Tables, caller: u64, access: u32) -> Option<u32>
     granted(tables.principal_of(caller), false, access)
 }
 
-/// What the name and the display name of a new service are refused with for the services that there are, or 0.
-fn names_verdict(tables: &Tables, new: &NewService) -> u32
-    ensures { result ≡ first_refusal ((is_marked (named tables.now.flat new.now.name), 1072) ∷ (is_some (named tables.now.flat new.now.name), 1073) ∷ (is_shown tables.now.flat (display_of new.now.name new.now.display), 1078) ∷ []) }
-{
-    if is_marked(tables.named(&new.name)) {
-        return 1072;
-    }
-    if tables.named(&new.name).is_some() {
-        return 1073;
-    }
-    if tables.is_shown(shown(&new.name, &new.display)) {
-        return 1078;
-    }
-    0
-}
-
-/// What `RCreateServiceW` is refused with, or 0: `ERROR_INVALID_HANDLE` (6), `ERROR_ACCESS_DENIED` (5), `ERROR_INVALID_NAME` (123),
-/// `ERROR_INVALID_PARAMETER` (87), `ERROR_INVALID_SERVICE_ACCOUNT` (1057), `ERROR_SERVICE_MARKED_FOR_DELETE` (1072),
-/// `ERROR_SERVICE_EXISTS` (1073), `ERROR_DUPLICATE_SERVICE_NAME` (1078), `ERROR_NOT_ENOUGH_QUOTA` (1816) or `ERROR_CANTWRITE` (1013).
-pub fn create_verdict(
-    tables: &Tables,
-    limits: &Limits,
-    caller: u64,
-    new: &NewService,
-    kept: Kept,
-) -> u32
-    ensures { result ≡ create_verdict limits.now tables.now.flat caller new.now kept }
+/// What a creation is refused with for the caller's rights, or 0.
+fn right_verdict(tables: &Tables, caller: u64, new: &NewService) -> u32
+    ensures { result ≡ first_refusal (right_refusals tables.now.flat caller new.now) }
 {
     let Some(granted) = tables.manager_mask(caller, new.handle) else {
         return 6;
@@ -60,64 +39,155 @@ pub fn create_verdict(
     {
         return 5;
     }
-    let checked = check(new);
-    if checked == 123 {
-        return 123;
-    }
-    if checked == 87 || asks_wrongly(new) {
-        return 87;
-    }
-    if checked == 1057 {
-        return 1057;
-    }
-    let taken = names_verdict(tables, new);
-    if taken != 0 {
-        return taken;
-    }
-    if limits.services as usize <= tables.services()
-        || limits.handles as usize <= tables.handles_of(caller)
-    {
-        return 1816;
-    }
-    if is_failed(kept) {
-        return 1013;
-    }
     0
 }
 
-/// The change of the configurations that a call asks for where it isn't refused.
+/// Whether a tag is asked for without a group.
+fn tags_nothing(new: &NewService) -> bool
+    ensures { result ≡ tags_nothing new.now }
+{
+    match &new.group {
+        Some(group) => new.tag.is_some() && group.units().len() == 0,
+        None => new.tag.is_some(),
+    }
+}
+
+/// What a new service is refused with for what is asked, or 0.
+fn config_verdict(new: &NewService, config: &Config, alloc: Global) -> Result<u32, OutOfMemory>
+    ensures { IfOk result (λ code. code ≡ first_refusal (config_refusals new.now config.now)) }
+{
+    let checked = check_new(config, new.account.as_ref());
+    if checked == 123 {
+        return Ok(123);
+    }
+    if checked == 87 || tags_nothing(new) {
+        return Ok(87);
+    }
+    if are_unreadable(&new.needs, alloc)? {
+        return Ok(87);
+    }
+    if checked == 1057 {
+        return Ok(1057);
+    }
+    Ok(0)
+}
+
+/// Whether there are as many services, or handles of the caller, as there may be.
+fn is_full(tables: &Tables, limits: &Limits, caller: u64) -> bool
+    ensures { result ≡ nat_le limits.now.services (length tables.now.flat.services) || nat_le limits.now.handles (held_by tables.now.flat caller) }
+{
+    limits.services as usize <= tables.services()
+        || limits.handles as usize <= tables.handles_of(caller)
+}
+
+/// What a new service is refused with for the services that there are, or 0.
+fn place_verdict(
+    tables: &Tables,
+    limits: &Limits,
+    caller: u64,
+    config: &Config,
+    alloc: Global,
+) -> Result<u32, OutOfMemory>
+    ensures { IfOk result (λ code. code ≡ first_refusal (place_refusals limits.now tables.now.flat caller config.now)) }
+{
+    if is_marked(tables.named(&config.name)) {
+        return Ok(1072);
+    }
+    if tables.named(&config.name).is_some() {
+        return Ok(1073);
+    }
+    if tables.is_shown(&config.display) {
+        return Ok(1078);
+    }
+    if tables.makes_cycle(tables.next_service(), config, alloc)? {
+        return Ok(1059);
+    }
+    if is_full(tables, limits, caller) {
+        return Ok(1816);
+    }
+    Ok(0)
+}
+
+/// What `RCreateServiceW` is refused with before anything is kept, or 0: `ERROR_INVALID_HANDLE` (6), `ERROR_ACCESS_DENIED` (5),
+/// `ERROR_INVALID_NAME` (123), `ERROR_INVALID_PARAMETER` (87), `ERROR_INVALID_SERVICE_ACCOUNT` (1057),
+/// `ERROR_SERVICE_MARKED_FOR_DELETE` (1072), `ERROR_SERVICE_EXISTS` (1073), `ERROR_DUPLICATE_SERVICE_NAME` (1078),
+/// `ERROR_CIRCULAR_DEPENDENCY` (1059) or `ERROR_NOT_ENOUGH_QUOTA` (1816).
+pub fn create_verdict(
+    tables: &Tables,
+    limits: &Limits,
+    caller: u64,
+    new: &NewService,
+    config: &Config,
+    alloc: Global,
+) -> Result<u32, OutOfMemory>
+    requires { config.now ≡ config_of tables.now.flat new.now }
+    ensures { IfOk result (λ code. code ≡ create_verdict limits.now tables.now.flat caller new.now appended.Kept) }
+{
+    let denied = right_verdict(tables, caller, new);
+    if denied != 0 {
+        return Ok(denied);
+    }
+    let wrong = config_verdict(new, config, alloc)?;
+    if wrong != 0 {
+        return Ok(wrong);
+    }
+    place_verdict(tables, limits, caller, config, alloc)
+}
+
+/// The change of the configurations that a call makes, unless it is refused.
 pub fn created(
     tables: &Tables,
+    limits: &Limits,
+    caller: u64,
     new: &NewService,
     alloc: Global,
 ) -> Result<Option<Change>, OutOfMemory>
-    ensures { IfOk result (λ change. change ≡ create_change tables.now.flat new.now) }
+    ensures { IfOk result (λ change. change ≡ unless_refused (create_verdict limits.now tables.now.flat caller new.now appended.Kept) (create_change tables.now.flat new.now)) }
 {
-    let tag = tag_of(tables, &new.group, new.tag);
-    let copy = new.copy(alloc)?;
-    let name = new.name.copy(alloc)?;
-    Ok(Some(Change::Created(config_at(copy, name, tag, alloc))))
+    let config = config_of(tables, new, alloc)?;
+    let code = create_verdict(tables, limits, caller, new, &config, alloc)?;
+    if code != 0 {
+        return Ok(None);
+    }
+    Ok(Some(Change::Created(config)))
 }
 
-/// Creates a service, and opens a handle of it. `copy` is a copy of its name. It takes no memory.
+/// Whether a call changes the configurations.
+pub fn creates(
+    tables: &Tables,
+    limits: &Limits,
+    caller: u64,
+    new: &NewService,
+    alloc: Global,
+) -> Result<bool, OutOfMemory>
+    ensures { IfOk result (λ changes. changes ≡ is_some (unless_refused (create_verdict limits.now tables.now.flat caller new.now appended.Kept) (create_change tables.now.flat new.now))) }
+{
+    let config = config_of(tables, new, alloc)?;
+    Ok(create_verdict(tables, limits, caller, new, &config, alloc)? == 0)
+}
+
+/// Creates a service that has the configuration that was made for it, and opens a handle of it. The code is what the call is refused
+/// with before anything is kept; where that fails it is `ERROR_CANTWRITE` (1013). It takes no memory.
 pub fn create(
     tables: &mut Tables,
     limits: &Limits,
-    alloc: Global,
     caller: u64,
     new: NewService,
-    copy: Option<WText>,
+    code: u32,
+    config: Option<Config>,
     kept: Kept,
 ) -> Reply
-    requires copied { copy ≡ Some new.name }
+    requires verdict { code ≡ create_verdict limits.now tables.old.flat caller new appended.Kept }
+    requires made { config ≡ Some (config_of tables.old.flat new) }
     requires services { 1 ≤ tables.old.spare.services }
     requires handles { 1 ≤ tables.old.spare.handles }
     requires next_service { tables.old.flat.next.service < 2 ^ 63 }
     requires next_handle { tables.old.flat.next.handle < 2 ^ 63 }
     ensures reply { result ≡ (outcome (create_verdict limits.now tables.old.flat caller new kept) (request.Create new) tables.old.flat (create_done tables.old.flat caller new)).0 }
     ensures flat { tables.new.flat ≡ (outcome (create_verdict limits.now tables.old.flat caller new kept) (request.Create new) tables.old.flat (create_done tables.old.flat caller new)).1 }
+    ensures limits { tables.new.limits ≡ tables.old.limits }
 {
-    let code = create_verdict(tables, limits, caller, &new, kept);
+    let code = code_once_kept(code, kept);
     if code != 0 {
         return Reply::Made {
             tag: new.tag,
@@ -126,13 +196,12 @@ pub fn create(
         };
     }
     let rights = service_granted(tables, caller, new.access).unwrap_or(0);
-    let tag = tag_of(tables, &new.group, new.tag);
-    let told = told_tag(tag, new.tag);
-    let status = new_status(new.kind);
-    let service = tables.add_service(config_at(new, copy.unwrap(), tag, alloc), status);
+    let config = config.unwrap();
+    let tag = told_tag(config.tag, new.tag);
+    let service = tables.add_service(config, new_status(new.kind));
     let handle = tables.add_handle(caller, HandleKind::Service(service), rights);
     Reply::Made {
-        tag: told,
+        tag,
         handle,
         code: 0,
     }

@@ -2,6 +2,7 @@ ghost use Rattle.std.specs.Prelude.{◌≡◌, IfOk, is_some, option_copied};
 ghost use Rattle.scm_model.specs.Refused.{outcome};
 ghost use Rattle.scm_model.specs.declared.calls.Request.TheVariants as request;
 ghost use Rattle.scm_rules.specs.Delete.{delete_change, delete_done, delete_verdict, is_failed, is_marked};
+ghost use Rattle.scm_arms_service.specs.Judged.{code_once_kept};
 
 use scm_model::{Change, Kept, Reply, Service};
 use scm_tables::{Tables, mask_lacks};
@@ -25,6 +26,17 @@ pub fn is_failed(kept: Kept) -> bool
     ensures { result ≡ is_failed kept }
 {
     matches!(kept, Kept::Failed)
+}
+
+/// The code of a change that is done once it is kept: where that failed, `ERROR_CANTWRITE` (1013).
+pub fn code_once_kept(code: u32, kept: Kept) -> u32
+    ensures { result ≡ code_once_kept code kept }
+{
+    if code == 0 && is_failed(kept) {
+        1013
+    } else {
+        code
+    }
 }
 
 /// What `RDeleteService` is refused with, or 0: `ERROR_INVALID_HANDLE` (6), `ERROR_ACCESS_DENIED` (5),
@@ -75,6 +87,7 @@ pub fn removed(
 pub fn delete(tables: &mut Tables, caller: u64, handle: u64, kept: Kept) -> Reply
     ensures reply { result ≡ (outcome (delete_verdict tables.old.flat caller handle kept) (request.Delete handle) tables.old.flat (delete_done tables.old.flat caller handle)).0 }
     ensures flat { tables.new.flat ≡ (outcome (delete_verdict tables.old.flat caller handle kept) (request.Delete handle) tables.old.flat (delete_done tables.old.flat caller handle)).1 }
+    ensures limits { tables.new.limits ≡ tables.old.limits }
 {
     let code = delete_verdict(tables, caller, handle, kept);
     if code != 0 {

@@ -2,18 +2,20 @@
 #![tactic(auto)]
 
 mod changing;
-mod checking;
 mod creating;
 mod deleting;
 mod making;
 mod naming;
+mod needing;
 mod querying;
 mod replacing;
 mod showing;
 
 pub use changing::{asked_config, change, change_verdict, changed, changes};
-pub use creating::{create, create_verdict, created};
+pub use creating::{create, create_verdict, created, creates};
 pub use deleting::{delete, delete_verdict, removed, removes};
+pub use making::config_of;
 pub use naming::{display_name, key_name};
+pub use needing::{are_unreadable, needs_in};
 pub use querying::{query, query_verdict};
 pub use showing::query_config;

@@ -1,39 +1,40 @@
-ghost use Rattle.std.specs.Prelude.{◌≡◌, [], unwrap_or};
-ghost use Rattle.scm_rules.specs.Create.{config_at, display_of, new_status, tag_of, told_tag};
+ghost use Rattle.std.specs.Prelude.{◌≡◌, [], unwrap_or, IfOk};
+ghost use Rattle.scm_rules.specs.Create.{config_of, display_of, new_status, tag_of, told_tag};
 
+use super::needing::needs_or;
 use scm_model::{Config, NewService, Status};
 use scm_tables::Tables;
-use scm_text::{Items, WText};
+use scm_text::{Items, OutOfMemory, WText};
 use std::alloc::Global;
 
-/// The display name of a new service, with a copy of its name for where none is given.
-fn display_of(copy: WText, display: Option<WText>) -> WText
-    ensures { result ≡ display_of copy display }
+/// The display name of a new service, which is its name where none is given.
+pub fn shown<'a>(name: &'a WText, display: &'a Option<WText>) -> &'a WText
+    ensures { result.now ≡ display_of name.now display.now }
 {
     match display {
         Some(display) => {
             if display.units().len() == 0 {
-                copy
+                name
             } else {
                 display
             }
         }
-        None => copy,
+        None => name,
     }
 }
 
-/// A text, or the empty one where it is absent.
-fn text_or_empty(text: Option<WText>, alloc: Global) -> WText
-    ensures { result ≡ unwrap_or text [] }
+/// A copy of a text, or the empty one where it is absent.
+fn copy_or_empty(text: &Option<WText>, alloc: Global) -> Result<WText, OutOfMemory>
+    ensures { IfOk result (λ copy. copy ≡ unwrap_or text.now []) }
 {
     match text {
-        Some(text) => text,
-        None => WText::new(alloc),
+        Some(text) => text.copy(alloc),
+        None => Ok(WText::new(alloc)),
     }
 }
 
 /// The tag of a new service: one more than the greatest of its group where one is asked for, else 0.
-pub fn tag_of(tables: &Tables, group: &Option<WText>, asked: Option<u32>) -> u32
+fn tag_of(tables: &Tables, group: &Option<WText>, asked: Option<u32>) -> u32
     ensures { result ≡ tag_of tables.now.flat (unwrap_or group.now []) asked }
 {
     match (asked, group) {
@@ -58,21 +59,20 @@ pub fn told_tag(tag: u32, asked: Option<u32>) -> Option<u32>
     }
 }
 
-/// The configuration of a new service, with a copy of its name. It takes no memory.
-pub fn config_at(new: NewService, copy: WText, tag: u32, alloc: Global) -> Config
-    requires { copy ≡ new.name }
-    ensures { result ≡ config_at tag new }
+/// The configuration that a new service is to have. Needs that can't be read are left out of it.
+pub fn config_of(tables: &Tables, new: &NewService, alloc: Global) -> Result<Config, OutOfMemory>
+    ensures { IfOk result (λ config. config ≡ config_of tables.now.flat new.now) }
 {
-    Config {
-        name: new.name,
-        display: display_of(copy, new.display),
+    Ok(Config {
+        name: new.name.copy(alloc)?,
+        display: shown(&new.name, &new.display).copy(alloc)?,
         kind: new.kind,
         start: new.start,
         error: new.error,
-        path: new.path,
-        group: text_or_empty(new.group, alloc),
-        tag,
-        needs: Items::new(alloc),
+        path: new.path.copy(alloc)?,
+        group: copy_or_empty(&new.group, alloc)?,
+        tag: tag_of(tables, &new.group, new.tag),
+        needs: needs_or(&[], &new.needs, alloc)?,
         description: WText::new(alloc),
         reset: 0,
         actions: Items::new(alloc),
@@ -80,7 +80,7 @@ pub fn config_at(new: NewService, copy: WText, tag: u32, alloc: Global) -> Confi
         on_exit: false,
         delayed: false,
         triggers: Items::new(alloc),
-    }
+    })
 }
 
 /// The status of a service that never ran: STOPPED, with `ERROR_SERVICE_NEVER_STARTED` (1077).

@@ -1,17 +1,19 @@
-ghost use Rattle.std.specs.Prelude.{◌≡◌, ◌||◌, ℕ, is_some, unwrap_or, option_copied, IfOk};
+ghost use Rattle.std.specs.Prelude.{◌≡◌, unwrap_or, IfOk};
 ghost use Rattle.std.specs.Cmp.Lexicographic.{pointwise};
-ghost use Rattle.service_record.specs.Checks.{check_change, has_bad_names, has_bad_numbers, has_bad_texts, has_bad_lists};
-ghost use Rattle.scm_rules.specs.Change.{config_with, display_or, is_as_before, is_equal, number_or, tag_or};
+ghost use Rattle.scm_rules.specs.Change.{config_with, display_or, is_as_before, is_equal_need, number_or, tag_or};
 
-use super::checking::shown;
-use scm_model::{ChangeService, Config};
+use super::making::shown;
+use super::needing::needs_or;
+use scm_model::{ChangeService, Config, Need};
 use scm_tables::Tables;
 use scm_text::{OutOfMemory, WText};
-use service_record::{is_bad_account, is_bad_line, is_bad_name};
 use std::alloc::Global;
 
 /// `SERVICE_NO_CHANGE`.
 const NO_CHANGE: u32 = 0xFFFF_FFFF;
+
+/// `SERVICE_AUTO_START`.
+const AUTO_START: u32 = 2;
 
 /// The number that is asked for, or the old one.
 fn number_or(old: u32, asked: u32) -> u32
@@ -31,7 +33,7 @@ pub fn text_or<'a>(old: &'a WText, asked: &'a Option<WText>) -> &'a WText
 }
 
 /// The display name that is asked for, or the old one. An empty one is the name.
-pub fn display_or<'a>(old: &'a Config, asked: &'a Option<WText>) -> &'a WText
+fn display_or<'a>(old: &'a Config, asked: &'a Option<WText>) -> &'a WText
     ensures { result.now ≡ display_or old.now asked.now }
 {
     match asked {
@@ -50,71 +52,7 @@ pub fn tag_or(tables: &Tables, old: &Config, change: &ChangeService) -> u32
     }
 }
 
-/// Whether the names of the new configuration are ones that no service may have.
-fn has_bad_names(old: &Config, change: &ChangeService) -> bool
-    ensures { result ≡ has_bad_names (config_with 0 old.now change.now) }
-{
-    is_bad_name(&old.name) || 256 < display_or(old, &change.display).units().len()
-}
-
-/// Whether the numbers of the new configuration are ones that no service may have.
-fn has_bad_numbers(old: &Config, change: &ChangeService) -> bool
-    ensures { result ≡ has_bad_numbers (config_with 0 old.now change.now) }
-{
-    let kind = number_or(old.kind, change.kind);
-    let start = number_or(old.start, change.start);
-    let error = number_or(old.error, change.error);
-    let delayed = old.delayed && start == 2;
-    !(kind == 0x10 || kind == 0x20)
-        || !(2 <= start && start <= 4)
-        || 3 < error
-        || (delayed && start != 2)
-}
-
-/// Whether the texts of the new configuration are ones that no service may have.
-fn has_bad_texts(old: &Config, change: &ChangeService) -> bool
-    ensures { result ≡ has_bad_texts (config_with 0 old.now change.now) }
-{
-    is_bad_line(text_or(&old.path, &change.path).units())
-        || 256 < text_or(&old.group, &change.group).units().len()
-        || 2048 < old.description.units().len()
-        || (old.command.units().len() != 0 && is_bad_line(old.command.units()))
-}
-
-/// What the new configuration is refused with, or 0, whatever its tag. It takes no memory.
-#[tactic(auto, unfolding(service_record::specs::Checks::check_new))]
-pub fn check(old: &Config, change: &ChangeService) -> u32
-    ensures { (tag : ℕ) → result ≡ check_change old.now (config_with tag old.now change.now) change.now.account }
-{
-    if has_bad_names(old, change) {
-        return 123;
-    }
-    if has_bad_numbers(old, change)
-        || has_bad_texts(old, change)
-        || service_record::has_bad_lists(old)
-    {
-        return 87;
-    }
-    if is_bad_account(change.account.as_ref()) {
-        return 1057;
-    }
-    0
-}
-
-/// Whether the new configuration has all that can be asked for as the old one has it.
-pub fn is_as_before(old: &Config, change: &ChangeService, tag: u32) -> bool
-    ensures { result ≡ is_as_before old.now (config_with tag old.now change.now) }
-{
-    old.display.units() == display_or(old, &change.display).units()
-        && old.kind == number_or(old.kind, change.kind)
-        && old.start == number_or(old.start, change.start)
-        && old.error == number_or(old.error, change.error)
-        && old.path.units() == text_or(&old.path, &change.path).units()
-        && old.group.units() == text_or(&old.group, &change.group).units()
-        && old.tag == tag
-}
-
-/// The new configuration.
+/// The new configuration. Needs that can't be read leave the old ones.
 pub fn config_with(
     old: &Config,
     change: &ChangeService,
@@ -126,6 +64,7 @@ pub fn config_with(
     let display = display_or(old, &change.display).copy(alloc)?;
     let path = text_or(&old.path, &change.path).copy(alloc)?;
     let group = text_or(&old.group, &change.group).copy(alloc)?;
+    let needs = needs_or(old.needs.as_slice(), &change.needs, alloc)?;
     let start = number_or(old.start, change.start);
     Ok(Config {
         display,
@@ -135,7 +74,49 @@ pub fn config_with(
         path,
         group,
         tag,
-        delayed: old.delayed && start == 2,
+        needs,
+        delayed: old.delayed && start == AUTO_START,
         ..old.copy(alloc)?
     })
+}
+
+/// Whether two needs are of the same kind and have the same units.
+fn is_equal_need(a: &Need, b: &Need) -> bool
+    ensures { result ≡ is_equal_need a.now b.now }
+{
+    match (a, b) {
+        (Need::Service(a), Need::Service(b)) | (Need::Group(a), Need::Group(b)) => {
+            a.units() == b.units()
+        }
+        (Need::Service(_), Need::Group(_)) | (Need::Group(_), Need::Service(_)) => false,
+    }
+}
+
+/// Whether two lists of needs are the same.
+fn are_equal_needs(a: &[Need], b: &[Need]) -> bool
+    ensures { result ≡ pointwise is_equal_need a.now b.now }
+{
+    if a.len() != b.len() {
+        return false;
+    }
+    for i in 0..a.len() {
+        if !is_equal_need(&a[i], &b[i]) {
+            return false;
+        }
+    }
+    true
+}
+
+/// Whether a new configuration has all that can be asked for as the old one has it.
+pub fn is_as_before(old: &Config, new: &Config) -> bool
+    ensures { result ≡ is_as_before old.now new.now }
+{
+    old.display.units() == new.display.units()
+        && old.kind == new.kind
+        && old.start == new.start
+        && old.error == new.error
+        && old.path.units() == new.path.units()
+        && old.group.units() == new.group.units()
+        && old.tag == new.tag
+        && are_equal_needs(old.needs.as_slice(), new.needs.as_slice())
 }

@@ -1,0 +1,115 @@
+ghost use Rattle.std.specs.Prelude.{◌≡◌, ◌<◌, ◌^◌, ◌==◌, Some, codes, length, IfOk, if◌then◌else◌};
+ghost use Rattle.scm_rules.specs.Locks.{is_held, lock_owner, lock_size, name_of, query_lock_reply, query_lock_verdict, seconds_at};
+
+use scm_model::{LockRow, Principal, Reply};
+use scm_tables::{Tables, mask_lacks};
+use scm_text::{OutOfMemory, WText};
+use std::alloc::Global;
+
+const SC_MANAGER_QUERY_LOCK_STATUS: u32 = 0x10;
+
+/// `admin`
+const ADMIN: [u16; 5] = [97, 100, 109, 105, 110];
+
+/// `user`
+const USER: [u16; 4] = [117, 115, 101, 114];
+
+fn text_of(units: &[u16], alloc: Global) -> Result<WText, OutOfMemory>
+    ensures { IfOk result (λ text. text ≡ units.now) }
+{
+    match WText::from_units(alloc, units) {
+        Ok(text) => Ok(text),
+        Err(_) => Err(OutOfMemory),
+    }
+}
+
+/// The name of a principal.
+fn name_of(principal: Principal, alloc: Global) -> Result<WText, OutOfMemory>
+    ensures { IfOk result (λ text. text ≡ name_of principal) }
+{
+    match principal {
+        Principal::Admin => text_of(&ADMIN, alloc),
+        Principal::User => text_of(&USER, alloc),
+    }
+}
+
+/// Who holds the lock of the database: the name of the principal, or the empty text.
+pub fn lock_owner(tables: &Tables, alloc: Global) -> Result<WText, OutOfMemory>
+    ensures { IfOk result (λ owner. owner ≡ lock_owner tables.now.flat) }
+{
+    match tables.lock() {
+        Some(held) => name_of(tables.principal_of(tables.owner_at(held)), alloc),
+        None => Ok(WText::new(alloc)),
+    }
+}
+
+/// How many bytes the owner takes with the numbers before it. No owner is longer than this is told of.
+fn lock_size(owner: &WText) -> u32
+    requires { length owner.now < 2 ^ 16 }
+    ensures { result ≡ lock_size owner.now }
+{
+    12 + 2 * (owner.units().len() as u32 + 1)
+}
+
+fn is_held(lock: Option<LockRow>) -> u32
+    ensures { result ≡ is_held lock }
+{
+    match lock {
+        Some(_) => 1,
+        None => 0,
+    }
+}
+
+/// For how many whole seconds the lock is held, as far as numbers go.
+fn seconds_at(moment: u64, lock: Option<LockRow>) -> u32
+    ensures { result ≡ seconds_at moment lock }
+{
+    match lock {
+        Some(held) => (moment.saturating_sub(held.since) / 1000).min(0xFFFF_FFFF) as u32,
+        None => 0,
+    }
+}
+
+/// What `RQueryServiceLockStatusW` is refused with, or 0: `ERROR_INVALID_HANDLE` (6), `ERROR_ACCESS_DENIED` (5) or
+/// `ERROR_INSUFFICIENT_BUFFER` (122), where so many bytes are needed.
+fn query_lock_verdict(tables: &Tables, caller: u64, handle: u64, size: u32, needed: u32) -> u32
+    requires { needed ≡ lock_size (lock_owner tables.now.flat) }
+    ensures { result ≡ query_lock_verdict tables.now.flat caller handle size }
+{
+    let Some(granted) = tables.manager_mask(caller, handle) else {
+        return 6;
+    };
+    if mask_lacks(granted, SC_MANAGER_QUERY_LOCK_STATUS) {
+        return 5;
+    }
+    if size < needed {
+        return 122;
+    }
+    0
+}
+
+/// What a query of the lock is answered, with the owner that was found for it. It takes no memory.
+#[tactic(auto, using(crate::proofs::Owners::short_owner))]
+pub fn query_lock(tables: &Tables, caller: u64, handle: u64, size: u32, owner: WText) -> Reply
+    requires { owner ≡ lock_owner tables.now.flat }
+    ensures { result ≡ query_lock_reply tables.now.flat caller handle size }
+{
+    let needed = lock_size(&owner);
+    let code = query_lock_verdict(tables, caller, handle, size, needed);
+    if code == 0 {
+        return Reply::LockState {
+            held: is_held(tables.lock()),
+            owner: Some(owner),
+            seconds: seconds_at(tables.moment(), tables.lock()),
+            needed,
+            code: 0,
+        };
+    }
+    Reply::LockState {
+        held: 0,
+        owner: None,
+        seconds: 0,
+        needed: if code == 122 { needed } else { 0 },
+        code,
+    }
+}

@@ -1,0 +1,82 @@
+ghost use Rattle.std.specs.Prelude.{◌≡◌, ◌≤◌, ◌<◌, ◌^◌};
+ghost use Rattle.scm_model.specs.Refused.{outcome};
+ghost use Rattle.scm_model.specs.declared.calls.Request.TheVariants as request;
+ghost use Rattle.scm_rules.specs.Locks.{lock_done, lock_verdict, locks, unlock_done, unlock_verdict};
+
+use scm_model::{HandleKind, HandleRow, Limits, Reply};
+use scm_tables::{Tables, mask_lacks};
+
+const SC_MANAGER_LOCK: u32 = 8;
+
+/// What `RLockServiceDatabase` is refused with, or 0: `ERROR_INVALID_HANDLE` (6), `ERROR_ACCESS_DENIED` (5),
+/// `ERROR_SERVICE_DATABASE_LOCKED` (1055) or `ERROR_NOT_ENOUGH_QUOTA` (1816).
+pub fn lock_verdict(tables: &Tables, limits: &Limits, caller: u64, handle: u64) -> u32
+    ensures { result ≡ lock_verdict limits.now tables.now.flat caller handle }
+{
+    let Some(granted) = tables.manager_mask(caller, handle) else {
+        return 6;
+    };
+    if mask_lacks(granted, SC_MANAGER_LOCK) {
+        return 5;
+    }
+    if tables.lock().is_some() {
+        return 1055;
+    }
+    if limits.handles as usize <= tables.handles_of(caller) {
+        return 1816;
+    }
+    0
+}
+
+/// Takes the lock of the database, with a handle of its own.
+pub fn lock(tables: &mut Tables, limits: &Limits, caller: u64, handle: u64) -> Reply
+    requires room { 1 ≤ tables.old.spare.handles }
+    requires next { tables.old.flat.next.handle < 2 ^ 63 }
+    ensures reply { result ≡ (outcome (lock_verdict limits.now tables.old.flat caller handle) (request.Lock handle) tables.old.flat (lock_done tables.old.flat caller)).0 }
+    ensures flat { tables.new.flat ≡ (outcome (lock_verdict limits.now tables.old.flat caller handle) (request.Lock handle) tables.old.flat (lock_done tables.old.flat caller)).1 }
+    ensures limits { tables.new.limits ≡ tables.old.limits }
+{
+    let code = lock_verdict(tables, limits, caller, handle);
+    if code != 0 {
+        return Reply::Handle { handle: 0, code };
+    }
+    let handle = tables.add_handle(caller, HandleKind::Lock, 0);
+    tables.take_lock(handle);
+    Reply::Handle { handle, code: 0 }
+}
+
+/// Whether a handle is the lock's.
+fn locks(row: Option<HandleRow>) -> bool
+    ensures { result ≡ locks row }
+{
+    match row {
+        Some(row) => row.kind == HandleKind::Lock,
+        None => false,
+    }
+}
+
+/// What `RUnlockServiceDatabase` is refused with, or 0: `ERROR_INVALID_SERVICE_LOCK` (1071).
+pub fn unlock_verdict(tables: &Tables, caller: u64, handle: u64) -> u32
+    ensures { result ≡ unlock_verdict tables.now.flat caller handle }
+{
+    if locks(tables.handle(caller, handle)) {
+        0
+    } else {
+        1071
+    }
+}
+
+/// Gives the lock of the database back. Its handle leaves.
+pub fn unlock(tables: &mut Tables, caller: u64, handle: u64) -> Reply
+    ensures reply { result ≡ (outcome (unlock_verdict tables.old.flat caller handle) (request.Unlock handle) tables.old.flat (unlock_done tables.old.flat handle)).0 }
+    ensures flat { tables.new.flat ≡ (outcome (unlock_verdict tables.old.flat caller handle) (request.Unlock handle) tables.old.flat (unlock_done tables.old.flat handle)).1 }
+    ensures limits { tables.new.limits ≡ tables.old.limits }
+{
+    let code = unlock_verdict(tables, caller, handle);
+    if code != 0 {
+        return Reply::Handle { handle, code };
+    }
+    tables.free_lock(handle);
+    tables.remove_handle(handle);
+    Reply::Handle { handle: 0, code: 0 }
+}

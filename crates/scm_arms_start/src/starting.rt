@@ -1,0 +1,211 @@
+ghost use Rattle.std.specs.Prelude.{◌≡◌, ◌≤◌, ◌<◌, ◌==◌, ◌^◌, Some, IfOk, [], length, option_copied, unwrap_or};
+ghost use Rattle.std.specs.List.{list_any};
+ghost use Rattle.std.specs.Char.Utf16.{has_unpaired_surrogate};
+ghost use Rattle.scm_model.specs.Refused.{first_refusal, outcome};
+ghost use Rattle.scm_model.specs.declared.calls.Request.TheVariants as request;
+ghost use Rattle.scm_rules.specs.Delete.{is_marked};
+ghost use Rattle.scm_rules.specs.Start.{are_bad_words, is_disabled, is_missing, lacks_need, new_plan, start_done, start_verdict};
+ghost use Rattle.scm_rules.specs.Steps.{answer_of};
+ghost use Rattle.start_plan.specs.Ready.{state_in};
+ghost use Rattle.scm_arms_start.specs.Entries.{service_refusals, start_entries};
+
+use scm_model::{Answer, Need, Plan, Reply, Service};
+use scm_tables::{Tables, mask_lacks};
+use scm_text::{Items, OutOfMemory, WText};
+use service_record::is_broken;
+use std::alloc::Global;
+
+const SERVICE_START: u32 = 0x10;
+
+const STOPPED: u32 = 1;
+
+/// `SERVICE_DISABLED`.
+const DISABLED: u32 = 4;
+
+/// Whether one of the words is no well-formed UTF-16.
+fn is_one_broken(words: &[WText]) -> bool
+    ensures { result ≡ list_any has_unpaired_surrogate words.now }
+{
+    for word in words {
+        if is_broken(word.units()) {
+            return true;
+        }
+    }
+    false
+}
+
+/// Whether the words are absent, or one of them is no well-formed UTF-16.
+fn are_bad_words(words: &Option<Items<WText>>) -> bool
+    ensures { result ≡ are_bad_words words.now }
+{
+    match words {
+        Some(words) => is_one_broken(words.as_slice()),
+        None => true,
+    }
+}
+
+/// Whether a service that is there is marked.
+fn is_marked(service: Option<&Service>) -> bool
+    ensures { result ≡ is_marked (option_copied service.entry) }
+{
+    match service {
+        Some(row) => row.marked,
+        None => false,
+    }
+}
+
+/// The state of a service, or 0 where there is none.
+fn state_in(service: Option<&Service>) -> u32
+    ensures { result ≡ state_in (option_copied service.entry) }
+{
+    match service {
+        Some(row) => row.status.state,
+        None => 0,
+    }
+}
+
+/// Whether a service that is there is disabled.
+fn is_disabled(service: Option<&Service>) -> bool
+    ensures { result ≡ is_disabled (option_copied service.entry) }
+{
+    match service {
+        Some(row) => row.config.start == DISABLED,
+        None => false,
+    }
+}
+
+/// Whether a service that is needed by name isn't there or is marked.
+fn is_missing(tables: &Tables, need: &Need) -> bool
+    ensures { result ≡ is_missing tables.now.flat need.now }
+{
+    match need {
+        Need::Service(name) => tables.named(name).is_none() || is_marked(tables.named(name)),
+        Need::Group(_) => false,
+    }
+}
+
+/// Whether one of the needs is missing.
+fn is_one_missing(tables: &Tables, needs: &[Need]) -> bool
+    ensures { result ≡ list_any (is_missing tables.now.flat) needs.now }
+{
+    for need in needs {
+        if is_missing(tables, need) {
+            return true;
+        }
+    }
+    false
+}
+
+/// Whether a service that is there names one that is missing.
+fn lacks_need(tables: &Tables, service: Option<&Service>) -> bool
+    ensures { result ≡ lacks_need tables.now.flat (option_copied service.entry) }
+{
+    match service {
+        Some(row) => is_one_missing(tables, row.config.needs.as_slice()),
+        None => false,
+    }
+}
+
+/// What a start of a service is refused with for how the service stands, or 0.
+fn service_verdict(tables: &Tables, service: u64) -> u32
+    ensures { result ≡ first_refusal (service_refusals tables.now.flat service) }
+{
+    let row = tables.service(service);
+    if is_marked(row) {
+        return 1072;
+    }
+    if tables.lock().is_some() {
+        return 1055;
+    }
+    if state_in(row) != STOPPED || tables.is_target(service) {
+        return 1056;
+    }
+    if is_disabled(row) {
+        return 1058;
+    }
+    if lacks_need(tables, row) {
+        return 1075;
+    }
+    0
+}
+
+/// What `RStartServiceW` is refused with, or 0: `ERROR_INVALID_HANDLE` (6), `ERROR_INVALID_PARAMETER` (87), `ERROR_ACCESS_DENIED` (5),
+/// `ERROR_SERVICE_MARKED_FOR_DELETE` (1072), `ERROR_SERVICE_DATABASE_LOCKED` (1055), `ERROR_SERVICE_ALREADY_RUNNING` (1056),
+/// `ERROR_SERVICE_DISABLED` (1058) or `ERROR_SERVICE_DEPENDENCY_DELETED` (1075).
+pub fn start_verdict(tables: &Tables, caller: u64, handle: u64, words: &Option<Items<WText>>) -> u32
+    ensures { result ≡ start_verdict tables.now.flat caller handle words.now }
+{
+    let Some(opened) = tables.opened(caller, handle) else {
+        return 6;
+    };
+    if are_bad_words(words) {
+        return 87;
+    }
+    if mask_lacks(opened.granted, SERVICE_START) {
+        return 5;
+    }
+    service_verdict(tables, opened.service)
+}
+
+/// The services that a start goes by, in order, where it isn't refused.
+pub fn start_entries(
+    tables: &Tables,
+    caller: u64,
+    handle: u64,
+    words: &Option<Items<WText>>,
+    alloc: Global,
+) -> Result<Items<u64>, OutOfMemory>
+    ensures { IfOk result (λ entries. entries ≡ start_entries tables.now.flat caller handle words.now) }
+{
+    if start_verdict(tables, caller, handle, words) != 0 {
+        return Ok(Items::new(alloc));
+    }
+    tables.start_order(tables.opened_service(caller, handle), alloc)
+}
+
+/// The words, or none.
+fn words_or_none(words: Option<Items<WText>>, alloc: Global) -> Items<WText>
+    ensures { result ≡ unwrap_or words [] }
+{
+    match words {
+        Some(words) => words,
+        None => Items::new(alloc),
+    }
+}
+
+/// Begins a plan to start a service after what it needs. It takes no memory. `entries` are the services that it goes by.
+pub fn start(
+    tables: &mut Tables,
+    alloc: Global,
+    caller: u64,
+    handle: u64,
+    words: Option<Items<WText>>,
+    entries: Option<Items<u64>>,
+) -> Answer
+    requires made { entries ≡ Some (start_entries tables.old.flat caller handle words) }
+    requires plans { 1 ≤ tables.old.spare.plans }
+    requires dues { 1 ≤ tables.old.spare.dues }
+    requires tried { length (start_entries tables.old.flat caller handle words) ≤ tables.old.spare.tried }
+    requires next_plan { tables.old.flat.next.plan < 2 ^ 63 }
+    requires next_due { tables.old.flat.next.due < 2 ^ 63 }
+    ensures answer { result ≡ answer_of (start_verdict tables.old.flat caller handle words == 0) tables.old.flat.next.plan (outcome (start_verdict tables.old.flat caller handle words) (request.Start handle words) tables.old.flat (start_done tables.old.flat caller handle words)).0 }
+    ensures flat { tables.new.flat ≡ (outcome (start_verdict tables.old.flat caller handle words) (request.Start handle words) tables.old.flat (start_done tables.old.flat caller handle words)).1 }
+    ensures limits { tables.new.limits ≡ tables.old.limits }
+{
+    let code = start_verdict(tables, caller, handle, &words);
+    if code != 0 {
+        return Answer::Reply(Reply::Code(code));
+    }
+    let number = tables.next_plan();
+    let plan = Plan {
+        number,
+        caller,
+        target: tables.opened_service(caller, handle),
+        entries: entries.unwrap(),
+        tried: Items::new(alloc),
+        words: words_or_none(words, alloc),
+        code: None,
+    };
+    tables.begin_plan(plan);
+    Answer::Begun(number)
+}
