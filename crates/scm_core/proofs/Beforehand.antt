@@ -1,18 +1,20 @@
--- What is made for a step doesn't hang on the moment.
-use Rattle.std.proofs.Common.{ℕ, ◌≡◌, ◌==◌, true, false, cond, List, Option, Some, ap, refl}
+-- What is made for a step, and its room, don't hang on the moment.
+use Rattle.std.proofs.Common.{ℕ, ◌≡◌, ◌≤◌, ◌==◌, true, false, cond, List, Option, Some, ap, refl, subst, sym}
 use Rattle.scm_model.specs.Changes.{with_moment}
 use Rattle.scm_model.specs.declared.calls.Request.{Request}
 use Rattle.scm_model.specs.declared.calls.Request.TheVariants as request
 use Rattle.scm_model.specs.declared.flat.Flat.{Flat}
+use Rattle.scm_model.specs.declared.flat.Limits.{Limits}
+use Rattle.scm_model.specs.declared.steps.Kept.{Kept}
 use Rattle.scm_model.specs.declared.steps.Step.{Step}
-use Rattle.scm_model.specs.declared.steps.Step.TheVariants.{Joined, Call, Gone, NoMemory}
+use Rattle.scm_model.specs.declared.steps.Step.TheVariants.{Joined, Call, EndStart, LaunchTaken, Launched, LaunchFailed, Tick, Gone, NoMemory}
 use Rattle.scm_model.specs.declared.calls.Reply.{Reply}
 use Rattle.scm_model.specs.Refused.{answered}
 use Rattle.scm_model.specs.Unkept.{unkept}
 use Rattle.scm_rules.specs.OtherName.{display_by_name, name_by_display, other_name_done, other_name_reply, other_name_told, other_name_verdict}
 use Rattle.scm_rules.specs.QueryConfig.{query_config_done, query_config_told, query_config_verdict}
 use Rattle.scm_rules.specs.Steps.{at_moment}
-use Rattle.scm_tables.specs.Tabled.{Spare}
+use Rattle.scm_tables.specs.Tabled.{Spare, Tabled}
 use Rattle.scm_core.specs.declared.made.Made.{Made}
 use Rattle.scm_core.specs.Room.{HasRoomFor, IsMadeFor, made_for, nothing_made}
 
@@ -28,36 +30,87 @@ other_name_at f moment caller handle size other =
     let code = other_name_verdict f caller handle size other in
     ap replying (told_at code (other_name_told other code) (other_name_done f other).0 (with_moment f moment) f)
 
-made_at : (f : Flat) (moment caller : ℕ) (asked : Request) → made_for (with_moment f moment) caller asked ≡ made_for f caller asked
-made_at f moment caller (request.Close handle) = refl
-made_at f moment caller (request.Delete handle) = refl
-made_at f moment caller (request.QueryStatus handle) = refl
-made_at f moment caller (request.Change change) = refl
-made_at f moment caller (request.Create new) = refl
-made_at f moment caller (request.OpenManager database access) = refl
-made_at f moment caller (request.OpenService handle name access) = refl
-made_at f moment caller (request.QueryConfig handle size) =
+made_at : (l : Limits) (f : Flat) (moment caller : ℕ) (asked : Request) → made_for l (with_moment f moment) caller asked ≡ made_for l f caller asked
+made_at l f moment caller (request.QueryConfig handle size) =
     let code = query_config_verdict f caller handle size in
     ap replying (told_at code (query_config_told f caller handle code) (query_config_done f caller handle).0 (with_moment f moment) f)
-made_at f moment caller (request.DisplayName handle name size) = other_name_at f moment caller handle size (display_by_name f name)
-made_at f moment caller (request.KeyName handle name size) = other_name_at f moment caller handle size (name_by_display f name)
+made_at l f moment caller (request.DisplayName handle name size) = other_name_at f moment caller handle size (display_by_name f name)
+made_at l f moment caller (request.KeyName handle name size) = other_name_at f moment caller handle size (name_by_display f name)
+made_at l f moment caller (request.Close handle) = refl
+made_at l f moment caller (request.Delete handle) = refl
+made_at l f moment caller (request.Lock handle) = refl
+made_at l f moment caller (request.QueryStatus handle) = refl
+made_at l f moment caller (request.Unlock handle) = refl
+made_at l f moment caller (request.QueryLock handle size) = refl
+made_at l f moment caller (request.Change change) = refl
+made_at l f moment caller (request.Create new) = refl
+made_at l f moment caller (request.OpenManager database access) = refl
+made_at l f moment caller (request.OpenService handle name access) = refl
+made_at l f moment caller (request.Start handle words) = refl
 
-pub is_made_at : (f : Flat) (moment : ℕ) (made : Made) (step : Step) → IsMadeFor f made step → IsMadeFor (at_moment f moment step) made step
-is_made_at f moment made (Joined principal) is = is
-is_made_at f moment made (Call caller asked append) is = rw (made_at f moment caller asked) is
-is_made_at f moment made (Gone caller) is = is
-is_made_at f moment made (NoMemory caller) is = is
+pub is_made_at : (l : Limits) (f : Flat) (moment : ℕ) (made : Made) (step : Step) → IsMadeFor l f made step → IsMadeFor l (at_moment f moment step) made step
+is_made_at l f moment made (Call caller asked append) is = rw (made_at l f moment caller asked) is
+is_made_at l f moment made (Joined principal) is = tt
+is_made_at l f moment made (EndStart caller plan) is = tt
+is_made_at l f moment made LaunchTaken is = tt
+is_made_at l f moment made (Launched process pid) is = tt
+is_made_at l f moment made (LaunchFailed process code) is = tt
+is_made_at l f moment made Tick is = tt
+is_made_at l f moment made (Gone caller) is = tt
+is_made_at l f moment made (NoMemory caller) is = tt
+
+room_at : (t : Tabled) (moment caller : ℕ) (asked : Request) (append : Kept) → HasRoomFor t (Call caller asked append) → HasRoomFor (record t { flat = with_moment t.flat moment }) (Call caller asked append)
+room_at t moment caller (request.QueryConfig handle size) append has = has
+room_at t moment caller (request.DisplayName handle name size) append has = has
+room_at t moment caller (request.KeyName handle name size) append has = has
+room_at t moment caller (request.Close handle) append has = has
+room_at t moment caller (request.Delete handle) append has = has
+room_at t moment caller (request.Lock handle) append has = has
+room_at t moment caller (request.QueryStatus handle) append has = has
+room_at t moment caller (request.Unlock handle) append has = has
+room_at t moment caller (request.QueryLock handle size) append has = has
+room_at t moment caller (request.Change change) append has = has
+room_at t moment caller (request.Create new) append has = has
+room_at t moment caller (request.OpenManager database access) append has = has
+room_at t moment caller (request.OpenService handle name access) append has = has
+room_at t moment caller (request.Start handle words) append has = has
+
+-- the room of lists that moved on to the step's moment
+pub has_room_at : (t u : Tabled) (moment : ℕ) (step : Step) → u.flat ≡ at_moment t.flat moment step → u.limits ≡ t.limits → u.spare ≡ t.spare → HasRoomFor t step → HasRoomFor u step
+has_room_at t u moment (Call caller asked append) flat limits spare has =
+    let moved = room_at t moment caller asked append has in
+    let step = Call caller asked append in
+    subst (λ s. HasRoomFor (record { flat = u.flat; limits = u.limits; spare = s }) step) (sym spare)
+    (subst (λ l. HasRoomFor (record { flat = u.flat; limits = l; spare = t.spare }) step) (sym limits)
+    (subst (λ f. HasRoomFor (record { flat = f; limits = t.limits; spare = t.spare }) step) (sym flat) moved))
+has_room_at t u moment (Joined principal) flat limits spare has = subst (λ (s : Spare). 1 ≤ s.callers) (sym spare) has
+has_room_at t u moment (EndStart caller plan) flat limits spare has = tt
+has_room_at t u moment LaunchTaken flat limits spare has = tt
+has_room_at t u moment (Launched process pid) flat limits spare has = tt
+has_room_at t u moment (LaunchFailed process code) flat limits spare has = tt
+has_room_at t u moment Tick flat limits spare has = tt
+has_room_at t u moment (Gone caller) flat limits spare has = tt
+has_room_at t u moment (NoMemory caller) flat limits spare has = tt
 
 -- nor on what is kept
-pub is_made_unkept : (f : Flat) (made : Made) (step : Step) → IsMadeFor f made step → IsMadeFor f made (unkept step)
-is_made_unkept f made (Joined principal) is = is
-is_made_unkept f made (Call caller asked append) is = is
-is_made_unkept f made (Gone caller) is = is
-is_made_unkept f made (NoMemory caller) is = is
+pub is_made_unkept : (l : Limits) (f : Flat) (made : Made) (step : Step) → IsMadeFor l f made step → IsMadeFor l f made (unkept step)
+is_made_unkept l f made (Call caller asked append) is = is
+is_made_unkept l f made (Joined principal) is = tt
+is_made_unkept l f made (EndStart caller plan) is = tt
+is_made_unkept l f made LaunchTaken is = tt
+is_made_unkept l f made (Launched process pid) is = tt
+is_made_unkept l f made (LaunchFailed process code) is = tt
+is_made_unkept l f made Tick is = tt
+is_made_unkept l f made (Gone caller) is = tt
+is_made_unkept l f made (NoMemory caller) is = tt
 
--- nor does the room
-pub has_room_unkept : (spare : Spare) (step : Step) → HasRoomFor spare step → HasRoomFor spare (unkept step)
-has_room_unkept spare (Joined principal) has = has
-has_room_unkept spare (Call caller asked append) has = has
-has_room_unkept spare (Gone caller) has = has
-has_room_unkept spare (NoMemory caller) has = has
+pub has_room_unkept : (t : Tabled) (step : Step) → HasRoomFor t step → HasRoomFor t (unkept step)
+has_room_unkept t (Call caller asked append) has = has
+has_room_unkept t (Joined principal) has = has
+has_room_unkept t (EndStart caller plan) has = tt
+has_room_unkept t LaunchTaken has = tt
+has_room_unkept t (Launched process pid) has = tt
+has_room_unkept t (LaunchFailed process code) has = tt
+has_room_unkept t Tick has = tt
+has_room_unkept t (Gone caller) has = tt
+has_room_unkept t (NoMemory caller) has = tt

@@ -1,10 +1,14 @@
 -- What contracts see of a manager.
-use Rattle.std.specs.Prelude.{ℕ, ◌≡◌, ◌≤◌, Option, Some}
+use Rattle.std.specs.Prelude.{ℕ, ◌≡◌, ◌≤◌, ◌+◌, false, List, Option, None, Some}
+use Rattle.scm_text.specs.TextWithRoom.{TextWithRoom}
 use Rattle.scm_model.specs.declared.flat.Flat.{Flat}
 use Rattle.scm_model.specs.declared.flat.Limits.{Limits}
 use Rattle.scm_model.specs.declared.steps.Step.{Step}
-use Rattle.scm_model.specs.declared.steps.Step.TheVariants.{Joined, Call, Gone, NoMemory}
+use Rattle.scm_model.specs.declared.steps.Step.TheVariants.{Joined, Call, LaunchTaken}
 use Rattle.scm_model.specs.Unkept.{unkept}
+use Rattle.scm_rules.specs.Launches.{first_wanted}
+use Rattle.scm_rules.specs.Steps.{is_wanted, step_of}
+use Rattle.scm_tables.specs.Lines.{first_line}
 
 -- the flat state, the limits, how many steps were made and how much text they had, and the step that room was made for
 pub record Managed : Type 0 where
@@ -18,8 +22,7 @@ pub record Managed : Type 0 where
 abbrev pub WasMadeFor : Option Step → Step → Type 0
 WasMadeFor room (Joined principal) = room ≡ Some (Joined principal)
 WasMadeFor room (Call caller asked append) = room ≡ Some (unkept (Call caller asked append))
-WasMadeFor room (Gone caller) = Unit {0}
-WasMadeFor room (NoMemory caller) = Unit {0}
+WasMadeFor room step = Unit {0}
 
 -- no limit is greater than these
 pub record AreSmall (limits : Limits) : Type 0 where
@@ -31,3 +34,14 @@ pub record AreSmall (limits : Limits) : Type 0 where
   pub controls : limits.controls ≤ 16
   pub steps : limits.steps ≤ 4194304
   pub text : limits.text ≤ 268435456
+
+-- ## A launch that is taken with its line
+
+-- nothing is wanted, and nothing changes; or the launch that is wanted first is taken in a step, and its line handed out
+abbrev pub TakesLaunch : Managed → Managed → ℕ → TextWithRoom → TextWithRoom → Option (ℕ × List (List ℕ)) → Type 0
+TakesLaunch old new moment path path_now None = (is_wanted old.flat.wanted ≡ false) × (new ≡ old) × (path_now ≡ path)
+TakesLaunch old new moment path path_now (Some taken) =
+    (taken.0 ≡ first_wanted old.flat.wanted)
+    × (path_now ≡ record { units = (first_line old.flat old.flat.wanted).0; room = path.room })
+    × (taken.1 ≡ (first_line old.flat old.flat.wanted).1)
+    × (new ≡ record old { flat = (step_of old.limits old.flat moment LaunchTaken).1; steps = old.steps + 1; room = None })

@@ -1,47 +1,65 @@
-ghost use Rattle.std.specs.Prelude.{◌≡◌};
+ghost use Rattle.std.specs.Prelude.{◌≡◌, ◌≤◌, ◌<◌, ◌^◌};
+ghost use Rattle.scm_model.specs.declared.steps.Step.TheVariants.{Call};
 ghost use Rattle.scm_rules.specs.Steps.{at_moment, effect_of, step_of};
-ghost use Rattle.scm_rules.specs.Verdicts.{call_of};
 ghost use Rattle.scm_core.specs.Room.{HasNumbers, HasRoomFor, HasRoomForCall, IsMadeFor, made_for};
 
 use super::made::Made;
-use scm_arms_handle::{close, join, leave, open_manager, open_service};
+use scm_arms_handle::{close, join, leave, lock, open_manager, open_service, query_lock, unlock};
 use scm_arms_service::{change, create, delete, query};
-use scm_model::{Answer, Kept, Limits, Reply, Request, Step};
+use scm_arms_start::{end_start, fail_launch, finish, launched, start, take_launch, tick};
+use scm_model::{Answer, Kept, Request, Step};
 use scm_tables::Tables;
 use std::alloc::Global;
 
 /// Does a call.
 fn call(
     tables: &mut Tables,
-    limits: &Limits,
     alloc: Global,
     caller: u64,
     request: Request,
     kept: Kept,
     made: &mut Made,
-) -> Reply
-    requires made { made.old ≡ made_for tables.old.flat caller request }
-    requires room { HasRoomForCall tables.old.spare request }
+) -> Answer
+    requires made { made.old ≡ made_for tables.old.limits tables.old.flat caller request }
+    requires room { HasRoomForCall tables.old caller request }
     requires numbers { HasNumbers tables.old.flat }
-    ensures reply { result ≡ (call_of limits.now tables.old.flat caller request kept).0 }
-    ensures flat { tables.new.flat ≡ (call_of limits.now tables.old.flat caller request kept).1 }
+    ensures answer { result ≡ (effect_of tables.old.limits tables.old.flat (Call caller request kept)).0 }
+    ensures flat { tables.new.flat ≡ (effect_of tables.old.limits tables.old.flat (Call caller request kept)).1 }
+    ensures limits { tables.new.limits ≡ tables.old.limits }
 {
+    let limits = tables.limits();
+    let code = made.code;
     match request {
-        Request::Close { handle } => close(tables, caller, handle),
-        Request::Delete { handle } => delete(tables, caller, handle, kept),
-        Request::QueryStatus { handle } => query(tables, caller, handle),
-        Request::Change(asked) => change(tables, caller, &asked, made.config.take(), kept),
-        Request::Create(new) => create(tables, limits, alloc, caller, new, made.name.take(), kept),
+        Request::Close { handle } => Answer::Reply(close(tables, caller, handle)),
+        Request::Delete { handle } => Answer::Reply(delete(tables, caller, handle, kept)),
+        Request::Lock { handle } => Answer::Reply(lock(tables, &limits, caller, handle)),
+        Request::QueryStatus { handle } => Answer::Reply(query(tables, caller, handle)),
+        Request::Unlock { handle } => Answer::Reply(unlock(tables, caller, handle)),
+        Request::Change(asked) => {
+            let config = made.config.take();
+            Answer::Reply(change(tables, caller, &asked, code, config, kept))
+        }
+        Request::Create(new) => {
+            let config = made.config.take();
+            Answer::Reply(create(tables, &limits, caller, new, code, config, kept))
+        }
         Request::OpenManager { database, access } => {
-            open_manager(tables, limits, caller, &database, access)
+            Answer::Reply(open_manager(tables, &limits, caller, &database, access))
         }
         Request::OpenService {
             handle,
             name,
             access,
-        } => open_service(tables, limits, caller, handle, &name, access),
+        } => Answer::Reply(open_service(tables, &limits, caller, handle, &name, access)),
+        Request::QueryLock { handle, size } => {
+            let owner = made.name.take().unwrap();
+            Answer::Reply(query_lock(tables, caller, handle, size, owner))
+        }
+        Request::Start { handle, words } => {
+            start(tables, alloc, caller, handle, words, made.entries.take())
+        }
         Request::QueryConfig { .. } | Request::DisplayName { .. } | Request::KeyName { .. } => {
-            made.reply.take().unwrap()
+            Answer::Reply(made.reply.take().unwrap())
         }
     }
 }
@@ -49,27 +67,30 @@ fn call(
 /// Moves on to the step's moment, unless nothing is done.
 fn begin(tables: &mut Tables, moment: u64, step: &Step)
     ensures flat { tables.new.flat ≡ at_moment tables.old.flat moment step.now }
+    ensures limits { tables.new.limits ≡ tables.old.limits }
     ensures spare { tables.new.spare ≡ tables.old.spare }
 {
     match step {
         Step::NoMemory { .. } => {}
-        Step::Joined { .. } | Step::Call { .. } | Step::Gone { .. } => tables.move_to(moment),
+        Step::Joined { .. }
+        | Step::Call { .. }
+        | Step::EndStart { .. }
+        | Step::LaunchTaken
+        | Step::Launched { .. }
+        | Step::LaunchFailed { .. }
+        | Step::Tick
+        | Step::Gone { .. } => tables.move_to(moment),
     }
 }
 
 /// Does what a step does before the plans are settled and marked services leave.
-fn effect(
-    tables: &mut Tables,
-    limits: &Limits,
-    alloc: Global,
-    step: Step,
-    made: &mut Made,
-) -> Answer
-    requires made { IsMadeFor tables.old.flat made.old step }
-    requires room { HasRoomFor tables.old.spare step }
+fn effect(tables: &mut Tables, alloc: Global, step: Step, made: &mut Made) -> Answer
+    requires made { IsMadeFor tables.old.limits tables.old.flat made.old step }
+    requires room { HasRoomFor tables.old step }
     requires numbers { HasNumbers tables.old.flat }
-    ensures answer { result ≡ (effect_of limits.now tables.old.flat step).0 }
-    ensures flat { tables.new.flat ≡ (effect_of limits.now tables.old.flat step).1 }
+    ensures answer { result ≡ (effect_of tables.old.limits tables.old.flat step).0 }
+    ensures flat { tables.new.flat ≡ (effect_of tables.old.limits tables.old.flat step).1 }
+    ensures limits { tables.new.limits ≡ tables.old.limits }
 {
     match step {
         Step::Joined { principal } => join(tables, principal),
@@ -77,30 +98,34 @@ fn effect(
             caller,
             request,
             kept,
-        } => Answer::Reply(call(tables, limits, alloc, caller, request, kept, made)),
+        } => call(tables, alloc, caller, request, kept, made),
+        Step::EndStart { caller: _, plan } => end_start(tables, plan),
+        Step::LaunchTaken => take_launch(tables),
+        Step::Launched { process, pid } => launched(tables, process, pid),
+        Step::LaunchFailed { process, code } => fail_launch(tables, process, code),
+        Step::Tick => tick(tables),
         Step::Gone { caller } => leave(tables, caller),
         Step::NoMemory { caller: _ } => Answer::Done,
     }
 }
 
-#[tactic(auto, using(crate::proofs::Beforehand::is_made_at))]
-/// Does a step: its effect, then marked services leave. `made` was made for it beforehand.
-pub fn act(
-    tables: &mut Tables,
-    limits: &Limits,
-    alloc: Global,
-    moment: u64,
-    step: Step,
-    made: &mut Made,
-) -> Answer
-    requires made { IsMadeFor tables.old.flat made.old step }
-    requires room { HasRoomFor tables.old.spare step }
+#[tactic(auto, using(crate::proofs::Beforehand::is_made_at, crate::proofs::Beforehand::has_room_at, crate::proofs::Numbers::numbers_at, crate::proofs::Numbers::numbers_left))]
+/// Does a step: its effect, then the plans are settled, a start that this decided is answered, and marked services leave. `made` was
+/// made for it beforehand.
+pub fn act(tables: &mut Tables, alloc: Global, moment: u64, step: Step, made: &mut Made) -> Answer
+    requires made { IsMadeFor tables.old.limits tables.old.flat made.old step }
+    requires room { HasRoomFor tables.old step }
     requires numbers { HasNumbers tables.old.flat }
-    ensures answer { result ≡ (step_of limits.now tables.old.flat moment step).0 }
-    ensures flat { tables.new.flat ≡ (step_of limits.now tables.old.flat moment step).1 }
+    requires limit { tables.old.limits.processes < 2 ^ 32 }
+    requires processes { tables.old.flat.next.process ≤ 2 ^ 62 }
+    ensures answer { result ≡ (step_of tables.old.limits tables.old.flat moment step).0 }
+    ensures flat { tables.new.flat ≡ (step_of tables.old.limits tables.old.flat moment step).1 }
+    ensures limits { tables.new.limits ≡ tables.old.limits }
 {
     begin(tables, moment, &step);
-    let answer = effect(tables, limits, alloc, step, made);
+    let answer = effect(tables, alloc, step, made);
+    tables.settle();
+    let answer = finish(tables, answer);
     tables.purge();
     answer
 }

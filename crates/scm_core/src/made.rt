@@ -1,19 +1,28 @@
 ghost use Rattle.std.specs.Prelude.{◌≡◌, IfOk, Some};
+ghost use Rattle.scm_model.specs.declared.calls.Request.TheVariants as request;
 ghost use Rattle.scm_core.specs.Room.{IsMadeFor, made_for, nothing_made};
 
-use scm_arms_service::{asked_config, display_name, key_name, query_config};
-use scm_model::{Config, Reply, Request, Step};
+use scm_arms_handle::lock_owner;
+use scm_arms_service::{
+    asked_config, change_verdict, config_of, create_verdict, display_name, key_name, query_config,
+};
+use scm_arms_start::start_entries;
+use scm_model::{ChangeService, Config, NewService, Reply, Request, Step};
 use scm_tables::Tables;
-use scm_text::{OutOfMemory, WText};
+use scm_text::{Items, OutOfMemory, WText};
 use std::alloc::Global;
 
 /// What is made for a step beforehand, so that the step itself takes no memory.
 #[derive(Drop)]
 pub struct Made {
-    /// A copy of a new service's name.
+    /// The name of who holds the lock.
     pub name: Option<WText>,
     /// The configuration that a service gets.
     pub config: Option<Config>,
+    /// What a creation or a change is refused with if it is kept, or 0.
+    pub code: u32,
+    /// The services that a start goes by.
+    pub entries: Option<Items<u64>>,
     /// The reply to a call that only reads.
     pub reply: Option<Reply>,
 }
@@ -24,6 +33,44 @@ pub fn nothing_made() -> Made
     Made {
         name: None,
         config: None,
+        code: 0,
+        entries: None,
+        reply: None,
+    }
+}
+
+fn made_of_name(name: WText) -> Made
+    ensures { result ≡ record nothing_made { name = Some name } }
+{
+    Made {
+        name: Some(name),
+        config: None,
+        code: 0,
+        entries: None,
+        reply: None,
+    }
+}
+
+fn made_of_config(config: Option<Config>, code: u32) -> Made
+    ensures { result ≡ record nothing_made { config = config; code = code } }
+{
+    Made {
+        name: None,
+        config,
+        code,
+        entries: None,
+        reply: None,
+    }
+}
+
+fn made_of_entries(entries: Items<u64>) -> Made
+    ensures { result ≡ record nothing_made { entries = Some entries } }
+{
+    Made {
+        name: None,
+        config: None,
+        code: 0,
+        entries: Some(entries),
         reply: None,
     }
 }
@@ -34,8 +81,38 @@ fn made_of_reply(reply: Reply) -> Made
     Made {
         name: None,
         config: None,
+        code: 0,
+        entries: None,
         reply: Some(reply),
     }
+}
+
+/// Makes what a creation needs.
+fn make_for_create(
+    tables: &Tables,
+    caller: u64,
+    new: &NewService,
+    alloc: Global,
+) -> Result<Made, OutOfMemory>
+    ensures { IfOk result (λ made. made ≡ made_for tables.now.limits tables.now.flat caller (request.Create new.now)) }
+{
+    let config = config_of(tables, new, alloc)?;
+    let code = create_verdict(tables, &tables.limits(), caller, new, &config, alloc)?;
+    Ok(made_of_config(Some(config), code))
+}
+
+/// Makes what a change needs.
+fn make_for_change(
+    tables: &Tables,
+    caller: u64,
+    change: &ChangeService,
+    alloc: Global,
+) -> Result<Made, OutOfMemory>
+    ensures { IfOk result (λ made. made ≡ made_for tables.now.limits tables.now.flat caller (request.Change change.now)) }
+{
+    let config = asked_config(tables, caller, change, alloc)?;
+    let code = change_verdict(tables, caller, change, alloc)?;
+    Ok(made_of_config(config, code))
 }
 
 /// Makes what a call needs.
@@ -45,21 +122,17 @@ fn make_for_call(
     request: &Request,
     alloc: Global,
 ) -> Result<Made, OutOfMemory>
-    ensures { IfOk result (λ made. made ≡ made_for tables.now.flat caller request.now) }
+    ensures { IfOk result (λ made. made ≡ made_for tables.now.limits tables.now.flat caller request.now) }
 {
     match request {
-        Request::Create(new) => Ok(Made {
-            name: Some(new.name.copy(alloc)?),
-            config: None,
-            reply: None,
-        }),
-        Request::Change(change) => Ok(Made {
-            name: None,
-            config: asked_config(tables, caller, change, alloc)?,
-            reply: None,
-        }),
+        Request::Create(new) => make_for_create(tables, caller, new, alloc),
+        Request::QueryLock { .. } => Ok(made_of_name(lock_owner(tables, alloc)?)),
+        Request::Change(change) => make_for_change(tables, caller, change, alloc),
         Request::QueryConfig { handle, size } => Ok(made_of_reply(query_config(
             tables, caller, *handle, *size, alloc,
+        )?)),
+        Request::Start { handle, words } => Ok(made_of_entries(start_entries(
+            tables, caller, *handle, words, alloc,
         )?)),
         Request::DisplayName { handle, name, size } => Ok(made_of_reply(display_name(
             tables, caller, *handle, name, *size, alloc,
@@ -69,7 +142,9 @@ fn make_for_call(
         )?)),
         Request::Close { .. }
         | Request::Delete { .. }
+        | Request::Lock { .. }
         | Request::QueryStatus { .. }
+        | Request::Unlock { .. }
         | Request::OpenManager { .. }
         | Request::OpenService { .. } => Ok(nothing_made()),
     }
@@ -77,7 +152,7 @@ fn make_for_call(
 
 /// Makes what a step needs.
 pub fn make_for(tables: &Tables, step: &Step, alloc: Global) -> Result<Made, OutOfMemory>
-    ensures { IfOk result (λ made. IsMadeFor tables.now.flat made step.now) }
+    ensures { IfOk result (λ made. IsMadeFor tables.now.limits tables.now.flat made step.now) }
 {
     match step {
         Step::Call {
@@ -85,6 +160,13 @@ pub fn make_for(tables: &Tables, step: &Step, alloc: Global) -> Result<Made, Out
             request,
             kept: _,
         } => make_for_call(tables, *caller, request, alloc),
-        Step::Joined { .. } | Step::Gone { .. } | Step::NoMemory { .. } => Ok(nothing_made()),
+        Step::Joined { .. }
+        | Step::EndStart { .. }
+        | Step::LaunchTaken
+        | Step::Launched { .. }
+        | Step::LaunchFailed { .. }
+        | Step::Tick
+        | Step::Gone { .. }
+        | Step::NoMemory { .. } => Ok(nothing_made()),
     }
 }

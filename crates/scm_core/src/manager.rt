@@ -1,10 +1,13 @@
-ghost use Rattle.std.specs.Prelude.{◌≡◌, ◌+◌, ◌<◌, ◌==◌, ◌^◌, IsTrue, OnOk, OnErr, IfOk, None, Some, length, filter, is_some, []};
+ghost use Rattle.std.specs.Prelude.{◌≡◌, ◌+◌, ◌<◌, ◌≤◌, ◌==◌, ◌^◌, max, nat_le, IsTrue, OnOk, OnErr, IfOk, None, Some, length, filter, is_some, []};
+ghost use Rattle.std.specs.List.{list_any};
 ghost use Rattle.scm_rules.specs.Opening.{opening};
-ghost use Rattle.scm_rules.specs.Steps.{keeps_right, may, may_come, step_of};
+ghost use Rattle.scm_rules.specs.Start.{is_due};
+ghost use Rattle.start_plan.specs.Decided.{caller_of, code_of};
+ghost use Rattle.scm_rules.specs.Steps.{is_wanted, may, may_come, step_of};
 ghost use Rattle.scm_rules.specs.Texts.{text_of};
 ghost use Rattle.scm_rules.specs.Verdicts.{change_of};
 ghost use Rattle.scm_model.specs.Unkept.{unkept};
-ghost use Rattle.scm_core.specs.Managed.{AreSmall, WasMadeFor};
+ghost use Rattle.scm_core.specs.Managed.{AreSmall, TakesLaunch, WasMadeFor};
 
 use super::effect::act;
 use super::judging::{change_of, is_told, makes_change, may_come};
@@ -13,7 +16,7 @@ use super::room::reserve;
 use super::texts::text_of;
 use scm_model::{Answer, Change, Config, Limits, Step};
 use scm_tables::Tables;
-use scm_text::{Items, OutOfMemory, WText};
+use scm_text::{Items, OutOfMemory, TextRoom, WText};
 use std::alloc::Global;
 use std::marker::Model;
 
@@ -22,7 +25,6 @@ use std::marker::Model;
 #[derive(Drop)]
 pub struct Manager {
     tables: Tables,
-    limits: Limits,
     steps: u64,
     text: u64,
     room: Option<Step>,
@@ -75,8 +77,7 @@ impl Manager {
         ensures fresh { IfOk result (λ manager. (manager.steps ≡ 0) × (manager.text ≡ 0) × (manager.room ≡ None)) }
     {
         Ok(Manager {
-            tables: Tables::new(alloc, moment),
-            limits,
+            tables: Tables::new(alloc, limits, moment)?,
             steps: 0,
             text: 0,
             room: None,
@@ -99,48 +100,76 @@ impl Manager {
         self.tables.running() as u64
     }
 
+    /// Whether so many steps more can be counted.
+    pub fn has_steps(&self, more: u64) -> bool
+        ensures { result ≡ nat_le (self.now.steps + more) (2 ^ 50) }
+    {
+        self.steps.saturating_add(more) <= (1 << 50)
+    }
+
     /// Whether few enough steps were made, and their text and the step's are small enough.
     pub fn fits(&self, step: &Step) -> bool
         ensures steps { IsTrue result → self.now.steps < 2 ^ 50 }
         ensures text { IsTrue result → self.now.text + text_of step.now < 2 ^ 63 }
         ensures fits { self.now.steps < 2 ^ 50 → self.now.text + text_of step.now < 2 ^ 63 → IsTrue result }
     {
-        self.steps < (1 << 50) && self.text as u128 + text_of(step) < (1 << 63)
+        self.has_steps(1) && (self.text as u128).saturating_add(text_of(step)) < (1 << 63)
     }
 
     /// Whether a step may be done at a moment, whatever it tells of what was kept. It takes no memory.
     pub fn may(&self, moment: u64, step: &Step) -> bool
         ensures { result ≡ may_come self.now.limits self.now.flat moment step.now }
     {
-        may_come(&self.tables, &self.limits, moment, step)
+        may_come(&self.tables, moment, step)
     }
 
-    /// Whether a step makes a change of the configurations, if it is kept. It takes no memory.
-    pub fn makes_change(&self, _moment: u64, step: &Step) -> bool
-        ensures { result ≡ is_some (change_of self.now.limits self.now.flat step.now) }
+    /// Whether a step may be done at a moment, apart from its room and from the number and text of the steps.
+    pub fn admits(&self, moment: u64, step: &Step) -> Result<bool, OutOfMemory>
+        ensures { IfOk result (λ admits. admits ≡ may self.now.limits self.now.flat moment step.now) }
     {
-        makes_change(&self.tables, &self.limits, step)
+        Ok(self.may(moment, step) && is_told(&self.tables, step, self.alloc)?)
     }
 
-    /// Whether a step tells that a change was kept or not exactly where it makes one. It takes no memory.
-    pub fn is_told(&self, step: &Step) -> bool
-        ensures { result ≡ keeps_right self.now.limits self.now.flat step.now }
+    /// The code of a plan; none where it is undecided or absent. It takes no memory.
+    pub fn decided(&self, plan: u64) -> Option<u32>
+        ensures { result ≡ code_of self.now.flat.plans plan }
     {
-        is_told(&self.tables, &self.limits, step)
+        self.tables.decided(plan)
     }
 
-    /// Whether a step may be done at a moment, apart from its room and from the number and text of the steps. It takes no memory.
-    pub fn admits(&self, moment: u64, step: &Step) -> bool
-        ensures { result ≡ may self.now.limits self.now.flat moment step.now }
+    /// The caller of a plan, or 0 where no caller began it; none where it is absent. It takes no memory.
+    pub fn owner_of(&self, plan: u64) -> Option<u64>
+        ensures { result ≡ caller_of self.now.flat.plans plan }
     {
-        self.may(moment, step) && self.is_told(step)
+        self.tables.caller_of_plan(plan)
+    }
+
+    /// Whether a launch is wanted. It takes no memory.
+    pub fn wanted(&self) -> bool
+        ensures { result ≡ is_wanted self.now.flat.wanted }
+    {
+        self.tables.is_wanted()
+    }
+
+    /// Whether something is due at a moment, or at the moment up to which the manager has come. It takes no memory.
+    pub fn due(&self, moment: u64) -> bool
+        ensures { result ≡ list_any (is_due (max self.now.flat.moment moment)) self.now.flat.dues }
+    {
+        self.tables.is_due(self.tables.moment().max(moment))
+    }
+
+    /// Whether a step makes a change of the configurations, if it is kept.
+    pub fn makes_change(&self, _moment: u64, step: &Step) -> Result<bool, OutOfMemory>
+        ensures { IfOk result (λ changes. changes ≡ is_some (change_of self.now.limits self.now.flat step.now)) }
+    {
+        makes_change(&self.tables, step, self.alloc)
     }
 
     /// The change of the configurations that a step makes if it is kept.
     pub fn change_of(&self, step: &Step) -> Result<Option<Change>, OutOfMemory>
         ensures { IfOk result (λ change. change ≡ change_of self.now.limits self.now.flat step.now) }
     {
-        change_of(&self.tables, &self.limits, step, self.alloc)
+        change_of(&self.tables, step, self.alloc)
     }
 
     /// Makes the room that a step uses. Where there is no memory, all but the room stays as it was.
@@ -149,8 +178,8 @@ impl Manager {
         ensures err { OnErr result (self.new ≡ record self.old { room = None }) }
     {
         forget(&mut self.room);
-        reserve(&mut self.tables, step)?;
         let made = make_for(&self.tables, step, self.alloc)?;
+        reserve(&mut self.tables, step, &made)?;
         let copy = step.copy_unkept(self.alloc)?;
         keep(&mut self.room, &mut self.made, copy, made);
         Ok(())
@@ -172,13 +201,25 @@ impl Manager {
         self.steps += 1;
         self.text += text_of(&step) as u64;
         forget(&mut self.room);
-        act(
-            &mut self.tables,
-            &self.limits,
-            self.alloc,
-            moment,
-            step,
-            &mut self.made,
-        )
+        act(&mut self.tables, self.alloc, moment, step, &mut self.made)
+    }
+
+    /// Takes the launch that is wanted first in a step, leaves its path in `path`, and gives the process and the words. `None` where
+    /// nothing is wanted; nothing then changes. It takes no memory.
+    pub fn take_launch(&mut self, moment: u64, path: &mut TextRoom) -> Option<(u64, Items<WText>)>
+        requires path { 2048 ≤ path.old.room }
+        requires steps { self.old.steps < 2 ^ 50 }
+        requires text { self.old.text < 2 ^ 63 }
+        ensures { TakesLaunch self.old self.new moment path.old path.new result }
+    {
+        if !self.tables.is_wanted() {
+            return None;
+        }
+        let process = self.tables.first_wanted();
+        self.tables.write_first_path(path);
+        forget(&mut self.room);
+        let words = self.tables.take_words();
+        let _taken = self.step(moment, Step::LaunchTaken);
+        Some((process, words))
     }
 }

@@ -1,43 +1,78 @@
-ghost use Rattle.std.specs.Prelude.{◌≡◌, OnOk};
-ghost use Rattle.scm_core.specs.Room.{HasRoomFor, HasRoomForCall};
+ghost use Rattle.std.specs.Prelude.{◌≡◌, ◌≤◌, length, IfSome, OnOk};
+ghost use Rattle.scm_core.specs.Room.{HasRoomFor, HasRoomForCall, IsMadeFor, made_for};
 
+use super::made::Made;
 use scm_model::{Request, Step};
 use scm_tables::Tables;
-use scm_text::OutOfMemory;
+use scm_text::{Items, OutOfMemory};
 
-/// Makes room for the rows that a call may add.
-fn reserve_call(tables: &mut Tables, request: &Request) -> Result<(), OutOfMemory>
+/// Makes room for a plan that goes by some services.
+fn reserve_plan(tables: &mut Tables, entries: &Option<Items<u64>>) -> Result<(), OutOfMemory>
     ensures flat { tables.new.flat ≡ tables.old.flat }
-    ensures room { OnOk result (HasRoomForCall tables.new.spare request.now) }
+    ensures limits { tables.new.limits ≡ tables.old.limits }
+    ensures plans { OnOk result (1 ≤ tables.new.spare.plans) }
+    ensures dues { OnOk result (1 ≤ tables.new.spare.dues) }
+    ensures tried { OnOk result (IfSome entries.now (λ list. length list ≤ tables.new.spare.tried)) }
+{
+    match entries {
+        Some(entries) => tables.reserve_plan(entries.len()),
+        None => tables.reserve_plan(0),
+    }
+}
+
+/// Makes room for the rows that a call may add, for which this was made.
+fn reserve_call(
+    tables: &mut Tables,
+    caller: u64,
+    request: &Request,
+    made: &Made,
+) -> Result<(), OutOfMemory>
+    requires { made.now ≡ made_for tables.old.limits tables.old.flat caller request.now }
+    ensures flat { tables.new.flat ≡ tables.old.flat }
+    ensures limits { tables.new.limits ≡ tables.old.limits }
+    ensures room { OnOk result (HasRoomForCall tables.new caller request.now) }
 {
     match request {
-        Request::OpenManager { .. } | Request::OpenService { .. } => tables.reserve_handle(),
+        Request::Lock { .. } | Request::OpenManager { .. } | Request::OpenService { .. } => {
+            tables.reserve_handle()
+        }
         Request::Create(_) => {
             tables.reserve_service()?;
             tables.reserve_handle()
         }
+        Request::Start { .. } => reserve_plan(tables, &made.entries),
         Request::Close { .. }
         | Request::Delete { .. }
         | Request::QueryStatus { .. }
+        | Request::Unlock { .. }
         | Request::Change(_)
         | Request::QueryConfig { .. }
+        | Request::QueryLock { .. }
         | Request::DisplayName { .. }
         | Request::KeyName { .. } => Ok(()),
     }
 }
 
-/// Makes room for the rows that a step may add.
-pub fn reserve(tables: &mut Tables, step: &Step) -> Result<(), OutOfMemory>
+/// Makes room for the rows that a step may add, for which this was made.
+pub fn reserve(tables: &mut Tables, step: &Step, made: &Made) -> Result<(), OutOfMemory>
+    requires { IsMadeFor tables.old.limits tables.old.flat made.now step.now }
     ensures flat { tables.new.flat ≡ tables.old.flat }
-    ensures room { OnOk result (HasRoomFor tables.new.spare step.now) }
+    ensures limits { tables.new.limits ≡ tables.old.limits }
+    ensures room { OnOk result (HasRoomFor tables.new step.now) }
 {
     match step {
         Step::Joined { .. } => tables.reserve_caller(),
         Step::Call {
-            caller: _,
+            caller,
             request,
             kept: _,
-        } => reserve_call(tables, request),
-        Step::Gone { .. } | Step::NoMemory { .. } => Ok(()),
+        } => reserve_call(tables, *caller, request, made),
+        Step::EndStart { .. }
+        | Step::LaunchTaken
+        | Step::Launched { .. }
+        | Step::LaunchFailed { .. }
+        | Step::Tick
+        | Step::Gone { .. }
+        | Step::NoMemory { .. } => Ok(()),
     }
 }

@@ -1,6 +1,6 @@
 use crate::Manager;
 use scm_model::{Answer, Change, Kept, Limits, NewService, Principal, Reply, Request, Step};
-use scm_text::{Items, WText, same_units};
+use scm_text::{Items, TextRoom, WText, same_units};
 use std::alloc::Global;
 use std::test::Fail;
 
@@ -22,22 +22,25 @@ fn begun(alloc: Global) -> Result<Manager, Fail> {
     }
 }
 
-/// Does a step that may be done.
-fn done(manager: &mut Manager, step: Step) -> Result<Answer, Fail> {
-    if !manager.admits(7, &step) || !manager.fits(&step) {
+/// Does a step that may be done, at a moment.
+fn done_at(manager: &mut Manager, moment: u64, step: Step) -> Result<Answer, Fail> {
+    if !matches!(manager.admits(moment, &step), Ok(true)) || !manager.fits(&step) {
         return Err("the step may not be done".into());
     }
     match manager.reserve_for(&step) {
-        Ok(()) => Ok(manager.step(7, step)),
+        Ok(()) => Ok(manager.step(moment, step)),
         Err(_) => Err("no memory".into()),
     }
 }
 
+fn done(manager: &mut Manager, step: Step) -> Result<Answer, Fail> {
+    done_at(manager, 0, step)
+}
+
 fn kept_of(manager: &Manager, step: &Step) -> Kept {
-    if manager.makes_change(7, step) {
-        Kept::Kept
-    } else {
-        Kept::NotAsked
+    match manager.makes_change(0, step) {
+        Ok(true) => Kept::Kept,
+        Ok(false) | Err(_) => Kept::NotAsked,
     }
 }
 
@@ -52,7 +55,14 @@ fn with_kept(step: Step, kept: Kept) -> Step {
             request,
             kept,
         },
-        Step::Joined { .. } | Step::Gone { .. } | Step::NoMemory { .. } => step,
+        Step::Joined { .. }
+        | Step::EndStart { .. }
+        | Step::LaunchTaken
+        | Step::Launched { .. }
+        | Step::LaunchFailed { .. }
+        | Step::Tick
+        | Step::Gone { .. }
+        | Step::NoMemory { .. } => step,
     }
 }
 
@@ -88,13 +98,22 @@ fn code_of(answer: Answer) -> u32 {
             },
         ) => code,
         Answer::Reply(
+            Reply::LockState {
+                held: _,
+                owner: _,
+                seconds: _,
+                needed: _,
+                code,
+            },
+        ) => code,
+        Answer::Reply(
             Reply::Name {
                 name: _,
                 size: _,
                 code,
             },
         ) => code,
-        Answer::Caller(_) | Answer::Done => 0,
+        Answer::Caller(_) | Answer::Begun(_) | Answer::Launch(_) | Answer::Done => 0,
     }
 }
 
@@ -129,19 +148,19 @@ fn text(alloc: Global, units: &[u16]) -> Result<WText, Fail> {
 }
 
 /// What caller 1 asks of a new service, by its first handle.
-fn service(name: WText, path: WText) -> Request {
+fn service(name: WText, path: WText, needs: Option<Items<u8>>) -> Request {
     Request::Create(NewService {
         handle: 1,
         name,
         display: None,
-        access: 0x10000,
+        access: 0x10010,
         kind: 0x10,
         start: 3,
         error: 1,
         path,
         group: None,
         tag: None,
-        needs: None,
+        needs,
         account: None,
     })
 }
@@ -149,7 +168,47 @@ fn service(name: WText, path: WText) -> Request {
 fn create(alloc: Global, manager: &mut Manager, name: &[u16], code: u32) -> Result<(), Fail> {
     let name = text(alloc, name)?;
     let path = text(alloc, &[97])?;
-    wants(manager, 1, service(name, path), code)
+    wants(manager, 1, service(name, path, None), code)
+}
+
+/// Creates `b`, which needs the service `a`.
+fn create_needing(alloc: Global, manager: &mut Manager) -> Result<(), Fail> {
+    let name = text(alloc, &[98])?;
+    let path = text(alloc, &[98])?;
+    let Ok(needs) = Items::from_slice(alloc, &[97, 0, 0, 0, 0, 0]) else {
+        return Err("no memory".into());
+    };
+    wants(manager, 1, service(name, path, Some(needs)), 0)
+}
+
+/// Caller 1 starts a service by a handle, without words.
+fn begin(alloc: Global, manager: &mut Manager, moment: u64, handle: u64) -> Result<u64, Fail> {
+    let step = asking(
+        manager,
+        1,
+        Request::Start {
+            handle,
+            words: Some(Items::new(alloc)),
+        },
+    );
+    match done_at(manager, moment, step)? {
+        Answer::Begun(plan) => Ok(plan),
+        _ => Err("no plan".into()),
+    }
+}
+
+/// The process that is to be launched, and how many units its path has and how many words there are.
+fn taken(alloc: Global, manager: &mut Manager) -> Result<(u64, usize, usize), Fail> {
+    let Ok(mut path) = TextRoom::new(alloc, 2048) else {
+        return Err("no memory".into());
+    };
+    if !manager.fits(&Step::LaunchTaken) {
+        return Err("too many steps".into());
+    }
+    match manager.take_launch(0, &mut path) {
+        Some((process, words)) => Ok((process, path.units().len(), words.len())),
+        None => Err("nothing is wanted".into()),
+    }
 }
 
 /// A manager with a caller that has opened it.
@@ -194,5 +253,49 @@ fn a_deleted_service_stays_while_another_caller_has_a_handle(rt: HostRuntime) ->
     assert_eq!(rt; manager.running(), 0);
     let _gone = done(&mut manager, Step::Gone { caller: 2 })?;
     assert_eq!(rt; manager.services(), 0);
+    Ok(())
+}
+
+#[test]
+fn a_start_fails_with_what_it_needs(rt: HostRuntime) -> Result<(), Fail> {
+    let alloc = rt.alloc();
+    let mut manager = opened(alloc)?;
+    create(alloc, &mut manager, &[97], 0)?;
+    create_needing(alloc, &mut manager)?;
+    let plan = begin(alloc, &mut manager, 0, 3)?;
+    let again = Request::Start {
+        handle: 3,
+        words: Some(Items::new(alloc)),
+    };
+    wants(&mut manager, 1, again, 1056)?;
+    assert!(rt; manager.wanted());
+    assert_eq!(rt; manager.owner_of(plan), Some(1));
+    assert_eq!(rt;
+        taken(alloc, &mut manager)?,
+        (1, 1, 0),
+        "`a` is launched first"
+    );
+    let failed = Step::LaunchFailed {
+        process: 1,
+        code: 2,
+    };
+    let _failed = done(&mut manager, failed)?;
+    assert_eq!(rt; manager.decided(plan), Some(1068));
+    let ended = done(&mut manager, Step::EndStart { caller: 1, plan })?;
+    assert_eq!(rt; code_of(ended), 1068);
+    Ok(())
+}
+
+#[test]
+fn a_start_is_given_up_after_two_minutes(rt: HostRuntime) -> Result<(), Fail> {
+    let alloc = rt.alloc();
+    let mut manager = opened(alloc)?;
+    create(alloc, &mut manager, &[97], 0)?;
+    let plan = begin(alloc, &mut manager, 0, 2)?;
+    assert!(rt; !manager.due(119_999));
+    assert!(rt; manager.due(120_000));
+    let _ticked = done_at(&mut manager, 120_000, Step::Tick)?;
+    let ended = done_at(&mut manager, 120_000, Step::EndStart { caller: 1, plan })?;
+    assert_eq!(rt; code_of(ended), 1053);
     Ok(())
 }

@@ -1,5 +1,5 @@
-ghost use Rattle.std.specs.Prelude.{◌≡◌, ◌<◌, ◌^◌};
-ghost use Rattle.scm_rules.specs.Texts.{some_bytes, some_text, text_of, text_of_call, text_of_change, text_of_new};
+ghost use Rattle.std.specs.Prelude.{◌≡◌, ◌+◌, ◌-◌, ◌*◌, ◌<◌, ◌^◌, length, min};
+ghost use Rattle.scm_rules.specs.Texts.{some_bytes, some_text, some_words, text_of, text_of_call, text_of_change, text_of_new, text_of_words};
 
 use scm_model::{ChangeService, NewService, Request, Step};
 use scm_text::{Items, WText};
@@ -51,10 +51,37 @@ fn text_of_change(change: &ChangeService) -> u128
         + some_text(&change.display)
 }
 
-/// How much text a request has.
+/// How much text a word has: twice its units, and 8 for the word.
+fn text_of_word(word: &WText) -> u128
+    ensures { result ≡ 2 * length word.now + 8 }
+{
+    2 * word.units().len() as u128 + 8
+}
+
+/// How much text some words have, as far as numbers go.
+fn text_of_words(words: &[WText]) -> u128
+    ensures { result ≡ min (text_of_words words.now) (2 ^ 128 - 1) }
+{
+    let mut text = 0u128;
+    for word in words {
+        text = text.saturating_add(text_of_word(word));
+    }
+    text
+}
+
+/// How much text there is in words that may be absent.
+fn some_words(words: &Option<Items<WText>>) -> u128
+    ensures { result ≡ min (some_words words.now) (2 ^ 128 - 1) }
+{
+    match words {
+        Some(words) => text_of_words(words.as_slice()),
+        None => 0,
+    }
+}
+
+/// How much text a request has, as far as numbers go.
 fn text_of_call(request: &Request) -> u128
-    ensures text { result ≡ text_of_call request.now }
-    ensures small { result < 2 ^ 70 }
+    ensures { result ≡ min (text_of_call request.now) (2 ^ 128 - 1) }
 {
     match request {
         Request::Change(change) => text_of_change(change),
@@ -78,17 +105,20 @@ fn text_of_call(request: &Request) -> u128
             name,
             size: _,
         } => 2 * name.units().len() as u128,
+        Request::Start { handle: _, words } => some_words(words),
         Request::Close { .. }
         | Request::Delete { .. }
+        | Request::Lock { .. }
         | Request::QueryStatus { .. }
-        | Request::QueryConfig { .. } => 0,
+        | Request::Unlock { .. }
+        | Request::QueryConfig { .. }
+        | Request::QueryLock { .. } => 0,
     }
 }
 
-/// How much text a step has: twice the units of its texts, and the length of its lists of bytes.
+/// How much text a step has, as far as numbers go: twice the units of its texts, the length of its lists of bytes, and 8 for each word.
 pub fn text_of(step: &Step) -> u128
-    ensures text { result ≡ text_of step.now }
-    ensures small { result < 2 ^ 70 }
+    ensures { result ≡ min (text_of step.now) (2 ^ 128 - 1) }
 {
     match step {
         Step::Call {
@@ -96,6 +126,13 @@ pub fn text_of(step: &Step) -> u128
             request,
             kept: _,
         } => text_of_call(request),
-        Step::Joined { .. } | Step::Gone { .. } | Step::NoMemory { .. } => 0,
+        Step::Joined { .. }
+        | Step::EndStart { .. }
+        | Step::LaunchTaken
+        | Step::Launched { .. }
+        | Step::LaunchFailed { .. }
+        | Step::Tick
+        | Step::Gone { .. }
+        | Step::NoMemory { .. } => 0,
     }
 }

@@ -9,6 +9,11 @@ invariant_of-self-2 c =
       handles = rw c.reserve.ensures.flat sound.handles;
       callers = rw c.reserve.ensures.flat sound.callers;
       services = rw c.reserve.ensures.flat sound.services;
-      room = rw c.in_ok-copy.ensures (has_room_unkept c.reserve.new.tables.spare c.args.step.now c.in_ok-reserve.ensures.room);
-      made = rw c.in_ok-copy.ensures (is_made_unkept c.reserve.new.tables.flat c.in_ok-made.made c.args.step.now c.in_ok-made.ensures);
+      plans = rw c.reserve.ensures.flat sound.plans;
+      dues = rw c.reserve.ensures.flat sound.dues;
+      processes = rw c.reserve.ensures.flat sound.processes;
+      limit = rw c.reserve.ensures.limits sound.limit;
+      room = rw c.in_ok-copy.ensures (has_room_unkept c.reserve.new.tables c.args.step.now c.in_ok-reserve.ensures.room);
+      made = rw (c.in_ok-copy.ensures, c.reserve.ensures.flat, c.reserve.ensures.limits)
+          (is_made_unkept c.self.inside.tables.limits c.self.inside.tables.flat c.in_ok-made.made c.args.step.now c.in_ok-made.ensures);
     })
