@@ -1,6 +1,6 @@
 -- A request is read exactly where the bytes are its body.
-use Rattle.std.proofs.Common.{◌≡◌, ℕ, true, eqb, List, Option, Result, Ok, Err, refl, sym, subst, inl, inr}
-use Rattle.std.specs.Prelude.{IfOk}
+use Rattle.std.proofs.Common.{◌≡◌, ◌≤◌, ℕ, true, eqb, List, length, Option, None, Some, Result, Ok, Err, refl, sym, subst, inl, inr}
+use Rattle.std.specs.Prelude.{IfOk, IfSome}
 use Rattle.std.proofs.lemmas.Bool.{eqb-true, cases_Bool}
 use Rattle.scm_model.specs.declared.calls.Request.{Request}
 use Rattle.scm_model.specs.declared.calls.Request.TheVariants as request
@@ -10,9 +10,13 @@ use Rattle.ndr_body.proofs.Spelled.{IsBytes, bind_ok, ok_is, number_spelled, num
 use Rattle.ndr_body.proofs.SpelledHandles.{handle_spelled, handle_read}
 use Rattle.ndr_body.proofs.SpelledTexts.{text_spelled, text_read}
 use Rattle.ndr_body.proofs.SpelledPointers.{some_text_spelled, some_text_read, finished_ended, ended_finished}
-use Rattle.scm_calls.specs.Requests.{is_served, IsInRange, lone_handle_at, open_manager_at, named_at, request_at}
+use Rattle.scm_calls.specs.Ranges.{within_at}
+use Rattle.scm_calls.specs.Words.{words_at}
+use Rattle.scm_calls.specs.Requests.{is_served, IsInRange, lone_handle_at, open_manager_at, query_lock_at, start_at, named_at, request_at}
 use Rattle.scm_calls.specs.declared.requests.Named.{Named}
-use Rattle.scm_calls.specs.Bodies.{IsLoneHandle, IsOpenManager, IsNamed, IsBody}
+use Rattle.scm_calls.specs.Bodies.{IsLoneHandle, IsOpenManager, IsQueryLock, IsStart, IsNamed, IsBody}
+use Rattle.scm_calls.proofs.Ranges.{within_found, within_read}
+use Rattle.scm_calls.proofs.Argv.{AreSent, words_found, words_read, words_sent}
 
 -- ## What is read is a body
 
@@ -41,6 +45,38 @@ open_manager_found body r fits e =
       ends = finished_ended body c.0.1 d.1;
     } in
     subst (IsBody 15 body) (ok_is (request.OpenManager b.0.0 c.0.0) r d.2) (refl, found)
+
+query_lock_found : (body : List ℕ) (r : Request) → IsBytes body → query_lock_at body ≡ Ok r → IsBody 18 body r
+unfolding query_lock_at
+query_lock_found body r fits e =
+    let a = bind_ok (handle_at body 0) (λ handle. within_at 4096 body handle.1 >>= λ size. finished body size.1 >>= λ ended. Ok (request.QueryLock handle.0 size.0)) r e in
+    let b = bind_ok (within_at 4096 body a.0.1) (λ size. finished body size.1 >>= λ ended. Ok (request.QueryLock a.0.0 size.0)) r a.2 in
+    let c = bind_ok (finished body b.0.1) (λ ended. Ok (request.QueryLock a.0.0 b.0.0)) r b.2 in
+    let w = within_found 4096 body a.0.1 b.0 fits b.1 in
+    let found : IsQueryLock body a.0.0 b.0.0 = record {
+      behind_handle = a.0.1;
+      handle_stands = handle_spelled body 0 a.0 fits a.1;
+      behind_size = b.0.1;
+      size_stands = w.stands;
+      in_range = w.in_range;
+      ends = finished_ended body b.0.1 c.1;
+    } in
+    subst (IsBody 18 body) (ok_is (request.QueryLock a.0.0 b.0.0) r c.2) (refl, found)
+
+start_found : (body : List ℕ) (r : Request) → IsBytes body → start_at body ≡ Ok r → IsBody 19 body r
+unfolding start_at
+start_found body r fits e =
+    let a = bind_ok (handle_at body 0) (λ handle. words_at body handle.1 >>= λ words. finished body words.1 >>= λ ended. Ok (request.Start handle.0 words.0)) r e in
+    let b = bind_ok (words_at body a.0.1) (λ words. finished body words.1 >>= λ ended. Ok (request.Start a.0.0 words.0)) r a.2 in
+    let c = bind_ok (finished body b.0.1) (λ ended. Ok (request.Start a.0.0 b.0.0)) r b.2 in
+    let found : IsStart body a.0.0 b.0.0 = record {
+      behind_handle = a.0.1;
+      handle_stands = handle_spelled body 0 a.0 fits a.1;
+      behind_words = b.0.1;
+      words_stand = words_found body a.0.1 b.0 fits b.1;
+      ends = finished_ended body b.0.1 c.1;
+    } in
+    subst (IsBody 19 body) (ok_is (request.Start a.0.0 b.0.0) r c.2) (refl, found)
 
 named_found : (body : List ℕ) (named : Named) → IsBytes body → named_at body ≡ Ok named → IsNamed body named.handle named.name named.number
 unfolding named_at
@@ -79,16 +115,28 @@ request_found opnum body r served fits e =
       | inl is ↦ let a = asked_with body r request.Close fits (rw is at e) in subst (IsBody opnum body) a.2 (eqb-true _ _ is, a.1)
       | inr no_0 ↦ elim (cases_Bool (eqb opnum 2)) [
         | inl is ↦ let a = asked_with body r request.Delete fits (rw (no_0, is) at e) in subst (IsBody opnum body) a.2 (eqb-true _ _ is, a.1)
-        | inr no_2 ↦ elim (cases_Bool (eqb opnum 6)) [
-          | inl is ↦ let a = asked_with body r request.QueryStatus fits (rw (no_0, no_2, is) at e) in subst (IsBody opnum body) a.2 (eqb-true _ _ is, a.1)
-          | inr no_6 ↦ elim (cases_Bool (eqb opnum 15)) [
-            | inl is ↦ subst (λ (o : ℕ). IsBody o body r) (sym (eqb-true _ _ is)) (open_manager_found body r fits (rw (no_0, no_2, no_6, is) at e))
-            | inr no_15 ↦ elim (cases_Bool (eqb opnum 16)) [
-              | inl is ↦ let a = asked_of_name body r request.OpenService fits (rw (no_0, no_2, no_6, no_15, is) at e) in subst (IsBody opnum body) a.2 (eqb-true _ _ is, a.1)
-              | inr no_16 ↦ elim (cases_Bool (eqb opnum 20)) [
-                | inl is ↦ let a = asked_of_name body r request.DisplayName fits (rw (no_0, no_2, no_6, no_15, no_16, is) at e) in subst (IsBody opnum body) a.2 (eqb-true _ _ is, a.1)
-                | inr no_20 ↦ let is : eqb opnum 21 ≡ true = rw (no_0, no_2, no_6, no_15, no_16, no_20) at served in
-                    let a = asked_of_name body r request.KeyName fits (rw (no_0, no_2, no_6, no_15, no_16, no_20) at e) in subst (IsBody opnum body) a.2 (eqb-true _ _ is, a.1)
+        | inr no_2 ↦ elim (cases_Bool (eqb opnum 3)) [
+          | inl is ↦ let a = asked_with body r request.Lock fits (rw (no_0, no_2, is) at e) in subst (IsBody opnum body) a.2 (eqb-true _ _ is, a.1)
+          | inr no_3 ↦ elim (cases_Bool (eqb opnum 6)) [
+            | inl is ↦ let a = asked_with body r request.QueryStatus fits (rw (no_0, no_2, no_3, is) at e) in subst (IsBody opnum body) a.2 (eqb-true _ _ is, a.1)
+            | inr no_6 ↦ elim (cases_Bool (eqb opnum 8)) [
+              | inl is ↦ let a = asked_with body r request.Unlock fits (rw (no_0, no_2, no_3, no_6, is) at e) in subst (IsBody opnum body) a.2 (eqb-true _ _ is, a.1)
+              | inr no_8 ↦ elim (cases_Bool (eqb opnum 15)) [
+                | inl is ↦ subst (λ (o : ℕ). IsBody o body r) (sym (eqb-true _ _ is)) (open_manager_found body r fits (rw (no_0, no_2, no_3, no_6, no_8, is) at e))
+                | inr no_15 ↦ elim (cases_Bool (eqb opnum 16)) [
+                  | inl is ↦ let a = asked_of_name body r request.OpenService fits (rw (no_0, no_2, no_3, no_6, no_8, no_15, is) at e) in subst (IsBody opnum body) a.2 (eqb-true _ _ is, a.1)
+                  | inr no_16 ↦ elim (cases_Bool (eqb opnum 18)) [
+                    | inl is ↦ subst (λ (o : ℕ). IsBody o body r) (sym (eqb-true _ _ is)) (query_lock_found body r fits (rw (no_0, no_2, no_3, no_6, no_8, no_15, no_16, is) at e))
+                    | inr no_18 ↦ elim (cases_Bool (eqb opnum 19)) [
+                      | inl is ↦ subst (λ (o : ℕ). IsBody o body r) (sym (eqb-true _ _ is)) (start_found body r fits (rw (no_0, no_2, no_3, no_6, no_8, no_15, no_16, no_18, is) at e))
+                      | inr no_19 ↦ elim (cases_Bool (eqb opnum 20)) [
+                        | inl is ↦ let a = asked_of_name body r request.DisplayName fits (rw (no_0, no_2, no_3, no_6, no_8, no_15, no_16, no_18, no_19, is) at e) in subst (IsBody opnum body) a.2 (eqb-true _ _ is, a.1)
+                        | inr no_20 ↦ let is : eqb opnum 21 ≡ true = rw (no_0, no_2, no_3, no_6, no_8, no_15, no_16, no_18, no_19, no_20) at served in
+                            let a = asked_of_name body r request.KeyName fits (rw (no_0, no_2, no_3, no_6, no_8, no_15, no_16, no_18, no_19, no_20) at e) in subst (IsBody opnum body) a.2 (eqb-true _ _ is, a.1)
+                      ]
+                    ]
+                  ]
+                ]
               ]
             ]
           ]
@@ -107,6 +155,16 @@ unfolding open_manager_at
 open_manager_read body database access h =
     rw (some_text_read body 0 h.machine h.behind_machine h.machine_stands, some_text_read body _ database h.behind_database h.database_stands, number_read body _ _ access h.behind_access h.access_stands, ended_finished body h.behind_access h.ends) refl
 
+query_lock_read : (body : List ℕ) (handle size : ℕ) → IsBytes body → IsQueryLock body handle size → query_lock_at body ≡ Ok (request.QueryLock handle size)
+unfolding query_lock_at
+query_lock_read body handle size fits h =
+    rw (handle_read body 0 handle h.behind_handle fits h.handle_stands, within_read 4096 body h.behind_handle size h.behind_size h.size_stands h.in_range, ended_finished body h.behind_size h.ends) refl
+
+start_read : (body : List ℕ) (handle : ℕ) (words : Option (List (List ℕ))) → IsBytes body → IsStart body handle words → start_at body ≡ Ok (request.Start handle words)
+unfolding start_at
+start_read body handle words fits h =
+    rw (handle_read body 0 handle h.behind_handle fits h.handle_stands, words_read body h.behind_handle words h.behind_words h.words_stand, ended_finished body h.behind_words h.ends) refl
+
 named_read : (body : List ℕ) (handle : ℕ) (name : List ℕ) (number : ℕ) → IsBytes body → IsNamed body handle name number → named_at body ≡ Ok (record { handle = handle; name = name; number = number })
 unfolding named_at
 named_read body handle name number fits h =
@@ -116,12 +174,16 @@ pub request_read : (opnum : ℕ) (body : List ℕ) (r : Request) → IsBytes bod
 unfolding request_at
 request_read opnum body (request.Close handle) fits h = rw (h.0, lone_read body handle fits h.1) refl
 request_read opnum body (request.Delete handle) fits h = rw (h.0, lone_read body handle fits h.1) refl
+request_read opnum body (request.Lock handle) fits h = rw (h.0, lone_read body handle fits h.1) refl
 request_read opnum body (request.QueryStatus handle) fits h = rw (h.0, lone_read body handle fits h.1) refl
+request_read opnum body (request.Unlock handle) fits h = rw (h.0, lone_read body handle fits h.1) refl
 request_read opnum body (request.Create new) fits h = absurd h
 request_read opnum body (request.OpenManager database access) fits h = rw (h.0, open_manager_read body database access h.1) refl
 request_read opnum body (request.OpenService handle name access) fits h = rw (h.0, named_read body handle name access fits h.1) refl
 request_read opnum body (request.Change change) fits h = absurd h
 request_read opnum body (request.QueryConfig handle size) fits h = absurd h
+request_read opnum body (request.QueryLock handle size) fits h = rw (h.0, query_lock_read body handle size fits h.1) refl
+request_read opnum body (request.Start handle words) fits h = rw (h.0, start_read body handle words fits h.1) refl
 request_read opnum body (request.DisplayName handle name size) fits h = rw (h.0, named_read body handle name size fits h.1) refl
 request_read opnum body (request.KeyName handle name size) fits h = rw (h.0, named_read body handle name size fits h.1) refl
 
@@ -129,8 +191,14 @@ pub found_if : (opnum : ℕ) (body : List ℕ) (told : Result Request BodyFault)
 found_if opnum body (Ok r) served fits given = request_found opnum body r served fits given
 found_if opnum body (Err e) served fits given = tt
 
+few_words : (words : Option (List (List ℕ))) → IfSome words AreSent → IfSome words (λ words. length words ≤ 1024)
+few_words None h = tt
+few_words (Some words) h = h.few
+
 ranged : (opnum : ℕ) (body : List ℕ) (r : Request) → IsBody opnum body r → IsInRange r
 ranged opnum body (request.QueryConfig handle size) h = absurd h
+ranged opnum body (request.QueryLock handle size) h = h.1.in_range
+ranged opnum body (request.Start handle words) h = few_words words (words_sent body h.1.behind_handle words h.1.behind_words h.1.words_stand)
 ranged opnum body _ h = tt
 
 pub ranged_if : (opnum : ℕ) (body : List ℕ) (told : Result Request BodyFault) → is_served opnum ≡ true → IsBytes body → Gives (λ r. r) told (request_at opnum body) → IfOk told (λ r. IsInRange r)

@@ -1,5 +1,6 @@
 -- How many bytes replies have.
 use Rattle.std.proofs.Common.{◌≡◌, ℕ, ◌+◌, ◌*◌, ◌≤◌, ◌<◌, ◌-◌, ◌/◌, Bool, true, false, cond, get_or, drop, replicate, List, [], ◌∷◌, length, Option, Some, None, refl, inl, inr, ◌∙◌, arith}
+use Rattle.std.specs.Prelude.{IfSome}
 use Rattle.std.proofs.lemmas.List.{drop_more, length-replicate}
 use Rattle.std.proofs.lemmas.Bool.{cases_Bool, ltb-false, le-ltb}
 use lib.Dec.{ltb}
@@ -13,7 +14,7 @@ use Rattle.scm_model.specs.declared.calls.Reply.TheVariants as reply
 use Rattle.ndr_body.specs.Reading.{aligned}
 use Rattle.ndr_body.specs.Writing.{Draft, blank, put_number, put_handle, put_text, put_referent, put_some_number}
 use Rattle.ndr_body.proofs.Lengths.{length_put_number, length_put_handle, length_put_text, length_put_referent, length_some_number, length_no_number}
-use Rattle.scm_calls.specs.Replies.{put_numbers, numbers_of, put_heads, put_texts, put_config, with_reply, reply_bytes, tag_size, text_size, config_size, reply_size, bytes_needed, odd_below, shown_bound, reply_bound, Answers}
+use Rattle.scm_calls.specs.Replies.{put_numbers, numbers_of, put_heads, put_texts, put_config, put_pointer, put_pointed, put_lock, with_reply, reply_bytes, tag_size, text_size, config_size, owner_size, reply_size, bytes_needed, odd_below, shown_bound, reply_bound, Answers}
 
 pub length_put_numbers : (ns : List ℕ) (d : Draft) → aligned (length d.bytes) + 4 * length ns ≡ aligned (length (put_numbers ns d).bytes)
 length_put_numbers [] d = omega arith
@@ -56,6 +57,22 @@ unfolding put_config
 length_config None d = omega (arith, length_put_numbers (replicate 9 0) d)
 length_config (Some shown) d = omega (arith, length_texts shown (put_heads shown d), length_heads shown d)
 
+length_pointer : (owner : Option (List ℕ)) (d : Draft) → length (put_pointer owner d).bytes ≡ aligned (length d.bytes) + 4
+length_pointer None d = length_put_number 0 d
+length_pointer (Some owner) d = length_put_referent d
+
+length_pointed : (owner : Option (List ℕ)) (d : Draft) → aligned (length (put_pointed owner d).bytes) ≡ aligned (length d.bytes) + owner_size owner
+length_pointed None d = omega arith
+length_pointed (Some owner) d = text_takes owner d
+
+length_lock : (held : ℕ) (owner : Option (List ℕ)) (seconds : ℕ) (d : Draft) → aligned (length (put_lock held owner seconds d).bytes) ≡ aligned (length d.bytes) + 12 + owner_size owner
+unfolding put_lock
+length_lock held owner seconds d =
+    let d1 = put_number held d in
+    let d2 = put_pointer owner d1 in
+    let d3 = put_number seconds d2 in
+    omega (arith, length_put_number held d, length_pointer owner d1, length_put_number seconds d2, length_pointed owner d3)
+
 pub length_reply : (told : Reply) (d : Draft) → length (with_reply told d).bytes ≡ aligned (length d.bytes) + reply_size told
 unfolding with_reply
 length_reply (reply.Code code) d = length_put_number code d
@@ -70,6 +87,8 @@ length_reply (reply.Tag None code) d = omega (arith, length_put_number code (put
 length_reply (reply.Tag (Some tag) code) d = omega (arith, length_put_number code (put_some_number (Some tag) d), length_some_number tag d)
 length_reply (reply.Shown config needed code) d =
     omega (arith, length_put_number code (put_number needed (put_config config d)), length_put_number needed (put_config config d), length_config config d)
+length_reply (reply.LockState held owner seconds needed code) d =
+    omega (arith, length_put_number code (put_number needed (put_lock held owner seconds d)), length_put_number needed (put_lock held owner seconds d), length_lock held owner seconds d)
 length_reply (reply.Name name size code) d =
     omega (arith, length_put_number code (put_number size (put_text name d)), length_put_number size (put_text name d), text_takes name d)
 
@@ -102,11 +121,19 @@ fits_shown : (size : ℕ) (config : Option Shown) (needed code : ℕ) → Answer
 fits_shown size None needed code a = least (ltb ((size - 36) / 2) 5) (114 + 2 * odd_below ((size - 36) / 2)) (omega arith)
 fits_shown size (Some shown) needed code a = shared (length shown.path) (length shown.group) (length shown.needs) (length shown.account) (length shown.display) size a
 
+fits_lock : (owner : Option (List ℕ)) → IfSome owner (λ owner. length owner ≤ 256) → owner_size owner + 20 ≤ 548
+fits_lock None few = omega arith
+fits_lock (Some owner) few = omega (arith, few)
+
 pub fits_bound : (r : Request) (told : Reply) → Answers r told → reply_size told ≤ reply_bound r
 fits_bound (request.Close h) (reply.Handle handle code) a = omega arith
 fits_bound (request.Close h) _ a = absurd a
 fits_bound (request.Delete h) (reply.Code code) a = omega arith
 fits_bound (request.Delete h) _ a = absurd a
+fits_bound (request.Lock h) (reply.Handle handle code) a = omega arith
+fits_bound (request.Lock h) _ a = absurd a
+fits_bound (request.Unlock h) (reply.Handle handle code) a = omega arith
+fits_bound (request.Unlock h) _ a = absurd a
 fits_bound (request.QueryStatus h) (reply.State status code) a = omega arith
 fits_bound (request.QueryStatus h) _ a = absurd a
 fits_bound (request.Change change) (reply.Tag None code) a = omega arith
@@ -121,6 +148,10 @@ fits_bound (request.OpenService h name access) (reply.Handle handle code) a = om
 fits_bound (request.OpenService h name access) _ a = absurd a
 fits_bound (request.QueryConfig h size) (reply.Shown config needed code) a = fits_shown size config needed code a
 fits_bound (request.QueryConfig h size) _ a = absurd a
+fits_bound (request.QueryLock h size) (reply.LockState held owner seconds needed code) a = fits_lock owner a
+fits_bound (request.QueryLock h size) _ a = absurd a
+fits_bound (request.Start h words) (reply.Code code) a = omega arith
+fits_bound (request.Start h words) _ a = absurd a
 fits_bound (request.DisplayName h name size) (reply.Name told length code) a = omega arith
 fits_bound (request.DisplayName h name size) _ a = absurd a
 fits_bound (request.KeyName h name size) (reply.Name told length code) a = omega arith
@@ -162,15 +193,24 @@ named_reached =
     let is = longest_is in
     (reply.Name longest 0 0, omega (arith, is), omega (arith, is, length_reply_bytes (reply.Name longest 0 0)))
 
+owned_reached : (told : Reply) × Answers (request.QueryLock 0 0) told × (length (reply_bytes told) ≡ 548)
+owned_reached =
+    let is = longest_is in
+    (reply.LockState 0 (Some longest) 0 0 0, omega (arith, is), omega (arith, is, length_reply_bytes (reply.LockState 0 (Some longest) 0 0 0)))
+
 pub bound_reached : (r : Request) → (told : Reply) × Answers r told × (length (reply_bytes told) ≡ reply_bound r)
 bound_reached (request.Close h) = (reply.Handle 0 0, tt, length_reply_bytes (reply.Handle 0 0))
 bound_reached (request.Delete h) = (reply.Code 0, tt, length_reply_bytes (reply.Code 0))
+bound_reached (request.Lock h) = (reply.Handle 0 0, tt, length_reply_bytes (reply.Handle 0 0))
+bound_reached (request.Unlock h) = (reply.Handle 0 0, tt, length_reply_bytes (reply.Handle 0 0))
 bound_reached (request.QueryStatus h) = (reply.State zero_status 0, tt, length_reply_bytes (reply.State zero_status 0))
 bound_reached (request.Create new) = (reply.Made (Some 0) 0 0, tt, length_reply_bytes (reply.Made (Some 0) 0 0))
 bound_reached (request.OpenManager database access) = (reply.Handle 0 0, tt, length_reply_bytes (reply.Handle 0 0))
 bound_reached (request.OpenService h name access) = (reply.Handle 0 0, tt, length_reply_bytes (reply.Handle 0 0))
 bound_reached (request.Change change) = (reply.Tag (Some 0) 0, tt, length_reply_bytes (reply.Tag (Some 0) 0))
 bound_reached (request.QueryConfig h size) = shown_reached size
+bound_reached (request.QueryLock h size) = owned_reached
+bound_reached (request.Start h words) = (reply.Code 0, tt, length_reply_bytes (reply.Code 0))
 bound_reached (request.DisplayName h name size) = named_reached
 bound_reached (request.KeyName h name size) = named_reached
 
@@ -339,3 +379,44 @@ name_fits name size code d = omega (arith, number_grows size (put_text name d), 
 pub size_fits : (name : List ℕ) (size code : ℕ) (d d1 : Draft) → d1 ≡ put_text name d → length (put_number size d1).bytes ≤ length (with_reply (reply.Name name size code) d).bytes
 unfolding with_reply
 size_fits name size code d d1 e = rw e (number_grows code (put_number size (put_text name d)))
+
+pub lock_fits : (held : ℕ) (owner : Option (List ℕ)) (seconds needed code : ℕ) (d : Draft) → length (put_lock held owner seconds d).bytes ≤ length (with_reply (reply.LockState held owner seconds needed code) d).bytes
+unfolding with_reply
+lock_fits held owner seconds needed code d = omega (arith, number_grows needed (put_lock held owner seconds d), number_grows code (put_number needed (put_lock held owner seconds d)))
+
+pub lock_needed_fits : (held : ℕ) (owner : Option (List ℕ)) (seconds needed code : ℕ) (d d1 : Draft) → d1 ≡ put_lock held owner seconds d → length (put_number needed d1).bytes ≤ length (with_reply (reply.LockState held owner seconds needed code) d).bytes
+unfolding with_reply
+lock_needed_fits held owner seconds needed code d d1 e = rw e (number_grows code (put_number needed (put_lock held owner seconds d)))
+
+pointer_grows : (owner : Option (List ℕ)) (d : Draft) → length d.bytes ≤ length (put_pointer owner d).bytes
+pointer_grows None d = number_grows 0 d
+pointer_grows (Some owner) d = referent_grows d
+
+pointed_grows : (owner : Option (List ℕ)) (d : Draft) → length d.bytes ≤ length (put_pointed owner d).bytes
+pointed_grows None d = omega arith
+pointed_grows (Some owner) d = text_grows owner d
+
+-- each part of the lock's state that is put is not longer than all
+pub lock_fits_1 : (held : ℕ) (owner : Option (List ℕ)) (seconds : ℕ) (d : Draft) → length (put_number held d).bytes ≤ length (put_lock held owner seconds d).bytes
+unfolding put_lock
+lock_fits_1 held owner seconds d =
+    let x1 = put_number held d in
+    let x2 = put_pointer owner x1 in
+    let x3 = put_number seconds x2 in
+    omega (arith, pointer_grows owner x1, number_grows seconds x2, pointed_grows owner x3)
+
+pub lock_fits_2 : (held : ℕ) (owner : Option (List ℕ)) (seconds : ℕ) (d d1 : Draft) → d1 ≡ put_number held d → length (put_pointer owner d1).bytes ≤ length (put_lock held owner seconds d).bytes
+unfolding put_lock
+lock_fits_2 held owner seconds d d1 e1 =
+    let x1 = put_number held d in
+    let x2 = put_pointer owner x1 in
+    let x3 = put_number seconds x2 in
+    rw e1 (omega (arith, number_grows seconds x2, pointed_grows owner x3))
+
+pub lock_fits_3 : (held : ℕ) (owner : Option (List ℕ)) (seconds : ℕ) (d d1 d2 : Draft) → d1 ≡ put_number held d → d2 ≡ put_pointer owner d1 → length (put_number seconds d2).bytes ≤ length (put_lock held owner seconds d).bytes
+unfolding put_lock
+lock_fits_3 held owner seconds d d1 d2 e1 e2 =
+    let x1 = put_number held d in
+    let x2 = put_pointer owner x1 in
+    let x3 = put_number seconds x2 in
+    rw (e2, e1) (omega (arith, pointed_grows owner x3))

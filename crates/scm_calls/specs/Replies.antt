@@ -32,6 +32,19 @@ unfoldable pub put_config : Option Shown → Draft → Draft
 put_config None d = put_numbers (replicate 9 0) d
 put_config (Some shown) d = put_texts shown (put_heads shown d)
 
+-- a pointer to a text that comes later, and that text
+abbrev pub put_pointer : Option (List ℕ) → Draft → Draft
+put_pointer None d = put_number 0 d
+put_pointer (Some text) d = put_referent d
+
+abbrev pub put_pointed : Option (List ℕ) → Draft → Draft
+put_pointed None d = d
+put_pointed (Some text) d = put_text text d
+
+-- whether the lock is held, by whom and for how many seconds
+unfoldable pub put_lock : ℕ → Option (List ℕ) → ℕ → Draft → Draft
+put_lock held owner seconds d = put_pointed owner (put_number seconds (put_pointer owner (put_number held d)))
+
 -- a draft with a reply's items
 unfoldable pub with_reply : Reply → Draft → Draft
 with_reply (reply.Code code) d = put_number code d
@@ -40,6 +53,7 @@ with_reply (reply.State status code) d = put_number code (put_numbers (numbers_o
 with_reply (reply.Made tag handle code) d = put_number code (put_handle handle (put_some_number tag d))
 with_reply (reply.Tag tag code) d = put_number code (put_some_number tag d)
 with_reply (reply.Shown config needed code) d = put_number code (put_number needed (put_config config d))
+with_reply (reply.LockState held owner seconds needed code) d = put_number code (put_number needed (put_lock held owner seconds d))
 with_reply (reply.Name name size code) d = put_number code (put_number size (put_text name d))
 
 unfoldable pub reply_bytes : Reply → List ℕ
@@ -58,6 +72,10 @@ abbrev pub config_size : Option Shown → ℕ
 config_size None = 36
 config_size (Some shown) = 36 + text_size shown.path + text_size shown.group + text_size shown.needs + text_size shown.account + text_size shown.display
 
+abbrev pub owner_size : Option (List ℕ) → ℕ
+owner_size None = 0
+owner_size (Some owner) = text_size owner
+
 abbrev pub reply_size : Reply → ℕ
 reply_size (reply.Code code) = 4
 reply_size (reply.Handle handle code) = 24
@@ -65,6 +83,7 @@ reply_size (reply.State status code) = 32
 reply_size (reply.Made tag handle code) = tag_size tag + 24
 reply_size (reply.Tag tag code) = tag_size tag + 4
 reply_size (reply.Shown config needed code) = config_size config + 8
+reply_size (reply.LockState held owner seconds needed code) = owner_size owner + 20
 reply_size (reply.Name name size code) = text_size name + 8
 
 -- ## Which replies answer a request
@@ -102,6 +121,11 @@ abbrev pub IsShown : ℕ → Reply → Type 0
 IsShown size (reply.Shown config needed code) = IfSome config (λ shown. bytes_needed shown ≤ size)
 IsShown size _ = ⊥
 
+-- no owner, or one of at most 256 units
+abbrev pub IsLockState : Reply → Type 0
+IsLockState (reply.LockState held owner seconds needed code) = IfSome owner (λ owner. length owner ≤ 256)
+IsLockState _ = ⊥
+
 -- a name of at most 256 units
 abbrev pub IsName : Reply → Type 0
 IsName (reply.Name name size code) = length name ≤ 256
@@ -110,12 +134,16 @@ IsName _ = ⊥
 abbrev pub Answers : Request → Reply → Type 0
 Answers (request.Close handle) told = IsHandled told
 Answers (request.Delete handle) told = IsCode told
+Answers (request.Lock handle) told = IsHandled told
 Answers (request.QueryStatus handle) told = IsState told
+Answers (request.Unlock handle) told = IsHandled told
 Answers (request.Change change) told = IsTag told
 Answers (request.Create new) told = IsMade told
 Answers (request.OpenManager database access) told = IsHandled told
 Answers (request.OpenService handle name access) told = IsHandled told
 Answers (request.QueryConfig handle size) told = IsShown size told
+Answers (request.QueryLock handle size) told = IsLockState told
+Answers (request.Start handle words) told = IsCode told
 Answers (request.DisplayName handle name size) told = IsName told
 Answers (request.KeyName handle name size) told = IsName told
 
@@ -131,12 +159,16 @@ shown_bound size = let units = (size - 36) / 2 in if nat_lt units 5 then 44 else
 abbrev pub reply_bound : Request → ℕ
 reply_bound (request.Close handle) = 24
 reply_bound (request.Delete handle) = 4
+reply_bound (request.Lock handle) = 24
 reply_bound (request.QueryStatus handle) = 32
+reply_bound (request.Unlock handle) = 24
 reply_bound (request.Change change) = 12
 reply_bound (request.Create new) = 32
 reply_bound (request.OpenManager database access) = 24
 reply_bound (request.OpenService handle name access) = 24
 reply_bound (request.QueryConfig handle size) = shown_bound size
+reply_bound (request.QueryLock handle size) = 548
+reply_bound (request.Start handle words) = 4
 reply_bound (request.DisplayName handle name size) = 536
 reply_bound (request.KeyName handle name size) = 536
 
@@ -173,6 +205,21 @@ state_at body = do
   ended ← finished body code.1
   Ok (reply.State status.0 code.0)
 
+-- the text of a pointer that was read before
+unfoldable pub owner_at : ℕ → List ℕ → ℕ → Result (Option (List ℕ) × ℕ) BodyFault
+owner_at pointer body place = if pointer == 0 then Ok (None, place) else (text_at body place >>= λ owner. Ok (Some owner.0, owner.1))
+
+unfoldable pub lock_state_at : List ℕ → Result Reply BodyFault
+lock_state_at body = do
+  held ← number_at body 0
+  pointer ← number_at body held.1
+  seconds ← number_at body pointer.1
+  owner ← owner_at pointer.0 body seconds.1
+  needed ← number_at body owner.1
+  code ← number_at body needed.1
+  ended ← finished body code.1
+  Ok (reply.LockState held.0 owner.0 seconds.0 needed.0 code.0)
+
 unfoldable pub name_at : List ℕ → Result Reply BodyFault
 name_at body = do
   name ← text_at body 0
@@ -181,6 +228,10 @@ name_at body = do
   ended ← finished body code.1
   Ok (reply.Name name.0 size.0 code.0)
 
+-- the opnums that are answered by a code alone
+abbrev pub gives_code : ℕ → Bool
+gives_code opnum = opnum == 2 || opnum == 19
+
 -- the opnums that are answered by a name
 abbrev pub gives_name : ℕ → Bool
 gives_name opnum = opnum == 20 || opnum == 21
@@ -188,7 +239,8 @@ gives_name opnum = opnum == 20 || opnum == 21
 -- what a body answers a request of a served opnum, or the first fault
 unfoldable pub reply_at : ℕ → List ℕ → Result Reply BodyFault
 reply_at opnum body =
-    if opnum == 2 then code_at body
+    if gives_code opnum then code_at body
     else if opnum == 6 then state_at body
+    else if opnum == 18 then lock_state_at body
     else if gives_name opnum then name_at body
     else handled_at body

@@ -1,31 +1,40 @@
 -- Requests: how a body is read, and the one form that is written.
-use Rattle.std.specs.Prelude.{ℕ, Bool, ◌≤◌, ◌||◌, ◌==◌, List, None, Result, Ok, if◌then◌else◌}
+use Rattle.std.specs.Prelude.{ℕ, Bool, ◌≤◌, ◌||◌, ◌==◌, List, length, None, IfSome, Result, Ok, if◌then◌else◌}
 use Rattle.scm_model.specs.declared.calls.Request.{Request}
 use Rattle.scm_model.specs.declared.calls.Request.TheVariants as request
 use Rattle.ndr_body.specs.declared.fault.BodyFault.{BodyFault}
 use Rattle.ndr_body.specs.Reading.{◌>>=◌, number_at, handle_at, text_at, some_text_at, finished}
 use Rattle.ndr_body.specs.Writing.{Draft, blank, put_number, put_handle, put_text, put_some_text}
 use Rattle.scm_calls.specs.declared.requests.Named.{Named}
+use Rattle.scm_calls.specs.Ranges.{within_at}
+use Rattle.scm_calls.specs.Words.{words_at, put_words}
 
 -- the opnums whose bodies are read and written here
 abbrev pub is_served : ℕ → Bool
-is_served opnum = opnum == 0 || opnum == 2 || opnum == 6 || opnum == 15 || opnum == 16 || opnum == 20 || opnum == 21
+is_served opnum =
+    opnum == 0 || opnum == 2 || opnum == 3 || opnum == 6 || opnum == 8 || opnum == 15 || opnum == 16 || opnum == 18 || opnum == 19 || opnum == 20 || opnum == 21
 
 abbrev pub opnum_of : Request → ℕ
 opnum_of (request.Close handle) = 0
 opnum_of (request.Delete handle) = 2
+opnum_of (request.Lock handle) = 3
 opnum_of (request.QueryStatus handle) = 6
+opnum_of (request.Unlock handle) = 8
 opnum_of (request.Change change) = 11
 opnum_of (request.Create new) = 12
 opnum_of (request.OpenManager database access) = 15
 opnum_of (request.OpenService handle name access) = 16
 opnum_of (request.QueryConfig handle size) = 17
+opnum_of (request.QueryLock handle size) = 18
+opnum_of (request.Start handle words) = 19
 opnum_of (request.DisplayName handle name size) = 20
 opnum_of (request.KeyName handle name size) = 21
 
--- no body asks for a configuration of more than 8,192 bytes
+-- no body asks for a configuration of more than 8,192 bytes or for the lock's state in more than 4,096, or has more than 1,024 words
 abbrev pub IsInRange : Request → Type 0
 IsInRange (request.QueryConfig handle size) = size ≤ 8192
+IsInRange (request.QueryLock handle size) = size ≤ 4096
+IsInRange (request.Start handle words) = IfSome words (λ words. length words ≤ 1024)
 IsInRange _ = Unit {0}
 
 -- ## Reading
@@ -46,6 +55,22 @@ open_manager_at body = do
   ended ← finished body access.1
   Ok (request.OpenManager database.0 access.0)
 
+-- a handle and a size of at most 4,096 bytes
+unfoldable pub query_lock_at : List ℕ → Result Request BodyFault
+query_lock_at body = do
+  handle ← handle_at body 0
+  size ← within_at 4096 body handle.1
+  ended ← finished body size.1
+  Ok (request.QueryLock handle.0 size.0)
+
+-- a handle and words
+unfoldable pub start_at : List ℕ → Result Request BodyFault
+start_at body = do
+  handle ← handle_at body 0
+  words ← words_at body handle.1
+  ended ← finished body words.1
+  Ok (request.Start handle.0 words.0)
+
 -- a handle, a name and a number
 unfoldable pub named_at : List ℕ → Result Named BodyFault
 named_at body = do
@@ -60,9 +85,13 @@ unfoldable pub request_at : ℕ → List ℕ → Result Request BodyFault
 request_at opnum body =
     if opnum == 0 then (lone_handle_at body >>= λ handle. Ok (request.Close handle))
     else if opnum == 2 then (lone_handle_at body >>= λ handle. Ok (request.Delete handle))
+    else if opnum == 3 then (lone_handle_at body >>= λ handle. Ok (request.Lock handle))
     else if opnum == 6 then (lone_handle_at body >>= λ handle. Ok (request.QueryStatus handle))
+    else if opnum == 8 then (lone_handle_at body >>= λ handle. Ok (request.Unlock handle))
     else if opnum == 15 then open_manager_at body
     else if opnum == 16 then (named_at body >>= λ named. Ok (request.OpenService named.handle named.name named.number))
+    else if opnum == 18 then query_lock_at body
+    else if opnum == 19 then start_at body
     else if opnum == 20 then (named_at body >>= λ named. Ok (request.DisplayName named.handle named.name named.number))
     else (named_at body >>= λ named. Ok (request.KeyName named.handle named.name named.number))
 
@@ -75,12 +104,16 @@ put_named handle name number d = put_number number (put_text name (put_handle ha
 unfoldable pub with_request : Request → Draft → Draft
 with_request (request.Close handle) d = put_handle handle d
 with_request (request.Delete handle) d = put_handle handle d
+with_request (request.Lock handle) d = put_handle handle d
 with_request (request.QueryStatus handle) d = put_handle handle d
+with_request (request.Unlock handle) d = put_handle handle d
 with_request (request.Change change) d = d
 with_request (request.Create new) d = d
 with_request (request.OpenManager database access) d = put_number access (put_some_text database (put_some_text None d))
 with_request (request.OpenService handle name access) d = put_named handle name access d
 with_request (request.QueryConfig handle size) d = d
+with_request (request.QueryLock handle size) d = put_number size (put_handle handle d)
+with_request (request.Start handle words) d = put_words words (put_handle handle d)
 with_request (request.DisplayName handle name size) d = put_named handle name size d
 with_request (request.KeyName handle name size) d = put_named handle name size d
 

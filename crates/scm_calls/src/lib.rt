@@ -1,11 +1,15 @@
 //! Bodies of requests and replies, both ways: `RCloseServiceHandle`, `RDeleteService`,
-//! `RQueryServiceStatus`, `ROpenSCManagerW`, `ROpenServiceW`, `RGetServiceDisplayNameW` and
+//! `RLockServiceDatabase`, `RQueryServiceStatus`, `RUnlockServiceDatabase`, `ROpenSCManagerW`,
+//! `ROpenServiceW`, `RQueryServiceLockStatusW`, `RStartServiceW`, `RGetServiceDisplayNameW` and
 //! `RGetServiceKeyNameW` of MS-SCMR. All replies are written here, and bounded.
 #![tactic(auto)]
 
+mod places;
 mod replies;
 mod requests;
+mod words;
 
+pub use places::{next_place, read_within};
 pub use replies::{read_reply, reply_bound, write_reply};
 pub use requests::{read_request, write_request};
 

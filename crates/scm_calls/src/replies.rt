@@ -4,7 +4,7 @@ ghost use Rattle.ndr_body.specs.Reading.{Gives, number_at};
 ghost use Rattle.scm_model.specs.declared.calls.Request.{Request};
 ghost use Rattle.scm_calls.specs.Bodies.{IsReply};
 ghost use Rattle.scm_calls.specs.Requests.{is_served, IsInRange};
-ghost use Rattle.scm_calls.specs.Replies.{numbers_of, put_numbers, put_heads, put_texts, put_config, with_reply, reply_bytes, text_size, config_size, reply_size, shown_bound, reply_bound, Answers, code_at, handled_at, status_at, state_at, name_at, reply_at};
+ghost use Rattle.scm_calls.specs.Replies.{numbers_of, put_numbers, put_heads, put_texts, put_config, put_pointer, put_pointed, put_lock, with_reply, reply_bytes, text_size, config_size, owner_size, reply_size, shown_bound, reply_bound, Answers, code_at, handled_at, status_at, state_at, owner_at, lock_state_at, name_at, reply_at};
 
 use ndr_body::{BodyFault, NdrReader, NdrWriter};
 use scm_model::{Reply, Request, Shown, Status};
@@ -34,6 +34,16 @@ fn size_of_config(config: &Option<Shown>) -> u128
     }
 }
 
+fn size_of_owner(owner: &Option<WText>) -> u128
+    ensures size { result ≡ owner_size owner.now }
+    ensures small { result < 2 ^ 66 }
+{
+    match owner {
+        None => 0,
+        Some(owner) => size_of_text(owner),
+    }
+}
+
 /// How many bytes the body of a reply has.
 fn size_of_reply(reply: &Reply) -> u128
     ensures { result ≡ reply_size reply.now }
@@ -47,6 +57,7 @@ fn size_of_reply(reply: &Reply) -> u128
         Reply::Tag { tag: None, .. } => 8,
         Reply::Tag { tag: Some(_), .. } => 12,
         Reply::Shown { config, .. } => size_of_config(config) + 8,
+        Reply::LockState { owner, .. } => size_of_owner(owner) + 20,
         Reply::Name { name, .. } => size_of_text(name) + 8,
     }
 }
@@ -131,6 +142,51 @@ fn put_config(writer: &mut NdrWriter, config: &Option<Shown>) -> Result<(), OutO
     }
 }
 
+/// A pointer to a text that comes later.
+fn put_pointer(writer: &mut NdrWriter, text: &Option<WText>) -> Result<(), OutOfMemory>
+    ensures front { writer.new.front ≡ writer.old.front }
+    ensures ok { OnOk result (writer.new.draft ≡ put_pointer text.now writer.old.draft) }
+    ensures space { writer.old.space ≤ writer.new.space }
+    ensures enough { length (put_pointer text.now writer.old.draft).bytes ≤ writer.old.space → IsOk result }
+{
+    match text {
+        None => writer.number(0),
+        Some(_) => writer.referent(),
+    }
+}
+
+/// The text that a pointer before it points to.
+fn put_pointed(writer: &mut NdrWriter, text: &Option<WText>) -> Result<(), OutOfMemory>
+    ensures front { writer.new.front ≡ writer.old.front }
+    ensures ok { OnOk result (writer.new.draft ≡ put_pointed text.now writer.old.draft) }
+    ensures space { writer.old.space ≤ writer.new.space }
+    ensures enough { length (put_pointed text.now writer.old.draft).bytes ≤ writer.old.space → IsOk result }
+{
+    match text {
+        None => Ok(()),
+        Some(text) => writer.text(text),
+    }
+}
+
+/// Whether the lock is held, by whom and for how many seconds.
+#[tactic(auto, unfolding(crate::specs::Replies::put_lock))]
+fn put_lock(
+    writer: &mut NdrWriter,
+    held: u32,
+    owner: &Option<WText>,
+    seconds: u32,
+) -> Result<(), OutOfMemory>
+    ensures front { writer.new.front ≡ writer.old.front }
+    ensures ok { OnOk result (writer.new.draft ≡ put_lock held owner.now seconds writer.old.draft) }
+    ensures space { writer.old.space ≤ writer.new.space }
+    ensures enough { length (put_lock held owner.now seconds writer.old.draft).bytes ≤ writer.old.space → IsOk result }
+{
+    writer.number(held)?;
+    put_pointer(writer, owner)?;
+    writer.number(seconds)?;
+    put_pointed(writer, owner)
+}
+
 #[tactic(auto, unfolding(crate::specs::Replies::with_reply))]
 fn put_reply(writer: &mut NdrWriter, reply: &Reply) -> Result<(), OutOfMemory>
     ensures front { writer.new.front ≡ writer.old.front }
@@ -162,6 +218,17 @@ fn put_reply(writer: &mut NdrWriter, reply: &Reply) -> Result<(), OutOfMemory>
             code,
         } => {
             put_config(writer, config)?;
+            writer.number(*needed)?;
+            writer.number(*code)
+        }
+        Reply::LockState {
+            held,
+            owner,
+            seconds,
+            needed,
+            code,
+        } => {
+            put_lock(writer, *held, owner, *seconds)?;
             writer.number(*needed)?;
             writer.number(*code)
         }
@@ -236,11 +303,16 @@ fn bound_of(request: &Request) -> u32
     ensures { result ≡ reply_bound request.now }
 {
     match request {
-        Request::Close { .. } | Request::OpenManager { .. } | Request::OpenService { .. } => 24,
-        Request::Delete { .. } => 4,
+        Request::Close { .. }
+        | Request::Lock { .. }
+        | Request::Unlock { .. }
+        | Request::OpenManager { .. }
+        | Request::OpenService { .. } => 24,
+        Request::Delete { .. } | Request::Start { .. } => 4,
         Request::Change(_) => 12,
         Request::QueryStatus { .. } | Request::Create(_) => 32,
         Request::QueryConfig { size, .. } => bound_of_shown(*size),
+        Request::QueryLock { .. } => 548,
         Request::DisplayName { .. } | Request::KeyName { .. } => 536,
     }
 }
@@ -304,6 +376,44 @@ fn read_state(body: &[u8]) -> Result<Reply, BodyFault>
     Ok(Reply::State { status, code })
 }
 
+/// The text that a pointer before it points to.
+#[tactic(auto, unfolding(crate::specs::Replies::owner_at))]
+fn read_owner(
+    reader: &mut NdrReader,
+    alloc: Global,
+    pointer: u32,
+) -> Result<Option<WText>, BodyFault>
+    ensures value { Gives (λ v. (v, reader.new.place)) result (owner_at pointer reader.old.body reader.old.place) }
+    ensures body { reader.new.body ≡ reader.old.body }
+{
+    if pointer == 0 {
+        Ok(None)
+    } else {
+        Ok(Some(reader.text(alloc)?))
+    }
+}
+
+#[tactic(auto, unfolding(crate::specs::Replies::lock_state_at))]
+fn read_lock_state(alloc: Global, body: &[u8]) -> Result<Reply, BodyFault>
+    ensures { Gives (λ r. r) result (lock_state_at body.now) }
+{
+    let mut reader = NdrReader::new(body);
+    let held = reader.number()?;
+    let pointer = reader.number()?;
+    let seconds = reader.number()?;
+    let owner = read_owner(&mut reader, alloc, pointer)?;
+    let needed = reader.number()?;
+    let code = reader.number()?;
+    reader.finish()?;
+    Ok(Reply::LockState {
+        held,
+        owner,
+        seconds,
+        needed,
+        code,
+    })
+}
+
 #[tactic(auto, unfolding(crate::specs::Replies::name_at))]
 fn read_name(alloc: Global, body: &[u8]) -> Result<Reply, BodyFault>
     ensures { Gives (λ r. r) result (name_at body.now) }
@@ -321,8 +431,9 @@ fn reply_of(alloc: Global, opnum: u16, body: &[u8]) -> Result<Reply, BodyFault>
     ensures { Gives (λ r. r) result (reply_at opnum body.now) }
 {
     match opnum {
-        2 => read_code(body),
+        2 | 19 => read_code(body),
         6 => read_state(body),
+        18 => read_lock_state(alloc, body),
         20 | 21 => read_name(alloc, body),
         _ => read_handled(body),
     }

@@ -2,8 +2,10 @@ ghost use Rattle.std.specs.Prelude.{◌≡◌, IsTrue, IfOk, OnOk, Ok, List, ℕ
 ghost use Rattle.scm_model.specs.declared.calls.Request.{Request};
 ghost use Rattle.ndr_body.specs.Reading.{Gives};
 ghost use Rattle.scm_calls.specs.Bodies.{IsBody};
-ghost use Rattle.scm_calls.specs.Requests.{is_served, opnum_of, IsInRange, put_named, with_request, request_bytes, lone_handle_at, open_manager_at, named_at, request_at};
+ghost use Rattle.scm_calls.specs.Requests.{is_served, opnum_of, IsInRange, put_named, with_request, request_bytes, lone_handle_at, open_manager_at, query_lock_at, start_at, named_at, request_at};
 
+use crate::places::read_within;
+use crate::words::{put_words, read_words};
 use ndr_body::{BodyFault, NdrReader, NdrWriter};
 use scm_model::Request;
 use scm_text::{Buffer, Items, OutOfMemory, WText};
@@ -16,6 +18,9 @@ struct Named {
     name: WText,
     number: u32,
 }
+
+/// The most bytes that the lock's state may be asked for in.
+const MOST_LOCK_STATE: u32 = 4096;
 
 /// A handle and nothing else.
 #[tactic(auto, unfolding(crate::specs::Requests::lone_handle_at))]
@@ -38,6 +43,28 @@ fn open_manager(alloc: Global, body: &[u8]) -> Result<Request, BodyFault>
     let access = reader.number()?;
     reader.finish()?;
     Ok(Request::OpenManager { database, access })
+}
+
+#[tactic(auto, unfolding(crate::specs::Requests::query_lock_at))]
+fn query_lock(body: &[u8]) -> Result<Request, BodyFault>
+    ensures { Gives (λ r. r) result (query_lock_at body.now) }
+{
+    let mut reader = NdrReader::new(body);
+    let handle = reader.handle()?;
+    let size = read_within(&mut reader, MOST_LOCK_STATE)?;
+    reader.finish()?;
+    Ok(Request::QueryLock { handle, size })
+}
+
+#[tactic(auto, unfolding(crate::specs::Requests::start_at))]
+fn start(alloc: Global, body: &[u8]) -> Result<Request, BodyFault>
+    ensures { Gives (λ r. r) result (start_at body.now) }
+{
+    let mut reader = NdrReader::new(body);
+    let handle = reader.handle()?;
+    let words = read_words(&mut reader, alloc)?;
+    reader.finish()?;
+    Ok(Request::Start { handle, words })
 }
 
 /// A handle, a name and a number.
@@ -68,7 +95,13 @@ fn request_of(alloc: Global, opnum: u16, body: &[u8]) -> Result<Request, BodyFau
         2 => Ok(Request::Delete {
             handle: lone_handle(body)?,
         }),
+        3 => Ok(Request::Lock {
+            handle: lone_handle(body)?,
+        }),
         6 => Ok(Request::QueryStatus {
+            handle: lone_handle(body)?,
+        }),
+        8 => Ok(Request::Unlock {
             handle: lone_handle(body)?,
         }),
         15 => open_manager(alloc, body),
@@ -84,6 +117,8 @@ fn request_of(alloc: Global, opnum: u16, body: &[u8]) -> Result<Request, BodyFau
                 access,
             })
         }
+        18 => query_lock(body),
+        19 => start(alloc, body),
         20 => {
             let Named {
                 handle,
@@ -139,8 +174,11 @@ fn put_request(writer: &mut NdrWriter, request: &Request) -> Result<(), OutOfMem
     ensures ok { OnOk result (writer.new.draft ≡ with_request request.now writer.old.draft) }
 {
     match request {
-        Request::Close { handle } | Request::Delete { handle } | Request::QueryStatus { handle } =>
-            writer.handle(*handle),
+        Request::Close { handle }
+        | Request::Delete { handle }
+        | Request::Lock { handle }
+        | Request::QueryStatus { handle }
+        | Request::Unlock { handle } => writer.handle(*handle),
         Request::OpenManager { database, access } => {
             writer.some_text(None)?;
             writer.some_text(database.as_ref())?;
@@ -161,6 +199,14 @@ fn put_request(writer: &mut NdrWriter, request: &Request) -> Result<(), OutOfMem
             name,
             size: number,
         } => put_named(writer, *handle, name, *number),
+        Request::QueryLock { handle, size } => {
+            writer.handle(*handle)?;
+            writer.number(*size)
+        }
+        Request::Start { handle, words } => {
+            writer.handle(*handle)?;
+            put_words(writer, words)
+        }
         Request::Change(_) | Request::Create(_) | Request::QueryConfig { .. } => Ok(()),
     }
 }

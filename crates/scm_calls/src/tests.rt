@@ -3,7 +3,8 @@ ghost use Rattle.std.specs.Prelude.{◌≤◌};
 use super::*;
 use ndr_body::BodyFault;
 use scm_model::{Reply, Request, Status};
-use scm_text::{Buffer, WText};
+use scm_text::{Buffer, Items, WText};
+use std::alloc::Global;
 use std::test::*;
 
 /// `ROpenServiceW` for handle 1, the name `Db` and access 4.
@@ -25,6 +26,32 @@ const NAME: [u8; 28] = [
 
 /// Handle 1.
 const HANDLE: [u8; 20] = [0, 0, 0, 0, 1, 0, 0, 0, 0, 0, 0, 0, 0, 0, 0, 0, 0, 0, 0, 0];
+
+/// `RQueryServiceLockStatusW` for handle 1 and 12 bytes.
+const LOOK_AT_LOCK: [u8; 24] = [
+    0, 0, 0, 0, 1, 0, 0, 0, 0, 0, 0, 0, 0, 0, 0, 0, 0, 0, 0, 0, 12, 0, 0, 0,
+];
+
+/// `RStartServiceW` for handle 1 without words.
+const START: [u8; 28] = [
+    0, 0, 0, 0, 1, 0, 0, 0, 0, 0, 0, 0, 0, 0, 0, 0, 0, 0, 0, 0, 0, 0, 0, 0, 0, 0, 0, 0,
+];
+
+/// `RStartServiceW` for handle 1 with the words `A` and `bc`.
+const START_WITH_WORDS: [u8; 74] = [
+    0, 0, 0, 0, 1, 0, 0, 0, 0, 0, 0, 0, 0, 0, 0, 0, 0, 0, 0, 0, 2, 0, 0, 0, 0, 0, 2, 0, 2, 0, 0, 0,
+    4, 0, 2, 0, 8, 0, 2, 0, 2, 0, 0, 0, 0, 0, 0, 0, 2, 0, 0, 0, 0x41, 0, 0, 0, 3, 0, 0, 0, 0, 0, 0,
+    0, 3, 0, 0, 0, 0x62, 0, 0x63, 0, 0, 0,
+];
+
+/// The lock is held by `admin` for 7 seconds, which takes 24 bytes.
+const LOCKED: [u8; 44] = [
+    1, 0, 0, 0, 0, 0, 2, 0, 7, 0, 0, 0, 6, 0, 0, 0, 0, 0, 0, 0, 6, 0, 0, 0, 0x61, 0, 0x64, 0, 0x6D,
+    0, 0x69, 0, 0x6E, 0, 0, 0, 24, 0, 0, 0, 0, 0, 0, 0,
+];
+
+/// A look at the lock is refused with `ERROR_ACCESS_DENIED` (5).
+const UNLOCKED: [u8; 20] = [0, 0, 0, 0, 0, 0, 0, 0, 0, 0, 0, 0, 0, 0, 0, 0, 5, 0, 0, 0];
 
 /// The status of a service that was just created.
 const FRESH: [u8; 32] = [
@@ -207,6 +234,121 @@ fn a_name_is_read(rt: HostRuntime) -> Result<(), Fail> {
         }
         _other => return Err(Fail::new("a name is told")),
     }
+    Ok(())
+}
+
+#[test]
+fn the_lock_is_asked_for(rt: HostRuntime) -> Result<(), Fail> {
+    assert!(rt;
+        matches!(
+            read_request(rt.alloc(), 3, &HANDLE)?,
+            Request::Lock { handle: 1 }
+        )
+    );
+    assert!(rt;
+        matches!(
+            read_request(rt.alloc(), 8, &HANDLE)?,
+            Request::Unlock { handle: 1 }
+        )
+    );
+    assert!(rt;
+        matches!(
+            read_request(rt.alloc(), 18, &LOOK_AT_LOCK)?,
+            Request::QueryLock {
+                handle: 1,
+                size: 12
+            }
+        )
+    );
+    Ok(())
+}
+
+#[test]
+fn a_start_without_words_is_read(rt: HostRuntime) -> Result<(), Fail> {
+    match read_request(rt.alloc(), 19, &START)? {
+        Request::Start {
+            handle: 1,
+            words: Some(words),
+        } => assert_eq!(rt; words.len(), 0),
+        _other => return Err(Fail::new("a start without words")),
+    }
+    Ok(())
+}
+
+#[test]
+fn a_start_with_words_is_read(rt: HostRuntime) -> Result<(), Fail> {
+    match read_request(rt.alloc(), 19, &START_WITH_WORDS)? {
+        Request::Start {
+            handle: 1,
+            words: Some(words),
+        } => {
+            assert_eq!(rt; words.len(), 2);
+            assert_eq!(rt; words.as_slice()[0].units(), [0x41].as_slice());
+            assert_eq!(rt; words.as_slice()[1].units(), [0x62, 0x63].as_slice());
+        }
+        _other => return Err(Fail::new("a start with words")),
+    }
+    Ok(())
+}
+
+/// The words `A` and `bc`.
+fn two_words(alloc: Global) -> Result<Items<WText>, Fail> {
+    let mut words = Items::new(alloc);
+    if words.push(WText::from_units(alloc, &[0x41])?).is_err() {
+        return Err(Fail::new("memory"));
+    }
+    if words
+        .push(WText::from_units(alloc, &[0x62, 0x63])?)
+        .is_err()
+    {
+        return Err(Fail::new("memory"));
+    }
+    Ok(words)
+}
+
+#[test]
+fn a_start_with_words_is_written(rt: HostRuntime) -> Result<(), Fail> {
+    let asked = Request::Start {
+        handle: 1,
+        words: Some(two_words(rt.alloc())?),
+    };
+    assert_eq!(rt;
+        write_request(rt.alloc(), &asked)?.as_slice(),
+        START_WITH_WORDS.as_slice()
+    );
+    Ok(())
+}
+
+#[test]
+fn the_state_of_the_lock_is_written(rt: HostRuntime) -> Result<(), Fail> {
+    let told = Reply::LockState {
+        held: 1,
+        owner: Some(WText::from_units(rt.alloc(), &[0x61, 0x64, 0x6D, 0x69, 0x6E])?),
+        seconds: 7,
+        needed: 24,
+        code: 0,
+    };
+    match write_reply(&told, Buffer::with_room(rt.alloc(), 44)?) {
+        Ok(written) => assert_eq!(rt; written.as_slice(), LOCKED.as_slice()),
+        Err(_) => return Err(Fail::new("there was room")),
+    }
+    Ok(())
+}
+
+#[test]
+fn the_state_of_no_lock_is_read(rt: HostRuntime) -> Result<(), Fail> {
+    assert!(rt;
+        matches!(
+            read_reply(rt.alloc(), 18, &UNLOCKED)?,
+            Reply::LockState {
+                held: 0,
+                owner: None,
+                seconds: 0,
+                needed: 0,
+                code: 5
+            }
+        )
+    );
     Ok(())
 }
 

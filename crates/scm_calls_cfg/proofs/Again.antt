@@ -1,5 +1,5 @@
 -- A reply that is written is read back.
-use Rattle.std.proofs.Common.{◌≡◌, ℕ, ◌^◌, ◌<◌, List, [], ◌∷◌, ◌++◌, length, replicate, Option, Some, None, Result, Ok, Err, refl, ap, ◌∙◌, append_assoc, arith}
+use Rattle.std.proofs.Common.{◌≡◌, ℕ, ◌^◌, ◌<◌, List, [], ◌∷◌, ◌++◌, length, replicate, Option, Some, None, Result, Ok, Err, refl, ap, ◌∙◌, arith}
 use Rattle.std.specs.Prelude.{IfSome, IfOk}
 use Rattle.std.specs.List.{AllByRecursion}
 use Rattle.scm_text.specs.Roomed.{Roomed}
@@ -7,14 +7,14 @@ use Rattle.scm_model.specs.declared.calls.Shown.{Shown}
 use Rattle.scm_model.specs.declared.calls.Reply.{Reply}
 use Rattle.scm_model.specs.declared.calls.Reply.TheVariants as reply
 use Rattle.ndr_body.specs.Reading.{number_at, handle_at, text_at, some_number_at}
-use Rattle.ndr_body.specs.Writing.{Draft, blank, number_bytes, padding, put_number, put_handle, put_text, put_referent, put_some_number}
-use Rattle.ndr_body.specs.Spelled.{IsNumber, Stands}
+use Rattle.ndr_body.specs.Writing.{Draft, blank, put_number, put_handle, put_text, put_referent, put_some_number}
 use Rattle.ndr_body.specs.Laws.{IsPutAs, IsReferent, IsSent}
-use Rattle.ndr_body.proofs.Written.{number_put, handle_put, text_put, any_number_put, next_referent}
+use Rattle.ndr_body.proofs.Written.{number_put, handle_put, text_put, any_number_put}
 use Rattle.ndr_body.proofs.Chains.{Holds, whole, held_before, read_there, blank_referent, ends_there, handle_small, text_sent, pointed_small}
 use Rattle.scm_calls.specs.Replies.{put_numbers, put_heads, put_texts, put_config, with_reply, reply_bytes}
 use Rattle.scm_calls.specs.Bodies.{NumbersStand}
-use Rattle.scm_calls.proofs.Told.{number_there, numbers_before, numbers_again}
+use Rattle.scm_calls.proofs.Referents.{number_there, referent_behind, referent_before, referent_next, referent_there}
+use Rattle.scm_calls.proofs.Told.{numbers_before, numbers_again}
 use Rattle.scm_calls_cfg.specs.declared.replies.Heads.{Heads}
 use Rattle.scm_calls_cfg.specs.declared.replies.Texts.{Texts}
 use Rattle.scm_calls_cfg.specs.Replies.{tag_at, made_at, texts_at, config_at, shown_at, reply_at}
@@ -40,26 +40,6 @@ no_config_put = record {
   behind = λ d. numbers_before (replicate 9 0) (put_numbers (replicate 9 0) d).bytes d zeros_small (whole (put_numbers (replicate 9 0) d));
   next = λ d referent. numbers_next (replicate 9 0) d zeros_small referent;
 }
-
--- ## A referent
-
-referent_behind : (d : Draft) → (more : List ℕ) × ((put_referent d).bytes ≡ d.bytes ++ more)
-unfolding put_referent
-referent_behind d = (padding (length d.bytes) ++ number_bytes d.next, append_assoc d.bytes (padding (length d.bytes)) (number_bytes d.next))
-
-referent_before : (body : List ℕ) (d : Draft) → Holds body (put_referent d) → Holds body d
-referent_before body d held =
-    let b = referent_behind d in
-    (b.0 ++ held.0, held.1 ∙ ap (λ (l : List ℕ). l ++ held.0) b.1 ∙ append_assoc d.bytes b.0 held.0)
-
-referent_next : (d : Draft) → IsReferent d.next → IsReferent (put_referent d).next
-unfolding put_referent
-referent_next d referent = next_referent d.next referent
-
--- it is read as a number
-referent_there : (body : List ℕ) (d : Draft) → IsReferent d.next → Holds body (put_referent d) → Stands IsNumber body (length d.bytes) d.next (length (put_referent d).bytes)
-unfolding put_referent put_number
-referent_there body d referent held = number_there d.next d body referent.small held
 
 -- ## A configuration
 

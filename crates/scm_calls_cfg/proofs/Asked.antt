@@ -1,7 +1,7 @@
 -- A request is read exactly where the bytes are its body.
-use Rattle.std.proofs.Common.{◌≡◌, ℕ, ◌≤◌, Bool, true, false, cond, eqb, leb, List, Option, Some, None, Result, Ok, Err, refl, subst, inl, inr}
+use Rattle.std.proofs.Common.{◌≡◌, ℕ, Bool, true, false, cond, eqb, List, Option, Some, None, Result, Ok, Err, refl, subst, inl, inr}
 use Rattle.std.specs.Prelude.{◌||◌, IfOk}
-use Rattle.std.proofs.lemmas.Bool.{eqb-true, eq-eqb, leb-true, le-leb, cases_Bool}
+use Rattle.std.proofs.lemmas.Bool.{eqb-true, eq-eqb, cases_Bool}
 use Rattle.scm_model.specs.declared.calls.NewService.{NewService}
 use Rattle.scm_model.specs.declared.calls.ChangeService.{ChangeService}
 use Rattle.scm_model.specs.declared.calls.Request.{Request}
@@ -20,7 +20,9 @@ use Rattle.scm_calls_cfg.specs.declared.requests.Belongings.{Belongings}
 use Rattle.scm_calls_cfg.specs.declared.requests.Aim.{Aim}
 use Rattle.scm_calls_cfg.specs.declared.requests.Look.{Look}
 use Rattle.scm_calls.specs.Requests.{IsInRange}
-use Rattle.scm_calls_cfg.specs.Requests.{is_served, is_size, sized_at, named_at, shape_at, belongings_at, asked, create_at, aim_at, changed, change_at, within_at, look_at, request_at}
+use Rattle.scm_calls.specs.Ranges.{within_at}
+use Rattle.scm_calls.proofs.Ranges.{guard_true, within_found, within_read}
+use Rattle.scm_calls_cfg.specs.Requests.{is_served, is_size, sized_at, named_at, shape_at, belongings_at, asked, create_at, aim_at, changed, change_at, look_at, request_at}
 use Rattle.scm_calls_cfg.specs.Bodies.{IsSize, SizedStands, IsCreate, IsChange, IsLook, IsBody}
 
 -- ## The parts of a body, as relations
@@ -75,10 +77,6 @@ size_is (Some held) size e = eqb-true _ _ e
 is_size_of : (held : Option (List ℕ)) (size : ℕ) → IsSize held size → is_size held size ≡ true
 is_size_of None size h = refl
 is_size_of (Some held) size h = eq-eqb _ _ h
-
-guard_true : {A : Type 0} (b : Bool) (d : BodyFault) (x y : A) → cond b (Ok x) (Err d) ≡ Ok y → (b ≡ true) × (x ≡ y)
-guard_true true d x y e = (refl, ok_is x y e)
-guard_true false d x y e = absurd cc
 
 sized_found : (body : List ℕ) (place : ℕ) (x : Option (List ℕ) × ℕ) → IsBytes body → sized_at body place ≡ Ok x → SizedStands body place x.0 x.1
 unfolding sized_at
@@ -256,21 +254,6 @@ change_found body change fits e =
     } in
     subst (IsChange body) (ok_is (changed a.0.0 b.0.0 c.0.0) change d.2) found
 
--- a number within its range
-pub record WithinStands (most : ℕ) (bytes : List ℕ) (place n after : ℕ) : Type 0 where
-  pub stands : Stands IsNumber bytes place n after
-  pub in_range : n ≤ most
-
-within_found : (most : ℕ) (body : List ℕ) (place : ℕ) (x : ℕ × ℕ) → IsBytes body → within_at most body place ≡ Ok x → WithinStands most body place x.0 x.1
-unfolding within_at
-within_found most body place x fits e =
-    let a = bind_ok (number_at body place) (λ number. cond (leb number.0 most) (Ok number) (Err (BadCount (aligned place)))) x e in
-    let g = guard_true (leb a.0.0 most) (BadCount (aligned place)) a.0 x a.2 in
-    subst (λ (y : ℕ × ℕ). WithinStands most body place y.0 y.1) g.1 (record {
-      stands = number_spelled body (aligned place) (aligned place) a.0 fits a.1;
-      in_range = leb-true a.0.0 most g.0;
-    })
-
 look_found : (body : List ℕ) (look : Look) → IsBytes body → look_at body ≡ Ok look → IsLook body look.handle look.size
 unfolding look_at
 look_found body look fits e =
@@ -320,6 +303,8 @@ found_if opnum body (Err e) served fits given = tt
 
 ranged : (opnum : ℕ) (body : List ℕ) (r : Request) → IsBody opnum body r → IsInRange r
 ranged opnum body (request.QueryConfig handle size) h = h.1.in_range
+ranged opnum body (request.QueryLock handle size) h = absurd h
+ranged opnum body (request.Start handle words) h = absurd h
 ranged opnum body _ h = tt
 
 pub ranged_if : (opnum : ℕ) (body : List ℕ) (told : Result Request BodyFault) → is_served opnum ≡ true → IsBytes body → Gives (λ r. r) told (request_at opnum body) → IfOk told (λ r. IsInRange r)
@@ -438,10 +423,6 @@ change_read body change fits h =
       password_stands = h.password_stands;
     } in
     rw (aim_read body 0 aim h.behind_path fits n, belongings_read body h.behind_path belongings h.behind_password t, some_text_read body (aligned h.behind_password) change.display h.behind_display h.display_stands, ended_finished body h.behind_display h.ends) refl
-
-within_read : (most : ℕ) (body : List ℕ) (place n after : ℕ) → Stands IsNumber body place n after → n ≤ most → within_at most body place ≡ Ok (n, after)
-unfolding within_at
-within_read most body place n after h le = rw (number_read body (aligned place) (aligned place) n after h, le-leb n most le) refl
 
 look_read : (body : List ℕ) (handle size : ℕ) → IsBytes body → IsLook body handle size → look_at body ≡ Ok (record { handle = handle; size = size })
 unfolding look_at

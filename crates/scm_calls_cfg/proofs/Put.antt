@@ -12,11 +12,12 @@ use Rattle.ndr_body.specs.Laws.{IsPutAs, IsSent}
 use Rattle.ndr_body.proofs.Written.{number_put, handle_put, text_put, any_text_put, any_number_put, no_bytes_put, some_bytes_put}
 use Rattle.ndr_body.proofs.Chains.{Holds, whole, held_before, read_there, blank_referent, ends_there, handle_small, text_sent, pointed_sent, pointed_small, pointed_short}
 use Rattle.scm_calls.specs.Requests.{opnum_of}
+use Rattle.scm_calls.specs.Ranges.{within_at}
 use Rattle.scm_calls_cfg.specs.declared.requests.Named.{Named}
 use Rattle.scm_calls_cfg.specs.declared.requests.Shape.{Shape}
 use Rattle.scm_calls_cfg.specs.declared.requests.Belongings.{Belongings}
 use Rattle.scm_calls_cfg.specs.declared.requests.Aim.{Aim}
-use Rattle.scm_calls_cfg.specs.Requests.{sized_at, named_at, shape_at, belongings_at, create_at, aim_at, change_at, within_at, look_at, request_at, put_sized, with_named, with_shape, with_belongings, with_create, with_aim, with_change, request_bytes}
+use Rattle.scm_calls_cfg.specs.Requests.{sized_at, named_at, shape_at, belongings_at, create_at, aim_at, change_at, look_at, request_at, put_sized, with_named, with_shape, with_belongings, with_create, with_aim, with_change, request_bytes}
 use Rattle.scm_calls_cfg.specs.Bodies.{IsCreate, IsChange, IsBody}
 
 -- what is behind a draft twice

@@ -90,16 +90,10 @@ pub record IsLook (bytes : List ℕ) (handle size : ℕ) : Type 0 where
   pub ends : IsEnded bytes behind_size
 
 abbrev pub IsBody : ℕ → List ℕ → Request → Type 0
-IsBody opnum bytes (request.Close handle) = ⊥
-IsBody opnum bytes (request.Delete handle) = ⊥
-IsBody opnum bytes (request.QueryStatus handle) = ⊥
 IsBody opnum bytes (request.Change change) = (opnum ≡ 11) × IsChange bytes change
 IsBody opnum bytes (request.Create new) = (opnum ≡ 12) × IsCreate bytes new
-IsBody opnum bytes (request.OpenManager database access) = ⊥
-IsBody opnum bytes (request.OpenService handle name access) = ⊥
 IsBody opnum bytes (request.QueryConfig handle size) = (opnum ≡ 17) × IsLook bytes handle size
-IsBody opnum bytes (request.DisplayName handle name size) = ⊥
-IsBody opnum bytes (request.KeyName handle name size) = ⊥
+IsBody opnum bytes _ = ⊥
 
 pub record IsMadeBody (bytes : List ℕ) (tag : Option ℕ) (handle code : ℕ) : Type 0 where
   pub behind_tag : ℕ
@@ -156,10 +150,7 @@ pub record IsShownBody (bytes : List ℕ) (config : Option Shown) (needed code :
   pub ends : IsEnded bytes behind_code
 
 abbrev pub IsReply : ℕ → List ℕ → Reply → Type 0
-IsReply opnum bytes (reply.Code code) = ⊥
-IsReply opnum bytes (reply.Handle handle code) = ⊥
-IsReply opnum bytes (reply.State status code) = ⊥
 IsReply opnum bytes (reply.Made tag handle code) = (opnum ≡ 12) × IsMadeBody bytes tag handle code
 IsReply opnum bytes (reply.Tag tag code) = (opnum ≡ 11) × IsTagBody bytes tag code
 IsReply opnum bytes (reply.Shown config needed code) = (opnum ≡ 17) × IsShownBody bytes config needed code
-IsReply opnum bytes (reply.Name name size code) = ⊥
+IsReply opnum bytes _ = ⊥

@@ -1,5 +1,5 @@
 -- Creation of a service, a change of its configuration and a look at it: how a body is read, and the one form that is written.
-use Rattle.std.specs.Prelude.{ℕ, Bool, true, ◌||◌, ◌==◌, nat_le, List, length, Option, None, Some, Result, Ok, Err, if◌then◌else◌}
+use Rattle.std.specs.Prelude.{ℕ, Bool, true, ◌||◌, ◌==◌, List, length, Option, None, Some, Result, Ok, Err, if◌then◌else◌}
 use Rattle.scm_model.specs.declared.calls.NewService.{NewService}
 use Rattle.scm_model.specs.declared.calls.ChangeService.{ChangeService}
 use Rattle.scm_model.specs.declared.calls.Request.{Request}
@@ -8,6 +8,7 @@ use Rattle.ndr_body.specs.declared.fault.BodyFault.{BodyFault}
 use Rattle.ndr_body.specs.declared.fault.BodyFault.TheVariants.{BadCount}
 use Rattle.ndr_body.specs.Reading.{◌>>=◌, aligned, number_at, handle_at, text_at, some_text_at, some_number_at, some_bytes_at, finished}
 use Rattle.ndr_body.specs.Writing.{Draft, blank, put_number, put_handle, put_text, put_some_text, put_some_number, put_bytes, put_referent}
+use Rattle.scm_calls.specs.Ranges.{within_at}
 use Rattle.scm_calls_cfg.specs.declared.requests.Named.{Named}
 use Rattle.scm_calls_cfg.specs.declared.requests.Shape.{Shape}
 use Rattle.scm_calls_cfg.specs.declared.requests.Belongings.{Belongings}
@@ -115,12 +116,6 @@ change_at body = do
   ended ← finished body display.1
   Ok (changed aim.0 belongings.0 display.0)
 
--- a number that may not pass its range
-unfoldable pub within_at : ℕ → List ℕ → ℕ → Result (ℕ × ℕ) BodyFault
-within_at most body place = do
-  number ← number_at body place
-  if nat_le number.0 most then Ok number else Err (BadCount (aligned place))
-
 unfoldable pub look_at : List ℕ → Result Look BodyFault
 look_at body = do
   handle ← handle_at body 0
@@ -162,16 +157,10 @@ with_change change d = put_some_text change.display (with_belongings change.grou
 
 -- a draft with a request's items; of an opnum that isn't served nothing
 abbrev pub with_request : Request → Draft → Draft
-with_request (request.Close handle) d = d
-with_request (request.Delete handle) d = d
-with_request (request.QueryStatus handle) d = d
 with_request (request.Change change) d = with_change change d
 with_request (request.Create new) d = with_create new d
-with_request (request.OpenManager database access) d = d
-with_request (request.OpenService handle name access) d = d
 with_request (request.QueryConfig handle size) d = put_number size (put_handle handle d)
-with_request (request.DisplayName handle name size) d = d
-with_request (request.KeyName handle name size) d = d
+with_request _ d = d
 
 unfoldable pub request_bytes : Request → List ℕ
 request_bytes r = (with_request r blank).bytes

@@ -2,7 +2,6 @@
 //! `RQueryServiceConfigW` of MS-SCMR.
 #![tactic(auto)]
 
-mod places;
 mod replies;
 mod requests;
 

@@ -6,8 +6,8 @@ ghost use Rattle.scm_calls_cfg.specs.Bodies.{IsReply};
 ghost use Rattle.scm_calls_cfg.specs.Requests.{is_served};
 ghost use Rattle.scm_calls_cfg.specs.Replies.{IsOnConfig, tag_at, made_at, heads_at, texts_at, begins_blank, is_blank, is_pointed, left_over, missing, misfit, config_at, shown_at, reply_at};
 
-use crate::places::next_place;
 use ndr_body::{BodyFault, NdrReader};
+use scm_calls::next_place;
 use scm_model::{Reply, Shown};
 use scm_text::{Buffer, OutOfMemory, WText};
 use std::alloc::Global;

@@ -3,10 +3,10 @@ ghost use Rattle.scm_model.specs.declared.calls.Request.{Request};
 ghost use Rattle.ndr_body.specs.Reading.{Gives};
 ghost use Rattle.scm_calls.specs.Requests.{opnum_of, IsInRange};
 ghost use Rattle.scm_calls_cfg.specs.Bodies.{IsBody};
-ghost use Rattle.scm_calls_cfg.specs.Requests.{is_served, is_size, sized_at, named_at, shape_at, belongings_at, create_at, aim_at, change_at, within_at, look_at, request_at, put_sized, with_named, with_shape, with_belongings, with_create, with_aim, with_change, with_request, request_bytes};
+ghost use Rattle.scm_calls_cfg.specs.Requests.{is_served, is_size, sized_at, named_at, shape_at, belongings_at, create_at, aim_at, change_at, look_at, request_at, put_sized, with_named, with_shape, with_belongings, with_create, with_aim, with_change, with_request, request_bytes};
 
-use crate::places::next_place;
 use ndr_body::{BodyFault, NdrReader, NdrWriter};
+use scm_calls::{next_place, read_within};
 use scm_model::{ChangeService, NewService, Request};
 use scm_text::{Buffer, Items, OutOfMemory, WText};
 use std::alloc::Global;
@@ -201,21 +201,6 @@ fn read_change(alloc: Global, body: &[u8]) -> Result<ChangeService, BodyFault>
         account: belongings.account,
         display,
     })
-}
-
-/// A number that may not pass its range.
-#[tactic(auto, unfolding(crate::specs::Requests::within_at))]
-fn read_within(reader: &mut NdrReader, most: u32) -> Result<u32, BodyFault>
-    ensures value { Gives (λ v. (v, reader.new.place)) result (within_at most reader.old.body reader.old.place) }
-    ensures body { reader.new.body ≡ reader.old.body }
-{
-    let start = next_place(reader);
-    let number = reader.number()?;
-    if number <= most {
-        Ok(number)
-    } else {
-        Err(BodyFault::BadCount(start))
-    }
 }
 
 #[tactic(auto, unfolding(crate::specs::Requests::look_at))]

@@ -2,7 +2,7 @@ use Rattle.std.proofs.Common.{length, ap, arith}
 use Rattle.scm_model.specs.declared.calls.Reply.TheVariants as reply
 use Rattle.ndr_body.specs.Writing.{Draft, put_handle}
 use Rattle.ndr_body.proofs.Lengths.{length_put_handle}
-use Rattle.scm_calls.proofs.Sizes.{length_reply, length_tag, status_fits, made_fits, tag_fits, config_fits, needed_fits, name_fits, size_fits}
+use Rattle.scm_calls.proofs.Sizes.{length_reply, length_tag, status_fits, made_fits, tag_fits, config_fits, needed_fits, lock_fits, lock_needed_fits, name_fits, size_fits}
 use Rattle.scm_calls.proofs.replies.put_reply.Goals as goal
 
 pub returns-in_err-handle-in-Handle-clause-enough : goal.returns-in_err-handle-in-Handle-clause-enough
@@ -50,3 +50,13 @@ pub returns-in_err-number-in-Name-clause-enough : goal.returns-in_err-number-in-
 returns-in_err-number-in-Name-clause-enough c =
     λ le. let seen = rw c.in-Name.is at le in
     let found = c.in_err-number-in-Name.ensures.enough (omega (arith, seen, c.in_ok-text-in-Name.ensures.space, size_fits c.in-Name.name c.in-Name.size c.in-Name.code c.args.writer.now.draft c.text.new.self.draft c.in_ok-text-in-Name.ensures.ok)) in absurd cc
+
+pub returns-in_err-put_lock-in-LockState-clause-enough : goal.returns-in_err-put_lock-in-LockState-clause-enough
+returns-in_err-put_lock-in-LockState-clause-enough c =
+    λ le. let seen = rw c.in-LockState.is at le in
+    let found = c.in_err-put_lock-in-LockState.ensures.enough (omega (arith, seen, lock_fits c.in-LockState.held c.in-LockState.owner c.in-LockState.seconds c.in-LockState.needed c.in-LockState.code c.args.writer.now.draft)) in absurd cc
+
+pub returns-in_err-number-in-LockState-clause-enough : goal.returns-in_err-number-in-LockState-clause-enough
+returns-in_err-number-in-LockState-clause-enough c =
+    λ le. let seen = rw c.in-LockState.is at le in
+    let found = c.in_err-number-in-LockState.ensures.enough (omega (arith, seen, c.in_ok-put_lock-in-LockState.ensures.space, lock_needed_fits c.in-LockState.held c.in-LockState.owner c.in-LockState.seconds c.in-LockState.needed c.in-LockState.code c.args.writer.now.draft c.put_lock.new.writer.draft c.in_ok-put_lock-in-LockState.ensures.ok)) in absurd cc
