@@ -1,43 +1,65 @@
--- A call leaves the callers as they are.
-use Rattle.std.proofs.Common.{ℕ, ◌≡◌, ◌==◌, cond, true, false, Option, None, Some, refl}
+-- A step of a caller's requests leaves the callers as they are.
+use Rattle.std.proofs.Common.{ℕ, ◌≡◌, ◌==◌, ◌∙◌, cond, true, false, Option, None, Some, refl}
 use Rattle.scm_model.specs.declared.flat.Config.{Config}
 use Rattle.scm_model.specs.declared.flat.Flat.{Flat}
 use Rattle.scm_model.specs.declared.flat.Limits.{Limits}
 use Rattle.scm_model.specs.declared.calls.Request.{Request}
 use Rattle.scm_model.specs.declared.calls.Request.TheVariants as request
 use Rattle.scm_model.specs.declared.calls.Reply.{Reply}
+use Rattle.scm_model.specs.declared.steps.Answer.{Answer}
+use Rattle.scm_model.specs.declared.steps.Answer.TheVariants as answers
 use Rattle.scm_model.specs.declared.steps.Kept.{Kept}
+use Rattle.scm_model.specs.declared.steps.Step.{Step}
 use Rattle.scm_model.specs.declared.steps.Step.TheVariants.{Call}
 use Rattle.scm_model.specs.Refused.{answered}
-use Rattle.scm_model.specs.Rows.{is_caller, opened}
+use Rattle.scm_model.specs.Rows.{opened}
 use Rattle.scm_model.specs.Changes.{with_moment}
-use Rattle.scm_rules.specs.Steps.{step_of}
+use Rattle.start_plan.specs.Decided.{code_of}
+use Rattle.start_plan.specs.Settle.{settled}
+use Rattle.start_plan.proofs.Enterings.{all_units}
+use Rattle.start_plan.proofs.Keeps.{keeps_all}
+use Rattle.scm_rules.specs.Steps.{at_moment, effect_of, finished, left_by, step_of}
 use Rattle.scm_rules.specs.Change.{with_new_config, asked_config}
 use Rattle.scm_rules.specs.Query.{service_in}
 use Rattle.scm_rules.specs.Verdicts.{done_of, told_refused, verdict}
 
-of_answered : (code : ℕ) (told : Reply) (f : Flat) (done : Reply × Flat) (n : ℕ) → is_caller done.1 n ≡ is_caller f n → is_caller (answered code told f done).1 n ≡ is_caller f n
-of_answered code told f done n e =
-    elim (code == 0) as (λ b. is_caller (cond b done (told, f)).1 n ≡ is_caller f n) [ true ↦ e | false ↦ refl ]
+-- ## What comes behind each effect
 
-of_config : (f : Flat) (number : ℕ) (config : Option Config) (n : ℕ) → is_caller (with_new_config f number config) n ≡ is_caller f n
-of_config f number None n = refl
-of_config f number (Some config) n = refl
+of_settled : (l : Limits) (f : Flat) → (settled l f).callers ≡ f.callers
+of_settled l f = (keeps_all l (λ g. g.callers ≡ f.callers) (λ plan. Unit {0})
+    (record { enters = λ g plan service words entry e. e; tries = λ g plan service entry q. q; drops = λ plan service rest code q. q }) f f.plans refl (all_units f.plans)).flat
 
-of_done : (f : Flat) (caller : ℕ) (asked : Request) (n : ℕ) → is_caller (done_of f caller asked).1 n ≡ is_caller f n
-of_done f caller (request.Close handle) n = refl
-of_done f caller (request.Delete handle) n = refl
-of_done f caller (request.QueryStatus handle) n = refl
-of_done f caller (request.Change change) n = of_config f (service_in (opened f caller change.handle)) (asked_config f caller change) n
-of_done f caller (request.Create new) n = refl
-of_done f caller (request.OpenManager database access) n = refl
-of_done f caller (request.OpenService handle name access) n = refl
-of_done f caller (request.QueryConfig handle size) n = refl
-of_done f caller (request.DisplayName handle name size) n = refl
-of_done f caller (request.KeyName handle name size) n = refl
+of_left : (f : Flat) (plan : ℕ) (code : Option ℕ) → (left_by f plan code).callers ≡ f.callers
+of_left f plan None = refl
+of_left f plan (Some code) = refl
 
-pub callers_kept : (l : Limits) (f : Flat) (moment caller : ℕ) (asked : Request) (append : Kept) (n : ℕ) → is_caller (step_of l f moment (Call caller asked append)).1 n ≡ is_caller f n
-callers_kept l f moment caller asked append n =
+of_finished : (f : Flat) (answer : Answer) → (finished f answer).1.callers ≡ f.callers
+of_finished f (answers.Begun plan) = of_left f plan (code_of f.plans plan)
+of_finished f answer = refl
+
+-- what an effect leaves, the whole step leaves
+pub callers_kept : (l : Limits) (f : Flat) (moment : ℕ) (step : Step) → (effect_of l (at_moment f moment step) step).1.callers ≡ f.callers
+    → (step_of l f moment step).1.callers ≡ f.callers
+callers_kept l f moment step e =
+    let done = effect_of l (at_moment f moment step) step in
+    of_finished (settled l done.1) done.0 ∙ of_settled l done.1 ∙ e
+
+-- ## A call
+
+of_answered : (code : ℕ) (told : Reply) (f : Flat) (done : Reply × Flat) → done.1.callers ≡ f.callers → (answered code told f done).1.callers ≡ f.callers
+of_answered code told f done e =
+    elim (code == 0) as (λ b. (cond b done (told, f)).1.callers ≡ f.callers) [ true ↦ e | false ↦ refl ]
+
+of_config : (f : Flat) (number : ℕ) (config : Option Config) → (with_new_config f number config).callers ≡ f.callers
+of_config f number None = refl
+of_config f number (Some config) = refl
+
+of_done : (f : Flat) (caller : ℕ) (asked : Request) → (done_of f caller asked).1.callers ≡ f.callers
+of_done f caller (request.Change change) = of_config f (service_in (opened f caller change.handle)) (asked_config f caller change)
+of_done f caller asked = refl
+
+pub callers_of_call : (l : Limits) (f : Flat) (moment caller : ℕ) (asked : Request) (append : Kept) → (step_of l f moment (Call caller asked append)).1.callers ≡ f.callers
+callers_of_call l f moment caller asked append =
     let begun = with_moment f moment in
     let code = verdict l begun caller asked append in
-    of_answered code (told_refused begun caller asked code) begun (done_of begun caller asked) n (of_done begun caller asked n)
+    callers_kept l f moment (Call caller asked append) (of_answered code (told_refused begun caller asked code) begun (done_of begun caller asked) (of_done begun caller asked))

@@ -1,5 +1,5 @@
 -- How a connection ends.
-use Rattle.std.proofs.Common.{ℕ, ◌≡◌, ◌+◌, ◌<◌, ◌≤◌, ◌^◌, Bool, true, false, cond, List, [], ◌++◌, length, Option, Result, Err, refl, sym, ap, ◌∙◌, subst, append_assoc, append-nil, arith, length-append}
+use Rattle.std.proofs.Common.{ℕ, ◌≡◌, ◌+◌, ◌<◌, ◌≤◌, ◌^◌, Bool, true, false, cond, List, [], ◌++◌, length, Option, Err, refl, sym, ap, ◌∙◌, subst, append-nil, arith, length-append}
 use Rattle.std.specs.Io.KnownBytes.{Consumes}
 use Rattle.std.proofs.KnownBytes.{Consumes-trans, Appends-nil}
 use Rattle.outside.specs.Written.{Begins}
@@ -7,13 +7,13 @@ use Rattle.scm_model.specs.declared.flat.Flat.{Flat}
 use Rattle.scm_model.specs.declared.flat.Limits.{Limits}
 use Rattle.scm_model.specs.declared.calls.Reply.{Reply}
 use Rattle.rpc_session.specs.declared.state.Incoming.{Incoming}
-use Rattle.rpc_session.specs.Items.{Seen, StreamEnd, AtRest, Unfinished, BadPdu, TooLong, Told, Gave, IsOpen, items, before, open_end, is_at_rest, unbound, to_come, told_by}
+use Rattle.rpc_session.specs.Items.{Seen, StreamEnd, AtRest, Unfinished, BadPdu, TooLong, Gave, IsOpen, items, before, open_end, is_at_rest, unbound, to_come, told_by}
 use Rattle.rpc_session.specs.Pdus.{pdus_behind}
 use Rattle.scm_pipe.specs.declared.served.Served.{Served}
 use Rattle.scm_pipe.specs.declared.served.Served.TheVariants as served
 use Rattle.scm_pipe.specs.Talks.{Answers}
-use Rattle.scm_pipe.specs.Along.{Point, GoesOn, GoesBad, Lacks, Breaks}
-use Rattle.scm_pipe.specs.Connection.{Reached, AllServed, AllBefore, SoFarServed, IsOpenEnd}
+use Rattle.scm_pipe.specs.Along.{Point, GoesOn, GoesBad}
+use Rattle.scm_pipe.specs.Connection.{Reached, AllServed, AllBefore, IsOpenEnd}
 use Rattle.scm_pipe.specs.Serves.{Serves, Turned, fed}
 use Rattle.scm_pipe.proofs.Talking.{answers_append, cut_append, talks_none}
 

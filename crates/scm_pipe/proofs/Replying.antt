@@ -3,6 +3,9 @@ use Rattle.std.proofs.Common.{ℕ, ◌≡◌, ◌≤◌, length, Option, None, S
 use Rattle.std.specs.Prelude.{IfSome}
 use Rattle.scm_model.specs.declared.flat.Flat.{Flat}
 use Rattle.scm_model.specs.declared.flat.Limits.{Limits}
+use Rattle.scm_model.specs.declared.flat.LockRow.{LockRow}
+use Rattle.scm_model.specs.declared.flat.Principal.{Principal}
+use Rattle.scm_model.specs.declared.flat.Principal.TheVariants.{Admin, User}
 use Rattle.scm_model.specs.declared.flat.Service.{Service}
 use Rattle.scm_model.specs.declared.calls.Request.{Request}
 use Rattle.scm_model.specs.declared.calls.Request.TheVariants as request
@@ -12,6 +15,7 @@ use Rattle.scm_model.specs.Refused.{refused}
 use Rattle.scm_model.specs.Rows.{named, displayed}
 use Rattle.scm_calls.specs.Replies.{Answers, bytes_needed}
 use Rattle.scm_calls.specs.Requests.{IsInRange}
+use Rattle.scm_rules.specs.Locks.{name_of, owner_of}
 use Rattle.scm_rules.specs.OtherName.{display_in, name_in, name_or_empty}
 use Rattle.scm_rules.specs.QueryConfig.{query_config_refusals, query_config_verdict, shown_by, size_in}
 use Rattle.scm_rules.specs.Verdicts.{call_of, done_of, told_refused, verdict}
@@ -20,28 +24,14 @@ use Rattle.scm_laws.proofs.Sizes.{AreShort}
 use Rattle.scm_pipe.proofs.Running.{AllShort, short_by_name, short_by_display}
 
 pub of_refused : (asked : Request) (code : ℕ) → Answers asked (refused asked code)
-of_refused (request.Close handle) code = tt
-of_refused (request.Delete handle) code = tt
-of_refused (request.QueryStatus handle) code = tt
-of_refused (request.Change change) code = tt
-of_refused (request.Create new) code = tt
-of_refused (request.OpenManager database access) code = tt
-of_refused (request.OpenService handle name access) code = tt
-of_refused (request.QueryConfig handle size) code = tt
 of_refused (request.DisplayName handle name size) code = omega arith
 of_refused (request.KeyName handle name size) code = omega arith
+of_refused asked code = tt
 
 of_told : (f : Flat) (caller : ℕ) (asked : Request) (code : ℕ) → Answers asked (told_refused f caller asked code)
-of_told f caller (request.Close handle) code = tt
-of_told f caller (request.Delete handle) code = tt
-of_told f caller (request.QueryStatus handle) code = tt
-of_told f caller (request.Change change) code = tt
-of_told f caller (request.Create new) code = tt
-of_told f caller (request.OpenManager database access) code = tt
-of_told f caller (request.OpenService handle name access) code = tt
-of_told f caller (request.QueryConfig handle size) code = tt
 of_told f caller (request.DisplayName handle name size) code = omega arith
 of_told f caller (request.KeyName handle name size) code = omega arith
+of_told f caller asked code = tt
 
 -- what fits in a size that is read is told whole
 fits : (shown : Option Shown) (size : ℕ) → size ≤ 8192 → size_in shown ≤ size → IfSome shown (λ s. bytes_needed s ≤ size)
@@ -61,17 +51,21 @@ short_name : (found : Option Service) → IfSome found (λ row. AreShort row.con
 short_name None short = omega arith
 short_name (Some row) short = short.name
 
+-- the name of a principal is short
+short_principal : (principal : Principal) → length (name_of principal) ≤ 256
+short_principal Admin = omega arith
+short_principal User = omega arith
+
+short_owner : (f : Flat) (held : Option LockRow) → length (owner_of f held) ≤ 256
+short_owner f None = omega arith
+short_owner f (Some row) = short_principal _
+
 of_done : (l : Limits) (f : Flat) (caller : ℕ) (asked : Request) (append : Kept) → AllShort f → IsInRange asked → verdict l f caller asked append ≡ 0 → Answers asked (done_of f caller asked).0
-of_done l f caller (request.Close handle) append short range e = tt
-of_done l f caller (request.Delete handle) append short range e = tt
-of_done l f caller (request.QueryStatus handle) append short range e = tt
-of_done l f caller (request.Change change) append short range e = tt
-of_done l f caller (request.Create new) append short range e = tt
-of_done l f caller (request.OpenManager database access) append short range e = tt
-of_done l f caller (request.OpenService handle name access) append short range e = tt
 of_done l f caller (request.QueryConfig handle size) append short range e = shown_fits f caller handle size range e
+of_done l f caller (request.QueryLock handle size) append short range e = short_owner f f.lock
 of_done l f caller (request.DisplayName handle name size) append short range e = short_display (named f name) (short_by_name f name short)
 of_done l f caller (request.KeyName handle name size) append short range e = short_name (displayed f name) (short_by_display f name short)
+of_done l f caller asked append short range e = tt
 
 pub of_call : (l : Limits) (f : Flat) (caller : ℕ) (asked : Request) (append : Kept) → AllShort f → IsInRange asked → Answers asked (call_of l f caller asked append).0
 of_call l f caller asked append short range =

@@ -1,8 +1,8 @@
 -- Items that are answered, one after another.
-use Rattle.std.proofs.Common.{ℕ, ◌≡◌, ◌==◌, cond, true, false, IsTrue, List, [], ◌∷◌, ◌++◌, Option, None, Some, Result, Ok, Err, refl, sym, ap, ◌∙◌, subst, append_assoc, append-nil, arith}
+use Rattle.std.proofs.Common.{ℕ, ◌≡◌, List, [], ◌∷◌, ◌++◌, Option, None, Some, Result, Ok, Err, refl, sym, ap, ◌∙◌, subst, append_assoc, append-nil}
 use Rattle.std.specs.List.{cons_option}
 use Rattle.std.proofs.lemmas.Bool.{false≢true}
-use Rattle.std.proofs.lemmas.List.Elements.{All-nil, All-cons, All-append, filter_map-append}
+use Rattle.std.proofs.lemmas.List.Elements.{All-nil, All-append, filter_map-append}
 use Rattle.std.specs.Io.KnownBytes.{Appends}
 use Rattle.std.proofs.KnownBytes.{Appends-trans}
 use Rattle.outside.specs.declared.Failed.{Failed}
@@ -11,12 +11,6 @@ use Rattle.scm_model.specs.declared.flat.Flat.{Flat}
 use Rattle.scm_model.specs.declared.flat.Limits.{Limits}
 use Rattle.scm_model.specs.declared.calls.Request.{Request as Call_}
 use Rattle.scm_model.specs.declared.calls.Reply.{Reply}
-use Rattle.scm_model.specs.declared.steps.Kept.{Kept}
-use Rattle.scm_model.specs.declared.steps.Step.{Step}
-use Rattle.scm_model.specs.declared.steps.Step.TheVariants.{Joined, Call, Gone, NoMemory}
-use Rattle.scm_model.specs.declared.steps.Answer.{Answer}
-use Rattle.scm_model.specs.declared.steps.Answer.TheVariants as answers
-use Rattle.scm_rules.specs.Steps.{step_of}
 use Rattle.scm_rules.specs.Runs.{Entry, IsLegal, state_of}
 use Rattle.std.specs.Prelude.{IfSome, IsSome}
 use Rattle.rpc_session.specs.Replies.{reply_bytes as fragments_of}
@@ -25,73 +19,11 @@ use Rattle.rpc_session.specs.declared.state.Incoming.{Incoming}
 use Rattle.rpc_session.specs.declared.state.Incoming.TheVariants.{Local, Request}
 use Rattle.rpc_session.specs.declared.state.RequestItem.{RequestItem}
 use Rattle.scm_pipe.specs.Bodies.{asked, asked_by, asked_of, call_in, answer_to, behind, spoken, response, fault, reply_to}
-use Rattle.scm_pipe.specs.Histories.{AreRequests, AsMany, IsRequest, replies, requests_of, told_by}
+use Rattle.scm_pipe.specs.Histories.{AreServed, AsMany, IsServed, replies}
 use Rattle.scm_pipe.specs.Talks.{Talks, Answers, CutsShort}
 use Rattle.scm_pipe.specs.Calling.{Called}
 use Rattle.scm_pipe.specs.Along.{Answered, stopped}
-
--- ## Histories one after another
-
-pub requests_append : (c : ℕ) (rs qs : List Call_) (es ds : List Entry) → AreRequests c rs es → AreRequests c qs ds → AreRequests c (rs ++ qs) (es ++ ds)
-requests_append c [] qs [] ds p q = q
-requests_append c (r ∷ rs) qs (e ∷ es) ds p q = (p.0, requests_append c rs qs es ds p.1 q)
-requests_append c [] qs (e ∷ es) ds p q = absurd p
-requests_append c (r ∷ rs) qs [] ds p q = absurd p
-
-pub state_append : (l : Limits) (f : Flat) (es ds : List Entry) → state_of l f (es ++ ds) ≡ state_of l (state_of l f es) ds
-state_append l f [] ds = refl
-state_append l f (e ∷ es) ds = state_append l (step_of l f e.0 e.1).1 es ds
-
-pub legal_append : (l : Limits) (f : Flat) (es ds : List Entry) → IsLegal l f es → IsLegal l (state_of l f es) ds → IsLegal l f (es ++ ds)
-legal_append l f [] ds p q = q
-legal_append l f (e ∷ es) ds p q = (p.0, legal_append l (step_of l f e.0 e.1).1 es ds p.1 q)
-
-cons_append : {A : Type 0} (o : Option A) (xs ys : List A) → cons_option o (xs ++ ys) ≡ cons_option o xs ++ ys
-cons_append None xs ys = refl
-cons_append (Some x) xs ys = refl
-
-pub replies_append : (l : Limits) (f : Flat) (c : ℕ) (es ds : List Entry) → replies l f c (es ++ ds) ≡ replies l f c es ++ replies l (state_of l f es) c ds
-replies_append l f c [] ds = refl
-replies_append l f c (e ∷ es) ds =
-    let told = told_by c e.1 (step_of l f e.0 e.1).0 in
-    let g = (step_of l f e.0 e.1).1 in
-    ap (cons_option told) (replies_append l g c es ds) ∙ cons_append told (replies l g c es) (replies l (state_of l g es) c ds)
-
--- ## One reply for each request
-
-pub same_number : (n : ℕ) → (n == n) ≡ true
-same_number n = grind arith
-
-told_call : (of c : ℕ) (r : Call_) (k : Kept) (reply : Reply) → of ≡ c → told_by c (Call of r k) (answers.Reply reply) ≡ Some (Some reply)
-told_call of c r k reply e = rw e (rw (same_number c) refl)
-
-told_none : (of c : ℕ) (answer : Answer) → of ≡ c → told_by c (NoMemory of) answer ≡ Some None
-told_none of c answer e = rw e (rw (same_number c) refl)
-
-pub replies_as_many : (l : Limits) (f : Flat) (c : ℕ) (rs : List Call_) (es : List Entry) → AreRequests c rs es → AsMany rs (replies l f c es)
-replies_as_many l f c [] [] p = tt
-replies_as_many l f c (r ∷ rs) ((m, Call of x k) ∷ es) p =
-    let s = step_of l f m (Call of x k) in
-    rw (told_call of c x k _ p.0.0) (replies_as_many l s.1 c rs es p.1)
-replies_as_many l f c (r ∷ rs) ((m, NoMemory of) ∷ es) p =
-    let s = step_of l f m (NoMemory of) in
-    rw (told_none of c s.0 p.0) (replies_as_many l s.1 c rs es p.1)
-replies_as_many l f c (r ∷ rs) ((m, Joined principal) ∷ es) p = absurd p.0
-replies_as_many l f c (r ∷ rs) ((m, Gone of) ∷ es) p = absurd p.0
-replies_as_many l f c [] (e ∷ es) p = absurd p
-replies_as_many l f c (r ∷ rs) [] p = absurd p
-
--- a caller's requests are all of them
-pub only_requests : (c : ℕ) (rs : List Call_) (es ds : List Entry) → AreRequests c rs es → requests_of c ds ≡ [] → requests_of c (es ++ ds) ≡ es
-only_requests c [] [] ds p e = e
-only_requests c (r ∷ rs) ((m, Call of x k) ∷ es) ds p e =
-    rw p.0.0 (rw (same_number c) (ap (λ t. (m, Call c x k) ∷ t) (only_requests c rs es ds p.1 e)))
-only_requests c (r ∷ rs) ((m, NoMemory of) ∷ es) ds p e =
-    rw p.0 (rw (same_number c) (ap (λ t. (m, NoMemory c) ∷ t) (only_requests c rs es ds p.1 e)))
-only_requests c (r ∷ rs) ((m, Joined principal) ∷ es) ds p e = absurd p.0
-only_requests c (r ∷ rs) ((m, Gone of) ∷ es) ds p e = absurd p.0
-only_requests c [] (x ∷ es) ds p e = absurd p
-only_requests c (r ∷ rs) [] ds p e = absurd p
+use Rattle.scm_pipe.proofs.Histories.{legal_append, replies_append, replies_as_many, served_append, state_append}
 
 -- ## What is spoken, one after another
 
@@ -118,7 +50,7 @@ spoken_append (Request r ∷ is) js rs qs h =
 -- ## Talks
 
 pub spoken_both : (l : Limits) (c : ℕ) (f m : Flat) (is js : List Incoming) (es ds : List Entry)
-    → AreRequests c (asked is) es → state_of l f es ≡ m
+    → AreServed l f c (asked is) es → state_of l f es ≡ m
     → spoken (is ++ js) (replies l f c (es ++ ds)) ≡ spoken is (replies l f c es) ++ spoken js (replies l m c ds)
 spoken_both l c f m is js es ds p e =
     ap (spoken (is ++ js)) (replies_append l f c es ds)
@@ -128,7 +60,7 @@ spoken_both l c f m is js es ds p e =
 abbrev pub talks_none : (tells : ℕ → Type 0) (l : Limits) (c : ℕ) (f : Flat) → Talks tells l c f f [] []
 talks_none tells l c f = record {
   calls = [];
-  asked = tt;
+  asked = refl;
   moments = All-nil (λ (e : Entry). tells e.0);
   legal = tt;
   state = refl;
@@ -138,7 +70,7 @@ talks_none tells l c f = record {
 abbrev pub talks_local : (tells : ℕ → Type 0) (l : Limits) (c : ℕ) (f : Flat) (bytes : List ℕ) → Talks tells l c f f (Local bytes ∷ []) bytes
 talks_local tells l c f bytes = record {
   calls = [];
-  asked = tt;
+  asked = refl;
   moments = All-nil (λ (e : Entry). tells e.0);
   legal = tt;
   state = refl;
@@ -149,7 +81,8 @@ abbrev pub talks_append : (tells : ℕ → Type 0) (l : Limits) (c : ℕ) (f m g
     → Talks tells l c f m is x → Talks tells l c m g js y → Talks tells l c f g (is ++ js) (x ++ y)
 talks_append tells l c f m g is js x y p q = record {
   calls = p.calls ++ q.calls;
-  asked = subst (λ rs. AreRequests c rs (p.calls ++ q.calls)) (sym (filter_map-append asked_by is js)) (requests_append c (asked is) (asked js) p.calls q.calls p.asked q.asked);
+  asked = subst (λ rs. AreServed l f c rs (p.calls ++ q.calls)) (sym (filter_map-append asked_by is js))
+      (served_append l f c (asked is) (asked js) p.calls q.calls p.asked (subst (λ s. AreServed l s c (asked js) q.calls) (sym p.state) q.asked));
   moments = All-append (λ (e : Entry). tells e.0) p.calls q.calls p.moments q.moments;
   legal = legal_append l f p.calls q.calls p.legal (subst (λ s. IsLegal l s q.calls) (sym p.state) q.legal);
   state = state_append l f p.calls q.calls ∙ ap (λ s. state_of l s q.calls) p.state ∙ q.state;
@@ -161,38 +94,38 @@ talks_append tells l c f m g is js x y p q = record {
 pub fault_said : (r : RequestItem) (o : Result Call_ ℕ) (status : ℕ) → o ≡ Err status → answer_to r o [] ++ [] ≡ fault r status
 fault_said r o status e = rw e (append-nil (fault r status))
 
-pub none_asked : (c : ℕ) (o : Result Call_ ℕ) (status : ℕ) → o ≡ Err status → AreRequests c (cons_option (call_in o) []) []
-none_asked c o status e = rw e tt
+pub none_asked : (l : Limits) (f : Flat) (c : ℕ) (o : Result Call_ ℕ) (status : ℕ) → o ≡ Err status → AreServed l f c (cons_option (call_in o) []) []
+none_asked l f c o status e = rw e refl
 
 abbrev pub talks_fault : (tells : ℕ → Type 0) (l : Limits) (c : ℕ) (f : Flat) (r : RequestItem) (status : ℕ) → asked_of r ≡ Err status
     → Talks tells l c f f (Request r ∷ []) (fault r status)
 talks_fault tells l c f r status e = record {
   calls = [];
-  asked = none_asked c (asked_of r) status e;
+  asked = none_asked l f c (asked_of r) status e;
   moments = All-nil (λ (e : Entry). tells e.0);
   legal = tt;
   state = refl;
   answered = fault_said r (asked_of r) status e;
 }
 
-pub reply_said : (r : RequestItem) (o : Result Call_ ℕ) (x : Call_) (t : Option (Option Reply)) (heard : Option Reply) (reply : Reply)
-    → o ≡ Ok x → t ≡ Some heard → reply_to x heard ≡ reply
-    → answer_to r o (cons_option t []) ++ [] ≡ response r reply
-reply_said r o x t heard reply e d p = rw (e, d, p) (append-nil (response r reply))
+pub reply_said : (r : RequestItem) (o : Result Call_ ℕ) (x : Call_) (ts : List (Option Reply)) (heard : Option Reply) (reply : Reply)
+    → o ≡ Ok x → ts ≡ heard ∷ [] → reply_to x heard ≡ reply
+    → answer_to r o ts ++ [] ≡ response r reply
+reply_said r o x ts heard reply e d p = rw (e, d, p) (append-nil (response r reply))
 
-pub one_asked : (m : ℕ) (s : Step) (o : Result Call_ ℕ) (x : Call_) → o ≡ Ok x → IsRequest 1 x s → AreRequests 1 (cons_option (call_in o) []) ((m, s) ∷ [])
-one_asked m s o x e h = rw e (h, tt)
+pub one_asked : (l : Limits) (f : Flat) (o : Result Call_ ℕ) (x : Call_) (es : List Entry) → o ≡ Ok x → IsServed l f 1 x es → AreServed l f 1 (cons_option (call_in o) []) es
+one_asked l f o x es e h = rw e (es, [], sym (append-nil es), h, refl)
 
 abbrev pub talks_call : (tells : ℕ → Type 0) (l : Limits) (f g : Flat) (r : RequestItem) (x : Call_) (reply : Reply)
     → asked_of r ≡ Ok x → Called tells l f g x reply
     → Talks tells l 1 f g (Request r ∷ []) (response r reply)
 talks_call tells l f g r x reply e called = record {
-  calls = (called.moment, called.step) ∷ [];
-  asked = one_asked called.moment called.step (asked_of r) x e called.asked;
-  moments = All-cons (λ (e : Entry). tells e.0) (called.moment, called.step) [] called.told (All-nil (λ (e : Entry). tells e.0));
-  legal = (called.legal, tt);
+  calls = called.entries;
+  asked = one_asked l f (asked_of r) x called.entries e called.served;
+  moments = called.told;
+  legal = called.legal;
   state = called.state;
-  answered = reply_said r (asked_of r) x (told_by 1 called.step (step_of l f called.moment called.step).0) called.heard reply e called.answer called.replied;
+  answered = reply_said r (asked_of r) x (replies l f 1 called.entries) called.heard reply e called.answer called.replied;
 }
 
 -- ## What a sink holds

@@ -1,5 +1,5 @@
 -- Stretches of a connection, one after another.
-use Rattle.std.proofs.Common.{ℕ, ◌≡◌, ◌+◌, ◌≤◌, ◌<◌, List, [], ◌∷◌, ◌++◌, Option, Some, Result, Ok, Err, refl, sym, ap, ◌∙◌, subst, append_assoc, append-nil}
+use Rattle.std.proofs.Common.{ℕ, ◌≡◌, ◌<◌, List, [], ◌∷◌, ◌++◌, Option, Some, Result, Ok, Err, sym, ap, ◌∙◌, subst, append_assoc, append-nil}
 use Rattle.std.specs.Prelude.{IfSome}
 use Rattle.std.proofs.KnownBytes.{Appends-nil}
 use Rattle.outside.specs.Written.{Begins}
@@ -12,8 +12,7 @@ use Rattle.rpc_session.specs.declared.session.SessionFault.TheVariants as faults
 use Rattle.scm_pipe.specs.declared.stop.Stop.{Stop}
 use Rattle.scm_pipe.specs.declared.stop.Stop.TheVariants as stop
 use Rattle.scm_pipe.specs.Talks.{Answers, CutsShort}
-use Rattle.scm_core.specs.Managed.{Managed}
-use Rattle.scm_pipe.specs.Along.{Keeps, Point, GaveMore, EndsWith, IsFront, GoesOn, GoesBad, Lacks, Breaks, Fed, Answered, stop_of}
+use Rattle.scm_pipe.specs.Along.{Point, GaveMore, IsFront, GoesOn, GoesBad, Lacks, Breaks, Fed, Answered, stop_of}
 use Rattle.scm_pipe.specs.Serves.{Turned, ended_by, fed}
 use Rattle.scm_pipe.proofs.Talking.{answers_append, cut_append, talks_none}
 
@@ -194,14 +193,3 @@ turned_by T tells l a b left_now read (stop.Bad place _) h = h
 turned_by T tells l a b left_now read (stop.TooLong length) h = h
 turned_by T tells l a b left_now read stop.WriteFault h = h
 turned_by T tells l a b left_now read stop.OutOfMemory h = h
-
--- ## What a manager keeps
-
-pub keeps_more : (a b c : Managed) (caller most : ℕ) → Keeps a b caller most → Keeps b c caller 1 → c.steps ≤ a.steps + most → Keeps a c caller most
-keeps_more a b c caller most p q h = record {
-  limits = q.limits ∙ p.limits;
-  run = λ before. q.run (p.run before);
-  joined = q.joined ∙ p.joined;
-  text = λ small. q.text (p.text small);
-  steps = h;
-}

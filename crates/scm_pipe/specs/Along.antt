@@ -1,11 +1,9 @@
 -- What became of the items on a stretch of a connection.
-use Rattle.std.specs.Prelude.{ℕ, ◌≡◌, ◌+◌, ◌≤◌, ◌<◌, ◌^◌, ◌++◌, List, [], ◌∷◌, length, Option, Result, Ok, Err, IsErrOf, IsTrue}
+use Rattle.std.specs.Prelude.{ℕ, ◌≡◌, ◌≤◌, ◌++◌, List, [], ◌∷◌, Option, Result, Ok, Err, IsErrOf}
 use Rattle.outside.specs.Causes.{Rose}
 use Rattle.outside.specs.Written.{Begins}
 use Rattle.scm_model.specs.declared.flat.Flat.{Flat}
 use Rattle.scm_model.specs.declared.flat.Limits.{Limits}
-use Rattle.scm_model.specs.Rows.{is_caller}
-use Rattle.scm_core.specs.Managed.{Managed}
 use Rattle.rpc_session.specs.declared.state.Incoming.{Incoming}
 use Rattle.rpc_session.specs.Items.{Seen, StreamEnd, BadPdu, TooLong, Gave, IsOpen, items}
 use Rattle.rpc_session.specs.declared.session.SessionFault.{SessionFault}
@@ -13,7 +11,6 @@ use Rattle.rpc_session.specs.declared.session.SessionFault.TheVariants as faults
 use Rattle.scm_pipe.specs.declared.stop.Stop.{Stop}
 use Rattle.scm_pipe.specs.declared.stop.Stop.TheVariants as stop
 use Rattle.scm_pipe.specs.Talks.{Answers, CutsShort}
-use Rattle.scm_pipe.specs.Calling.{HasRun}
 
 -- a connection: where its session, its manager and its sink stand
 pub record Point : Type 0 where
@@ -89,18 +86,3 @@ Answered tells l caller f g before now item (Err stop.OutOfMemory) = Answers tel
 pub record HasStopCause {T : Type 0} (before now : ℕ) (result : Result T Stop) : Type 0 where
   pub grows : before ≤ now
   pub rose : IsErrOf result stop.WriteFault → Rose before now
-
--- what a manager keeps over some steps, of which there are at most so many
-pub record Keeps (old new : Managed) (caller most : ℕ) : Type 0 where
-  pub limits : new.limits ≡ old.limits
-  pub run : HasRun old.limits old.flat → HasRun new.limits new.flat
-  pub joined : is_caller new.flat caller ≡ is_caller old.flat caller
-  pub text : old.text < 2 ^ 63 → new.text < 2 ^ 63
-  pub steps : new.steps ≤ old.steps + most
-
--- The manager can make a step for each byte that the session holds, and for so many bytes more.
-pub record IsFit (m : Managed) (s : Seen) (more : ℕ) : Type 0 where
-  pub run : HasRun m.limits m.flat
-  pub joined : IsTrue (is_caller m.flat 1)
-  pub text : m.text < 2 ^ 63
-  pub steps : m.steps + length s.held.rest + more ≤ 2 ^ 50

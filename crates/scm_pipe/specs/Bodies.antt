@@ -18,9 +18,10 @@ use Rattle.rpc_session.specs.declared.state.RequestItem.{RequestItem}
 
 -- ## Requests
 
--- the calls on handles and names that are served so far
+-- the calls on handles, names, the lock and starts that are served so far
 abbrev pub is_plain : ℕ → Bool
-is_plain opnum = opnum == 0 || opnum == 2 || opnum == 6 || opnum == 15 || opnum == 16 || opnum == 20 || opnum == 21
+is_plain opnum =
+    opnum == 0 || opnum == 2 || opnum == 3 || opnum == 6 || opnum == 8 || opnum == 15 || opnum == 16 || opnum == 18 || opnum == 19 || opnum == 20 || opnum == 21
 
 -- the calls on configurations that are served so far
 abbrev pub is_on_config : ℕ → Bool

@@ -1,16 +1,16 @@
 -- One request to the manager.
-use Rattle.std.specs.Prelude.{ℕ, ◌≡◌, ◌<◌, ◌^◌, IsTrue, List, [], length, Option, Some}
+use Rattle.std.specs.Prelude.{ℕ, ◌≡◌, ◌<◌, ◌^◌, List, [], ◌∷◌, All, length, Option, None, Some}
 use Rattle.scm_model.specs.declared.flat.Flat.{Flat}
 use Rattle.scm_model.specs.declared.flat.Limits.{Limits}
 use Rattle.scm_model.specs.declared.calls.Request.{Request}
 use Rattle.scm_model.specs.declared.calls.Reply.{Reply}
-use Rattle.scm_model.specs.declared.steps.Step.{Step}
-use Rattle.scm_model.specs.Rows.{is_caller}
-use Rattle.scm_core.specs.Managed.{Managed}
+use Rattle.scm_model.specs.declared.calls.Reply.TheVariants.{Code}
+use Rattle.scm_model.specs.declared.steps.Answer.{Answer}
+use Rattle.scm_model.specs.declared.steps.Answer.TheVariants as answers
+use Rattle.start_plan.specs.Decided.{caller_of}
 use Rattle.scm_rules.specs.Opening.{opening}
 use Rattle.scm_rules.specs.Runs.{Entry, IsLegal, state_of}
-use Rattle.scm_rules.specs.Steps.{step_of, may}
-use Rattle.scm_pipe.specs.Histories.{IsRequest, told_by}
+use Rattle.scm_pipe.specs.Histories.{IsServed, Waits, replies}
 use Rattle.scm_calls.specs.Replies.{reply_bytes as body_of}
 use Rattle.scm_pipe.specs.Bodies.{reply_to}
 
@@ -21,24 +21,54 @@ pub record HasRun (l : Limits) (f : Flat) : Type 0 where
   pub legal : IsLegal l (opening l [] [] opened) history
   pub state : state_of l (opening l [] [] opened) history ≡ f
 
--- the manager can make a step of caller 1
-pub record IsReady (m : Managed) : Type 0 where
-  pub run : HasRun m.limits m.flat
-  pub joined : IsTrue (is_caller m.flat 1)
-  pub steps : m.steps < 2 ^ 50
-  pub text : m.text < 2 ^ 63
+-- ## A start that waits
 
--- what became of a request of caller 1, at a moment that the clock tells
+-- a start of caller 1 waited from f to g and was answered this code, at moments that the clock tells
+pub record Waited (tells : ℕ → Type 0) (l : Limits) (f g : Flat) (plan code : ℕ) : Type 0 where
+  pub entries : List Entry
+  pub told : All (λ (e : Entry). tells e.0) entries
+  pub legal : IsLegal l f entries
+  pub waits : Waits l f 1 plan entries
+  pub answer : replies l f 1 entries ≡ Some (Code code) ∷ []
+  pub state : state_of l f entries ≡ g
+
+-- a start of caller 1 waits from f to g: however it ends from g on, it ends from f on
+abbrev pub StillWaits : (ℕ → Type 0) → Limits → Flat → Flat → (plan : ℕ) → Type 0
+StillWaits tells l f g plan = (h : Flat) (code : ℕ) → Waited tells l g h plan code → Waited tells l f h plan code
+
+-- the start is caller 1's
+abbrev pub IsMine : Flat → (plan : ℕ) → Type 0
+IsMine f plan = caller_of f.plans plan ≡ Some 1
+
+-- one look at a start that waits: it ended, or it waits still
+abbrev pub Looked : (ℕ → Type 0) → Limits → Flat → Flat → (plan : ℕ) → Option ℕ → Type 0
+Looked tells l f g plan (Some code) = Waited tells l f g plan code
+Looked tells l f g plan None = StillWaits tells l f g plan × IsMine g plan
+
+-- ## A whole request
+
+-- what may answer a call of caller 1 that leaves the state f: a reply, or that a start of its own waits
+abbrev pub IsSpoken : Flat → Answer → Type 0
+IsSpoken f (answers.Reply told) = Unit {0}
+IsSpoken f (answers.Begun plan) = IsMine f plan
+IsSpoken f answer = ⊥
+
+-- what caller 1 hears from f to g behind such an answer: the reply, or the code of the start that waited
+abbrev pub Heard : (ℕ → Type 0) → Limits → Flat → Flat → Answer → Reply → Type 0
+Heard tells l f g (answers.Reply told) reply = (reply ≡ told) × (g ≡ f)
+Heard tells l f g (answers.Begun plan) reply = (code : ℕ) × (reply ≡ Code code) × Waited tells l f g plan code
+Heard tells l f g answer reply = ⊥
+
+-- what became of a request of caller 1, at moments that the clock tells
 pub record Called (tells : ℕ → Type 0) (l : Limits) (f g : Flat) (request : Request) (reply : Reply) : Type 0 where
-  pub moment : ℕ
-  pub step : Step
+  pub entries : List Entry
   pub heard : Option Reply
-  pub told : tells moment
-  pub legal : IsTrue (may l f moment step)
-  pub asked : IsRequest 1 request step
-  pub answer : told_by 1 step (step_of l f moment step).0 ≡ Some heard
+  pub told : All (λ (e : Entry). tells e.0) entries
+  pub legal : IsLegal l f entries
+  pub served : IsServed l f 1 request entries
+  pub answer : replies l f 1 entries ≡ heard ∷ []
   pub replied : reply_to request heard ≡ reply
-  pub state : (step_of l f moment step).1 ≡ g
+  pub state : state_of l f entries ≡ g
 
 -- a request of caller 1 was made, and this is the body of its reply
 pub record Replied (tells : ℕ → Type 0) (l : Limits) (f g : Flat) (request : Request) (body : List ℕ) : Type 0 where

@@ -12,7 +12,7 @@ use Rattle.rpc_session.specs.Items.{StreamEnd, AtRest, Unfinished, BadPdu, TooLo
 use Rattle.scm_pipe.specs.declared.served.Served.{Served}
 use Rattle.scm_pipe.specs.declared.served.Served.TheVariants as served
 use Rattle.scm_pipe.specs.Bodies.{asked, spoken}
-use Rattle.scm_pipe.specs.Histories.{AreRequests, AsMany, replies, requests_of}
+use Rattle.scm_pipe.specs.Histories.{AreRequests, AsMany, Made, own, replies}
 
 -- ## What was served
 
@@ -96,7 +96,7 @@ pub record IsSeen (talk : Talk) (left left_now held held_now : Option (List ℕ)
 -- and the talk came as far as it is answered with the replies that this history gives there.
 pub record IsConnection (tells : ℕ → Type 0) (l : Limits) (f : Flat) (caller : ℕ) (how : Served) (talk : Talk) (left_now : Option (List ℕ)) : Type 0 where
   pub legal : IsLegal l f talk.history
-  pub requests : AreRequests caller (asked talk.done) (requests_of caller talk.history)
-  pub moments : All (λ (e : Entry). tells e.0) (requests_of caller talk.history)
+  pub requests : AreRequests caller (asked talk.done) (own l f caller talk.history)
+  pub moments : All (λ (made : Made). tells made.moment) (own l f caller talk.history)
   pub replied : AsMany (asked talk.done) (replies l f caller talk.history)
   pub reached : Reached how talk.read left_now talk.done (replies l f caller talk.history) talk.written

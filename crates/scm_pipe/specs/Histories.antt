@@ -1,5 +1,5 @@
--- What a history tells one caller.
-use Rattle.std.specs.Prelude.{ℕ, ◌≡◌, ◌==◌, Bool, false, filter, List, [], ◌∷◌, Option, None, Some, if◌then◌else◌}
+-- What a history tells one caller, and which of its entries serve that caller's requests.
+use Rattle.std.specs.Prelude.{ℕ, ◌≡◌, ◌==◌, ◌++◌, Bool, false, List, [], ◌∷◌, Option, None, Some, if◌then◌else◌}
 use Rattle.std.specs.List.{cons_option}
 use Rattle.scm_model.specs.declared.flat.Flat.{Flat}
 use Rattle.scm_model.specs.declared.flat.Limits.{Limits}
@@ -8,30 +8,42 @@ use Rattle.scm_model.specs.declared.calls.Reply.{Reply}
 use Rattle.scm_model.specs.declared.steps.Kept.{Kept}
 use Rattle.scm_model.specs.declared.steps.Kept.TheVariants as appended
 use Rattle.scm_model.specs.declared.steps.Step.{Step}
-use Rattle.scm_model.specs.declared.steps.Step.TheVariants.{Joined, Call, Gone, NoMemory}
+use Rattle.scm_model.specs.declared.steps.Step.TheVariants.{Call, EndStart, LaunchTaken, LaunchFailed, NoMemory}
 use Rattle.scm_model.specs.declared.steps.Answer.{Answer}
 use Rattle.scm_model.specs.declared.steps.Answer.TheVariants as answers
+use Rattle.start_plan.specs.Decided.{code_of}
+use Rattle.scm_rules.specs.Launches.{first_wanted}
 use Rattle.scm_rules.specs.Steps.{step_of}
-use Rattle.scm_rules.specs.Runs.{Entry}
+use Rattle.scm_rules.specs.Runs.{Entry, state_of}
 
--- what an answer tells the caller of a call
+-- ## Replies
+
+-- what an answer tells the caller of a call: nothing yet where a start waits
 abbrev pub reply_in : Answer → Option (Option Reply)
 reply_in (answers.Reply reply) = Some (Some reply)
-reply_in (answers.Caller number) = None
-reply_in answers.Done = None
+reply_in answer = None
 
 -- what a step tells a caller: a reply, or that there was no memory for one
 abbrev pub told_by : ℕ → Step → Answer → Option (Option Reply)
 told_by caller (Call of request append) answer = if of == caller then reply_in answer else None
+told_by caller (EndStart of plan) answer = if of == caller then reply_in answer else None
 told_by caller (NoMemory of) answer = if of == caller then Some None else None
-told_by caller (Joined principal) answer = None
-told_by caller (Gone of) answer = None
+told_by caller step answer = None
 
 -- what a history from f on tells a caller, in order
 abbrev pub replies : Limits → Flat → ℕ → List Entry → List (Option Reply)
 replies l f caller [] = []
 replies l f caller (e ∷ es) =
     cons_option (told_by caller e.1 (step_of l f e.0 e.1).0) (replies l (step_of l f e.0 e.1).1 caller es)
+
+-- as many of one as of the other
+abbrev pub AsMany : {A B : Type 0} → List A → List B → Type 0
+AsMany [] [] = Unit {0}
+AsMany (x ∷ xs) (y ∷ ys) = AsMany xs ys
+AsMany [] (y ∷ ys) = ⊥
+AsMany (x ∷ xs) [] = ⊥
+
+-- ## One request
 
 -- no change was lost
 abbrev pub IsNotLost : Kept → Type 0
@@ -43,30 +55,75 @@ IsNotLost appended.Failed = ⊥
 abbrev pub IsRequest : ℕ → Request → Step → Type 0
 IsRequest caller request (Call of asked append) = (of ≡ caller) × (asked ≡ request) × IsNotLost append
 IsRequest caller request (NoMemory of) = of ≡ caller
-IsRequest caller request (Joined principal) = ⊥
-IsRequest caller request (Gone of) = ⊥
+IsRequest caller request step = ⊥
 
--- the entries are what became of a caller's requests, one each, in order
-abbrev pub AreRequests : ℕ → List Request → List Entry → Type 0
-AreRequests caller [] [] = Unit {0}
-AreRequests caller (request ∷ requests) (e ∷ es) = IsRequest caller request e.1 × AreRequests caller requests es
-AreRequests caller [] (e ∷ es) = ⊥
-AreRequests caller (request ∷ requests) [] = ⊥
+-- ## The entries of a caller that is alone
 
--- the step is a request of the caller's, whatever became of it
-abbrev pub is_request_of : ℕ → Step → Bool
-is_request_of caller (Call of asked append) = of == caller
-is_request_of caller (NoMemory of) = of == caller
-is_request_of caller (Joined principal) = false
-is_request_of caller (Gone of) = false
+-- A start waits: while its plan is undecided the launch that is wanted first is taken in hand and fails, since no process is run. Then
+-- the start ends.
+abbrev pub Waits : Limits → Flat → ℕ → ℕ → List Entry → Type 0
+Waits l f caller plan [] = ⊥
+Waits l f caller plan (e ∷ []) = e.1 ≡ EndStart caller plan
+Waits l f caller plan (e ∷ d ∷ es) =
+    (code_of f.plans plan ≡ None) × (e.1 ≡ LaunchTaken) × (d.1 ≡ LaunchFailed (first_wanted f.wanted) 1054)
+    × Waits l (state_of l f (e ∷ d ∷ [])) caller plan es
 
--- the entries of a caller's requests
-abbrev pub requests_of : ℕ → List Entry → List Entry
-requests_of caller history = filter (λ (e : Entry). is_request_of caller e.1) history
+-- what comes behind a call, by its answer: where a start was begun it waits, else nothing comes
+abbrev pub Follows : Limits → Flat → ℕ → Answer → List Entry → Type 0
+Follows l f caller (answers.Begun plan) es = Waits l f caller plan es
+Follows l f caller answer es = es ≡ []
 
--- as many of one as of the other
-abbrev pub AsMany : {A B : Type 0} → List A → List B → Type 0
-AsMany [] [] = Unit {0}
-AsMany (x ∷ xs) (y ∷ ys) = AsMany xs ys
-AsMany [] (y ∷ ys) = ⊥
-AsMany (x ∷ xs) [] = ⊥
+-- the entries are what became of a caller's request
+abbrev pub IsServed : Limits → Flat → ℕ → Request → List Entry → Type 0
+IsServed l f caller request [] = ⊥
+IsServed l f caller request (e ∷ es) =
+    IsRequest caller request e.1 × Follows l (step_of l f e.0 e.1).1 caller (step_of l f e.0 e.1).0 es
+
+-- the entries are what became of a caller's requests, one after another, from state to state
+abbrev pub AreServed : Limits → Flat → ℕ → List Request → List Entry → Type 0
+AreServed l f caller [] es = es ≡ []
+AreServed l f caller (request ∷ requests) es =
+    (served : List Entry) × (rest : List Entry) × (es ≡ served ++ rest)
+    × IsServed l f caller request served × AreServed l (state_of l f served) caller requests rest
+
+-- ## A caller's own entries of any history
+
+-- an entry with its answer
+pub record Made : Type 0 where
+  pub moment : ℕ
+  pub step : Step
+  pub answer : Answer
+
+-- whether a step is of a caller's requests: a call, the end of a start, or that there was no memory
+abbrev pub is_own : ℕ → Step → Bool
+is_own caller (Call of asked append) = of == caller
+is_own caller (EndStart of plan) = of == caller
+is_own caller (NoMemory of) = of == caller
+is_own caller step = false
+
+abbrev pub own_by : ℕ → Entry → Answer → Option Made
+own_by caller e answer = if is_own caller e.1 then Some (record { moment = e.0; step = e.1; answer = answer }) else None
+
+-- the entries of a caller's requests in a history from f on, in order
+abbrev pub own : Limits → Flat → ℕ → List Entry → List Made
+own l f caller [] = []
+own l f caller (e ∷ es) =
+    cons_option (own_by caller e (step_of l f e.0 e.1).0) (own l (step_of l f e.0 e.1).1 caller es)
+
+-- what comes behind a call, by its answer: where a start was begun its end, else nothing
+abbrev pub Ends : ℕ → Answer → List Made → Type 0
+Ends caller (answers.Begun plan) [] = ⊥
+Ends caller (answers.Begun plan) (made ∷ more) = (made.step ≡ EndStart caller plan) × (more ≡ [])
+Ends caller answer more = more ≡ []
+
+-- the entries are what became of a caller's request
+abbrev pub IsMade : ℕ → Request → List Made → Type 0
+IsMade caller request [] = ⊥
+IsMade caller request (made ∷ more) = IsRequest caller request made.step × Ends caller made.answer more
+
+-- the entries are what became of a caller's requests, one after another
+abbrev pub AreRequests : ℕ → List Request → List Made → Type 0
+AreRequests caller [] mades = mades ≡ []
+AreRequests caller (request ∷ requests) mades =
+    (first : List Made) × (rest : List Made) × (mades ≡ first ++ rest)
+    × IsMade caller request first × AreRequests caller requests rest

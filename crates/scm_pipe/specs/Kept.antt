@@ -1,10 +1,8 @@
 -- A call of which it is told what became of its change.
 use Rattle.scm_model.specs.declared.steps.Kept.{Kept}
 use Rattle.scm_model.specs.declared.steps.Step.{Step}
-use Rattle.scm_model.specs.declared.steps.Step.TheVariants.{Joined, Call, Gone, NoMemory}
+use Rattle.scm_model.specs.declared.steps.Step.TheVariants.{Call}
 
 abbrev pub with_kept : Step → Kept → Step
 with_kept (Call caller asked append) now = Call caller asked now
-with_kept (Joined principal) now = Joined principal
-with_kept (Gone caller) now = Gone caller
-with_kept (NoMemory caller) now = NoMemory caller
+with_kept step now = step

@@ -3,6 +3,7 @@ pub mod Bodies
 pub mod Kept
 pub mod Talks
 pub mod Calling
+pub mod Ready
 pub mod Along
 pub mod Connection
 pub mod Serves

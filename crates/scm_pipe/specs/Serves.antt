@@ -1,10 +1,8 @@
 -- A whole connection of a caller that has joined and hasn't gone.
-use Rattle.std.specs.Prelude.{◌^◌, ℕ, ◌≡◌, ◌<◌, ◌≤◌, ◌++◌, List, [], length, Option, Result, Ok, Err, IsTrue, true, false}
+use Rattle.std.specs.Prelude.{◌^◌, ℕ, ◌≡◌, ◌<◌, ◌≤◌, ◌++◌, List, [], length, Option, Result, Ok, Err, true, false}
 use Rattle.std.specs.Io.KnownBytes.{Appends, Consumes, IsAtEnd}
 use Rattle.scm_model.specs.declared.flat.Flat.{Flat}
 use Rattle.scm_model.specs.declared.flat.Limits.{Limits}
-use Rattle.scm_model.specs.Rows.{is_caller}
-use Rattle.scm_core.specs.Managed.{Managed}
 use Rattle.rpc_session.specs.declared.state.Incoming.{Incoming}
 use Rattle.rpc_session.specs.Items.{BadPdu, TooLong, is_at_rest}
 use Rattle.scm_pipe.specs.declared.served.Served.{Served}
@@ -15,7 +13,6 @@ use Rattle.scm_pipe.specs.Histories.{replies}
 use Rattle.scm_pipe.specs.Talks.{Talks}
 use Rattle.scm_pipe.specs.Connection.{Reached}
 use Rattle.scm_pipe.specs.Along.{Point, GoesOn, GoesBad, Lacks, Breaks}
-use Rattle.scm_pipe.specs.Calling.{HasRun}
 
 pub record Serves (tells : ℕ → Type 0) (l : Limits) (caller : ℕ) (f g : Flat) (left left_now held held_now : Option (List ℕ)) (how : Served) : Type 0 where
   pub read : List ℕ
@@ -27,13 +24,6 @@ pub record Serves (tells : ℕ → Type 0) (l : Limits) (caller : ℕ) (f g : Fl
   pub most : length read ≤ 2 ^ 40
   pub appended : Appends held held_now written
   pub reached : Reached how read left_now done (replies l f caller talks.calls) written
-
--- a manager whose first caller has just joined
-pub record IsFresh (m : Managed) : Type 0 where
-  pub run : HasRun m.limits m.flat
-  pub joined : IsTrue (is_caller m.flat 1)
-  pub text : m.text < 2 ^ 63
-  pub steps : m.steps ≤ 1
 
 -- behind what was fed before comes what was read
 abbrev pub fed : List ℕ → List ℕ → List ℕ
@@ -63,8 +53,3 @@ pub record Turn (tells : ℕ → Type 0) (l : Limits) (caller : ℕ) (a b : Poin
   pub consumed : Consumes left left_now read
   pub short : length read ≤ room
   pub turned : Turned tells l caller a b left_now read result
-
--- how many bytes were taken, at most
-abbrev pub taken : Result ℕ Served → (room : ℕ) → ℕ
-taken (Ok n) room = n
-taken (Err how) room = room

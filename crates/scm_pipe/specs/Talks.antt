@@ -7,12 +7,12 @@ use Rattle.scm_model.specs.declared.flat.Limits.{Limits}
 use Rattle.scm_rules.specs.Runs.{Entry, IsLegal, state_of}
 use Rattle.rpc_session.specs.declared.state.Incoming.{Incoming}
 use Rattle.scm_pipe.specs.Bodies.{asked, spoken}
-use Rattle.scm_pipe.specs.Histories.{AreRequests, replies}
+use Rattle.scm_pipe.specs.Histories.{AreServed, replies}
 
 -- Requests of these items lead from f to g, and the items are answered this.
 pub record Talks (tells : ℕ → Type 0) (l : Limits) (caller : ℕ) (f g : Flat) (items : List Incoming) (text : List ℕ) : Type 0 where
   pub calls : List Entry
-  pub asked : AreRequests caller (asked items) calls
+  pub asked : AreServed l f caller (asked items) calls
   pub moments : All (λ (e : Entry). tells e.0) calls
   pub legal : IsLegal l f calls
   pub state : state_of l f calls ≡ g

@@ -1,8 +1,9 @@
 ghost use Rattle.std.specs.Prelude.{◌≡◌, ◌≤◌, ◌++◌, IfOk, OnErr, Some, length};
 ghost use Rattle.scm_calls.specs.Replies.{reply_bytes as body_of};
 ghost use Rattle.scm_calls.specs.Requests.{IsInRange};
-ghost use Rattle.scm_pipe.specs.Along.{Answered, HasStopCause, Keeps, stopped};
-ghost use Rattle.scm_pipe.specs.Calling.{IsReady, Replied};
+ghost use Rattle.scm_pipe.specs.Along.{Answered, HasStopCause, stopped};
+ghost use Rattle.scm_pipe.specs.Calling.{Replied};
+ghost use Rattle.scm_pipe.specs.Ready.{IsReady, Stays};
 ghost use Rattle.rpc_session.specs.Moves.{IsFor};
 ghost use Rattle.rpc_session.specs.declared.state.Incoming.TheVariants as items;
 
@@ -17,6 +18,7 @@ use scm_core::Manager;
 use scm_model::{Reply, Request};
 use scm_text::{Buffer, OutOfMemory};
 use std::alloc::Global;
+use std::sync::Wait;
 
 /// The caller of a connection that is served alone.
 pub const CALLER: u64 = 1;
@@ -43,7 +45,8 @@ fn written(reply: &Reply, out: Buffer<u8>) -> Buffer<u8>
 }
 
 /// Makes a request, and the body of its reply. An `Err` makes none.
-fn replied<C: Clock>(
+fn replied<R: Wait, C: Clock>(
+    rt: &R,
     alloc: Global,
     manager: &mut Manager,
     request: Request,
@@ -53,16 +56,17 @@ fn replied<C: Clock>(
     requires ranged { IsInRange request }
     ensures ok { IfOk result (λ body. Replied (C.tells clock.now) manager.old.limits manager.old.flat manager.new.flat request body.items) }
     ensures err { OnErr result (manager.new.flat ≡ manager.old.flat) }
-    ensures keeps { Keeps manager.old manager.new 1 1 }
+    ensures stays { Stays manager.old manager.new }
 {
     let bound = reply_bound(&request);
     let out = Buffer::with_room(alloc, bound as usize)?;
-    let reply = call(alloc, manager, request, clock);
+    let reply = call(rt, alloc, manager, request, clock)?;
     Ok(written(&reply, out))
 }
 
 /// Answers a request.
-fn answer_request<O: Sink, C: Clock>(
+fn answer_request<R: Wait, O: Sink, C: Clock>(
+    rt: &R,
     alloc: Global,
     manager: &mut Manager,
     session: &Session,
@@ -74,7 +78,7 @@ fn answer_request<O: Sink, C: Clock>(
     requires bound { IsFor session.now.state.terms (Some (items.Request item.now)) }
     ensures answered { Answered (C.tells clock.now) manager.old.limits 1 manager.old.flat manager.new.flat
         (O.held output.old) (O.held output.new) (items.Request item.now) result }
-    ensures keeps { Keeps manager.old manager.new 1 1 }
+    ensures stays { Stays manager.old manager.new }
     ensures cause { HasStopCause (O.faults output.old) (O.faults output.new) result }
 {
     let Ok(asked) = asked(alloc, item) else {
@@ -83,7 +87,7 @@ fn answer_request<O: Sink, C: Clock>(
     match asked {
         Err(status) => stopped(session.fault(item.call, item.context, status, output)),
         Ok(request) => {
-            let Ok(body) = replied(alloc, manager, request, clock) else {
+            let Ok(body) = replied(rt, alloc, manager, request, clock) else {
                 return Err(Stop::OutOfMemory);
             };
             stopped(session.reply(item.call, item.context, body.as_slice(), output))
@@ -92,7 +96,8 @@ fn answer_request<O: Sink, C: Clock>(
 }
 
 /// Answers an item.
-pub fn answer<O: Sink, C: Clock>(
+pub fn answer<R: Wait, O: Sink, C: Clock>(
+    rt: &R,
     alloc: Global,
     manager: &mut Manager,
     session: &Session,
@@ -104,13 +109,13 @@ pub fn answer<O: Sink, C: Clock>(
     requires bound { IsFor session.now.state.terms (Some item.now) }
     ensures answered { Answered (C.tells clock.now) manager.old.limits 1 manager.old.flat manager.new.flat
         (O.held output.old) (O.held output.new) item.now result }
-    ensures keeps { Keeps manager.old manager.new 1 1 }
+    ensures stays { Stays manager.old manager.new }
     ensures cause { HasStopCause (O.faults output.old) (O.faults output.new) result }
 {
     match item {
         Incoming::Local(bytes) => stopped(write_all(output, bytes.as_slice())),
         Incoming::Request(request) => {
-            answer_request(alloc, manager, session, request, output, clock)
+            answer_request(rt, alloc, manager, session, request, output, clock)
         }
     }
 }

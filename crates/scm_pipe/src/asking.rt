@@ -17,11 +17,11 @@ const OP_RANGE: u32 = 0x1C01_0002;
 /// nca_s_fault_ndr of MS-RPCE: the body can't be read.
 const BAD_BODY: u32 = 0x6F7;
 
-/// Whether a call is one on handles and names that is served.
+/// Whether a call is one on handles, names, the lock or a start that is served.
 fn is_plain(opnum: u16) -> bool
     ensures { result ≡ is_plain opnum }
 {
-    matches!(opnum, 0 | 2 | 6 | 15 | 16 | 20 | 21)
+    matches!(opnum, 0 | 2 | 3 | 6 | 8 | 15 | 16 | 18 | 19 | 20 | 21)
 }
 
 /// Whether a call is one on configurations that is served.

@@ -1,16 +1,19 @@
-ghost use Rattle.std.specs.Prelude.{◌≡◌, ◌+◌, ◌<◌, ◌^◌, IsTrue, Some, if◌then◌else◌};
-ghost use Rattle.scm_model.specs.Unkept.{unkept};
-ghost use Rattle.scm_rules.specs.Texts.{text_of};
+ghost use Rattle.std.specs.Prelude.{◌≡◌, IfOk, OnErr, if◌then◌else◌};
+ghost use Rattle.scm_model.specs.Refused.{refused};
+ghost use Rattle.scm_model.specs.declared.calls.Request.{Request};
 ghost use Rattle.scm_model.specs.declared.steps.Kept.TheVariants as appended;
-ghost use Rattle.scm_pipe.specs.Along.{Keeps};
-ghost use Rattle.scm_pipe.specs.Calling.{Called, IsReady};
+ghost use Rattle.scm_pipe.specs.Calling.{Called, Heard, IsSpoken};
 ghost use Rattle.scm_pipe.specs.Kept.{with_kept};
+ghost use Rattle.scm_pipe.specs.Ready.{IsPreparedIf, IsReady, IsSame, Stays};
 
 use super::answering::CALLER;
 use super::clock::Clock;
+use super::waiting::wait;
 use scm_core::Manager;
 use scm_model::{Answer, Kept, Reply, Request, Step, refused};
+use scm_text::OutOfMemory;
 use std::alloc::Global;
+use std::sync::Wait;
 
 /// What becomes of a change where only the manager keeps it.
 fn kept_by(changes: bool) -> Kept
@@ -33,30 +36,86 @@ fn told(step: Step, now: Kept) -> Step
             request,
             kept: now,
         },
-        Step::Joined { .. } | Step::Gone { .. } | Step::NoMemory { .. } => step,
+        Step::Joined { .. }
+        | Step::EndStart { .. }
+        | Step::LaunchTaken
+        | Step::Launched { .. }
+        | Step::LaunchFailed { .. }
+        | Step::Tick
+        | Step::Gone { .. }
+        | Step::NoMemory { .. } => step,
     }
 }
 
-/// Makes room for a step, if there is memory and the manager can still count it.
-fn has_room(manager: &mut Manager, step: &Step) -> bool
-    ensures flat { manager.new.flat ≡ manager.old.flat }
-    ensures limits { manager.new.limits ≡ manager.old.limits }
-    ensures steps { manager.new.steps ≡ manager.old.steps }
-    ensures text { manager.new.text ≡ manager.old.text }
-    ensures room { IsTrue result → manager.new.room ≡ Some (unkept step.now) }
-    ensures fits { IsTrue result → manager.new.text + text_of step.now < 2 ^ 63 }
+/// Makes room for a step, and tells whether it makes a change. `None` where there is no memory for it, or the manager can't count it.
+fn prepared(manager: &mut Manager, moment: u64, step: &Step) -> Option<bool>
+    ensures same { IsSame manager.old manager.new }
+    ensures prepared { IsPreparedIf manager.new step.now result }
 {
-    match manager.reserve_for(step) {
-        Ok(()) => manager.fits(step),
-        Err(_) => false,
+    let Ok(()) = manager.reserve_for(step) else {
+        return None;
+    };
+    if !manager.fits(step) {
+        return None;
+    }
+    match manager.makes_change(moment, step) {
+        Ok(changes) => Some(changes),
+        Err(_) => None,
     }
 }
 
-/// Makes a request at a moment of the clock. Where there is no memory for it, that stands in its place.
-pub fn call<C: Clock>(alloc: Global, manager: &mut Manager, request: Request, clock: &C) -> Reply
+/// Lets it stand in the place of a request that there was no memory for it.
+fn no_memory<C: Clock>(
+    manager: &mut Manager,
+    refusal: Reply,
+    clock: &C,
+) -> Result<Reply, OutOfMemory>
     requires { IsReady manager.old }
-    ensures called { Called (C.tells clock.now) manager.old.limits manager.old.flat manager.new.flat request result }
-    ensures keeps { Keeps manager.old manager.new 1 1 }
+    ensures called { (asked : Request) → refusal ≡ refused asked 8 → IfOk result (λ reply. Called (C.tells clock.now) manager.old.limits manager.old.flat manager.new.flat asked reply) }
+    ensures err { OnErr result (manager.new.flat ≡ manager.old.flat) }
+    ensures stays { Stays manager.old manager.new }
+{
+    let step = Step::NoMemory { caller: CALLER };
+    if !manager.fits(&step) {
+        return Err(OutOfMemory);
+    }
+    let _done = manager.step(clock.now(), step);
+    Ok(refusal)
+}
+
+/// What the caller hears of the answer to its call. A start that was begun waits until it is decided.
+fn heard<R: Wait, C: Clock>(
+    rt: &R,
+    manager: &mut Manager,
+    answer: Answer,
+    refusal: Reply,
+    clock: &C,
+) -> Reply
+    requires ready { IsReady manager.old }
+    requires spoken { IsSpoken manager.old.flat answer }
+    ensures heard { Heard (C.tells clock.now) manager.old.limits manager.old.flat manager.new.flat answer result }
+    ensures stays { Stays manager.old manager.new }
+{
+    match answer {
+        Answer::Reply(reply) => reply,
+        Answer::Begun(plan) => Reply::Code(wait(rt, manager, plan, clock)),
+        Answer::Caller(_) | Answer::Launch(_) | Answer::Done => refusal,
+    }
+}
+
+/// Makes a request at moments of the clock. Where there is no memory for it, that stands in its place; where there isn't even any
+/// for that, no request is made.
+pub fn call<R: Wait, C: Clock>(
+    rt: &R,
+    alloc: Global,
+    manager: &mut Manager,
+    request: Request,
+    clock: &C,
+) -> Result<Reply, OutOfMemory>
+    requires { IsReady manager.old }
+    ensures called { IfOk result (λ reply. Called (C.tells clock.now) manager.old.limits manager.old.flat manager.new.flat request reply) }
+    ensures err { OnErr result (manager.new.flat ≡ manager.old.flat) }
+    ensures stays { Stays manager.old manager.new }
 {
     let moment = clock.now();
     let refusal = refused(alloc, &request, 8);
@@ -65,13 +124,9 @@ pub fn call<C: Clock>(alloc: Global, manager: &mut Manager, request: Request, cl
         request,
         kept: Kept::NotAsked,
     };
-    if !has_room(manager, &step) {
-        let _done = manager.step(moment, Step::NoMemory { caller: CALLER });
-        return refusal;
-    }
-    let kept = kept_by(manager.makes_change(moment, &step));
-    match manager.step(moment, told(step, kept)) {
-        Answer::Reply(reply) => reply,
-        Answer::Caller(_) | Answer::Done => refusal,
-    }
+    let Some(changes) = prepared(manager, moment, &step) else {
+        return no_memory(manager, refusal, clock);
+    };
+    let answer = manager.step(moment, told(step, kept_by(changes)));
+    Ok(heard(rt, manager, answer, refusal, clock))
 }

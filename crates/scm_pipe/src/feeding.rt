@@ -1,5 +1,6 @@
-ghost use Rattle.std.specs.Prelude.{◌≡◌, ◌+◌, ◌≤◌, ◌<◌, length};
-ghost use Rattle.scm_pipe.specs.Along.{Fed, HasStopCause, IsFit, Keeps, stop_of};
+ghost use Rattle.std.specs.Prelude.{◌≡◌, ◌≤◌};
+ghost use Rattle.scm_pipe.specs.Along.{Fed, HasStopCause, stop_of};
+ghost use Rattle.scm_pipe.specs.Ready.{IsReady, Stays};
 ghost use Rattle.scm_pipe.specs.Serves.{fed};
 
 use super::answering::answer;
@@ -8,6 +9,7 @@ use super::stop::Stop;
 use rpc_session::{Session, SessionFault, Sink};
 use scm_core::Manager;
 use std::alloc::Global;
+use std::sync::Wait;
 
 /// Why a session's fault stops the serving.
 fn stop_of(fault: SessionFault) -> Stop
@@ -21,26 +23,26 @@ fn stop_of(fault: SessionFault) -> Stop
 }
 
 /// Answers the items that are whole.
-fn drain<O: Sink, C: Clock>(
+fn drain<R: Wait, O: Sink, C: Clock>(
+    rt: &R,
     alloc: Global,
     manager: &mut Manager,
     session: &mut Session,
     output: &mut O,
     clock: &C,
 ) -> Result<(), Stop>
-    requires { IsFit manager.old session.old 0 }
+    requires { IsReady manager.old }
     ensures fed { Fed (C.tells clock.now) manager.old.limits 1 (λ stream. stream)
         (record { session = session.old; flat = manager.old.flat; held = O.held output.old })
         (record { session = session.new; flat = manager.new.flat; held = O.held output.new })
         result }
-    ensures keeps { Keeps manager.old manager.new 1 (length session.old.held.rest) }
-    ensures room { manager.new.steps + length session.new.held.rest ≤ manager.old.steps + length session.old.held.rest }
+    ensures stays { Stays manager.old manager.new }
     ensures cause { HasStopCause (O.faults output.old) (O.faults output.new) result }
 {
     loop {
         match session.next(alloc) {
             Ok(None) => return Ok(()),
-            Ok(Some(item)) => match answer(alloc, manager, session, &item, output, clock) {
+            Ok(Some(item)) => match answer(rt, alloc, manager, session, &item, output, clock) {
                 Ok(()) => {}
                 Err(stop) => return Err(stop),
             },
@@ -50,7 +52,8 @@ fn drain<O: Sink, C: Clock>(
 }
 
 /// Takes a piece, and answers the items that it makes whole.
-pub fn feed<O: Sink, C: Clock>(
+pub fn feed<R: Wait, O: Sink, C: Clock>(
+    rt: &R,
     alloc: Global,
     manager: &mut Manager,
     session: &mut Session,
@@ -58,17 +61,16 @@ pub fn feed<O: Sink, C: Clock>(
     output: &mut O,
     clock: &C,
 ) -> Result<(), Stop>
-    requires { IsFit manager.old session.old (length piece.now) }
+    requires { IsReady manager.old }
     ensures fed { Fed (C.tells clock.now) manager.old.limits 1 (fed piece.now)
         (record { session = session.old; flat = manager.old.flat; held = O.held output.old })
         (record { session = session.new; flat = manager.new.flat; held = O.held output.new })
         result }
-    ensures keeps { Keeps manager.old manager.new 1 (length session.old.held.rest + length piece.now) }
-    ensures room { manager.new.steps + length session.new.held.rest ≤ manager.old.steps + length session.old.held.rest + length piece.now }
+    ensures stays { Stays manager.old manager.new }
     ensures cause { HasStopCause (O.faults output.old) (O.faults output.new) result }
 {
     match session.feed(piece) {
-        Ok(()) => drain(alloc, manager, session, output, clock),
+        Ok(()) => drain(rt, alloc, manager, session, output, clock),
         Err(_) => Err(Stop::OutOfMemory),
     }
 }

@@ -9,6 +9,7 @@ mod feeding;
 mod served;
 mod serving;
 mod stop;
+mod waiting;
 
 pub use answering::CALLER;
 pub use clock::{Clock, FixedClock};

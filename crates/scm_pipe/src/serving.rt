@@ -1,7 +1,7 @@
-ghost use Rattle.std.specs.Prelude.{◌≡◌, ◌≤◌, ◌<◌, ◌+◌, ◌^◌, length, IfErr};
-ghost use Rattle.scm_pipe.specs.Along.{IsFit, Keeps};
+ghost use Rattle.std.specs.Prelude.{◌≡◌, ◌≤◌, ◌<◌, length, IfErr};
 ghost use Rattle.scm_pipe.specs.Connection.{IsCaused};
-ghost use Rattle.scm_pipe.specs.Serves.{Serves, Turn, IsFresh, ended_by, taken};
+ghost use Rattle.scm_pipe.specs.Ready.{IsReady, Stays};
+ghost use Rattle.scm_pipe.specs.Serves.{Serves, Turn, ended_by};
 
 use super::clock::Clock;
 use super::feeding::feed;
@@ -10,6 +10,7 @@ use super::stop::Stop;
 use rpc_session::{Session, Sink, Source};
 use scm_core::Manager;
 use std::alloc::Global;
+use std::sync::Wait;
 
 /// How many bytes a connection may have.
 const WORN: u64 = 1 << 40;
@@ -30,7 +31,8 @@ fn ended_by(stop: Stop) -> Served
 }
 
 /// Reads a piece, and answers the items that it makes whole. An `Err` says how the connection ends.
-fn turn<I: Source, O: Sink, C: Clock>(
+fn turn<R: Wait, I: Source, O: Sink, C: Clock>(
+    rt: &R,
     alloc: Global,
     manager: &mut Manager,
     session: &mut Session,
@@ -40,13 +42,12 @@ fn turn<I: Source, O: Sink, C: Clock>(
     clock: &C,
 ) -> Result<usize, Served>
     requires nonempty { 0 < length into.old }
-    requires fit { IsFit manager.old session.old (length into.old) }
+    requires ready { IsReady manager.old }
     ensures turned { Turn (C.tells clock.now) manager.old.limits 1
         (record { session = session.old; flat = manager.old.flat; held = O.held output.old })
         (record { session = session.new; flat = manager.new.flat; held = O.held output.new })
         (I.left input.old) (I.left input.new) (length into.old) result }
-    ensures keeps { Keeps manager.old manager.new 1 (length session.old.held.rest + taken result (length into.old)) }
-    ensures room { manager.new.steps + length session.new.held.rest ≤ manager.old.steps + length session.old.held.rest + taken result (length into.old) }
+    ensures stays { Stays manager.old manager.new }
     ensures input { I.faults input.old ≤ I.faults input.new }
     ensures output { O.faults output.old ≤ O.faults output.new }
     ensures cause { IfErr result (λ how. IsCaused how (I.faults input.old) (I.faults input.new) (O.faults output.old) (O.faults output.new)) }
@@ -61,24 +62,25 @@ fn turn<I: Source, O: Sink, C: Clock>(
         return Err(Served::Truncated);
     }
     let (piece, _) = into.split_at(n);
-    match feed(alloc, manager, session, piece, output, clock) {
+    match feed(rt, alloc, manager, session, piece, output, clock) {
         Ok(()) => Ok(n),
         Err(stop) => Err(ended_by(stop)),
     }
 }
 
 /// Serves a connection whose caller has joined, until it ends. Each item is answered before the next read.
-pub fn serve<I: Source, O: Sink, C: Clock>(
+pub fn serve<R: Wait, I: Source, O: Sink, C: Clock>(
+    rt: &R,
     alloc: Global,
     manager: &mut Manager,
     input: &mut I,
     output: &mut O,
     clock: &C,
 ) -> Served
-    requires { IsFresh manager.old }
+    requires { IsReady manager.old }
     ensures served { Serves (C.tells clock.now) manager.old.limits 1 manager.old.flat manager.new.flat
         (I.left input.old) (I.left input.new) (O.held output.old) (O.held output.new) result }
-    ensures keeps { Keeps manager.old manager.new 1 (2 ^ 41) }
+    ensures stays { Stays manager.old manager.new }
     ensures input { I.faults input.old ≤ I.faults input.new }
     ensures output { O.faults output.old ≤ O.faults output.new }
     ensures cause { IsCaused result (I.faults input.old) (I.faults input.new) (O.faults output.old) (O.faults output.new) }
@@ -89,7 +91,7 @@ pub fn serve<I: Source, O: Sink, C: Clock>(
     while read < WORN {
         let room = (WORN - read).min(PIECE) as usize;
         let (into, _) = piece.split_at_mut(room);
-        match turn(alloc, manager, &mut session, into, input, output, clock) {
+        match turn(rt, alloc, manager, &mut session, into, input, output, clock) {
             Ok(n) => read += n as u64,
             Err(how) => return how,
         }

@@ -9,7 +9,7 @@ use Rattle.rpc_session.specs.Items.{StreamEnd, AtRest, Unfinished, BadPdu, TooLo
 use Rattle.scm_pipe.specs.declared.served.Served.{Served}
 use Rattle.scm_pipe.specs.declared.served.Served.TheVariants as served
 use Rattle.scm_pipe.specs.Connection.{IsCaused, IsOpenEnd}
-use Rattle.scmd.specs.Pipe.{IsPiped, IsComplete, EndsAs, IsOrLacks, status_at, status_of}
+use Rattle.scmd.specs.Pipe.{IsPiped, IsComplete, EndsAs, status_at, status_of}
 
 rest_of : (bytes read : List ℕ) (left : Option (List ℕ)) → Consumes (Some bytes) left read → (rest : List ℕ) × (bytes ≡ read ++ rest)
 rest_of bytes read None h = absurd h

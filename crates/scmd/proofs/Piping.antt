@@ -1,5 +1,5 @@
 -- A whole run of one caller alone.
-use Rattle.std.proofs.Common.{arith, ℕ, ◌≡◌, Bool, true, false, All, IsTrue, List, [], ◌∷◌, ◌++◌, Option, refl, sym, ap, ◌∙◌, subst, append-nil, rules}
+use Rattle.std.proofs.Common.{arith, ℕ, ◌≡◌, Bool, true, false, All, IsTrue, List, [], ◌∷◌, ◌++◌, Option, refl, sym, ◌∙◌, subst, append-nil, rules}
 use Rattle.std.specs.Prelude.{◌&&◌}
 use Rattle.std.proofs.lemmas.List.Elements.{All-nil, All-cons, All-append}
 use Rattle.std.proofs.KnownBytes.{Consumes-nil, Appends-nil}
@@ -15,13 +15,14 @@ use Rattle.rpc_session.specs.Items.{items}
 use Rattle.scm_pipe.specs.Bodies.{asked}
 use Rattle.scm_pipe.specs.declared.served.Served.{Served}
 use Rattle.scm_pipe.specs.declared.served.Served.TheVariants as served
-use Rattle.scm_pipe.specs.Histories.{AreRequests, AsMany, replies, requests_of}
+use Rattle.scm_pipe.specs.Histories.{AreRequests, AsMany, Made, own, replies}
 use Rattle.scmd.specs.Joining.{HasJoined}
 use Rattle.scm_pipe.specs.Calling.{HasRun}
-use Rattle.scm_pipe.specs.Serves.{IsFresh, Serves}
+use Rattle.scm_pipe.specs.Ready.{IsReady}
+use Rattle.scm_pipe.specs.Serves.{Serves}
 use Rattle.scm_pipe.specs.Connection.{Reached}
 use Rattle.scmd.specs.Pipe.{IsPiped, program_limits}
-use Rattle.scm_pipe.proofs.Talking.{legal_append, only_requests, replies_append, replies_as_many}
+use Rattle.scm_pipe.proofs.Histories.{legal_append, made_requests, own_append, own_moments, replies_append, replies_as_many}
 
 both : (b : Bool) → IsTrue b → IsTrue (b && true)
 both true h = refl
@@ -45,15 +46,13 @@ begun principal opened moment = record {
 here : (principal : Principal) (opened moment : ℕ) → IsTrue (is_caller (joined_state principal opened moment) 1)
 here principal opened moment = search rules
 
-pub is_fresh : (tells : ℕ → Type 0) (principal : Principal) (opened : ℕ) (m : Managed) → HasJoined tells principal opened m → IsFresh m
-is_fresh tells principal opened m j =
+pub is_ready : (tells : ℕ → Type 0) (principal : Principal) (opened : ℕ) (m : Managed) → HasJoined tells principal opened m → IsReady m
+is_ready tells principal opened m j =
     let text = j.text in
-    let steps = j.steps in
     record {
       run = subst (λ l. HasRun l m.flat) (sym j.limits) (subst (λ f. HasRun program_limits f) (sym j.flat) (begun principal opened j.moment));
       joined = subst (λ f. IsTrue (is_caller f 1)) (sym j.flat) (here principal opened j.moment);
       text = omega (arith, text);
-      steps = omega (arith, steps);
     }
 
 -- what a run tells its caller is what its calls tell it
@@ -63,16 +62,22 @@ told_calls principal opened joined gone calls =
     replies_append program_limits (joined_state principal opened joined) 1 calls ((gone, Gone 1) ∷ [])
     ∙ append-nil (replies program_limits (joined_state principal opened joined) 1 calls)
 
+-- and its entries are its calls
+own_calls : (principal : Principal) (opened joined gone : ℕ) (calls : List Entry)
+    → own program_limits (opening program_limits [] [] opened) 1 (whole principal joined calls gone) ≡ own program_limits (joined_state principal opened joined) 1 calls
+own_calls principal opened joined gone calls =
+    own_append program_limits (joined_state principal opened joined) 1 calls ((gone, Gone 1) ∷ [])
+    ∙ append-nil (own program_limits (joined_state principal opened joined) 1 calls)
+
 piped : (tells : ℕ → Type 0) (principal : Principal) (opened joined gone : ℕ) (g : Flat) (left left_now held held_now : Option (List ℕ)) (how : Served)
     → tells opened → tells joined → tells gone
     → Serves tells program_limits 1 (joined_state principal opened joined) g left left_now held held_now how
-    → is_caller g 1 ≡ is_caller (joined_state principal opened joined) 1
+    → IsTrue (is_caller g 1)
     → IsPiped tells principal how left left_now held held_now
-piped tells principal opened joined gone g left left_now held held_now how o j k s same =
+piped tells principal opened joined gone g left left_now held held_now how o j k s there =
     let f = joined_state principal opened joined in
     let calls = s.talks.calls in
-    let there : IsTrue (is_caller f 1) = here principal opened joined in
-    let own : requests_of 1 (whole principal joined calls gone) ≡ calls = only_requests 1 (asked s.done) calls ((gone, Gone 1) ∷ []) s.talks.asked refl in
+    let mine = sym (own_calls principal opened joined gone calls) in
     let told = sym (told_calls principal opened joined gone calls) in
     record {
       opened = opened;
@@ -82,10 +87,10 @@ piped tells principal opened joined gone g left left_now held held_now how o j k
         legal = (
           search rules,
           legal_append program_limits f calls ((gone, Gone 1) ∷ []) s.talks.legal
-              (both (is_caller (state_of program_limits f calls) 1) (subst (λ b. IsTrue b) (sym (ap (λ x. is_caller x 1) s.talks.state ∙ same)) there), tt),
+              (both (is_caller (state_of program_limits f calls) 1) (subst (λ x. IsTrue (is_caller x 1)) (sym s.talks.state) there), tt),
         );
-        requests = subst (λ es. AreRequests 1 (asked s.done) es) (sym own) s.talks.asked;
-        moments = subst (λ es. All (λ (e : Entry). tells e.0) es) (sym own) s.talks.moments;
+        requests = subst (λ (ms : List Made). AreRequests 1 (asked s.done) ms) mine (made_requests program_limits f 1 (asked s.done) calls s.talks.asked);
+        moments = subst (λ (ms : List Made). All (λ (made : Made). tells made.moment) ms) mine (own_moments tells program_limits f 1 calls s.talks.moments);
         replied = subst (λ t. AsMany (asked s.done) t) told (replies_as_many program_limits f 1 (asked s.done) calls s.talks.asked);
         reached = subst (λ t. Reached how s.read left_now s.done t s.written) told s.reached;
       };
@@ -99,13 +104,13 @@ piped tells principal opened joined gone g left left_now held held_now how o j k
 pub piped_after : (tells : ℕ → Type 0) (principal : Principal) (opened gone : ℕ) (m : Managed) (g : Flat) (left left_now held held_now : Option (List ℕ)) (how : Served)
     → tells opened → tells gone → HasJoined tells principal opened m
     → Serves tells m.limits 1 m.flat g left left_now held held_now how
-    → is_caller g 1 ≡ is_caller m.flat 1
+    → IsTrue (is_caller g 1)
     → IsPiped tells principal how left left_now held held_now
-piped_after tells principal opened gone m g left left_now held held_now how o k j s same =
+piped_after tells principal opened gone m g left left_now held held_now how o k j s there =
     piped tells principal opened j.moment gone g left left_now held held_now how o j.told k
     (subst (λ f. Serves tells program_limits 1 f g left left_now held held_now how) j.flat
     (subst (λ l. Serves tells l 1 m.flat g left left_now held held_now how) j.limits s))
-    (same ∙ ap (λ x. is_caller x 1) j.flat)
+    there
 
 -- nothing was read, since there was no memory to begin
 pub piped_none : (tells : ℕ → Type 0) (principal : Principal) (opened : ℕ) (left held : Option (List ℕ))
@@ -117,12 +122,12 @@ piped_none tells principal opened left held o =
       seen = record { read = Consumes-nil left; most = omega arith; written = Appends-nil held };
       connection = record {
         legal = (search rules, (search rules, tt));
-        requests = tt;
-        moments = All-nil (λ (e : Entry). tells e.0);
+        requests = refl;
+        moments = All-nil (λ (made : Made). tells made.moment);
         replied = tt;
         reached = record { first = ((items []).items, refl); text = refl };
       };
-      alone = record { joined = opened; calls = []; gone = opened; order = refl; asked = tt };
+      alone = record { joined = opened; calls = []; gone = opened; order = refl; asked = refl };
       opened_at = o;
       moments = All-cons (λ (e : Entry). tells e.0) (opened, Joined principal) ((opened, Gone 1) ∷ []) o
           (All-cons (λ (e : Entry). tells e.0) (opened, Gone 1) [] o (All-nil (λ (e : Entry). tells e.0)));

@@ -12,5 +12,4 @@ pub record HasJoined (tells : ℕ → Type 0) (principal : Principal) (opened : 
   pub told : tells moment
   pub flat : m.flat ≡ (step_of program_limits (opening program_limits [] [] opened) moment (Joined principal)).1
   pub limits : m.limits ≡ program_limits
-  pub steps : m.steps ≡ 1
   pub text : m.text ≡ 0

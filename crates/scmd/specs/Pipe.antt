@@ -2,19 +2,19 @@
 use Rattle.std.specs.Prelude.{ℕ, ◌≡◌, ◌<◌, ◌^◌, ◌++◌, List, [], ◌∷◌, length, All, Option, IfSome, ◌⊎◌}
 use Rattle.outside.specs.Causes.{Rose}
 use Rattle.outside.specs.Written.{Begins}
+use Rattle.scm_model.specs.declared.flat.Flat.{Flat}
 use Rattle.scm_model.specs.declared.flat.Limits.{Limits}
 use Rattle.scm_model.specs.declared.flat.Principal.{Principal}
 use Rattle.scm_model.specs.declared.calls.Request.{Request}
 use Rattle.scm_model.specs.declared.steps.Step.TheVariants.{Joined, Gone}
 use Rattle.scm_rules.specs.Opening.{opening}
-use Rattle.scm_rules.specs.Runs.{Entry}
-use Rattle.rpc_pdu.specs.declared.pdu.PduKind.{PduKind}
+use Rattle.scm_rules.specs.Runs.{Entry, state_of}
 use Rattle.rpc_session.specs.Items.{StreamEnd, AtRest, Unfinished, BadPdu, TooLong, items}
 use Rattle.scm_pipe.specs.declared.served.Served.{Served}
 use Rattle.scm_pipe.specs.declared.served.Served.TheVariants as served
 use Rattle.scm_pipe.specs.Bodies.{asked}
 use Rattle.scm_pipe.specs.Connection.{IsConnection, IsOpenEnd, IsSeen, Talk}
-use Rattle.scm_pipe.specs.Histories.{AreRequests}
+use Rattle.scm_pipe.specs.Histories.{AreServed}
 use Rattle.scmd.specs.declared.words.Job.{Job}
 use Rattle.scmd.specs.declared.words.Job.TheVariants.{Pipe}
 
@@ -41,13 +41,13 @@ program_limits = record {
   text = 268435456;
 }
 
--- what one caller makes alone: it joins, makes these requests in order, and goes
-pub record IsPipeHistory (principal : Principal) (requests : List Request) (history : List Entry) : Type 0 where
+-- what one caller makes alone from f on: it joins, what serves these requests comes, and it goes
+pub record IsPipeHistory (principal : Principal) (l : Limits) (f : Flat) (requests : List Request) (history : List Entry) : Type 0 where
   pub joined : ℕ
   pub calls : List Entry
   pub gone : ℕ
   pub order : history ≡ (joined, Joined principal) ∷ calls ++ (gone, Gone 1) ∷ []
-  pub asked : AreRequests 1 requests calls
+  pub asked : AreServed l (state_of l f ((joined, Joined principal) ∷ [])) 1 requests calls
 
 -- A pipe that ended so. But for the moments, and for where memory was wanting, all is fixed by the words and by what was read.
 pub record IsPiped (tells : ℕ → Type 0) (principal : Principal) (how : Served) (left left_now held held_now : Option (List ℕ)) : Type 0 where
@@ -55,7 +55,7 @@ pub record IsPiped (tells : ℕ → Type 0) (principal : Principal) (how : Serve
   pub talk : Talk
   pub seen : IsSeen talk left left_now held held_now
   pub connection : IsConnection tells program_limits (opening program_limits [] [] opened) 1 how talk left_now
-  pub alone : IsPipeHistory principal (asked talk.done) talk.history
+  pub alone : IsPipeHistory principal program_limits (opening program_limits [] [] opened) (asked talk.done) talk.history
   pub opened_at : tells opened
   pub moments : All (λ (e : Entry). tells e.0) talk.history
 

@@ -1,4 +1,4 @@
-ghost use Rattle.std.specs.Prelude.{◌≡◌, ◌≤◌, ◌<◌, ◌^◌, ◌↔◌, IfOk, IfSome, IsNone, IsTrue};
+ghost use Rattle.std.specs.Prelude.{◌≡◌, ◌≤◌, ◌↔◌, IfOk, IfSome, IsNone, IsTrue};
 ghost use Rattle.scm_model.specs.Rows.{is_caller};
 ghost use Rattle.scm_pipe.specs.declared.served.Served.{Served};
 ghost use Rattle.scm_pipe.specs.Connection.{IsCaused};
@@ -13,6 +13,7 @@ use scm_model::{Limits, Principal, Step};
 use scm_pipe::{CALLER, Clock, Served, serve};
 use scm_text::{Items, OutOfMemory, Text};
 use std::alloc::Global;
+use std::sync::Wait;
 
 /// What a run of the program meets outside.
 #[derive(Drop)]
@@ -65,17 +66,19 @@ fn joined<C: Clock>(
     Ok(manager)
 }
 
-/// Lets the one caller go.
+/// Lets the one caller go, if the step can still be made.
 fn leave(manager: &mut Manager, moment: u64)
-    requires joined { IsTrue (is_caller manager.old.flat 1) }
-    requires steps { manager.old.steps < 2 ^ 50 }
-    requires text { manager.old.text < 2 ^ 63 }
+    requires { IsTrue (is_caller manager.old.flat 1) }
 {
-    let _done = manager.step(moment, Step::Gone { caller: CALLER });
+    let step = Step::Gone { caller: CALLER };
+    if manager.fits(&step) {
+        let _done = manager.step(moment, step);
+    }
 }
 
 /// Serves one connection over a manager that only it calls.
-fn pipe<I: Source, O: Sink, C: Clock>(
+fn pipe<R: Wait, I: Source, O: Sink, C: Clock>(
+    rt: &R,
     alloc: Global,
     principal: Principal,
     input: &mut I,
@@ -92,7 +95,7 @@ fn pipe<I: Source, O: Sink, C: Clock>(
     let Ok(mut manager) = joined(alloc, principal, opened, clock) else {
         return Served::OutOfMemory;
     };
-    let how = serve(alloc, &mut manager, input, output, clock);
+    let how = serve(rt, alloc, &mut manager, input, output, clock);
     leave(&mut manager, clock.now());
     how
 }
@@ -100,8 +103,8 @@ fn pipe<I: Source, O: Sink, C: Clock>(
 /// Does what the words ask for, and answers the status of the program: 0 done, 1 the input failed, 2 the output failed, 5 words
 /// that are no job, 6 an input that ends within a PDU or a request, 7 a bad PDU or a request that is too long, 8 want of memory,
 /// 12 more input than a connection may have.
-pub fn scmd_main<R, I: Source, O: Sink, C: Clock>(
-    _rt: &R,
+pub fn scmd_main<R: Wait, I: Source, O: Sink, C: Clock>(
+    rt: &R,
     alloc: Global,
     words: &Items<Text>,
     world: World<I, O, C>,
@@ -132,7 +135,7 @@ pub fn scmd_main<R, I: Source, O: Sink, C: Clock>(
         mut output,
         clock,
     } = world;
-    let how = pipe(alloc, principal, &mut input, &mut output, &clock);
+    let how = pipe(rt, alloc, principal, &mut input, &mut output, &clock);
     let world = World {
         input,
         output,

@@ -1,4 +1,3 @@
-use Rattle.std.proofs.Common.{◌≡◌, subst, sym}
 use Rattle.scm_pipe.proofs.Talking.{answered_by, talks_local}
 use Rattle.scm_pipe.proofs.answering.answer.Goals as goal
 

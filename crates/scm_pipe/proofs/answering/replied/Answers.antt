@@ -6,17 +6,19 @@ use Rattle.scm_pipe.proofs.answering.replied.Goals as goal
 pub written-requires : goal.written-requires
 written-requires g c =
     let m = c.args.manager.now in
-    let short = c.reply_bound-bound.ensures.bound c.call-reply.result (answers_called (g.C.Clock.tells c.args.clock.now) m.limits m.flat c.call-reply.new.manager.flat c.args.request c.call-reply.result c.requires.ready.run c.requires.ranged c.call-reply.ensures.called) in
+    let reply = c.in_ok-reply.reply in
+    let short = c.reply_bound-bound.ensures.bound reply (answers_called (g.C.Clock.tells c.args.clock.now) m.limits m.flat c.call.new.manager.flat c.args.request reply c.requires.ready.run c.requires.ranged c.in_ok-reply.ensures.called) in
     omega (arith, short, c.in_ok-out.ensures.1)
 
 pub returns-clause-ok : goal.returns-clause-ok
 returns-clause-ok g c =
     let m = c.args.manager.now in
-    let short = c.reply_bound-bound.ensures.bound c.call-reply.result (answers_called (g.C.Clock.tells c.args.clock.now) m.limits m.flat c.call-reply.new.manager.flat c.args.request c.call-reply.result c.requires.ready.run c.requires.ranged c.call-reply.ensures.called) in
-    let is = c.written.ensures ∙ ap (λ front. front ++ body_of c.call-reply.result) c.in_ok-out.ensures.0 in
+    let reply = c.in_ok-reply.reply in
+    let short = c.reply_bound-bound.ensures.bound reply (answers_called (g.C.Clock.tells c.args.clock.now) m.limits m.flat c.call.new.manager.flat c.args.request reply c.requires.ready.run c.requires.ranged c.in_ok-reply.ensures.called) in
+    let is = c.written.ensures ∙ ap (λ front. front ++ body_of reply) c.in_ok-out.ensures.0 in
     record {
-      reply = c.call-reply.result;
-      called = c.call-reply.ensures.called;
+      reply = reply;
+      called = c.in_ok-reply.ensures.called;
       written = is;
       small = rw is (omega (arith, short, c.reply_bound-bound.type_inv));
     }

@@ -1,63 +1,36 @@
-use Rattle.std.proofs.Common.{◌+◌, sym, ap, ◌∙◌, subst, arith}
-use Rattle.std.specs.Prelude.{IsTrue}
-use Rattle.scm_model.specs.declared.steps.Step.TheVariants.{Call, NoMemory}
-use Rattle.scm_model.specs.Rows.{is_caller}
-use Rattle.scm_rules.specs.Steps.{step_of}
-use Rattle.scm_rules.specs.Texts.{text_of}
-use Rattle.scm_pipe.proofs.Callers.{callers_kept}
-use Rattle.scm_pipe.proofs.Calls.{both, called_none, called_call, called_from, may_call, not_lost}
-use Rattle.scm_pipe.proofs.Running.{run_after}
+use Rattle.std.proofs.Common.{◌∙◌, cond, ap, subst}
+use Rattle.scm_model.specs.declared.steps.Kept.TheVariants as appended
+use Rattle.scm_pipe.specs.Calling.{Heard}
+use Rattle.scm_pipe.proofs.Calls.{called_by, is_spoken, may_call}
+use Rattle.scm_pipe.proofs.Running.{stays_call, stays_same}
 use Rattle.scm_pipe.proofs.calling.call.Goals as goal
 
-pub returns-then-not-has_room-clause-called : goal.returns-then-not-has_room-clause-called
-returns-then-not-has_room-clause-called g c =
+pub heard-requires-clause-ready : goal.heard-requires-clause-ready
+heard-requires-clause-ready g c =
     let m = c.args.manager.now in
-    rw (c.step-done.ensures.flat, c.has_room.ensures.flat, c.refused-refusal.ensures)
-    (called_none (g.C.Clock.tells c.args.clock.now) m.limits m.flat c.now-moment.result c.args.request c.now-moment.ensures c.requires.joined)
+    let mid = c.prepared.new.manager in
+    let k = c.kept_by.result in
+    let same = c.prepared.ensures.same in
+    let by = c.in-Some.ensures.prepared in
+    let joined = (stays_same m mid c.requires same).ready.joined in
+    let ok = may_call mid.limits mid.flat c.now-moment.result c.args.request k joined (c.kept_by.ensures ∙ ap (λ b. cond b appended.Kept appended.NotAsked) by.told) in
+    (stays_call m mid c.step-answer.new.self c.now-moment.result c.args.request k c.told.result c.requires same ok c.told.ensures by.text
+    c.step-answer.ensures.limits c.step-answer.ensures.flat c.step-answer.ensures.text).ready
 
-pub returns-in-Reply-clause-called : goal.returns-in-Reply-clause-called
-returns-in-Reply-clause-called g c =
-    let m = c.has_room.new.manager in
-    let k = c.kept_by-kept.result in
-    let joined = subst (λ f. IsTrue (is_caller f 1)) (sym c.has_room.ensures.flat) c.requires.joined in
-    let right = c.kept_by-kept.ensures in
-    let answered = ap (λ s. (step_of m.limits m.flat c.now-moment.result s).0) (sym c.told.ensures) ∙ sym c.step.ensures.answer ∙ c.in-Reply.is in
-    let tells = g.C.Clock.tells c.args.clock.now in
-    let state = c.step.ensures.flat ∙ ap (λ s. (step_of m.limits m.flat c.now-moment.result s).1) c.told.ensures in
-    called_from tells m.limits c.args.manager.now.limits m.flat c.args.manager.now.flat _ c.step.new.self.flat c.args.request c.in-Reply.reply c.has_room.ensures.limits c.has_room.ensures.flat state
-    (called_call tells m.limits m.flat c.now-moment.result c.args.request k c.in-Reply.reply c.now-moment.ensures
-    (may_call m.limits m.flat c.now-moment.result c.args.request k joined (rw (← c.makes_change.ensures) right)) (not_lost c.makes_change.result k right) answered)
+pub heard-requires-clause-spoken : goal.heard-requires-clause-spoken
+heard-requires-clause-spoken g c =
+    let m = c.args.manager.now in
+    let mid = c.prepared.new.manager in
+    let ready = (stays_same m mid c.requires c.prepared.ensures.same).ready in
+    is_spoken mid.limits mid.flat c.step-answer.new.self.flat c.now-moment.result c.args.request c.kept_by.result c.told.result c.step-answer.result ready.run c.told.ensures
+    c.step-answer.ensures.answer c.step-answer.ensures.flat
 
-pub returns-then-not-has_room-clause-keeps : goal.returns-then-not-has_room-clause-keeps
-returns-then-not-has_room-clause-keeps g c =
-    let m = c.has_room.new.manager in
-    let joined = subst (λ f. IsTrue (is_caller f 1)) (sym c.has_room.ensures.flat) c.requires.joined in
-    let now = c.step-done.ensures in
-    let before = c.has_room.ensures in
-    record {
-      limits = now.limits ∙ before.limits;
-      run = run_after c.args.manager.now m c.step-done.new.self c.now-moment.result (NoMemory 1) before.limits before.flat (both (is_caller m.flat 1) joined) now.limits now.flat;
-      joined = ap (λ f. is_caller f 1) now.flat ∙ ap (λ f. is_caller f 1) before.flat;
-      text = λ small. omega (arith, small, now.text, before.text);
-      steps = omega (arith, now.steps, before.steps);
-    }
-
-pub returns-in-Reply-clause-keeps : goal.returns-in-Reply-clause-keeps
-returns-in-Reply-clause-keeps g c =
-    let m = c.has_room.new.manager in
-    let k = c.kept_by-kept.result in
-    let joined = subst (λ f. IsTrue (is_caller f 1)) (sym c.has_room.ensures.flat) c.requires.joined in
-    let right = c.kept_by-kept.ensures in
-    let now = c.step.ensures in
-    let before = c.has_room.ensures in
-    let fits = c.if-not-has_room.ensures.fits in
-    let flat = now.flat ∙ ap (λ s. (step_of m.limits m.flat c.now-moment.result s).1) c.told.ensures in
-    let text = now.text ∙ ap (λ s. m.text + text_of s) c.told.ensures in
-    let ok = may_call m.limits m.flat c.now-moment.result c.args.request k joined (rw (← c.makes_change.ensures) right) in
-    record {
-      limits = now.limits ∙ before.limits;
-      run = run_after c.args.manager.now m c.step.new.self c.now-moment.result (Call 1 c.args.request k) before.limits before.flat ok now.limits flat;
-      joined = ap (λ f. is_caller f 1) flat ∙ callers_kept m.limits m.flat c.now-moment.result 1 c.args.request k 1 ∙ ap (λ f. is_caller f 1) before.flat;
-      text = λ small. omega (arith, text, fits);
-      steps = omega (arith, now.steps, before.steps);
-    }
+pub returns-clause-called : goal.returns-clause-called
+returns-clause-called g c =
+    let m = c.args.manager.now in
+    let mid = c.prepared.new.manager in
+    let same = c.prepared.ensures.same in
+    let now = c.step-answer.ensures in
+    called_by (g.C.Clock.tells c.args.clock.now) m.limits mid.limits m.flat mid.flat c.step-answer.new.self.flat c.heard.new.manager.flat c.now-moment.result c.args.request c.kept_by.result
+    c.in-Some.changes c.told.result c.step-answer.result c.heard.result c.now-moment.ensures c.requires.joined same.limits same.flat c.told.ensures c.kept_by.ensures c.in-Some.ensures.prepared.told
+    now.answer now.flat (subst (λ l. Heard (g.C.Clock.tells c.args.clock.now) l c.step-answer.new.self.flat c.heard.new.manager.flat c.step-answer.result c.heard.result) now.limits c.heard.ensures.heard)

@@ -1,6 +1,7 @@
 use Rattle.std.proofs.Common.{refl, arith}
 use Rattle.scm_pipe.specs.Along.{Point}
-use Rattle.scm_pipe.proofs.Walking.{begins, one_more, one_stops, keeps_more, gave_item, shorter_item, fault_stops}
+use Rattle.scm_pipe.proofs.Running.{stays_then}
+use Rattle.scm_pipe.proofs.Walking.{begins, one_more, one_stops, gave_item, fault_stops}
 use Rattle.scm_pipe.proofs.feeding.drain.Goals as goal
 
 pub loop-item-init : goal.loop-item-init
@@ -8,8 +9,7 @@ loop-item-init g c =
     let a : Point = record { session = c.args.session.now; flat = c.args.manager.now.flat; held = g.O.Sink.held c.args.output.now } in
     record {
       on = begins (g.C.Clock.tells c.args.clock.now) c.args.manager.now.limits a;
-      keeps = record { limits = refl; run = λ before. before; joined = refl; text = λ small. small; steps = omega arith };
-      room = omega arith;
+      stays = record { limits = refl; ready = c.requires };
       grows = omega arith;
     }
 
@@ -20,7 +20,7 @@ returns-in-Err-answer-clause-fed g c =
     let a : Point = record { session = c.args.session.now; flat = c.args.manager.now.flat; held = g.O.Sink.held c.args.output.now } in
     let m : Point = record { session = c.loop-item.session; flat = c.loop-item.manager.flat; held = g.O.Sink.held c.loop-item.output } in
     let b : Point = record { session = c.next.new.self; flat = c.answer.new.manager.flat; held = g.O.Sink.held c.answer.new.output } in
-    one_stops tells c.args.manager.now.limits a (Unit {0}) c.loop-item.manager.limits m b c.in-Ok-Some.item c.in-Err-answer.stop before.keeps.limits before.on
+    one_stops tells c.args.manager.now.limits a (Unit {0}) c.loop-item.manager.limits m b c.in-Ok-Some.item c.in-Err-answer.stop before.stays.limits before.on
     (gave_item m.session b.session _ c.in-Ok-Some.item c.in-Ok-Some.field-0-is c.in-Ok-Some.ensures.gave) c.in-Err-answer.ensures.answered
 
 pub loop-item-preserved-in-Ok : goal.loop-item-preserved-in-Ok
@@ -30,12 +30,10 @@ loop-item-preserved-in-Ok g c =
     let a : Point = record { session = c.args.session.now; flat = c.args.manager.now.flat; held = g.O.Sink.held c.args.output.now } in
     let m : Point = record { session = c.loop-item.session; flat = c.loop-item.manager.flat; held = g.O.Sink.held c.loop-item.output } in
     let b : Point = record { session = c.next.new.self; flat = c.answer.new.manager.flat; held = g.O.Sink.held c.answer.new.output } in
-    let shorter = shorter_item _ c.in-Ok-Some.item _ _ c.in-Ok-Some.field-0-is c.in-Ok-Some.ensures.shorter in
     record {
-      on = one_more tells c.args.manager.now.limits a c.loop-item.manager.limits m b c.in-Ok-Some.item before.keeps.limits before.on
+      on = one_more tells c.args.manager.now.limits a c.loop-item.manager.limits m b c.in-Ok-Some.item before.stays.limits before.on
           (gave_item m.session b.session _ c.in-Ok-Some.item c.in-Ok-Some.field-0-is c.in-Ok-Some.ensures.gave) c.in-Ok.ensures.answered;
-      keeps = keeps_more c.args.manager.now c.loop-item.manager c.answer.new.manager 1 _ before.keeps c.in-Ok.ensures.keeps (omega (arith, before.room, shorter, c.in-Ok.ensures.keeps.steps));
-      room = omega (arith, before.room, shorter, c.in-Ok.ensures.keeps.steps);
+      stays = stays_then c.args.manager.now c.loop-item.manager c.answer.new.manager before.stays c.in-Ok.ensures.stays;
       grows = omega (arith, before.grows, c.in-Ok.ensures.cause.grows);
     }
 
@@ -46,12 +44,10 @@ loop-item-preserved g c =
     let a : Point = record { session = c.args.session.now; flat = c.args.manager.now.flat; held = g.O.Sink.held c.args.output.now } in
     let m : Point = record { session = c.loop-item.session; flat = c.loop-item.manager.flat; held = g.O.Sink.held c.loop-item.output } in
     let b : Point = record { session = c.next.new.self; flat = c.answer.new.manager.flat; held = g.O.Sink.held c.answer.new.output } in
-    let shorter = shorter_item _ c.in-Ok-Some.item _ _ c.in-Ok-Some.field-0-is c.in-Ok-Some.ensures.shorter in
     record {
-      on = one_more tells c.args.manager.now.limits a c.loop-item.manager.limits m b c.in-Ok-Some.item before.keeps.limits before.on
+      on = one_more tells c.args.manager.now.limits a c.loop-item.manager.limits m b c.in-Ok-Some.item before.stays.limits before.on
           (gave_item m.session b.session _ c.in-Ok-Some.item c.in-Ok-Some.field-0-is c.in-Ok-Some.ensures.gave) c.in-Ok.ensures.answered;
-      keeps = keeps_more c.args.manager.now c.loop-item.manager c.answer.new.manager 1 _ before.keeps c.in-Ok.ensures.keeps (omega (arith, before.room, shorter, c.in-Ok.ensures.keeps.steps));
-      room = omega (arith, before.room, shorter, c.in-Ok.ensures.keeps.steps);
+      stays = stays_then c.args.manager.now c.loop-item.manager c.answer.new.manager before.stays c.in-Ok.ensures.stays;
       grows = omega (arith, before.grows, c.in-Ok.ensures.cause.grows);
     }
 

@@ -1,22 +1,20 @@
-use Rattle.std.proofs.Common.{[], ◌++◌, length, Err, refl, ap, ◌∙◌, subst, arith, length-append}
+use Rattle.std.proofs.Common.{[], ◌++◌, Err, refl, ◌∙◌, subst, arith, length-append}
 use Rattle.std.proofs.KnownBytes.{Consumes-nil, Consumes-trans}
-use Rattle.rpc_session.specs.Items.{Seen}
 use Rattle.scm_pipe.specs.Along.{Point, GoesOn}
 use Rattle.scm_pipe.specs.Serves.{Turned, fed}
+use Rattle.scm_pipe.proofs.Running.{stays_then}
 use Rattle.scm_pipe.proofs.Ends.{begins, read_more, serves_worn, serves_end}
 use Rattle.scm_pipe.proofs.serving.serve.Goals as goal
 
 pub loop-read-init : goal.loop-read-init
 loop-read-init g c =
-    let rest = ap (λ (s : Seen). length s.held.rest) c.new-session.ensures.value in
     record {
       bytes = [];
       consumed = Consumes-nil (g.I.Source.left c.args.input.now);
       count = refl;
       most = omega arith;
       on = begins (g.C.Clock.tells c.args.clock.now) c.args.manager.now.limits 1 c.args.manager.now.flat (g.O.Sink.held c.args.output.now) c.new-session.result c.new-session.ensures.value c.new-session.ensures.gave;
-      keeps = record { limits = refl; run = λ before. before; joined = refl; text = λ small. small; steps = omega arith };
-      room = omega (arith, rest);
+      stays = record { limits = refl; ready = c.requires };
       input = omega arith;
       output = omega arith;
     }
@@ -35,15 +33,8 @@ loop-read-preserved g c =
       count = length-append before.bytes t.read ∙ omega (arith, before.count, t.turned.0);
       most = omega (arith, c.min-room.ensures, c.split_at_mut-into.ensures.front_len, t.short, t.turned.0, before.most);
       on = read_more tells c.args.manager.now.limits 1 c.args.manager.now.flat (g.O.Sink.held c.args.output.now) m b before.bytes t.read before.on
-          (subst (λ x. GoesOn tells x 1 (fed t.read) m b) before.keeps.limits t.turned.2);
-      keeps = record {
-        limits = now.keeps.limits ∙ before.keeps.limits;
-        run = λ begun. now.keeps.run (before.keeps.run begun);
-        joined = now.keeps.joined ∙ before.keeps.joined;
-        text = λ small. now.keeps.text (before.keeps.text small);
-        steps = omega (arith, now.room, before.room);
-      };
-      room = omega (arith, now.room, before.room);
+          (subst (λ x. GoesOn tells x 1 (fed t.read) m b) before.stays.limits t.turned.2);
+      stays = stays_then c.args.manager.now c.loop-read.manager c.turn.new.manager before.stays now.stays;
       input = omega (arith, now.input, before.input);
       output = omega (arith, now.output, before.output);
     }
@@ -58,7 +49,7 @@ returns-in-Err-clause-served g c =
     serves_end tells c.args.manager.now.limits 1 c.args.manager.now.flat (g.O.Sink.held c.args.output.now) (g.I.Source.left c.args.input.now) (g.I.Source.left c.loop-read.input) (g.I.Source.left c.turn.new.input)
     m b before.bytes t.read c.in-Err.how before.on before.consumed (omega (arith, before.count, c.loop-read-test.true)) t.consumed
     (omega (arith, c.min-room.ensures, c.split_at_mut-into.ensures.front_len, t.short, before.count, before.most))
-    (subst (λ x. Turned tells x 1 m b (g.I.Source.left c.turn.new.input) t.read (Err c.in-Err.how)) before.keeps.limits t.turned)
+    (subst (λ x. Turned tells x 1 m b (g.I.Source.left c.turn.new.input) t.read (Err c.in-Err.how)) before.stays.limits t.turned)
 
 pub returns-clause-served : goal.returns-clause-served
 returns-clause-served g c =

@@ -1,6 +1,6 @@
-use Rattle.std.proofs.Common.{ℕ, ◌≡◌, ◌+◌, ◌-◌, ◌≤◌, ◌^◌, List, length}
+use Rattle.std.proofs.Common.{ℕ, ◌≡◌, ◌-◌, ◌≤◌, ◌^◌, List, length}
 use Rattle.std.specs.Io.KnownBytes.{Consumes}
-use Rattle.scm_pipe.specs.Along.{Keeps}
+use Rattle.scm_pipe.specs.Ready.{Stays}
 use Rattle.scm_pipe.proofs.Ends.{SoFar}
 use Rattle.scm_pipe.proofs.serving.serve.Given as goal
 
@@ -13,8 +13,7 @@ invariant-loop-read g l = record {
   most : l.read ≤ 2 ^ 40;
   on : SoFar (g.C.Clock.tells l.clock) l.fn.manager.limits 1 l.fn.manager.flat (g.O.Sink.held l.fn.output)
       (record { session = l.session; flat = l.manager.flat; held = g.O.Sink.held l.output }) bytes;
-  keeps : Keeps l.fn.manager l.manager 1 l.read;
-  room : l.manager.steps + length l.session.held.rest ≤ l.fn.manager.steps + l.read;
+  stays : Stays l.fn.manager l.manager;
   input : g.I.Source.faults l.fn.input ≤ g.I.Source.faults l.input;
   output : g.O.Sink.faults l.fn.output ≤ g.O.Sink.faults l.output;
 }
