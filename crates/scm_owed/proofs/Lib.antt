@@ -1,0 +1,5 @@
+pub mod Settling
+pub mod Fewer
+pub mod Effects
+pub mod Payments
+pub mod Whole
