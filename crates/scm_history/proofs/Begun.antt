@@ -1,0 +1,176 @@
+-- A start that is answered was begun by a Call of the same caller.
+use Rattle.std.proofs.Common.{ℕ, ◌≡◌, ◌==◌, ◌&&◌, ◌||◌, Bool, true, false, not, cond, IsTrue, List, [], ◌∷◌, Option, None, Some, find, map, ap, sym, refl, subst, eq-eqb, eqb-true}
+use Rattle.std.specs.Prelude.{option_map}
+use Rattle.std.specs.List.{AllByRecursion}
+use Rattle.scm_model.specs.declared.flat.Config.{Config}
+use Rattle.scm_model.specs.declared.flat.Due.{Due}
+use Rattle.scm_model.specs.declared.flat.DueKind.{DueKind}
+use Rattle.scm_model.specs.declared.flat.DueKind.TheVariants as dues
+use Rattle.scm_model.specs.declared.flat.Flat.{Flat}
+use Rattle.scm_model.specs.declared.flat.Limits.{Limits}
+use Rattle.scm_model.specs.declared.flat.Plan.{Plan}
+use Rattle.scm_model.specs.declared.calls.Reply.{Reply}
+use Rattle.scm_model.specs.declared.calls.Request.{Request}
+use Rattle.scm_model.specs.declared.calls.Request.TheVariants as request
+use Rattle.scm_model.specs.declared.steps.Kept.{Kept}
+use Rattle.scm_model.specs.declared.steps.Step.{Step}
+use Rattle.scm_model.specs.declared.steps.Step.TheVariants.{Call, EndStart, Launched, LaunchFailed, Tick, Gone}
+use Rattle.scm_model.specs.Changes.{with_moment}
+use Rattle.start_plan.specs.Decided.{aims_at, caller_of, code_of, decided_if, decided_in, is_callers, is_numbered, without_plan}
+use Rattle.start_plan.specs.Settle.{settle_all, settled, stays}
+use Rattle.start_plan.proofs.Keeps.{Keeps, all_filter, keeps_all}
+use Rattle.scm_rules.specs.Change.{asked_config, with_new_config}
+use Rattle.scm_rules.specs.Launches.{service_of_process}
+use Rattle.scm_rules.specs.Runs.{Entry, state_of}
+use Rattle.scm_rules.specs.Start.{expired, fired, fired_by, is_caller_of, is_due, start_done, start_verdict}
+use Rattle.scm_rules.specs.Steps.{answer_of, answered_by, at_moment, effect_of, finished, left_by, may, step_of}
+use Rattle.scm_rules.specs.Verdicts.{call_of, done_of, told_refused, verdict}
+use Rattle.scm_laws.proofs.Calls.{by_verdict, came}
+use Rattle.scm_laws.proofs.Plans.{all_more}
+use Rattle.scm_history.specs.Entries.{has_begun, is_it, names_caller, plan_made}
+use Rattle.scm_history.specs.Made.{AnswersItsOwn}
+
+-- a plan has another number or another caller
+abbrev IsOther : ℕ → ℕ → Plan → Type 0
+IsOther number caller plan = (plan.number == number && plan.caller == caller) ≡ false
+
+abbrev AreOther : ℕ → ℕ → List Plan → Type 0
+AreOther number caller plans = AllByRecursion (IsOther number caller) plans
+
+-- ## What keeps them so
+
+coded : (number caller : ℕ) (test : Plan → Bool) (code : ℕ) (plans : List Plan) → AreOther number caller plans → AreOther number caller (map (decided_if test code) plans)
+coded number caller test code [] all = tt
+coded number caller test code (plan ∷ plans) all = (all.0, coded number caller test code plans all.1)
+
+decided : (number caller : ℕ) (test : Plan → Bool) (code : ℕ) (plans : List Plan) → AreOther number caller plans → AreOther number caller (decided_in test code plans)
+decided number caller test code plans all = all_filter (IsOther number caller) stays (map (decided_if test code) plans) (coded number caller test code plans all)
+
+has_expired : (number caller : ℕ) (plans : List Plan) (kind : DueKind) → AreOther number caller plans → AreOther number caller (expired plans kind)
+has_expired number caller plans (dues.Deadline plan) all = decided number caller (is_numbered plan) 1053 plans all
+has_expired number caller plans kind all = all
+
+ticked : (number caller moment : ℕ) (plans : List Plan) (rows : List Due) → AreOther number caller plans → AreOther number caller (fired moment plans rows)
+ticked number caller moment plans [] all = all
+ticked number caller moment plans (due ∷ rows) all =
+    ticked number caller moment (fired_by moment plans due) rows
+    (elim (is_due moment due) as (λ b. AreOther number caller (cond b (expired plans due.kind) plans)) [ true ↦ has_expired number caller plans due.kind all | false ↦ all ])
+
+stays_other : (l : Limits) (number caller : ℕ) → Keeps l (λ f. Unit {0}) (IsOther number caller)
+stays_other l number caller = record {
+  enters = λ f plan service words entry p. tt;
+  tries = λ f plan service entry other. other;
+  drops = λ plan service rest code other. other;
+}
+
+settles : (l : Limits) (f : Flat) (number caller : ℕ) → AreOther number caller f.plans → AreOther number caller (settled l f).plans
+settles l f number caller all =
+    all_filter (IsOther number caller) stays (settle_all l f f.plans).1 (keeps_all l (λ f. Unit {0}) (IsOther number caller) (stays_other l number caller) f f.plans tt all).plans
+
+-- the plan with the number leaves
+ended : (number caller : ℕ) (plans : List Plan) → AreOther number caller (without_plan plans number)
+ended number caller [] = tt
+ended number caller (plan ∷ plans) =
+    elim (plan.number == number) as (λ b. (plan.number == number) ≡ b → AreOther number caller (cond (not b) (plan ∷ without_plan plans number) (without_plan plans number))) [
+      | true ↦ λ e. ended number caller plans
+      | false ↦ λ e. (ap (λ b. b && plan.caller == caller) e, ended number caller plans)
+    ] refl
+
+left : (number caller : ℕ) (g : Flat) (plan : ℕ) (code : Option ℕ) → AreOther number caller g.plans → AreOther number caller (left_by g plan code).plans
+left number caller g plan None all = all
+left number caller g plan (Some code) all = all_filter (IsOther number caller) (λ (row : Plan). not (is_numbered plan row)) g.plans all
+
+-- ## Calls
+
+both_true : (a b : Bool) → (a && b) ≡ true → (a ≡ true) × (b ≡ true)
+both_true true b h = (refl, h)
+both_true false b h = absurd cc
+
+-- a start that its call answers leaves
+answered : (number caller next : ℕ) (g : Flat) (code : Option ℕ) → next ≡ number → is_it number (plan_made (answered_by next code)) ≡ false → AreOther number caller (left_by g next code).plans
+answered number caller next g None same told = absurd (let t = eq-eqb number next (sym same) in cc)
+answered number caller next g (Some code) same told = subst (λ n. AreOther number caller (without_plan g.plans n)) (sym same) (ended number caller g.plans)
+
+-- what a call comes to where another plan begins, none, or one whose start it answers
+called : (l : Limits) (number caller next by : ℕ) (begins : Bool) (told : Reply) (h : Flat) → (begins ≡ false → AreOther number caller h.plans) → ((next == number && by == caller) ≡ false → AreOther number caller h.plans)
+    → (caller == by && is_it number (plan_made (finished (settled l h) (answer_of begins next told)).0)) ≡ false → AreOther number caller (finished (settled l h) (answer_of begins next told)).1.plans
+called l number caller next by false told h none other not_told = settles l h number caller (none refl)
+called l number caller next by true told h none other not_told =
+    let g = settled l h in
+    let code = code_of g.plans next in
+    elim (next == number && by == caller) as (λ b. (next == number && by == caller) ≡ b → AreOther number caller (left_by g next code).plans) [
+      | true ↦ λ e. (let both = both_true (next == number) (by == caller) e in
+          let mine : (caller == by) ≡ true = eq-eqb caller by (sym (eqb-true by caller both.1)) in
+          answered number caller next g code (eqb-true next number both.0)
+          (subst (λ b. (b && is_it number (plan_made (answered_by next code))) ≡ false) mine not_told))
+      | false ↦ λ e. left number caller g next code (settles l h number caller (other e))
+    ] refl
+
+plans_configured : (f : Flat) (number : ℕ) (config : Option Config) → (with_new_config f number config).plans ≡ f.plans
+plans_configured f number None = refl
+plans_configured f number (Some config) = refl
+
+change_done : (number caller : ℕ) (l : Limits) (g : Flat) (by : ℕ) (asked : Request) (append : Kept) → (done_of g by asked).1.plans ≡ g.plans → AreOther number caller g.plans → AreOther number caller (settled l (call_of l g by asked append).1).plans
+change_done number caller l g by asked append same all =
+    settles l (call_of l g by asked append).1 number caller
+    (by_verdict (λ r. AreOther number caller r.1.plans) (verdict l g by asked append) (told_refused g by asked (verdict l g by asked append)) g (done_of g by asked) (λ e. subst (AreOther number caller) (sym same) all) (λ e. all))
+
+of_call : (number caller : ℕ) (l : Limits) (f : Flat) (moment by : ℕ) (asked : Request) (append : Kept) → AreOther number caller f.plans
+    → (caller == by && is_it number (plan_made (step_of l f moment (Call by asked append)).0)) ≡ false → AreOther number caller (step_of l f moment (Call by asked append)).1.plans
+of_call number caller l f moment by (request.Start handle words) append all not_told =
+    let g = with_moment f moment in
+    let code = start_verdict g by handle words in
+    let told = told_refused g by (request.Start handle words) code in
+    let done = start_done g by handle words in
+    called l number caller f.next.plan by (code == 0) (cond (code == 0) done (told, g)).0 (cond (code == 0) done (told, g)).1
+    (elim (code == 0) as (λ b. b ≡ false → AreOther number caller (cond b done (told, g)).1.plans) [ true ↦ λ e. absurd cc | false ↦ λ e. all ])
+    (elim (code == 0) as (λ b. (f.next.plan == number && by == caller) ≡ false → AreOther number caller (cond b done (told, g)).1.plans)
+    [ true ↦ λ e. all_more (IsOther number caller) f.plans _ all e | false ↦ λ e. all ]) not_told
+of_call number caller l f moment by (request.Change change) append all not_told =
+    let g = with_moment f moment in
+    change_done number caller l g by (request.Change change) append (plans_configured g _ (asked_config g by change)) all
+of_call number caller l f moment by asked append all not_told = change_done number caller l (with_moment f moment) by asked append refl all
+
+-- ## Steps
+
+of_step : (number caller : ℕ) (l : Limits) (f : Flat) (moment : ℕ) (step : Step) → AreOther number caller f.plans → (names_caller caller step && is_it number (plan_made (step_of l f moment step).0)) ≡ false
+    → AreOther number caller (step_of l f moment step).1.plans
+of_step number caller l f moment (Call by asked append) all not_told = of_call number caller l f moment by asked append all not_told
+of_step number caller l f moment (EndStart by plan) all not_told =
+    settles l (effect_of l (with_moment f moment) (EndStart by plan)).1 number caller (all_filter (IsOther number caller) (λ (row : Plan). not (is_numbered plan row)) f.plans all)
+of_step number caller l f moment (Launched process pid) all not_told =
+    settles l (effect_of l (with_moment f moment) (Launched process pid)).1 number caller (decided number caller (aims_at (service_of_process f process)) 0 f.plans all)
+of_step number caller l f moment (LaunchFailed process code) all not_told =
+    settles l (effect_of l (with_moment f moment) (LaunchFailed process code)).1 number caller (decided number caller (aims_at (service_of_process f process)) code f.plans all)
+of_step number caller l f moment Tick all not_told =
+    settles l (effect_of l (with_moment f moment) Tick).1 number caller (ticked number caller (with_moment f moment).moment f.plans f.dues all)
+of_step number caller l f moment (Gone by) all not_told =
+    settles l (effect_of l (with_moment f moment) (Gone by)).1 number caller (all_filter (IsOther number caller) (λ (row : Plan). not (is_callers by row)) f.plans all)
+of_step number caller l f moment step all not_told = settles l (effect_of l (at_moment f moment step) step).1 number caller all
+
+-- ## Histories
+
+-- no plan is the caller's with this number
+not_callers : (number caller : ℕ) (plans : List Plan) → AreOther number caller plans → is_caller_of (caller_of plans number) caller ≡ false
+not_callers number caller [] all = refl
+not_callers number caller (plan ∷ plans) all =
+    elim (plan.number == number) as (λ b. (b && plan.caller == caller) ≡ false → is_caller_of (option_map (λ (row : Plan). row.caller) (cond b (Some plan) (find (is_numbered number) plans))) caller ≡ false)
+    [ true ↦ λ h. h | false ↦ λ h. not_callers number caller plans all.1 ] all.0
+
+-- a plan that is a caller's in the end, and wasn't in the beginning, was begun by it
+began : (l : Limits) (f : Flat) (number caller : ℕ) (es : List Entry) → AreOther number caller f.plans → is_caller_of (caller_of (state_of l f es).plans number) caller ≡ true → has_begun l f caller number es ≡ true
+began l f number caller [] all there = absurd (let none = not_callers number caller f.plans all in cc)
+began l f number caller (e ∷ es) all there =
+    let after = (step_of l f e.0 e.1).1 in
+    elim (names_caller caller e.1 && is_it number (plan_made (step_of l f e.0 e.1).0)) as (λ b. (names_caller caller e.1 && is_it number (plan_made (step_of l f e.0 e.1).0)) ≡ b
+    → (b || has_begun l after caller number es) ≡ true) [
+      | true ↦ λ h. refl
+      | false ↦ λ h. began l after number caller es (of_step number caller l f e.0 e.1 all h) there
+    ] refl
+
+pub answers_own : (l : Limits) (f : Flat) (front : List Entry) (moment : ℕ) (step : Step) → f.plans ≡ [] → IsTrue (may l (state_of l f front) moment step) → AnswersItsOwn l f front step
+answers_own l f front moment (EndStart caller plan) none ok =
+    (let g = state_of l f front in
+    let both = both_true _ _ (came _ _ ok) in
+    began l f plan caller front (subst (AreOther plan caller) (sym none) tt) (came _ _ both.1))
+answers_own l f front moment step none ok = tt

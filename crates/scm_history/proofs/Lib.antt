@@ -1,0 +1,13 @@
+pub mod Finds
+pub mod Names
+pub mod Effects
+pub mod Processes
+pub mod Callers
+pub mod Lasting
+pub mod Numbers
+pub mod Plans
+pub mod Begun
+pub mod Made
+pub mod Ends
+pub mod Own
+pub mod Anew

@@ -1,0 +1,145 @@
+-- A process stays as it is but by the entries that are of it.
+use Rattle.std.proofs.Common.{ℕ, ◌≡◌, ◌∙◌, ◌<◌, ◌≤◌, ◌==◌, Bool, true, false, not, cond, List, Option, None, Some, find, map, ap, sym, refl, subst, arith, eqb-true, ne_eqb}
+use Rattle.std.specs.Prelude.{is_some, option_map}
+use Rattle.scm_model.specs.declared.flat.Flat.{Flat}
+use Rattle.scm_model.specs.declared.flat.Limits.{Limits}
+use Rattle.scm_model.specs.declared.flat.Phase.TheVariants as phases
+use Rattle.scm_model.specs.declared.flat.Process.{Process}
+use Rattle.scm_model.specs.declared.steps.Answer.{Answer}
+use Rattle.scm_model.specs.declared.steps.Step.{Step}
+use Rattle.scm_model.specs.declared.steps.Step.TheVariants.{Call, LaunchTaken, Launched, LaunchFailed}
+use Rattle.scm_model.specs.Changes.{with_moment}
+use Rattle.start_plan.specs.Entered.{wanted_process}
+use Rattle.start_plan.specs.Settle.{settled}
+use Rattle.start_plan.proofs.Enterings.{all_units}
+use Rattle.start_plan.proofs.Keeps.{Keeps, keeps_all}
+use Rattle.scm_rules.specs.Launches.{first_wanted, launched_if, process_of, taken_if}
+use Rattle.scm_rules.specs.Steps.{at_moment, effect_of, finished, step_of}
+use Rattle.scm_laws.proofs.Along.{Gives}
+use Rattle.scm_laws.proofs.Effects.{same_process}
+use Rattle.scm_laws.proofs.Frames.{finished_keeps}
+use Rattle.scm_laws.proofs.Lists.{find_filter}
+use Rattle.scm_laws.proofs.Sound.{Sound}
+use Rattle.scm_history.specs.Entries.{names_process, takes_process}
+use Rattle.scm_history.specs.Processes.{OthersStay}
+use Rattle.scm_history.proofs.Effects.{of_call}
+use Rattle.scm_history.proofs.Finds.{find_map, find_push, found_below, found_map, none_filter}
+
+-- whether a process has a number
+abbrev pub has : ℕ → Process → Bool
+has number row = row.number == number
+
+-- ## Changes of one process
+
+-- a change of the process with a number, which keeps it
+pub record IsOf (one : ℕ) (change : Process → Process) : Type 0 where
+  pub number_same : (row : Process) → (change row).number ≡ row.number
+  pub others : (row : Process) → (row.number == one) ≡ false → change row ≡ row
+
+pub takes : (one : ℕ) → IsOf one (taken_if one)
+takes one = record {
+  number_same = λ row. elim (row.number == one) as (λ b. (cond b (record row { phase = phases.Taken }) row).number ≡ row.number) [ true ↦ refl | false ↦ refl ];
+  others = λ row e. rw e refl;
+}
+
+pub launches : (one pid : ℕ) → IsOf one (launched_if one pid)
+launches one pid = record {
+  number_same = λ row. elim (row.number == one) as (λ b. (cond b (record row { phase = phases.Launched; pid = pid }) row).number ≡ row.number) [ true ↦ refl | false ↦ refl ];
+  others = λ row e. rw e refl;
+}
+
+-- who has another number isn't the one
+pub apart : (number one : ℕ) (row : Process) → (number == one) ≡ false → has number row ≡ true → (row.number == one) ≡ false
+apart number one row other same = subst (λ n. (n == one) ≡ false) (sym (eqb-true row.number number same)) other
+
+-- another process is found as it was
+pub others_changed : (number one : ℕ) (change : Process → Process) (rows : List Process) → IsOf one change → (number == one) ≡ false → find (has number) (map change rows) ≡ find (has number) rows
+others_changed number one change rows is other =
+    find_map (has number) change (λ row. ap (λ n. n == number) (is.number_same row)) (λ row same. is.others row (apart number one row other same)) rows
+
+is_some-map : (change : Process → Process) (row : Option Process) → is_some (option_map change row) ≡ is_some row
+is_some-map change None = refl
+is_some-map change (Some row) = refl
+
+-- nobody is listed whom no change lists
+none_changed : (number one : ℕ) (change : Process → Process) (rows : List Process) → IsOf one change → is_some (find (has number) (map change rows)) ≡ is_some (find (has number) rows)
+none_changed number one change rows is =
+    ap is_some (found_map (has number) change (λ row. ap (λ n. n == number) (is.number_same row)) rows) ∙ is_some-map change (find (has number) rows)
+
+-- ## Effects
+
+of_effect : (l : Limits) (f : Flat) (moment : ℕ) (step : Step) (number : ℕ) → names_process number step ≡ false → takes_process f number step ≡ false
+    → process_of (effect_of l (at_moment f moment step) step).1 number ≡ process_of f number
+of_effect l f moment (Call caller asked append) number named taken = ap (λ rows. find (has number) rows) (of_call l (with_moment f moment) caller asked append).processes
+of_effect l f moment LaunchTaken number named taken = others_changed number (first_wanted f.wanted) (taken_if (first_wanted f.wanted)) f.processes (takes (first_wanted f.wanted)) taken
+of_effect l f moment (Launched process pid) number named taken = others_changed number process (launched_if process pid) f.processes (launches process pid) named
+of_effect l f moment (LaunchFailed process code) number named taken =
+    find_filter (has number) (λ (row : Process). not (row.number == process)) (λ row same. ap not (apart number process row named same)) f.processes
+of_effect l f moment step number named taken = refl
+
+-- an effect lists nobody
+pub none_effect : (l : Limits) (f : Flat) (moment : ℕ) (step : Step) (number : ℕ) → is_some (process_of f number) ≡ false → is_some (process_of (effect_of l (at_moment f moment step) step).1 number) ≡ false
+none_effect l f moment (Call caller asked append) number none = ap (λ rows. is_some (find (has number) rows)) (of_call l (with_moment f moment) caller asked append).processes ∙ none
+none_effect l f moment LaunchTaken number none = none_changed number (first_wanted f.wanted) (taken_if (first_wanted f.wanted)) f.processes (takes (first_wanted f.wanted)) ∙ none
+none_effect l f moment (Launched process pid) number none = none_changed number process (launched_if process pid) f.processes (launches process pid) ∙ none
+none_effect l f moment (LaunchFailed process code) number none = none_filter (has number) (λ (row : Process). not (row.number == process)) f.processes none
+none_effect l f moment step number none = none
+
+-- ## Settling
+
+-- numbers that were given have the process that they had
+record IsAs (bound number : ℕ) (row : Option Process) (g : Flat) : Type 0 where
+  up : bound ≤ g.next.process
+  same : process_of g number ≡ row
+
+stays_as : (l : Limits) (bound number : ℕ) (row : Option Process) → number < bound → Keeps l (IsAs bound number row) (λ plan. Unit {0})
+stays_as l bound number row low = record {
+  enters = λ g plan service words entry is. record {
+    up = (let up = is.up in omega arith);
+    same = find_push (has number) g.processes (wanted_process g.next.process service) (ne_eqb g.next.process number (λ e. absurd (let up = is.up in omega (arith, e, up, low)))) ∙ is.same;
+  };
+  tries = λ g plan service entry q. tt;
+  drops = λ plan service rest code q. tt;
+}
+
+settled_as : (l : Limits) (g : Flat) (bound number : ℕ) → number < bound → bound ≤ g.next.process → process_of (settled l g) number ≡ process_of g number
+settled_as l g bound number low up =
+    (keeps_all l (IsAs bound number (process_of g number)) (λ plan. Unit {0}) (stays_as l bound number (process_of g number) low) g g.plans (record { up = up; same = refl }) (all_units g.plans)).flat.same
+
+-- answering changes no process
+finished_as : (g : Flat) (told : Answer) (number : ℕ) → process_of (finished g told).1 number ≡ process_of g number
+finished_as g told number = finished_keeps (λ h. process_of h number ≡ process_of g number) (λ h plans e. e) g told refl
+
+-- a step leaves of a number that was given what its effect left
+pub after_effect : (l : Limits) (f : Flat) (moment : ℕ) (step : Step) (number : ℕ) → number < f.next.process
+    → process_of (step_of l f moment step).1 number ≡ process_of (effect_of l (at_moment f moment step) step).1 number
+after_effect l f moment step number low =
+    let done = effect_of l (at_moment f moment step) step in
+    finished_as (settled l done.1) done.0 number ∙ settled_as l done.1 f.next.process number low (let e = same_process l f moment step in omega (arith, e))
+
+-- ## Steps
+
+pub listed_below : (f : Flat) (number : ℕ) → Sound f → is_some (process_of f number) ≡ true → number < f.next.process
+listed_below f number s there = found_below (λ (row : Process). row.number) number f.next.process f.processes s.processes.numbered.below there
+
+pub gives : (l : Limits) → Gives Sound OthersStay l
+gives l f e s ok number named taken = record {
+  listed = λ there. after_effect l f e.0 e.1 number (listed_below f number s there) ∙ of_effect l f e.0 e.1 number named taken;
+  unlisted = λ none low. ap is_some (after_effect l f e.0 e.1 number low) ∙ none_effect l f e.0 e.1 number none;
+}
+
+-- ## The next number
+
+up : (l : Limits) (bound : ℕ) → Keeps l (λ g. bound ≤ g.next.process) (λ plan. Unit {0})
+up l bound = record {
+  enters = λ g plan service words entry is. omega arith;
+  tries = λ g plan service entry q. tt;
+  drops = λ plan service rest code q. tt;
+}
+
+-- it never falls
+pub process_rises : (l : Limits) (f : Flat) (moment : ℕ) (step : Step) → f.next.process ≤ (step_of l f moment step).1.next.process
+process_rises l f moment step =
+    let done = effect_of l (at_moment f moment step) step in
+    finished_keeps (λ g. f.next.process ≤ g.next.process) (λ g plans h. h) (settled l done.1) done.0
+    (keeps_all l (λ g. f.next.process ≤ g.next.process) (λ plan. Unit {0}) (up l f.next.process) done.1 done.1.plans (let e = same_process l f moment step in omega (arith, e)) (all_units done.1.plans)).flat

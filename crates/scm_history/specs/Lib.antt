@@ -1,0 +1,9 @@
+pub mod Entries
+pub mod Names
+pub mod Processes
+pub mod Numbers
+pub mod Made
+pub mod Anew
+pub mod Own
+pub mod Callers
+pub mod Plans

@@ -1,0 +1,17 @@
+-- A process stays as it is but by the entries that are of it.
+use Rattle.std.specs.Prelude.{ℕ, ◌≡◌, ◌<◌, false, IsTrue, is_some}
+use Rattle.scm_model.specs.declared.flat.Flat.{Flat}
+use Rattle.scm_model.specs.declared.steps.Answer.{Answer}
+use Rattle.scm_rules.specs.Launches.{process_of}
+use Rattle.scm_rules.specs.Runs.{Entry}
+use Rattle.scm_history.specs.Entries.{names_process, takes_process}
+
+-- a process that is listed is listed as it was, and a number that was given and isn't listed isn't listed again
+pub record Stays (before after : Flat) (number : ℕ) : Type 0 where
+  pub listed : IsTrue (is_some (process_of before number)) → process_of after number ≡ process_of before number
+  pub unlisted : is_some (process_of before number) ≡ false → number < before.next.process → is_some (process_of after number) ≡ false
+
+-- so it is with each process that an entry neither names nor takes in hand
+abbrev pub OthersStay : Flat → Entry → Answer → Flat → Type 0
+OthersStay before e told after =
+    (number : ℕ) → names_process number e.1 ≡ false → takes_process before number e.1 ≡ false → Stays before after number

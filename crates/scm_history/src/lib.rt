@@ -1,0 +1,79 @@
+//! Which numbers the entries of a history name and make.
+#![tactic(auto)]
+
+ghost use Rattle.std.specs.Prelude.{◌≡◌, []};
+ghost use Rattle.scm_history.specs.Anew.{EachMakesAnew};
+ghost use Rattle.scm_history.specs.Callers.{CallersStay, IsGoneForGood};
+ghost use Rattle.scm_history.specs.Made.{EachStandsBehind};
+ghost use Rattle.scm_history.specs.Names.{NamesWhoIsThere};
+ghost use Rattle.scm_history.specs.Numbers.{AreMadeOnce};
+ghost use Rattle.scm_history.specs.Own.{EachBeginsWithJoined};
+ghost use Rattle.scm_history.specs.Plans.{EachEndsOnce, PlansAreTheirCallers};
+ghost use Rattle.scm_history.specs.Processes.{OthersStay};
+ghost use Rattle.scm_rules.specs.Opening.{opening as opening_at};
+ghost use Rattle.scm_rules.specs.Runs.{EachStep, IsLegal};
+
+use scm_model::{Flat, Limits, Step};
+use scm_text::Items;
+
+/// An entry names only a caller that is in the state before it, and a process that is listed there and in hand.
+pub fn names_who_is_there(limits: &Limits, steps: &Items<(u64, Step)>, opening: &Flat)
+    requires begins { opening.now ≡ opening_at limits.now [] [] opening.now.moment }
+    requires legal { IsLegal limits.now opening.now steps.now }
+    ensures { EachStep NamesWhoIsThere limits.now opening.now steps.now }
+{}
+
+/// A process that an entry neither names nor takes in hand stays as it is: listed with the same service, phase and system's number, or
+/// not listed.
+pub fn others_stay(limits: &Limits, steps: &Items<(u64, Step)>, opening: &Flat)
+    requires begins { opening.now ≡ opening_at limits.now [] [] opening.now.moment }
+    requires legal { IsLegal limits.now opening.now steps.now }
+    ensures { EachStep OthersStay limits.now opening.now steps.now }
+{}
+
+/// No number of a caller, a process or a plan is given twice: the next ones never fall, and whoever is new has one that was not given
+/// before.
+pub fn numbers_are_made_once(limits: &Limits, steps: &Items<(u64, Step)>, opening: &Flat)
+    requires begins { opening.now ≡ opening_at limits.now [] [] opening.now.moment }
+    requires legal { IsLegal limits.now opening.now steps.now }
+    ensures { EachStep AreMadeOnce limits.now opening.now steps.now }
+{}
+
+/// Each entry that names a caller stands behind the Joined that made it, each that names a process behind a LaunchTaken that took it
+/// in hand, and each EndStart behind a Call of the same caller that began its plan.
+pub fn who_is_not_made_is_not_named(limits: &Limits, steps: &Items<(u64, Step)>, opening: &Flat)
+    requires begins { opening.now ≡ opening_at limits.now [] [] opening.now.moment }
+    requires legal { IsLegal limits.now opening.now steps.now }
+    ensures { EachStandsBehind limits.now opening.now steps.now }
+{}
+
+/// A Joined makes a caller that none before it made, a LaunchTaken takes a process in hand that none before it took, and a Call whose start
+/// waits begins a plan that none before it began.
+pub fn nobody_is_made_twice(limits: &Limits, steps: &Items<(u64, Step)>, opening: &Flat)
+    requires begins { opening.now ≡ opening_at limits.now [] [] opening.now.moment }
+    requires legal { IsLegal limits.now opening.now steps.now }
+    ensures { EachMakesAnew limits.now opening.now steps.now }
+{}
+
+/// The entries of a caller are its Joined and then all that name it, in order; no entry names a caller that didn't join.
+pub fn its_joined_comes_first(limits: &Limits, steps: &Items<(u64, Step)>, opening: &Flat)
+    requires begins { opening.now ≡ opening_at limits.now [] [] opening.now.moment }
+    requires legal { IsLegal limits.now opening.now steps.now }
+    ensures { EachBeginsWithJoined limits.now opening.now steps.now }
+{}
+
+/// A caller is in the state from its Joined until its Gone, and then never again.
+pub fn callers_stay(limits: &Limits, steps: &Items<(u64, Step)>, opening: &Flat)
+    requires begins { opening.now ≡ opening_at limits.now [] [] opening.now.moment }
+    requires legal { IsLegal limits.now opening.now steps.now }
+    ensures each_step { EachStep CallersStay limits.now opening.now steps.now }
+    ensures for_good { IsGoneForGood limits.now opening.now steps.now }
+{}
+
+/// A caller's plan stays, with its caller and its target, until its EndStart, which comes once, or its caller's Gone.
+pub fn plans_are_their_callers(limits: &Limits, steps: &Items<(u64, Step)>, opening: &Flat)
+    requires begins { opening.now ≡ opening_at limits.now [] [] opening.now.moment }
+    requires legal { IsLegal limits.now opening.now steps.now }
+    ensures each_step { EachStep PlansAreTheirCallers limits.now opening.now steps.now }
+    ensures once { EachEndsOnce steps.now }
+{}
