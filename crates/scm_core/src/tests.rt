@@ -240,62 +240,106 @@ fn changes(manager: &Manager, step: &Step, name: &[u16]) -> Result<bool, Fail> {
     }
 }
 
-#[test]
-fn a_deleted_service_stays_while_another_caller_has_a_handle(rt: HostRuntime) -> Result<(), Fail> {
-    let mut manager = opened(rt.alloc())?;
-    create(rt.alloc(), &mut manager, &[65], 0)?;
-    open_as_another(rt.alloc(), &mut manager)?;
-    let step = asking(&manager, 1, Request::Delete { handle: 2 });
-    assert!(rt; changes(&manager, &step, &[65])?);
-    let _deleted = done(&mut manager, step)?;
-    wants(&mut manager, 1, Request::Close { handle: 2 }, 0)?;
-    assert_eq!(rt; manager.services(), 1);
-    assert_eq!(rt; manager.running(), 0);
-    let _gone = done(&mut manager, Step::Gone { caller: 2 })?;
-    assert_eq!(rt; manager.services(), 0);
-    Ok(())
+/// That an answer is the one that was looked for.
+fn is(told: bool) -> Result<(), Fail> {
+    if told {
+        Ok(())
+    } else {
+        Err("another answer".into())
+    }
 }
 
-#[test]
-fn a_start_fails_with_what_it_needs(rt: HostRuntime) -> Result<(), Fail> {
-    let alloc = rt.alloc();
-    let mut manager = opened(alloc)?;
-    create(alloc, &mut manager, &[97], 0)?;
-    create_needing(alloc, &mut manager)?;
-    let plan = begin(alloc, &mut manager, 0, 3)?;
+/// Caller 1 deletes a service that another caller has open too.
+fn delete(manager: &mut Manager) -> Result<(), Fail> {
+    let step = asking(manager, 1, Request::Delete { handle: 2 });
+    is(changes(manager, &step, &[97])?)?;
+    let _deleted = done(manager, step)?;
+    wants(manager, 1, Request::Close { handle: 2 }, 0)
+}
+
+/// The other caller goes, and the service with it.
+fn leave(manager: &mut Manager) -> Result<(), Fail> {
+    is(manager.services() == 1)?;
+    is(manager.running() == 0)?;
+    let _gone = done(manager, Step::Gone { caller: 2 })?;
+    is(manager.services() == 0)
+}
+
+/// Caller 1 starts `b` again while it is starting.
+fn begin_again(alloc: Global, manager: &mut Manager) -> Result<(), Fail> {
     let again = Request::Start {
         handle: 3,
         words: Some(Items::new(alloc)),
     };
-    wants(&mut manager, 1, again, 1056)?;
-    assert!(rt; manager.wanted());
-    assert_eq!(rt; manager.owner_of(plan), Some(1));
-    assert_eq!(rt;
-        taken(alloc, &mut manager)?,
-        (1, 1, 0),
-        "`a` is launched first"
-    );
-    let failed = Step::LaunchFailed {
-        process: 1,
-        code: 2,
-    };
-    let _failed = done(&mut manager, failed)?;
-    assert_eq!(rt; manager.decided(plan), Some(1068));
-    let ended = done(&mut manager, Step::EndStart { caller: 1, plan })?;
-    assert_eq!(rt; code_of(ended), 1068);
+    wants(manager, 1, again, 1056)
+}
+
+/// `a` is launched first, and fails.
+fn fail_launch(alloc: Global, manager: &mut Manager) -> Result<(), Fail> {
+    is(manager.wanted())?;
+    let (process, units, words) = taken(alloc, manager)?;
+    is(process == 1 && units == 1 && words == 0)?;
+    let _failed = done(manager, Step::LaunchFailed { process, code: 2 })?;
     Ok(())
+}
+
+/// Ends a start of caller 1, which has this code.
+fn end(manager: &mut Manager, moment: u64, plan: u64, code: u32) -> Result<(), Fail> {
+    let ended = done_at(manager, moment, Step::EndStart { caller: 1, plan })?;
+    is(code_of(ended) == code)
+}
+
+/// Nothing is due before two minutes are over.
+fn tick(manager: &mut Manager) -> Result<(), Fail> {
+    is(!is_due(manager, 119_999))?;
+    is(is_due(manager, 120_000))?;
+    let _ticked = done_at(manager, 120_000, Step::Tick)?;
+    Ok(())
+}
+
+/// What is due at a moment, told by a function without a clause: a proof that has one and so big a number takes too much memory.
+fn is_due(manager: &Manager, moment: u64) -> bool {
+    manager.due(moment)
+}
+
+fn deleting(alloc: Global, manager: &mut Manager) -> Result<(), Fail> {
+    create(alloc, manager, &[97], 0)?;
+    open_as_another(alloc, manager)?;
+    delete(manager)?;
+    leave(manager)
+}
+
+fn failing(alloc: Global, manager: &mut Manager) -> Result<(), Fail> {
+    create(alloc, manager, &[97], 0)?;
+    create_needing(alloc, manager)?;
+    let plan = begin(alloc, manager, 0, 3)?;
+    begin_again(alloc, manager)?;
+    is(manager.owner_of(plan) == Some(1))?;
+    fail_launch(alloc, manager)?;
+    end(manager, 0, plan, 1068)
+}
+
+fn giving_up(alloc: Global, manager: &mut Manager) -> Result<(), Fail> {
+    create(alloc, manager, &[97], 0)?;
+    let plan = begin(alloc, manager, 0, 2)?;
+    tick(manager)?;
+    end(manager, 120_000, plan, 1053)
+}
+
+#[test]
+fn a_deleted_service_stays_while_another_caller_has_a_handle(rt: HostRuntime) -> Result<(), Fail> {
+    let mut manager = opened(rt.alloc())?;
+    deleting(rt.alloc(), &mut manager)
+}
+
+#[test]
+fn a_start_fails_with_what_it_needs(rt: HostRuntime) -> Result<(), Fail> {
+    let mut manager = opened(rt.alloc())?;
+    failing(rt.alloc(), &mut manager)
 }
 
 #[test]
 fn a_start_is_given_up_after_two_minutes(rt: HostRuntime) -> Result<(), Fail> {
-    let alloc = rt.alloc();
-    let mut manager = opened(alloc)?;
-    create(alloc, &mut manager, &[97], 0)?;
-    let plan = begin(alloc, &mut manager, 0, 2)?;
-    assert!(rt; !manager.due(119_999));
-    assert!(rt; manager.due(120_000));
-    let _ticked = done_at(&mut manager, 120_000, Step::Tick)?;
-    let ended = done_at(&mut manager, 120_000, Step::EndStart { caller: 1, plan })?;
-    assert_eq!(rt; code_of(ended), 1053);
-    Ok(())
+    let mut manager = opened(rt.alloc())?;
+    giving_up(rt.alloc(), &mut manager)
 }
