@@ -1,9 +1,11 @@
-//! Which controls a service gets, as `RControlService` sends them.
+//! Which controls a service gets, as `RControlService` sends them, and those that wait for its process.
 #![tactic(auto)]
 
 mod judging;
+mod waiting;
 
 pub use judging::judge;
+pub use waiting::Controls;
 
 #[cfg(test)]
 mod tests;

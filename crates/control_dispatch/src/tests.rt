@@ -1,4 +1,4 @@
-use crate::judge;
+use crate::{Controls, judge};
 use scm_model::Status;
 
 // From winsvc.h.
@@ -203,4 +203,22 @@ fn states_and_a_full_queue_refuse(rt: HostRuntime) {
         ),
         1061
     );
+}
+
+#[test]
+fn controls_wait_in_their_order(rt: HostRuntime) {
+    let mut controls = Controls::new();
+    assert_eq!(rt;
+        (controls.is_empty(), controls.first(), controls.take_next()),
+        (true, None, None)
+    );
+    controls.enqueue(SERVICE_CONTROL_PAUSE);
+    controls.enqueue(SERVICE_CONTROL_INTERROGATE);
+    assert_eq!(rt;
+        (controls.len(), controls.first()),
+        (2, Some(SERVICE_CONTROL_PAUSE))
+    );
+    assert_eq!(rt; controls.take_next(), Some(SERVICE_CONTROL_PAUSE));
+    assert_eq!(rt; controls.take_next(), Some(SERVICE_CONTROL_INTERROGATE));
+    assert_eq!(rt; controls.take_next(), None);
 }

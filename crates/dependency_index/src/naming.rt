@@ -18,7 +18,8 @@ pub trait StateLook {
 
 const STOPPED: u32 = 1;
 
-fn is_named(name: &WText, need: &Need) -> bool
+/// Whether a need names the service of this name.
+pub fn is_named(name: &WText, need: &Need) -> bool
     ensures { result ≡ is_named name.now need.now }
 {
     match need {

@@ -1,10 +1,9 @@
 ghost use Rattle.std.specs.Prelude.{◌≡◌};
-ghost use Rattle.scm_model.specs.Refused.{outcome, zero_status};
-ghost use Rattle.scm_model.specs.Rows.{service_of};
+ghost use Rattle.scm_model.specs.Refused.{outcome};
 ghost use Rattle.scm_model.specs.declared.calls.Request.TheVariants as request;
-ghost use Rattle.scm_rules.specs.Query.{query_done, query_verdict, status_in};
+ghost use Rattle.scm_rules.specs.Query.{query_done, query_verdict};
 
-use scm_model::{Reply, Status};
+use scm_model::{Reply, zero_status};
 use scm_tables::{Tables, mask_lacks};
 
 const SERVICE_QUERY_STATUS: u32 = 4;
@@ -25,31 +24,6 @@ pub fn query_verdict(tables: &Tables, caller: u64, handle: u64) -> u32
     }
 }
 
-/// A status of zeros.
-fn zero_status() -> Status
-    ensures { result ≡ zero_status }
-{
-    Status {
-        kind: 0,
-        state: 0,
-        accepted: 0,
-        win32: 0,
-        specific: 0,
-        checkpoint: 0,
-        hint: 0,
-    }
-}
-
-/// The status of a service, or zeros.
-fn status_of(tables: &Tables, service: u64) -> Status
-    ensures { result ≡ status_in (service_of tables.now.flat service) }
-{
-    match tables.service(service) {
-        Some(row) => row.status,
-        None => zero_status(),
-    }
-}
-
 /// Answers the status of a service.
 pub fn query(tables: &Tables, caller: u64, handle: u64) -> Reply
     ensures reply { result ≡ (outcome (query_verdict tables.now.flat caller handle) (request.QueryStatus handle) tables.now.flat (query_done tables.now.flat caller handle)).0 }
@@ -64,7 +38,7 @@ pub fn query(tables: &Tables, caller: u64, handle: u64) -> Reply
     }
     let service = tables.opened_service(caller, handle);
     Reply::State {
-        status: status_of(tables, service),
+        status: tables.status_of(service),
         code: 0,
     }
 }

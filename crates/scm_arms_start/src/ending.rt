@@ -33,7 +33,13 @@ pub fn finish(tables: &mut Tables, answer: Answer) -> Answer
             }
             None => Answer::Begun(plan),
         },
-        Answer::Caller(_) | Answer::Reply(_) | Answer::Launch(_) | Answer::Done => answer,
+        Answer::Caller(_)
+        | Answer::Reply(_)
+        | Answer::Launch(_)
+        | Answer::Control(_)
+        | Answer::Refused(_)
+        | Answer::Stale
+        | Answer::Done => answer,
     }
 }
 

@@ -2,6 +2,7 @@
 use Rattle.std.proofs.Common.{◌≡◌, ◌≤◌, ℕ, true, eqb, List, length, Option, None, Some, Result, Ok, Err, refl, sym, subst, inl, inr}
 use Rattle.std.specs.Prelude.{IfOk, IfSome}
 use Rattle.std.proofs.lemmas.Bool.{eqb-true, cases_Bool}
+use Rattle.scm_model.specs.declared.flat.Status.{Status}
 use Rattle.scm_model.specs.declared.calls.Request.{Request}
 use Rattle.scm_model.specs.declared.calls.Request.TheVariants as request
 use Rattle.ndr_body.specs.declared.fault.BodyFault.{BodyFault}
@@ -12,11 +13,13 @@ use Rattle.ndr_body.proofs.SpelledTexts.{text_spelled, text_read}
 use Rattle.ndr_body.proofs.SpelledPointers.{some_text_spelled, some_text_read, finished_ended, ended_finished}
 use Rattle.scm_calls.specs.Ranges.{within_at}
 use Rattle.scm_calls.specs.Words.{words_at}
-use Rattle.scm_calls.specs.Requests.{is_served, IsInRange, lone_handle_at, open_manager_at, query_lock_at, start_at, named_at, request_at}
+use Rattle.scm_calls.specs.Statuses.{status_at}
+use Rattle.scm_calls.specs.Requests.{is_served, IsInRange, lone_handle_at, control_at, set_status_at, open_manager_at, query_lock_at, start_at, named_at, request_at}
 use Rattle.scm_calls.specs.declared.requests.Named.{Named}
-use Rattle.scm_calls.specs.Bodies.{IsLoneHandle, IsOpenManager, IsQueryLock, IsStart, IsNamed, IsBody}
+use Rattle.scm_calls.specs.Bodies.{IsLoneHandle, IsControl, IsSetStatus, IsOpenManager, IsQueryLock, IsStart, IsNamed, IsBody}
 use Rattle.scm_calls.proofs.Ranges.{within_found, within_read}
 use Rattle.scm_calls.proofs.Argv.{AreSent, words_found, words_read, words_sent}
+use Rattle.scm_calls.proofs.Numbers.{status_found, status_read}
 
 -- ## What is read is a body
 
@@ -26,6 +29,36 @@ lone_found body handle fits e =
     let a = bind_ok (handle_at body 0) (λ held. finished body held.1 >>= λ ended. Ok held.0) handle e in
     let b = bind_ok (finished body a.0.1) (λ ended. Ok a.0.0) handle a.2 in
     subst (IsLoneHandle body) (ok_is a.0.0 handle b.2) (record { behind_handle = a.0.1; handle_stands = handle_spelled body 0 a.0 fits a.1; ends = finished_ended body a.0.1 b.1 })
+
+control_found : (body : List ℕ) (r : Request) → IsBytes body → control_at body ≡ Ok r → IsBody 1 body r
+unfolding control_at
+control_found body r fits e =
+    let a = bind_ok (handle_at body 0) (λ handle. number_at body handle.1 >>= λ control. finished body control.1 >>= λ ended. Ok (request.Control handle.0 control.0)) r e in
+    let b = bind_ok (number_at body a.0.1) (λ control. finished body control.1 >>= λ ended. Ok (request.Control a.0.0 control.0)) r a.2 in
+    let c = bind_ok (finished body b.0.1) (λ ended. Ok (request.Control a.0.0 b.0.0)) r b.2 in
+    let found : IsControl body a.0.0 b.0.0 = record {
+      behind_handle = a.0.1;
+      handle_stands = handle_spelled body 0 a.0 fits a.1;
+      behind_control = b.0.1;
+      control_stands = number_spelled body _ _ b.0 fits b.1;
+      ends = finished_ended body b.0.1 c.1;
+    } in
+    subst (IsBody 1 body) (ok_is (request.Control a.0.0 b.0.0) r c.2) (refl, found)
+
+set_status_found : (body : List ℕ) (r : Request) → IsBytes body → set_status_at body ≡ Ok r → IsBody 7 body r
+unfolding set_status_at
+set_status_found body r fits e =
+    let a = bind_ok (handle_at body 0) (λ handle. status_at body handle.1 >>= λ status. finished body status.1 >>= λ ended. Ok (request.SetStatus handle.0 status.0)) r e in
+    let b = bind_ok (status_at body a.0.1) (λ status. finished body status.1 >>= λ ended. Ok (request.SetStatus a.0.0 status.0)) r a.2 in
+    let c = bind_ok (finished body b.0.1) (λ ended. Ok (request.SetStatus a.0.0 b.0.0)) r b.2 in
+    let found : IsSetStatus body a.0.0 b.0.0 = record {
+      behind_handle = a.0.1;
+      handle_stands = handle_spelled body 0 a.0 fits a.1;
+      behind_status = b.0.1;
+      status_stands = status_found body a.0.1 b.0 fits b.1;
+      ends = finished_ended body b.0.1 c.1;
+    } in
+    subst (IsBody 7 body) (ok_is (request.SetStatus a.0.0 b.0.0) r c.2) (refl, found)
 
 open_manager_found : (body : List ℕ) (r : Request) → IsBytes body → open_manager_at body ≡ Ok r → IsBody 15 body r
 unfolding open_manager_at
@@ -113,26 +146,32 @@ unfolding request_at
 request_found opnum body r served fits e =
     elim (cases_Bool (eqb opnum 0)) [
       | inl is ↦ let a = asked_with body r request.Close fits (rw is at e) in subst (IsBody opnum body) a.2 (eqb-true _ _ is, a.1)
-      | inr no_0 ↦ elim (cases_Bool (eqb opnum 2)) [
-        | inl is ↦ let a = asked_with body r request.Delete fits (rw (no_0, is) at e) in subst (IsBody opnum body) a.2 (eqb-true _ _ is, a.1)
-        | inr no_2 ↦ elim (cases_Bool (eqb opnum 3)) [
-          | inl is ↦ let a = asked_with body r request.Lock fits (rw (no_0, no_2, is) at e) in subst (IsBody opnum body) a.2 (eqb-true _ _ is, a.1)
-          | inr no_3 ↦ elim (cases_Bool (eqb opnum 6)) [
-            | inl is ↦ let a = asked_with body r request.QueryStatus fits (rw (no_0, no_2, no_3, is) at e) in subst (IsBody opnum body) a.2 (eqb-true _ _ is, a.1)
-            | inr no_6 ↦ elim (cases_Bool (eqb opnum 8)) [
-              | inl is ↦ let a = asked_with body r request.Unlock fits (rw (no_0, no_2, no_3, no_6, is) at e) in subst (IsBody opnum body) a.2 (eqb-true _ _ is, a.1)
-              | inr no_8 ↦ elim (cases_Bool (eqb opnum 15)) [
-                | inl is ↦ subst (λ (o : ℕ). IsBody o body r) (sym (eqb-true _ _ is)) (open_manager_found body r fits (rw (no_0, no_2, no_3, no_6, no_8, is) at e))
-                | inr no_15 ↦ elim (cases_Bool (eqb opnum 16)) [
-                  | inl is ↦ let a = asked_of_name body r request.OpenService fits (rw (no_0, no_2, no_3, no_6, no_8, no_15, is) at e) in subst (IsBody opnum body) a.2 (eqb-true _ _ is, a.1)
-                  | inr no_16 ↦ elim (cases_Bool (eqb opnum 18)) [
-                    | inl is ↦ subst (λ (o : ℕ). IsBody o body r) (sym (eqb-true _ _ is)) (query_lock_found body r fits (rw (no_0, no_2, no_3, no_6, no_8, no_15, no_16, is) at e))
-                    | inr no_18 ↦ elim (cases_Bool (eqb opnum 19)) [
-                      | inl is ↦ subst (λ (o : ℕ). IsBody o body r) (sym (eqb-true _ _ is)) (start_found body r fits (rw (no_0, no_2, no_3, no_6, no_8, no_15, no_16, no_18, is) at e))
-                      | inr no_19 ↦ elim (cases_Bool (eqb opnum 20)) [
-                        | inl is ↦ let a = asked_of_name body r request.DisplayName fits (rw (no_0, no_2, no_3, no_6, no_8, no_15, no_16, no_18, no_19, is) at e) in subst (IsBody opnum body) a.2 (eqb-true _ _ is, a.1)
-                        | inr no_20 ↦ let is : eqb opnum 21 ≡ true = rw (no_0, no_2, no_3, no_6, no_8, no_15, no_16, no_18, no_19, no_20) at served in
-                            let a = asked_of_name body r request.KeyName fits (rw (no_0, no_2, no_3, no_6, no_8, no_15, no_16, no_18, no_19, no_20) at e) in subst (IsBody opnum body) a.2 (eqb-true _ _ is, a.1)
+      | inr no_0 ↦ elim (cases_Bool (eqb opnum 1)) [
+        | inl is ↦ subst (λ (o : ℕ). IsBody o body r) (sym (eqb-true _ _ is)) (control_found body r fits (rw (no_0, is) at e))
+        | inr no_1 ↦ elim (cases_Bool (eqb opnum 2)) [
+          | inl is ↦ let a = asked_with body r request.Delete fits (rw (no_0, no_1, is) at e) in subst (IsBody opnum body) a.2 (eqb-true _ _ is, a.1)
+          | inr no_2 ↦ elim (cases_Bool (eqb opnum 3)) [
+            | inl is ↦ let a = asked_with body r request.Lock fits (rw (no_0, no_1, no_2, is) at e) in subst (IsBody opnum body) a.2 (eqb-true _ _ is, a.1)
+            | inr no_3 ↦ elim (cases_Bool (eqb opnum 6)) [
+              | inl is ↦ let a = asked_with body r request.QueryStatus fits (rw (no_0, no_1, no_2, no_3, is) at e) in subst (IsBody opnum body) a.2 (eqb-true _ _ is, a.1)
+              | inr no_6 ↦ elim (cases_Bool (eqb opnum 7)) [
+                | inl is ↦ subst (λ (o : ℕ). IsBody o body r) (sym (eqb-true _ _ is)) (set_status_found body r fits (rw (no_0, no_1, no_2, no_3, no_6, is) at e))
+                | inr no_7 ↦ elim (cases_Bool (eqb opnum 8)) [
+                  | inl is ↦ let a = asked_with body r request.Unlock fits (rw (no_0, no_1, no_2, no_3, no_6, no_7, is) at e) in subst (IsBody opnum body) a.2 (eqb-true _ _ is, a.1)
+                  | inr no_8 ↦ elim (cases_Bool (eqb opnum 15)) [
+                    | inl is ↦ subst (λ (o : ℕ). IsBody o body r) (sym (eqb-true _ _ is)) (open_manager_found body r fits (rw (no_0, no_1, no_2, no_3, no_6, no_7, no_8, is) at e))
+                    | inr no_15 ↦ elim (cases_Bool (eqb opnum 16)) [
+                      | inl is ↦ let a = asked_of_name body r request.OpenService fits (rw (no_0, no_1, no_2, no_3, no_6, no_7, no_8, no_15, is) at e) in subst (IsBody opnum body) a.2 (eqb-true _ _ is, a.1)
+                      | inr no_16 ↦ elim (cases_Bool (eqb opnum 18)) [
+                        | inl is ↦ subst (λ (o : ℕ). IsBody o body r) (sym (eqb-true _ _ is)) (query_lock_found body r fits (rw (no_0, no_1, no_2, no_3, no_6, no_7, no_8, no_15, no_16, is) at e))
+                        | inr no_18 ↦ elim (cases_Bool (eqb opnum 19)) [
+                          | inl is ↦ subst (λ (o : ℕ). IsBody o body r) (sym (eqb-true _ _ is)) (start_found body r fits (rw (no_0, no_1, no_2, no_3, no_6, no_7, no_8, no_15, no_16, no_18, is) at e))
+                          | inr no_19 ↦ elim (cases_Bool (eqb opnum 20)) [
+                            | inl is ↦ let a = asked_of_name body r request.DisplayName fits (rw (no_0, no_1, no_2, no_3, no_6, no_7, no_8, no_15, no_16, no_18, no_19, is) at e) in subst (IsBody opnum body) a.2 (eqb-true _ _ is, a.1)
+                            | inr no_20 ↦ let is : eqb opnum 21 ≡ true = rw (no_0, no_1, no_2, no_3, no_6, no_7, no_8, no_15, no_16, no_18, no_19, no_20) at served in
+                                let a = asked_of_name body r request.KeyName fits (rw (no_0, no_1, no_2, no_3, no_6, no_7, no_8, no_15, no_16, no_18, no_19, no_20) at e) in subst (IsBody opnum body) a.2 (eqb-true _ _ is, a.1)
+                          ]
+                        ]
                       ]
                     ]
                   ]
@@ -149,6 +188,16 @@ request_found opnum body r served fits e =
 lone_read : (body : List ℕ) (handle : ℕ) → IsBytes body → IsLoneHandle body handle → lone_handle_at body ≡ Ok handle
 unfolding lone_handle_at
 lone_read body handle fits h = rw (handle_read body 0 handle h.behind_handle fits h.handle_stands, ended_finished body h.behind_handle h.ends) refl
+
+control_read : (body : List ℕ) (handle control : ℕ) → IsBytes body → IsControl body handle control → control_at body ≡ Ok (request.Control handle control)
+unfolding control_at
+control_read body handle control fits h =
+    rw (handle_read body 0 handle h.behind_handle fits h.handle_stands, number_read body _ _ control h.behind_control h.control_stands, ended_finished body h.behind_control h.ends) refl
+
+set_status_read : (body : List ℕ) (handle : ℕ) (status : Status) → IsBytes body → IsSetStatus body handle status → set_status_at body ≡ Ok (request.SetStatus handle status)
+unfolding set_status_at
+set_status_read body handle status fits h =
+    rw (handle_read body 0 handle h.behind_handle fits h.handle_stands, status_read body h.behind_handle status h.behind_status h.status_stands, ended_finished body h.behind_status h.ends) refl
 
 open_manager_read : (body : List ℕ) (database : Option (List ℕ)) (access : ℕ) → IsOpenManager body database access → open_manager_at body ≡ Ok (request.OpenManager database access)
 unfolding open_manager_at
@@ -173,9 +222,11 @@ named_read body handle name number fits h =
 pub request_read : (opnum : ℕ) (body : List ℕ) (r : Request) → IsBytes body → IsBody opnum body r → request_at opnum body ≡ Ok r
 unfolding request_at
 request_read opnum body (request.Close handle) fits h = rw (h.0, lone_read body handle fits h.1) refl
+request_read opnum body (request.Control handle control) fits h = rw (h.0, control_read body handle control fits h.1) refl
 request_read opnum body (request.Delete handle) fits h = rw (h.0, lone_read body handle fits h.1) refl
 request_read opnum body (request.Lock handle) fits h = rw (h.0, lone_read body handle fits h.1) refl
 request_read opnum body (request.QueryStatus handle) fits h = rw (h.0, lone_read body handle fits h.1) refl
+request_read opnum body (request.SetStatus handle status) fits h = rw (h.0, set_status_read body handle status fits h.1) refl
 request_read opnum body (request.Unlock handle) fits h = rw (h.0, lone_read body handle fits h.1) refl
 request_read opnum body (request.Create new) fits h = absurd h
 request_read opnum body (request.OpenManager database access) fits h = rw (h.0, open_manager_read body database access h.1) refl

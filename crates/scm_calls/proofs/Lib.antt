@@ -1,6 +1,7 @@
 pub mod Loop
 pub mod Ranges
 pub mod Referents
+pub mod Numbers
 pub mod Argv
 pub mod Asked
 pub mod Put

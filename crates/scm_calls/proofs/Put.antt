@@ -2,6 +2,7 @@
 use Rattle.std.proofs.Common.{◌≡◌, ℕ, ◌^◌, ◌<◌, ◌≤◌, List, Option, None, Result, Ok, Err, refl, ap, ◌∙◌, arith}
 use Rattle.std.specs.Prelude.{IfSome, IfOk}
 use Rattle.std.proofs.lemmas.Bool.{le-leb}
+use Rattle.scm_model.specs.declared.flat.Status.{Status}
 use Rattle.scm_model.specs.declared.calls.Request.{Request}
 use Rattle.scm_model.specs.declared.calls.Request.TheVariants as request
 use Rattle.ndr_body.specs.Reading.{number_at, handle_at, text_at, some_text_at}
@@ -11,9 +12,11 @@ use Rattle.ndr_body.proofs.Chains.{handle_small, text_sent, pointed_sent, whole,
 use Rattle.ndr_body.proofs.Written.{number_put, handle_put, text_put, any_text_put}
 use Rattle.scm_calls.specs.Ranges.{within_at}
 use Rattle.scm_calls.specs.Words.{put_words}
-use Rattle.scm_calls.specs.Requests.{opnum_of, with_request, request_bytes, put_named, lone_handle_at, open_manager_at, query_lock_at, start_at, named_at, request_at}
-use Rattle.scm_calls.specs.Bodies.{IsNamed, IsBody}
+use Rattle.scm_calls.specs.Statuses.{put_numbers, numbers_of}
+use Rattle.scm_calls.specs.Requests.{opnum_of, with_request, request_bytes, put_named, lone_handle_at, control_at, set_status_at, open_manager_at, query_lock_at, start_at, named_at, request_at}
+use Rattle.scm_calls.specs.Bodies.{IsSetStatus, IsNamed, IsBody}
 use Rattle.scm_calls.proofs.Argv.{AreSent, words_there, words_sent}
+use Rattle.scm_calls.proofs.Numbers.{numbers_small, numbers_before, status_there}
 
 -- ## Requests
 
@@ -22,6 +25,33 @@ unfolding lone_handle_at
 lone_again handle lt =
     let d = put_handle handle blank in
     rw (read_there handle_at (put_handle handle) handle d.bytes blank (handle_put handle lt) blank_referent (whole d), ends_there d) refl
+
+control_again : (handle control : ℕ) → handle < 2 ^ 64 → control < 2 ^ 32 → control_at (put_number control (put_handle handle blank)).bytes ≡ Ok (request.Control handle control)
+unfolding control_at
+control_again handle control small lt =
+    let d1 = put_handle handle blank in
+    let d2 = put_number control d1 in
+    let law1 = handle_put handle small in
+    let law2 = number_put control lt in
+    let held1 = held_before number_at (put_number control) control d2.bytes d1 law2 (whole d2) in
+    rw (
+      read_there handle_at (put_handle handle) handle d2.bytes blank law1 blank_referent held1,
+      read_there number_at (put_number control) control d2.bytes d1 law2 (law1.next blank blank_referent) (whole d2),
+      ends_there d2,
+    ) refl
+
+set_status_again : (bytes : List ℕ) (handle : ℕ) (status : Status) → IsSetStatus bytes handle status → set_status_at (put_numbers (numbers_of status) (put_handle handle blank)).bytes ≡ Ok (request.SetStatus handle status)
+unfolding set_status_at
+set_status_again bytes handle status h =
+    let law = handle_put handle (handle_small h.handle_stands.item handle h.handle_stands.is) in
+    let small = numbers_small bytes h.behind_handle (numbers_of status) h.behind_status h.status_stands in
+    let d1 = put_handle handle blank in
+    let d2 = put_numbers (numbers_of status) d1 in
+    rw (
+      read_there handle_at (put_handle handle) handle d2.bytes blank law blank_referent (numbers_before (numbers_of status) d2.bytes d1 small (whole d2)),
+      status_there status d1 small,
+      ends_there d2,
+    ) refl
 
 open_manager_again : (database : Option (List ℕ)) (access : ℕ) → IfSome database IsSent → access < 2 ^ 32 → open_manager_at (put_number access (put_some_text database (put_some_text None blank))).bytes ≡ Ok (request.OpenManager database access)
 unfolding open_manager_at
@@ -98,9 +128,11 @@ named_again bytes handle name access h =
 pub request_again : (bytes : List ℕ) (r : Request) → IsBody (opnum_of r) bytes r → request_at (opnum_of r) (request_bytes r) ≡ Ok r
 unfolding request_at request_bytes with_request
 request_again bytes (request.Close handle) h = rw (lone_again handle (handle_small h.1.handle_stands.item handle h.1.handle_stands.is)) refl
+request_again bytes (request.Control handle control) h = control_again handle control (handle_small h.1.handle_stands.item handle h.1.handle_stands.is) h.1.control_stands.is.small
 request_again bytes (request.Delete handle) h = rw (lone_again handle (handle_small h.1.handle_stands.item handle h.1.handle_stands.is)) refl
 request_again bytes (request.Lock handle) h = rw (lone_again handle (handle_small h.1.handle_stands.item handle h.1.handle_stands.is)) refl
 request_again bytes (request.Unlock handle) h = rw (lone_again handle (handle_small h.1.handle_stands.item handle h.1.handle_stands.is)) refl
+request_again bytes (request.SetStatus handle status) h = set_status_again bytes handle status h.1
 request_again bytes (request.QueryStatus handle) h = rw (lone_again handle (handle_small h.1.handle_stands.item handle h.1.handle_stands.is)) refl
 request_again bytes (request.Create new) h = absurd h
 request_again bytes (request.OpenManager database access) h = open_manager_again database access (pointed_sent h.1.database_stands.item database h.1.database_stands.is) h.1.access_stands.is.small

@@ -14,7 +14,8 @@ use Rattle.scm_model.specs.declared.calls.Reply.TheVariants as reply
 use Rattle.ndr_body.specs.Reading.{aligned}
 use Rattle.ndr_body.specs.Writing.{Draft, blank, put_number, put_handle, put_text, put_referent, put_some_number}
 use Rattle.ndr_body.proofs.Lengths.{length_put_number, length_put_handle, length_put_text, length_put_referent, length_some_number, length_no_number}
-use Rattle.scm_calls.specs.Replies.{put_numbers, numbers_of, put_heads, put_texts, put_config, put_pointer, put_pointed, put_lock, with_reply, reply_bytes, tag_size, text_size, config_size, owner_size, reply_size, bytes_needed, odd_below, shown_bound, reply_bound, Answers}
+use Rattle.scm_calls.specs.Statuses.{put_numbers, numbers_of}
+use Rattle.scm_calls.specs.Replies.{put_heads, put_texts, put_config, put_pointer, put_pointed, put_lock, with_reply, reply_bytes, tag_size, text_size, config_size, owner_size, reply_size, bytes_needed, odd_below, shown_bound, reply_bound, Answers}
 
 pub length_put_numbers : (ns : List ℕ) (d : Draft) → aligned (length d.bytes) + 4 * length ns ≡ aligned (length (put_numbers ns d).bytes)
 length_put_numbers [] d = omega arith
@@ -128,6 +129,8 @@ fits_lock (Some owner) few = omega (arith, few)
 pub fits_bound : (r : Request) (told : Reply) → Answers r told → reply_size told ≤ reply_bound r
 fits_bound (request.Close h) (reply.Handle handle code) a = omega arith
 fits_bound (request.Close h) _ a = absurd a
+fits_bound (request.Control h control) (reply.State status code) a = omega arith
+fits_bound (request.Control h control) _ a = absurd a
 fits_bound (request.Delete h) (reply.Code code) a = omega arith
 fits_bound (request.Delete h) _ a = absurd a
 fits_bound (request.Lock h) (reply.Handle handle code) a = omega arith
@@ -136,6 +139,8 @@ fits_bound (request.Unlock h) (reply.Handle handle code) a = omega arith
 fits_bound (request.Unlock h) _ a = absurd a
 fits_bound (request.QueryStatus h) (reply.State status code) a = omega arith
 fits_bound (request.QueryStatus h) _ a = absurd a
+fits_bound (request.SetStatus h status) (reply.Code code) a = omega arith
+fits_bound (request.SetStatus h status) _ a = absurd a
 fits_bound (request.Change change) (reply.Tag None code) a = omega arith
 fits_bound (request.Change change) (reply.Tag (Some tag) code) a = omega arith
 fits_bound (request.Change change) _ a = absurd a
@@ -200,10 +205,12 @@ owned_reached =
 
 pub bound_reached : (r : Request) → (told : Reply) × Answers r told × (length (reply_bytes told) ≡ reply_bound r)
 bound_reached (request.Close h) = (reply.Handle 0 0, tt, length_reply_bytes (reply.Handle 0 0))
+bound_reached (request.Control h control) = (reply.State zero_status 0, tt, length_reply_bytes (reply.State zero_status 0))
 bound_reached (request.Delete h) = (reply.Code 0, tt, length_reply_bytes (reply.Code 0))
 bound_reached (request.Lock h) = (reply.Handle 0 0, tt, length_reply_bytes (reply.Handle 0 0))
 bound_reached (request.Unlock h) = (reply.Handle 0 0, tt, length_reply_bytes (reply.Handle 0 0))
 bound_reached (request.QueryStatus h) = (reply.State zero_status 0, tt, length_reply_bytes (reply.State zero_status 0))
+bound_reached (request.SetStatus h status) = (reply.Code 0, tt, length_reply_bytes (reply.Code 0))
 bound_reached (request.Create new) = (reply.Made (Some 0) 0 0, tt, length_reply_bytes (reply.Made (Some 0) 0 0))
 bound_reached (request.OpenManager database access) = (reply.Handle 0 0, tt, length_reply_bytes (reply.Handle 0 0))
 bound_reached (request.OpenService h name access) = (reply.Handle 0 0, tt, length_reply_bytes (reply.Handle 0 0))

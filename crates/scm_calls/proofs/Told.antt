@@ -1,5 +1,5 @@
 -- A reply is read exactly where the bytes are its body, and what is written is read back.
-use Rattle.std.proofs.Common.{◌≡◌, ℕ, ◌^◌, ◌<◌, Bool, true, false, cond, eqb, List, [], ◌∷◌, ◌++◌, length, Option, None, Some, Result, Ok, Err, refl, sym, ap, subst, ◌∙◌, inl, inr, arith}
+use Rattle.std.proofs.Common.{◌≡◌, ℕ, ◌^◌, ◌<◌, Bool, true, false, cond, eqb, List, [], ◌++◌, length, Option, None, Some, Result, Ok, Err, refl, sym, ap, subst, ◌∙◌, inl, inr, arith}
 use Rattle.std.specs.Prelude.{◌||◌, IfOk, IfSome}
 use Rattle.std.specs.List.{AllByRecursion}
 use Rattle.std.proofs.lemmas.Bool.{eqb-true, eqb-false, ne_eqb, cases_Bool, or_cases}
@@ -9,7 +9,7 @@ use Rattle.scm_model.specs.declared.calls.Reply.{Reply}
 use Rattle.scm_model.specs.declared.calls.Reply.TheVariants as reply
 use Rattle.ndr_body.specs.declared.fault.BodyFault.{BodyFault}
 use Rattle.ndr_body.specs.Reading.{◌>>=◌, Gives, aligned, number_at, handle_at, text_at, finished}
-use Rattle.ndr_body.specs.Writing.{Draft, blank, put_number, put_handle, put_text, put_referent}
+use Rattle.ndr_body.specs.Writing.{blank, put_number, put_handle, put_text, put_referent}
 use Rattle.ndr_body.specs.Laws.{IsSent}
 use Rattle.ndr_body.specs.Spelled.{IsNumber, Stands}
 use Rattle.ndr_body.proofs.Spelled.{IsBytes, bind_ok, ok_is, number_spelled, number_read}
@@ -18,10 +18,12 @@ use Rattle.ndr_body.proofs.SpelledTexts.{text_spelled, text_read}
 use Rattle.ndr_body.proofs.SpelledPointers.{finished_ended, ended_finished}
 use Rattle.ndr_body.proofs.Written.{number_put, handle_put, text_put, number_stands}
 use Rattle.scm_calls.specs.Requests.{is_served}
-use Rattle.scm_calls.specs.Replies.{put_numbers, numbers_of, put_lock, with_reply, reply_bytes, code_at, handled_at, status_at, state_at, owner_at, lock_state_at, name_at, gives_code, gives_name, reply_at}
-use Rattle.scm_calls.specs.Bodies.{NumbersStand, IsCodeBody, IsHandledBody, IsStateBody, OwnerStands, IsLockStateBody, IsNameBody, gives_handle, IsReply}
-use Rattle.scm_calls.proofs.Referents.{number_there, referent_before, referent_next, referent_read}
-use Rattle.ndr_body.proofs.Chains.{Holds, whole, held_before, read_there, blank_referent, ends_there, handle_small, text_sent}
+use Rattle.scm_calls.specs.Statuses.{put_numbers, numbers_of, status_at}
+use Rattle.scm_calls.specs.Replies.{put_lock, with_reply, reply_bytes, code_at, handled_at, state_at, owner_at, lock_state_at, name_at, gives_code, gives_state, gives_name, reply_at}
+use Rattle.scm_calls.specs.Bodies.{IsCodeBody, IsHandledBody, IsStateBody, OwnerStands, IsLockStateBody, IsNameBody, gives_handle, IsReply}
+use Rattle.scm_calls.proofs.Referents.{referent_before, referent_next, referent_read}
+use Rattle.scm_calls.proofs.Numbers.{status_found, status_read, numbers_small, numbers_again}
+use Rattle.ndr_body.proofs.Chains.{whole, held_before, read_there, blank_referent, ends_there, handle_small, text_sent}
 
 -- ## What is read is a body
 
@@ -47,22 +49,9 @@ handled_found opnum body told gives fits e =
     } in
     subst (IsReply opnum body) (ok_is (reply.Handle a.0.0 b.0.0) told c.2) (gives, found)
 
-status_found : (body : List ℕ) (place : ℕ) (x : Status × ℕ) → IsBytes body → status_at body place ≡ Ok x → NumbersStand body place (numbers_of x.0) x.1
-unfolding status_at
-status_found body place x fits e =
-    let a = bind_ok (number_at body place) (λ kind. number_at body kind.1 >>= λ state. number_at body state.1 >>= λ accepted. number_at body accepted.1 >>= λ win32. number_at body win32.1 >>= λ specific. number_at body specific.1 >>= λ checkpoint. number_at body checkpoint.1 >>= λ hint. Ok (record { kind = kind.0; state = state.0; accepted = accepted.0; win32 = win32.0; specific = specific.0; checkpoint = checkpoint.0; hint = hint.0 }, hint.1)) x e in
-    let b = bind_ok (number_at body a.0.1) (λ state. number_at body state.1 >>= λ accepted. number_at body accepted.1 >>= λ win32. number_at body win32.1 >>= λ specific. number_at body specific.1 >>= λ checkpoint. number_at body checkpoint.1 >>= λ hint. Ok (record { kind = a.0.0; state = state.0; accepted = accepted.0; win32 = win32.0; specific = specific.0; checkpoint = checkpoint.0; hint = hint.0 }, hint.1)) x a.2 in
-    let c = bind_ok (number_at body b.0.1) (λ accepted. number_at body accepted.1 >>= λ win32. number_at body win32.1 >>= λ specific. number_at body specific.1 >>= λ checkpoint. number_at body checkpoint.1 >>= λ hint. Ok (record { kind = a.0.0; state = b.0.0; accepted = accepted.0; win32 = win32.0; specific = specific.0; checkpoint = checkpoint.0; hint = hint.0 }, hint.1)) x b.2 in
-    let d = bind_ok (number_at body c.0.1) (λ win32. number_at body win32.1 >>= λ specific. number_at body specific.1 >>= λ checkpoint. number_at body checkpoint.1 >>= λ hint. Ok (record { kind = a.0.0; state = b.0.0; accepted = c.0.0; win32 = win32.0; specific = specific.0; checkpoint = checkpoint.0; hint = hint.0 }, hint.1)) x c.2 in
-    let e = bind_ok (number_at body d.0.1) (λ specific. number_at body specific.1 >>= λ checkpoint. number_at body checkpoint.1 >>= λ hint. Ok (record { kind = a.0.0; state = b.0.0; accepted = c.0.0; win32 = d.0.0; specific = specific.0; checkpoint = checkpoint.0; hint = hint.0 }, hint.1)) x d.2 in
-    let f = bind_ok (number_at body e.0.1) (λ checkpoint. number_at body checkpoint.1 >>= λ hint. Ok (record { kind = a.0.0; state = b.0.0; accepted = c.0.0; win32 = d.0.0; specific = e.0.0; checkpoint = checkpoint.0; hint = hint.0 }, hint.1)) x e.2 in
-    let g = bind_ok (number_at body f.0.1) (λ hint. Ok (record { kind = a.0.0; state = b.0.0; accepted = c.0.0; win32 = d.0.0; specific = e.0.0; checkpoint = f.0.0; hint = hint.0 }, hint.1)) x f.2 in
-    let made : Status × ℕ = (record { kind = a.0.0; state = b.0.0; accepted = c.0.0; win32 = d.0.0; specific = e.0.0; checkpoint = f.0.0; hint = g.0.0 }, g.0.1) in
-    subst (λ (y : Status × ℕ). NumbersStand body place (numbers_of y.0) y.1) (ok_is made x g.2) (a.0.1, number_spelled body (aligned place) (aligned place) a.0 fits a.1, (b.0.1, number_spelled body (aligned a.0.1) (aligned a.0.1) b.0 fits b.1, (c.0.1, number_spelled body (aligned b.0.1) (aligned b.0.1) c.0 fits c.1, (d.0.1, number_spelled body (aligned c.0.1) (aligned c.0.1) d.0 fits d.1, (e.0.1, number_spelled body (aligned d.0.1) (aligned d.0.1) e.0 fits e.1, (f.0.1, number_spelled body (aligned e.0.1) (aligned e.0.1) f.0 fits f.1, (g.0.1, number_spelled body (aligned f.0.1) (aligned f.0.1) g.0 fits g.1, refl)))))))
-
-state_found : (body : List ℕ) (told : Reply) → IsBytes body → state_at body ≡ Ok told → IsReply 6 body told
+state_found : (opnum : ℕ) (body : List ℕ) (told : Reply) → gives_state opnum ≡ true → IsBytes body → state_at body ≡ Ok told → IsReply opnum body told
 unfolding state_at
-state_found body told fits e =
+state_found opnum body told gives fits e =
     let a = bind_ok (status_at body 0) (λ status. number_at body status.1 >>= λ code. finished body code.1 >>= λ ended. Ok (reply.State status.0 code.0)) told e in
     let b = bind_ok (number_at body a.0.1) (λ code. finished body code.1 >>= λ ended. Ok (reply.State a.0.0 code.0)) told a.2 in
     let c = bind_ok (finished body b.0.1) (λ ended. Ok (reply.State a.0.0 b.0.0)) told b.2 in
@@ -73,7 +62,7 @@ state_found body told fits e =
       code_stands = number_spelled body (aligned a.0.1) (aligned a.0.1) b.0 fits b.1;
       ends = finished_ended body b.0.1 c.1;
     } in
-    subst (IsReply 6 body) (ok_is (reply.State a.0.0 b.0.0) told c.2) (refl, found)
+    subst (IsReply opnum body) (ok_is (reply.State a.0.0 b.0.0) told c.2) (gives, found)
 
 name_found : (opnum : ℕ) (body : List ℕ) (told : Reply) → gives_name opnum ≡ true → IsBytes body → name_at body ≡ Ok told → IsReply opnum body told
 unfolding name_at
@@ -133,27 +122,30 @@ lock_state_found body told fits e =
     } in
     subst (IsReply 18 body) (ok_is (reply.LockState a.0.0 d.0.0 c.0.0 f.0.0 g.0.0) told h.2) (refl, found)
 
-left_out : (n0 n2 n3 n6 n8 n15 n16 n18 n19 n20 n21 : Bool) → (n0 || n2 || n3 || n6 || n8 || n15 || n16 || n18 || n19 || n20 || n21) ≡ true → (n2 || n19) ≡ false → n6 ≡ false → n18 ≡ false → (n20 || n21) ≡ false
-    → (n0 || n3 || n8 || n15 || n16) ≡ true
-left_out true n2 n3 n6 n8 n15 n16 n18 n19 n20 n21 h no_code no_6 no_18 no_name = refl
-left_out false true n3 n6 n8 n15 n16 n18 n19 n20 n21 h no_code no_6 no_18 no_name = absurd cc
-left_out false false true n6 n8 n15 n16 n18 n19 n20 n21 h no_code no_6 no_18 no_name = refl
-left_out false false false true n8 n15 n16 n18 n19 n20 n21 h no_code no_6 no_18 no_name = absurd cc
-left_out false false false false true n15 n16 n18 n19 n20 n21 h no_code no_6 no_18 no_name = refl
-left_out false false false false false true n16 n18 n19 n20 n21 h no_code no_6 no_18 no_name = refl
-left_out false false false false false false true n18 n19 n20 n21 h no_code no_6 no_18 no_name = refl
-left_out false false false false false false false true n19 n20 n21 h no_code no_6 no_18 no_name = absurd cc
-left_out false false false false false false false false true n20 n21 h no_code no_6 no_18 no_name = absurd cc
-left_out false false false false false false false false false true n21 h no_code no_6 no_18 no_name = absurd cc
-left_out false false false false false false false false false false true h no_code no_6 no_18 no_name = absurd cc
-left_out false false false false false false false false false false false h no_code no_6 no_18 no_name = absurd cc
+left_out : (n0 n1 n2 n3 n6 n7 n8 n15 n16 n18 n19 n20 n21 : Bool) → (n0 || n1 || n2 || n3 || n6 || n7 || n8 || n15 || n16 || n18 || n19 || n20 || n21) ≡ true
+    → (n2 || n7 || n19) ≡ false → (n1 || n6) ≡ false → n18 ≡ false → (n20 || n21) ≡ false → (n0 || n3 || n8 || n15 || n16) ≡ true
+left_out true n1 n2 n3 n6 n7 n8 n15 n16 n18 n19 n20 n21 h no_code no_state no_18 no_name = refl
+left_out false true n2 n3 n6 n7 n8 n15 n16 n18 n19 n20 n21 h no_code no_state no_18 no_name = absurd cc
+left_out false false true n3 n6 n7 n8 n15 n16 n18 n19 n20 n21 h no_code no_state no_18 no_name = absurd cc
+left_out false false false true n6 n7 n8 n15 n16 n18 n19 n20 n21 h no_code no_state no_18 no_name = refl
+left_out false false false false true n7 n8 n15 n16 n18 n19 n20 n21 h no_code no_state no_18 no_name = absurd cc
+left_out false false false false false true n8 n15 n16 n18 n19 n20 n21 h no_code no_state no_18 no_name = absurd cc
+left_out false false false false false false true n15 n16 n18 n19 n20 n21 h no_code no_state no_18 no_name = refl
+left_out false false false false false false false true n16 n18 n19 n20 n21 h no_code no_state no_18 no_name = refl
+left_out false false false false false false false false true n18 n19 n20 n21 h no_code no_state no_18 no_name = refl
+left_out false false false false false false false false false true n19 n20 n21 h no_code no_state no_18 no_name = absurd cc
+left_out false false false false false false false false false false true n20 n21 h no_code no_state no_18 no_name = absurd cc
+left_out false false false false false false false false false false false true n21 h no_code no_state no_18 no_name = absurd cc
+left_out false false false false false false false false false false false false true h no_code no_state no_18 no_name = absurd cc
+left_out false false false false false false false false false false false false false h no_code no_state no_18 no_name = absurd cc
 
-gives_of : (opnum : ℕ) → is_served opnum ≡ true → gives_code opnum ≡ false → eqb opnum 6 ≡ false → eqb opnum 18 ≡ false → gives_name opnum ≡ false → gives_handle opnum ≡ true
-gives_of opnum served no_code no_6 no_18 no_name = left_out (eqb opnum 0) (eqb opnum 2) (eqb opnum 3) (eqb opnum 6) (eqb opnum 8) (eqb opnum 15) (eqb opnum 16) (eqb opnum 18) (eqb opnum 19) (eqb opnum 20) (eqb opnum 21) served no_code no_6 no_18 no_name
+gives_of : (opnum : ℕ) → is_served opnum ≡ true → gives_code opnum ≡ false → gives_state opnum ≡ false → eqb opnum 18 ≡ false → gives_name opnum ≡ false → gives_handle opnum ≡ true
+gives_of opnum served no_code no_state no_18 no_name =
+    left_out (eqb opnum 0) (eqb opnum 1) (eqb opnum 2) (eqb opnum 3) (eqb opnum 6) (eqb opnum 7) (eqb opnum 8) (eqb opnum 15) (eqb opnum 16) (eqb opnum 18) (eqb opnum 19) (eqb opnum 20) (eqb opnum 21) served no_code no_state no_18 no_name
 
 -- the others that an opnum isn't
 abbrev NotOthers : ℕ → Type 0
-NotOthers opnum = (gives_code opnum ≡ false) × (eqb opnum 6 ≡ false) × (eqb opnum 18 ≡ false) × (gives_name opnum ≡ false)
+NotOthers opnum = (gives_code opnum ≡ false) × (gives_state opnum ≡ false) × (eqb opnum 18 ≡ false) × (gives_name opnum ≡ false)
 
 -- an opnum that is answered by a handle is none of the others
 not_others : (opnum : ℕ) → gives_handle opnum ≡ true → NotOthers opnum
@@ -172,8 +164,16 @@ not_others opnum gives =
       | inr is ↦ let e = eqb-true opnum 16 is in rw e (refl, refl, refl, refl)
     ]
 
--- nor is one that is answered by a name
-not_plain : (opnum : ℕ) → gives_name opnum ≡ true → (gives_code opnum ≡ false) × (eqb opnum 6 ≡ false) × (eqb opnum 18 ≡ false)
+-- one that is answered by a status is answered by no code alone
+not_code : (opnum : ℕ) → gives_state opnum ≡ true → gives_code opnum ≡ false
+not_code opnum gives =
+    elim (or_cases _ _ gives) [
+      | inl is ↦ let e = eqb-true opnum 1 is in rw e refl
+      | inr is ↦ let e = eqb-true opnum 6 is in rw e refl
+    ]
+
+-- nor is one that is answered by a name one of the first
+not_plain : (opnum : ℕ) → gives_name opnum ≡ true → (gives_code opnum ≡ false) × (gives_state opnum ≡ false) × (eqb opnum 18 ≡ false)
 not_plain opnum gives =
     elim (or_cases _ _ gives) [
       | inl is ↦ let e = eqb-true opnum 20 is in rw e (refl, refl, refl)
@@ -185,13 +185,13 @@ unfolding reply_at
 reply_found opnum body told served fits e =
     elim (cases_Bool (gives_code opnum)) [
       | inl is ↦ code_found opnum body told is fits (rw is at e)
-      | inr no_code ↦ elim (cases_Bool (eqb opnum 6)) [
-        | inl is ↦ subst (λ (o : ℕ). IsReply o body told) (sym (eqb-true _ _ is)) (state_found body told fits (rw (no_code, is) at e))
-        | inr no_6 ↦ elim (cases_Bool (eqb opnum 18)) [
-          | inl is ↦ subst (λ (o : ℕ). IsReply o body told) (sym (eqb-true _ _ is)) (lock_state_found body told fits (rw (no_code, no_6, is) at e))
+      | inr no_code ↦ elim (cases_Bool (gives_state opnum)) [
+        | inl is ↦ state_found opnum body told is fits (rw (no_code, is) at e)
+        | inr no_state ↦ elim (cases_Bool (eqb opnum 18)) [
+          | inl is ↦ subst (λ (o : ℕ). IsReply o body told) (sym (eqb-true _ _ is)) (lock_state_found body told fits (rw (no_code, no_state, is) at e))
           | inr no_18 ↦ elim (cases_Bool (gives_name opnum)) [
-            | inl is ↦ name_found opnum body told is fits (rw (no_code, no_6, no_18, is) at e)
-            | inr no_name ↦ handled_found opnum body told (gives_of opnum served no_code no_6 no_18 no_name) fits (rw (no_code, no_6, no_18, no_name) at e)
+            | inl is ↦ name_found opnum body told is fits (rw (no_code, no_state, no_18, is) at e)
+            | inr no_name ↦ handled_found opnum body told (gives_of opnum served no_code no_state no_18 no_name) fits (rw (no_code, no_state, no_18, no_name) at e)
           ]
         ]
       ]
@@ -202,11 +202,6 @@ found_if opnum body (Ok r) served fits given = reply_found opnum body r served f
 found_if opnum body (Err e) served fits given = tt
 
 -- ## A body is read
-
-status_read : (body : List ℕ) (place : ℕ) (s : Status) (after : ℕ) → NumbersStand body place (numbers_of s) after → status_at body place ≡ Ok (s, after)
-unfolding status_at
-status_read body place s after h =
-    rw (number_read body (aligned place) (aligned place) s.kind h.0 h.1, number_read body (aligned h.0) (aligned h.0) s.state h.2.0 h.2.1, number_read body (aligned h.2.0) (aligned h.2.0) s.accepted h.2.2.0 h.2.2.1, number_read body (aligned h.2.2.0) (aligned h.2.2.0) s.win32 h.2.2.2.0 h.2.2.2.1, number_read body (aligned h.2.2.2.0) (aligned h.2.2.2.0) s.specific h.2.2.2.2.0 h.2.2.2.2.1, number_read body (aligned h.2.2.2.2.0) (aligned h.2.2.2.2.0) s.checkpoint h.2.2.2.2.2.0 h.2.2.2.2.2.1, number_read body (aligned h.2.2.2.2.2.0) (aligned h.2.2.2.2.2.0) s.hint h.2.2.2.2.2.2.0 h.2.2.2.2.2.2.1, h.2.2.2.2.2.2.2) refl
 
 code_read : (body : List ℕ) (code : ℕ) → IsCodeBody body code → code_at body ≡ Ok (reply.Code code)
 unfolding code_at
@@ -251,7 +246,7 @@ pub reply_read : (opnum : ℕ) (body : List ℕ) (told : Reply) → IsBytes body
 unfolding reply_at
 reply_read opnum body (reply.Code code) fits h = rw (h.0, code_read body code h.1) refl
 reply_read opnum body (reply.Handle handle code) fits h = let n = not_others opnum h.0 in rw (n.0, n.1, n.2, n.3, handled_read body handle code fits h.1) refl
-reply_read opnum body (reply.State s code) fits h = rw (h.0, state_read body s code h.1) refl
+reply_read opnum body (reply.State s code) fits h = rw (not_code opnum h.0, h.0, state_read body s code h.1) refl
 reply_read opnum body (reply.Made tag handle code) fits h = absurd h
 reply_read opnum body (reply.Tag tag code) fits h = absurd h
 reply_read opnum body (reply.Shown config needed code) fits h = absurd h
@@ -259,20 +254,6 @@ reply_read opnum body (reply.LockState held owner seconds needed code) fits h = 
 reply_read opnum body (reply.Name name size code) fits h = let n = not_plain opnum h.0 in rw (n.0, n.1, n.2, h.0, name_read body name size code h.1) refl
 
 -- ## What is written is read back
-
-numbers_small : (bytes : List ℕ) (place : ℕ) (ns : List ℕ) (after : ℕ) → NumbersStand bytes place ns after → AllByRecursion (λ n. n < 2 ^ 32) ns
-numbers_small bytes place [] after h = tt
-numbers_small bytes place (n ∷ ns) after h = (h.1.is.small, numbers_small bytes h.0 ns after h.2)
-
-pub numbers_before : (ns : List ℕ) (body : List ℕ) (d : Draft) → AllByRecursion (λ n. n < 2 ^ 32) ns → Holds body (put_numbers ns d) → Holds body d
-numbers_before [] body d small held = held
-numbers_before (n ∷ ns) body d small held = held_before number_at (put_number n) n body d (number_put n small.0) (numbers_before ns body (put_number n d) small.1 held)
-
-pub numbers_again : (ns : List ℕ) (body : List ℕ) (d : Draft) → AllByRecursion (λ n. n < 2 ^ 32) ns → Holds body (put_numbers ns d) → NumbersStand body (length d.bytes) ns (length (put_numbers ns d).bytes)
-numbers_again [] body d small held = refl
-numbers_again (n ∷ ns) body d small held =
-    let here = numbers_before ns body (put_number n d) small.1 held in
-    (length (put_number n d).bytes, number_there n d body small.0 here, numbers_again ns body (put_number n d) small.1 held)
 
 code_again : (code : ℕ) → code < 2 ^ 32 → code_at (put_number code blank).bytes ≡ Ok (reply.Code code)
 unfolding code_at
@@ -415,7 +396,7 @@ pub reply_again : (opnum : ℕ) (bytes : List ℕ) (told : Reply) → IsReply op
 unfolding reply_at reply_bytes with_reply
 reply_again opnum bytes (reply.Code code) h = rw (h.0, code_again code h.1.code_stands.is.small) refl
 reply_again opnum bytes (reply.Handle handle code) h = let n = not_others opnum h.0 in rw (n.0, n.1, n.2, n.3, handled_again handle code (handle_small h.1.handle_stands.item handle h.1.handle_stands.is) h.1.code_stands.is.small) refl
-reply_again opnum bytes (reply.State s code) h = rw (h.0, state_again s code (numbers_small bytes 0 (numbers_of s) h.1.behind_status h.1.status_stands) h.1.code_stands.is.small) refl
+reply_again opnum bytes (reply.State s code) h = rw (not_code opnum h.0, h.0, state_again s code (numbers_small bytes 0 (numbers_of s) h.1.behind_status h.1.status_stands) h.1.code_stands.is.small) refl
 reply_again opnum bytes (reply.Made tag handle code) h = absurd h
 reply_again opnum bytes (reply.Tag tag code) h = absurd h
 reply_again opnum bytes (reply.Shown config needed code) h = absurd h

@@ -8,12 +8,17 @@ use Rattle.scm_model.specs.declared.calls.Reply.{Reply}
 use Rattle.scm_model.specs.declared.calls.Reply.TheVariants as reply
 use Rattle.ndr_body.specs.Spelled.{IsNumber, IsHandle, IsText, IsPointed, IsEnded, Stands}
 use Rattle.scm_calls.specs.Words.{pointing, words_of, unlisted}
-use Rattle.scm_calls.specs.Replies.{numbers_of, gives_code, gives_name}
+use Rattle.scm_calls.specs.Statuses.{numbers_of}
+use Rattle.scm_calls.specs.Replies.{gives_code, gives_state, gives_name}
 
 -- items stand one behind the other
 abbrev pub EachStands : {A : Type 0} → (List ℕ → A → Type 0) → List ℕ → ℕ → List A → ℕ → Type 0
 EachStands Is bytes place [] after = after ≡ place
 EachStands Is bytes place (value ∷ values) after = (behind : ℕ) × Stands Is bytes place value behind × EachStands Is bytes behind values after
+
+-- numbers stand one behind the other
+abbrev pub NumbersStand : List ℕ → ℕ → List ℕ → ℕ → Type 0
+NumbersStand bytes place ns after = EachStands IsNumber bytes place ns after
 
 -- ## Requests
 
@@ -21,6 +26,20 @@ pub record IsLoneHandle (bytes : List ℕ) (handle : ℕ) : Type 0 where
   pub behind_handle : ℕ
   pub handle_stands : Stands IsHandle bytes 0 handle behind_handle
   pub ends : IsEnded bytes behind_handle
+
+pub record IsControl (bytes : List ℕ) (handle control : ℕ) : Type 0 where
+  pub behind_handle : ℕ
+  pub handle_stands : Stands IsHandle bytes 0 handle behind_handle
+  pub behind_control : ℕ
+  pub control_stands : Stands IsNumber bytes behind_handle control behind_control
+  pub ends : IsEnded bytes behind_control
+
+pub record IsSetStatus (bytes : List ℕ) (handle : ℕ) (status : Status) : Type 0 where
+  pub behind_handle : ℕ
+  pub handle_stands : Stands IsHandle bytes 0 handle behind_handle
+  pub behind_status : ℕ
+  pub status_stands : NumbersStand bytes behind_handle (numbers_of status) behind_status
+  pub ends : IsEnded bytes behind_status
 
 pub record IsOpenManager (bytes : List ℕ) (database : Option (List ℕ)) (access : ℕ) : Type 0 where
   pub machine : Option (List ℕ)
@@ -90,9 +109,11 @@ pub record IsStart (bytes : List ℕ) (handle : ℕ) (words : Option (List (List
 
 abbrev pub IsBody : ℕ → List ℕ → Request → Type 0
 IsBody opnum bytes (request.Close handle) = (opnum ≡ 0) × IsLoneHandle bytes handle
+IsBody opnum bytes (request.Control handle control) = (opnum ≡ 1) × IsControl bytes handle control
 IsBody opnum bytes (request.Delete handle) = (opnum ≡ 2) × IsLoneHandle bytes handle
 IsBody opnum bytes (request.Lock handle) = (opnum ≡ 3) × IsLoneHandle bytes handle
 IsBody opnum bytes (request.QueryStatus handle) = (opnum ≡ 6) × IsLoneHandle bytes handle
+IsBody opnum bytes (request.SetStatus handle status) = (opnum ≡ 7) × IsSetStatus bytes handle status
 IsBody opnum bytes (request.Unlock handle) = (opnum ≡ 8) × IsLoneHandle bytes handle
 IsBody opnum bytes (request.Change change) = ⊥
 IsBody opnum bytes (request.Create new) = ⊥
@@ -105,10 +126,6 @@ IsBody opnum bytes (request.DisplayName handle name size) = (opnum ≡ 20) × Is
 IsBody opnum bytes (request.KeyName handle name size) = (opnum ≡ 21) × IsNamed bytes handle name size
 
 -- ## Replies
-
--- numbers stand one behind the other
-abbrev pub NumbersStand : List ℕ → ℕ → List ℕ → ℕ → Type 0
-NumbersStand bytes place ns after = EachStands IsNumber bytes place ns after
 
 pub record IsCodeBody (bytes : List ℕ) (code : ℕ) : Type 0 where
   pub behind_code : ℕ
@@ -166,7 +183,7 @@ gives_handle opnum = opnum == 0 || opnum == 3 || opnum == 8 || opnum == 15 || op
 abbrev pub IsReply : ℕ → List ℕ → Reply → Type 0
 IsReply opnum bytes (reply.Code code) = IsTrue (gives_code opnum) × IsCodeBody bytes code
 IsReply opnum bytes (reply.Handle handle code) = IsTrue (gives_handle opnum) × IsHandledBody bytes handle code
-IsReply opnum bytes (reply.State status code) = (opnum ≡ 6) × IsStateBody bytes status code
+IsReply opnum bytes (reply.State status code) = IsTrue (gives_state opnum) × IsStateBody bytes status code
 IsReply opnum bytes (reply.Made tag handle code) = ⊥
 IsReply opnum bytes (reply.Tag tag code) = ⊥
 IsReply opnum bytes (reply.Shown config needed code) = ⊥

@@ -1,6 +1,5 @@
 -- Replies: the one form that is written, how it is read, and how long it can be.
 use Rattle.std.specs.Prelude.{ℕ, Bool, ◌+◌, ◌-◌, ◌*◌, ◌/◌, ◌≤◌, ◌||◌, ◌==◌, nat_lt, List, [], ◌∷◌, length, replicate, Option, None, Some, IfSome, Result, Ok, if◌then◌else◌}
-use Rattle.scm_model.specs.declared.flat.Status.{Status}
 use Rattle.scm_model.specs.declared.calls.Shown.{Shown}
 use Rattle.scm_model.specs.declared.calls.Request.{Request}
 use Rattle.scm_model.specs.declared.calls.Request.TheVariants as request
@@ -9,16 +8,9 @@ use Rattle.scm_model.specs.declared.calls.Reply.TheVariants as reply
 use Rattle.ndr_body.specs.declared.fault.BodyFault.{BodyFault}
 use Rattle.ndr_body.specs.Reading.{◌>>=◌, aligned, number_at, handle_at, text_at, finished}
 use Rattle.ndr_body.specs.Writing.{Draft, blank, put_number, put_handle, put_text, put_referent, put_some_number}
+use Rattle.scm_calls.specs.Statuses.{put_numbers, numbers_of, status_at}
 
 -- ## Writing
-
-abbrev pub put_numbers : List ℕ → Draft → Draft
-put_numbers [] d = d
-put_numbers (n ∷ ns) d = put_numbers ns (put_number n d)
-
--- a status is its seven numbers
-abbrev pub numbers_of : Status → List ℕ
-numbers_of s = s.kind ∷ s.state ∷ s.accepted ∷ s.win32 ∷ s.specific ∷ s.checkpoint ∷ s.hint ∷ []
 
 -- the nine numbers of a configuration, five of which point to its texts
 unfoldable pub put_heads : Shown → Draft → Draft
@@ -133,9 +125,11 @@ IsName _ = ⊥
 
 abbrev pub Answers : Request → Reply → Type 0
 Answers (request.Close handle) told = IsHandled told
+Answers (request.Control handle control) told = IsState told
 Answers (request.Delete handle) told = IsCode told
 Answers (request.Lock handle) told = IsHandled told
 Answers (request.QueryStatus handle) told = IsState told
+Answers (request.SetStatus handle status) told = IsCode told
 Answers (request.Unlock handle) told = IsHandled told
 Answers (request.Change change) told = IsTag told
 Answers (request.Create new) told = IsMade told
@@ -158,9 +152,11 @@ shown_bound size = let units = (size - 36) / 2 in if nat_lt units 5 then 44 else
 -- the greatest length of a reply that answers a request
 abbrev pub reply_bound : Request → ℕ
 reply_bound (request.Close handle) = 24
+reply_bound (request.Control handle control) = 32
 reply_bound (request.Delete handle) = 4
 reply_bound (request.Lock handle) = 24
 reply_bound (request.QueryStatus handle) = 32
+reply_bound (request.SetStatus handle status) = 4
 reply_bound (request.Unlock handle) = 24
 reply_bound (request.Change change) = 12
 reply_bound (request.Create new) = 32
@@ -186,17 +182,6 @@ handled_at body = do
   code ← number_at body handle.1
   ended ← finished body code.1
   Ok (reply.Handle handle.0 code.0)
-
-unfoldable pub status_at : List ℕ → ℕ → Result (Status × ℕ) BodyFault
-status_at body place = do
-  kind ← number_at body place
-  state ← number_at body kind.1
-  accepted ← number_at body state.1
-  win32 ← number_at body accepted.1
-  specific ← number_at body win32.1
-  checkpoint ← number_at body specific.1
-  hint ← number_at body checkpoint.1
-  Ok (record { kind = kind.0; state = state.0; accepted = accepted.0; win32 = win32.0; specific = specific.0; checkpoint = checkpoint.0; hint = hint.0 }, hint.1)
 
 unfoldable pub state_at : List ℕ → Result Reply BodyFault
 state_at body = do
@@ -230,7 +215,11 @@ name_at body = do
 
 -- the opnums that are answered by a code alone
 abbrev pub gives_code : ℕ → Bool
-gives_code opnum = opnum == 2 || opnum == 19
+gives_code opnum = opnum == 2 || opnum == 7 || opnum == 19
+
+-- the opnums that are answered by a status
+abbrev pub gives_state : ℕ → Bool
+gives_state opnum = opnum == 1 || opnum == 6
 
 -- the opnums that are answered by a name
 abbrev pub gives_name : ℕ → Bool
@@ -240,7 +229,7 @@ gives_name opnum = opnum == 20 || opnum == 21
 unfoldable pub reply_at : ℕ → List ℕ → Result Reply BodyFault
 reply_at opnum body =
     if gives_code opnum then code_at body
-    else if opnum == 6 then state_at body
+    else if gives_state opnum then state_at body
     else if opnum == 18 then lock_state_at body
     else if gives_name opnum then name_at body
     else handled_at body

@@ -8,17 +8,21 @@ use Rattle.ndr_body.specs.Writing.{Draft, blank, put_number, put_handle, put_tex
 use Rattle.scm_calls.specs.declared.requests.Named.{Named}
 use Rattle.scm_calls.specs.Ranges.{within_at}
 use Rattle.scm_calls.specs.Words.{words_at, put_words}
+use Rattle.scm_calls.specs.Statuses.{put_numbers, numbers_of, status_at}
 
 -- the opnums whose bodies are read and written here
 abbrev pub is_served : ℕ → Bool
 is_served opnum =
-    opnum == 0 || opnum == 2 || opnum == 3 || opnum == 6 || opnum == 8 || opnum == 15 || opnum == 16 || opnum == 18 || opnum == 19 || opnum == 20 || opnum == 21
+    opnum == 0 || opnum == 1 || opnum == 2 || opnum == 3 || opnum == 6 || opnum == 7 || opnum == 8 || opnum == 15 || opnum == 16 || opnum == 18 || opnum == 19
+    || opnum == 20 || opnum == 21
 
 abbrev pub opnum_of : Request → ℕ
 opnum_of (request.Close handle) = 0
+opnum_of (request.Control handle control) = 1
 opnum_of (request.Delete handle) = 2
 opnum_of (request.Lock handle) = 3
 opnum_of (request.QueryStatus handle) = 6
+opnum_of (request.SetStatus handle status) = 7
 opnum_of (request.Unlock handle) = 8
 opnum_of (request.Change change) = 11
 opnum_of (request.Create new) = 12
@@ -45,6 +49,22 @@ lone_handle_at body = do
   handle ← handle_at body 0
   ended ← finished body handle.1
   Ok handle.0
+
+-- a handle and the number of a control
+unfoldable pub control_at : List ℕ → Result Request BodyFault
+control_at body = do
+  handle ← handle_at body 0
+  control ← number_at body handle.1
+  ended ← finished body control.1
+  Ok (request.Control handle.0 control.0)
+
+-- a handle and the seven numbers of a status
+unfoldable pub set_status_at : List ℕ → Result Request BodyFault
+set_status_at body = do
+  handle ← handle_at body 0
+  status ← status_at body handle.1
+  ended ← finished body status.1
+  Ok (request.SetStatus handle.0 status.0)
 
 -- the machine's name is read and dropped
 unfoldable pub open_manager_at : List ℕ → Result Request BodyFault
@@ -84,9 +104,11 @@ named_at body = do
 unfoldable pub request_at : ℕ → List ℕ → Result Request BodyFault
 request_at opnum body =
     if opnum == 0 then (lone_handle_at body >>= λ handle. Ok (request.Close handle))
+    else if opnum == 1 then control_at body
     else if opnum == 2 then (lone_handle_at body >>= λ handle. Ok (request.Delete handle))
     else if opnum == 3 then (lone_handle_at body >>= λ handle. Ok (request.Lock handle))
     else if opnum == 6 then (lone_handle_at body >>= λ handle. Ok (request.QueryStatus handle))
+    else if opnum == 7 then set_status_at body
     else if opnum == 8 then (lone_handle_at body >>= λ handle. Ok (request.Unlock handle))
     else if opnum == 15 then open_manager_at body
     else if opnum == 16 then (named_at body >>= λ named. Ok (request.OpenService named.handle named.name named.number))
@@ -103,9 +125,11 @@ put_named handle name number d = put_number number (put_text name (put_handle ha
 -- a draft with a request's items; of an opnum that isn't served nothing
 unfoldable pub with_request : Request → Draft → Draft
 with_request (request.Close handle) d = put_handle handle d
+with_request (request.Control handle control) d = put_number control (put_handle handle d)
 with_request (request.Delete handle) d = put_handle handle d
 with_request (request.Lock handle) d = put_handle handle d
 with_request (request.QueryStatus handle) d = put_handle handle d
+with_request (request.SetStatus handle status) d = put_numbers (numbers_of status) (put_handle handle d)
 with_request (request.Unlock handle) d = put_handle handle d
 with_request (request.Change change) d = d
 with_request (request.Create new) d = d

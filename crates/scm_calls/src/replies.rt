@@ -4,10 +4,11 @@ ghost use Rattle.ndr_body.specs.Reading.{Gives, number_at};
 ghost use Rattle.scm_model.specs.declared.calls.Request.{Request};
 ghost use Rattle.scm_calls.specs.Bodies.{IsReply};
 ghost use Rattle.scm_calls.specs.Requests.{is_served, IsInRange};
-ghost use Rattle.scm_calls.specs.Replies.{numbers_of, put_numbers, put_heads, put_texts, put_config, put_pointer, put_pointed, put_lock, with_reply, reply_bytes, text_size, config_size, owner_size, reply_size, shown_bound, reply_bound, Answers, code_at, handled_at, status_at, state_at, owner_at, lock_state_at, name_at, reply_at};
+ghost use Rattle.scm_calls.specs.Replies.{put_heads, put_texts, put_config, put_pointer, put_pointed, put_lock, with_reply, reply_bytes, text_size, config_size, owner_size, reply_size, shown_bound, reply_bound, Answers, code_at, handled_at, state_at, owner_at, lock_state_at, name_at, reply_at};
 
+use crate::statuses::{put_numbers, put_status, read_status};
 use ndr_body::{BodyFault, NdrReader, NdrWriter};
-use scm_model::{Reply, Request, Shown, Status};
+use scm_model::{Reply, Request, Shown};
 use scm_text::{Buffer, OutOfMemory, WText};
 use std::alloc::Global;
 
@@ -60,39 +61,6 @@ fn size_of_reply(reply: &Reply) -> u128
         Reply::LockState { owner, .. } => size_of_owner(owner) + 20,
         Reply::Name { name, .. } => size_of_text(name) + 8,
     }
-}
-
-fn put_numbers(writer: &mut NdrWriter, numbers: &[u32]) -> Result<(), OutOfMemory>
-    ensures front { writer.new.front ≡ writer.old.front }
-    ensures ok { OnOk result (writer.new.draft ≡ put_numbers numbers.now writer.old.draft) }
-    ensures space { writer.old.space ≤ writer.new.space }
-    ensures enough { length (put_numbers numbers.now writer.old.draft).bytes ≤ writer.old.space → IsOk result }
-{
-    for number in numbers {
-        writer.number(*number)?;
-    }
-    Ok(())
-}
-
-/// The seven numbers of a status.
-fn put_status(writer: &mut NdrWriter, status: &Status) -> Result<(), OutOfMemory>
-    ensures front { writer.new.front ≡ writer.old.front }
-    ensures ok { OnOk result (writer.new.draft ≡ put_numbers (numbers_of status.now) writer.old.draft) }
-    ensures space { writer.old.space ≤ writer.new.space }
-    ensures enough { length (put_numbers (numbers_of status.now) writer.old.draft).bytes ≤ writer.old.space → IsOk result }
-{
-    put_numbers(
-        writer,
-        &[
-            status.kind,
-            status.state,
-            status.accepted,
-            status.win32,
-            status.specific,
-            status.checkpoint,
-            status.hint,
-        ],
-    )
 }
 
 /// The nine numbers of a configuration.
@@ -308,9 +276,9 @@ fn bound_of(request: &Request) -> u32
         | Request::Unlock { .. }
         | Request::OpenManager { .. }
         | Request::OpenService { .. } => 24,
-        Request::Delete { .. } | Request::Start { .. } => 4,
+        Request::Delete { .. } | Request::SetStatus { .. } | Request::Start { .. } => 4,
         Request::Change(_) => 12,
-        Request::QueryStatus { .. } | Request::Create(_) => 32,
+        Request::Control { .. } | Request::QueryStatus { .. } | Request::Create(_) => 32,
         Request::QueryConfig { size, .. } => bound_of_shown(*size),
         Request::QueryLock { .. } => 548,
         Request::DisplayName { .. } | Request::KeyName { .. } => 536,
@@ -326,22 +294,6 @@ pub fn reply_bound(request: &Request) -> u32
     ensures reached { (told : Reply) × Answers request.now told × (length (reply_bytes told) ≡ result) }
 {
     bound_of(request)
-}
-
-#[tactic(auto, unfolding(crate::specs::Replies::status_at))]
-fn read_status(reader: &mut NdrReader) -> Result<Status, BodyFault>
-    ensures value { Gives (λ s. (s, reader.new.place)) result (status_at reader.old.body reader.old.place) }
-    ensures body { reader.new.body ≡ reader.old.body }
-{
-    Ok(Status {
-        kind: reader.number()?,
-        state: reader.number()?,
-        accepted: reader.number()?,
-        win32: reader.number()?,
-        specific: reader.number()?,
-        checkpoint: reader.number()?,
-        hint: reader.number()?,
-    })
 }
 
 #[tactic(auto, unfolding(crate::specs::Replies::code_at))]
@@ -431,8 +383,8 @@ fn reply_of(alloc: Global, opnum: u16, body: &[u8]) -> Result<Reply, BodyFault>
     ensures { Gives (λ r. r) result (reply_at opnum body.now) }
 {
     match opnum {
-        2 | 19 => read_code(body),
-        6 => read_state(body),
+        2 | 7 | 19 => read_code(body),
+        1 | 6 => read_state(body),
         18 => read_lock_state(alloc, body),
         20 | 21 => read_name(alloc, body),
         _ => read_handled(body),

@@ -1,10 +1,12 @@
 ghost use Rattle.std.specs.Prelude.{◌≡◌, IsTrue, IfOk, OnOk, Ok, List, ℕ, option_map};
 ghost use Rattle.scm_model.specs.declared.calls.Request.{Request};
+ghost use Rattle.scm_model.specs.declared.calls.Request.TheVariants as request;
 ghost use Rattle.ndr_body.specs.Reading.{Gives};
 ghost use Rattle.scm_calls.specs.Bodies.{IsBody};
-ghost use Rattle.scm_calls.specs.Requests.{is_served, opnum_of, IsInRange, put_named, with_request, request_bytes, lone_handle_at, open_manager_at, query_lock_at, start_at, named_at, request_at};
+ghost use Rattle.scm_calls.specs.Requests.{is_served, opnum_of, IsInRange, put_named, with_request, request_bytes, lone_handle_at, control_at, set_status_at, open_manager_at, query_lock_at, start_at, named_at, request_at};
 
 use crate::places::read_within;
+use crate::statuses::{put_status, read_status};
 use crate::words::{put_words, read_words};
 use ndr_body::{BodyFault, NdrReader, NdrWriter};
 use scm_model::Request;
@@ -19,8 +21,59 @@ struct Named {
     number: u32,
 }
 
+impl Named {
+    /// Where the number is an access.
+    fn opened(self) -> Request
+        ensures { result ≡ request.OpenService self.handle self.name self.number }
+    {
+        let Named {
+            handle,
+            name,
+            number: access,
+        } = self;
+        Request::OpenService {
+            handle,
+            name,
+            access,
+        }
+    }
+
+    /// Where it is a size, as in `keyed`.
+    fn displayed(self) -> Request
+        ensures { result ≡ request.DisplayName self.handle self.name self.number }
+    {
+        let Named {
+            handle,
+            name,
+            number: size,
+        } = self;
+        Request::DisplayName { handle, name, size }
+    }
+
+    fn keyed(self) -> Request
+        ensures { result ≡ request.KeyName self.handle self.name self.number }
+    {
+        let Named {
+            handle,
+            name,
+            number: size,
+        } = self;
+        Request::KeyName { handle, name, size }
+    }
+}
+
 /// The most bytes that the lock's state may be asked for in.
 const MOST_LOCK_STATE: u32 = 4096;
+
+/// Whether the bodies of a call are read and written here, by its opnum.
+pub fn is_served(opnum: u16) -> bool
+    ensures { result ≡ is_served opnum }
+{
+    matches!(
+        opnum,
+        0 | 1 | 2 | 3 | 6 | 7 | 8 | 15 | 16 | 18 | 19 | 20 | 21
+    )
+}
 
 /// A handle and nothing else.
 #[tactic(auto, unfolding(crate::specs::Requests::lone_handle_at))]
@@ -31,6 +84,28 @@ fn lone_handle(body: &[u8]) -> Result<u64, BodyFault>
     let handle = reader.handle()?;
     reader.finish()?;
     Ok(handle)
+}
+
+#[tactic(auto, unfolding(crate::specs::Requests::control_at))]
+fn control(body: &[u8]) -> Result<Request, BodyFault>
+    ensures { Gives (λ r. r) result (control_at body.now) }
+{
+    let mut reader = NdrReader::new(body);
+    let handle = reader.handle()?;
+    let control = reader.number()?;
+    reader.finish()?;
+    Ok(Request::Control { handle, control })
+}
+
+#[tactic(auto, unfolding(crate::specs::Requests::set_status_at))]
+fn set_status(body: &[u8]) -> Result<Request, BodyFault>
+    ensures { Gives (λ r. r) result (set_status_at body.now) }
+{
+    let mut reader = NdrReader::new(body);
+    let handle = reader.handle()?;
+    let status = read_status(&mut reader)?;
+    reader.finish()?;
+    Ok(Request::SetStatus { handle, status })
 }
 
 #[tactic(auto, unfolding(crate::specs::Requests::open_manager_at))]
@@ -92,6 +167,7 @@ fn request_of(alloc: Global, opnum: u16, body: &[u8]) -> Result<Request, BodyFau
         0 => Ok(Request::Close {
             handle: lone_handle(body)?,
         }),
+        1 => control(body),
         2 => Ok(Request::Delete {
             handle: lone_handle(body)?,
         }),
@@ -101,40 +177,16 @@ fn request_of(alloc: Global, opnum: u16, body: &[u8]) -> Result<Request, BodyFau
         6 => Ok(Request::QueryStatus {
             handle: lone_handle(body)?,
         }),
+        7 => set_status(body),
         8 => Ok(Request::Unlock {
             handle: lone_handle(body)?,
         }),
         15 => open_manager(alloc, body),
-        16 => {
-            let Named {
-                handle,
-                name,
-                number: access,
-            } = read_named(alloc, body)?;
-            Ok(Request::OpenService {
-                handle,
-                name,
-                access,
-            })
-        }
+        16 => Ok(read_named(alloc, body)?.opened()),
         18 => query_lock(body),
         19 => start(alloc, body),
-        20 => {
-            let Named {
-                handle,
-                name,
-                number: size,
-            } = read_named(alloc, body)?;
-            Ok(Request::DisplayName { handle, name, size })
-        }
-        _ => {
-            let Named {
-                handle,
-                name,
-                number: size,
-            } = read_named(alloc, body)?;
-            Ok(Request::KeyName { handle, name, size })
-        }
+        20 => Ok(read_named(alloc, body)?.displayed()),
+        _ => Ok(read_named(alloc, body)?.keyed()),
     }
 }
 
@@ -187,21 +239,22 @@ fn put_request(writer: &mut NdrWriter, request: &Request) -> Result<(), OutOfMem
         Request::OpenService {
             handle,
             name,
-            access: number,
+            access,
+        } => put_named(writer, *handle, name, *access),
+        Request::DisplayName { handle, name, size } | Request::KeyName { handle, name, size } => {
+            put_named(writer, *handle, name, *size)
         }
-        | Request::DisplayName {
-            handle,
-            name,
-            size: number,
+        Request::Control { handle, control } => {
+            writer.handle(*handle)?;
+            writer.number(*control)
         }
-        | Request::KeyName {
-            handle,
-            name,
-            size: number,
-        } => put_named(writer, *handle, name, *number),
         Request::QueryLock { handle, size } => {
             writer.handle(*handle)?;
             writer.number(*size)
+        }
+        Request::SetStatus { handle, status } => {
+            writer.handle(*handle)?;
+            put_status(writer, status)
         }
         Request::Start { handle, words } => {
             writer.handle(*handle)?;

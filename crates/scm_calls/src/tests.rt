@@ -53,6 +53,17 @@ const LOCKED: [u8; 44] = [
 /// A look at the lock is refused with `ERROR_ACCESS_DENIED` (5).
 const UNLOCKED: [u8; 20] = [0, 0, 0, 0, 0, 0, 0, 0, 0, 0, 0, 0, 0, 0, 0, 0, 5, 0, 0, 0];
 
+/// `RControlService` for handle 1 and `SERVICE_CONTROL_PAUSE` (2).
+const PAUSE: [u8; 24] = [
+    0, 0, 0, 0, 1, 0, 0, 0, 0, 0, 0, 0, 0, 0, 0, 0, 0, 0, 0, 0, 2, 0, 0, 0,
+];
+
+/// `RSetServiceStatus` for handle 1: kind 16, state 7, accepted 3, exit code 1066, specific code 9, checkpoint 4 and hint 3000.
+const SET_PAUSED: [u8; 48] = [
+    0, 0, 0, 0, 1, 0, 0, 0, 0, 0, 0, 0, 0, 0, 0, 0, 0, 0, 0, 0, 0x10, 0, 0, 0, 7, 0, 0, 0, 3, 0, 0,
+    0, 0x2A, 4, 0, 0, 9, 0, 0, 0, 4, 0, 0, 0, 0xB8, 0xB, 0, 0,
+];
+
 /// The status of a service that was just created.
 const FRESH: [u8; 32] = [
     0x10, 0, 0, 0, 1, 0, 0, 0, 0, 0, 0, 0, 0x35, 4, 0, 0, 0, 0, 0, 0, 0, 0, 0, 0, 0, 0, 0, 0, 0, 0,
@@ -260,6 +271,72 @@ fn the_lock_is_asked_for(rt: HostRuntime) -> Result<(), Fail> {
             }
         )
     );
+    Ok(())
+}
+
+#[test]
+fn a_control_is_asked_for(rt: HostRuntime) -> Result<(), Fail> {
+    let pause = Request::Control {
+        handle: 1,
+        control: 2,
+    };
+    assert!(rt;
+        matches!(
+            read_request(rt.alloc(), 1, &PAUSE)?,
+            Request::Control {
+                handle: 1,
+                control: 2
+            }
+        )
+    );
+    assert_eq!(rt;
+        write_request(rt.alloc(), &pause)?.as_slice(),
+        PAUSE.as_slice()
+    );
+    assert_eq!(rt; reply_bound(&pause), 32);
+    Ok(())
+}
+
+#[test]
+fn a_control_is_answered(rt: HostRuntime) -> Result<(), Fail> {
+    assert!(rt;
+        matches!(
+            read_reply(rt.alloc(), 1, &FRESH)?,
+            Reply::State {
+                status: Status {
+                    kind: 16,
+                    state: 1,
+                    win32: 1077,
+                    ..
+                },
+                code: 0
+            }
+        )
+    );
+    Ok(())
+}
+
+#[test]
+fn a_status_is_set(rt: HostRuntime) -> Result<(), Fail> {
+    let status = Status {
+        kind: 16,
+        state: 7,
+        accepted: 3,
+        win32: 1066,
+        specific: 9,
+        checkpoint: 4,
+        hint: 3000,
+    };
+    let paused = Request::SetStatus { handle: 1, status };
+    assert!(rt;
+        matches!(read_request(rt.alloc(), 7, &SET_PAUSED)?, Request::SetStatus { handle: 1, status: told } if told == status)
+    );
+    assert_eq!(rt;
+        write_request(rt.alloc(), &paused)?.as_slice(),
+        SET_PAUSED.as_slice()
+    );
+    assert_eq!(rt; reply_bound(&paused), 4);
+    assert!(rt; matches!(read_reply(rt.alloc(), 7, &FRESH[4..8])?, Reply::Code(1)));
     Ok(())
 }
 

@@ -11,10 +11,11 @@ use Rattle.ndr_body.specs.Writing.{Draft, blank, put_number, put_handle, put_tex
 use Rattle.ndr_body.specs.Laws.{IsPutAs, IsReferent, IsSent}
 use Rattle.ndr_body.proofs.Written.{number_put, handle_put, text_put, any_number_put}
 use Rattle.ndr_body.proofs.Chains.{Holds, whole, held_before, read_there, blank_referent, ends_there, handle_small, text_sent, pointed_small}
-use Rattle.scm_calls.specs.Replies.{put_numbers, put_heads, put_texts, put_config, with_reply, reply_bytes}
+use Rattle.scm_calls.specs.Statuses.{put_numbers}
+use Rattle.scm_calls.specs.Replies.{put_heads, put_texts, put_config, with_reply, reply_bytes}
 use Rattle.scm_calls.specs.Bodies.{NumbersStand}
 use Rattle.scm_calls.proofs.Referents.{number_there, referent_behind, referent_before, referent_next, referent_there}
-use Rattle.scm_calls.proofs.Told.{numbers_before, numbers_again}
+use Rattle.scm_calls.proofs.Numbers.{numbers_before, numbers_again}
 use Rattle.scm_calls_cfg.specs.declared.replies.Heads.{Heads}
 use Rattle.scm_calls_cfg.specs.declared.replies.Texts.{Texts}
 use Rattle.scm_calls_cfg.specs.Replies.{tag_at, made_at, texts_at, config_at, shown_at, reply_at}

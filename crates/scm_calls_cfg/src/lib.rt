@@ -6,7 +6,7 @@ mod replies;
 mod requests;
 
 pub use replies::{read_reply, write_reply};
-pub use requests::{read_request, write_request};
+pub use requests::{is_served, read_request, write_request};
 
 #[cfg(test)]
 mod tests;

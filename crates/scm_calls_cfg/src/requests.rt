@@ -68,6 +68,13 @@ fn is_size(held: &Option<Items<u8>>, size: u32) -> bool
     }
 }
 
+/// Whether the bodies of a call are read and written here, by its opnum.
+pub fn is_served(opnum: u16) -> bool
+    ensures { result ≡ is_served opnum }
+{
+    matches!(opnum, 11 | 12 | 17)
+}
+
 /// Bytes behind a pointer, and their size.
 #[tactic(auto, unfolding(crate::specs::Requests::sized_at))]
 fn read_sized(reader: &mut NdrReader, alloc: Global) -> Result<Option<Items<u8>>, BodyFault>

@@ -7,7 +7,7 @@ use Rattle.scm_model.specs.declared.flat.Flat.{Flat}
 use Rattle.scm_model.specs.declared.flat.Limits.{Limits}
 use Rattle.scm_model.specs.declared.steps.Kept.{Kept}
 use Rattle.scm_model.specs.declared.steps.Step.{Step}
-use Rattle.scm_model.specs.declared.steps.Step.TheVariants.{Joined, Call, EndStart, LaunchTaken, Launched, LaunchFailed, Tick, Gone, NoMemory}
+use Rattle.scm_model.specs.declared.steps.Step.TheVariants.{Joined, Call, EndStart, LaunchTaken, Launched, LaunchFailed, Report, Ended, ControlTaken, Tick, Gone, NoMemory}
 use Rattle.scm_model.specs.declared.calls.Reply.{Reply}
 use Rattle.scm_model.specs.Refused.{answered}
 use Rattle.scm_model.specs.Unkept.{unkept}
@@ -37,9 +37,11 @@ made_at l f moment caller (request.QueryConfig handle size) =
 made_at l f moment caller (request.DisplayName handle name size) = other_name_at f moment caller handle size (display_by_name f name)
 made_at l f moment caller (request.KeyName handle name size) = other_name_at f moment caller handle size (name_by_display f name)
 made_at l f moment caller (request.Close handle) = refl
+made_at l f moment caller (request.Control handle control) = refl
 made_at l f moment caller (request.Delete handle) = refl
 made_at l f moment caller (request.Lock handle) = refl
 made_at l f moment caller (request.QueryStatus handle) = refl
+made_at l f moment caller (request.SetStatus handle status) = refl
 made_at l f moment caller (request.Unlock handle) = refl
 made_at l f moment caller (request.QueryLock handle size) = refl
 made_at l f moment caller (request.Change change) = refl
@@ -55,6 +57,9 @@ is_made_at l f moment made (EndStart caller plan) is = tt
 is_made_at l f moment made LaunchTaken is = tt
 is_made_at l f moment made (Launched process pid) is = tt
 is_made_at l f moment made (LaunchFailed process code) is = tt
+is_made_at l f moment made (Report process status) is = tt
+is_made_at l f moment made (Ended process) is = tt
+is_made_at l f moment made (ControlTaken process) is = tt
 is_made_at l f moment made Tick is = tt
 is_made_at l f moment made (Gone caller) is = tt
 is_made_at l f moment made (NoMemory caller) is = tt
@@ -64,9 +69,11 @@ room_at t moment caller (request.QueryConfig handle size) append has = has
 room_at t moment caller (request.DisplayName handle name size) append has = has
 room_at t moment caller (request.KeyName handle name size) append has = has
 room_at t moment caller (request.Close handle) append has = has
+room_at t moment caller (request.Control handle control) append has = has
 room_at t moment caller (request.Delete handle) append has = has
 room_at t moment caller (request.Lock handle) append has = has
 room_at t moment caller (request.QueryStatus handle) append has = has
+room_at t moment caller (request.SetStatus handle status) append has = has
 room_at t moment caller (request.Unlock handle) append has = has
 room_at t moment caller (request.QueryLock handle size) append has = has
 room_at t moment caller (request.Change change) append has = has
@@ -88,6 +95,9 @@ has_room_at t u moment (EndStart caller plan) flat limits spare has = tt
 has_room_at t u moment LaunchTaken flat limits spare has = tt
 has_room_at t u moment (Launched process pid) flat limits spare has = tt
 has_room_at t u moment (LaunchFailed process code) flat limits spare has = tt
+has_room_at t u moment (Report process status) flat limits spare has = tt
+has_room_at t u moment (Ended process) flat limits spare has = tt
+has_room_at t u moment (ControlTaken process) flat limits spare has = tt
 has_room_at t u moment Tick flat limits spare has = tt
 has_room_at t u moment (Gone caller) flat limits spare has = tt
 has_room_at t u moment (NoMemory caller) flat limits spare has = tt
@@ -100,6 +110,9 @@ is_made_unkept l f made (EndStart caller plan) is = tt
 is_made_unkept l f made LaunchTaken is = tt
 is_made_unkept l f made (Launched process pid) is = tt
 is_made_unkept l f made (LaunchFailed process code) is = tt
+is_made_unkept l f made (Report process status) is = tt
+is_made_unkept l f made (Ended process) is = tt
+is_made_unkept l f made (ControlTaken process) is = tt
 is_made_unkept l f made Tick is = tt
 is_made_unkept l f made (Gone caller) is = tt
 is_made_unkept l f made (NoMemory caller) is = tt
@@ -111,6 +124,9 @@ has_room_unkept t (EndStart caller plan) has = tt
 has_room_unkept t LaunchTaken has = tt
 has_room_unkept t (Launched process pid) has = tt
 has_room_unkept t (LaunchFailed process code) has = tt
+has_room_unkept t (Report process status) has = tt
+has_room_unkept t (Ended process) has = tt
+has_room_unkept t (ControlTaken process) has = tt
 has_room_unkept t Tick has = tt
 has_room_unkept t (Gone caller) has = tt
 has_room_unkept t (NoMemory caller) has = tt

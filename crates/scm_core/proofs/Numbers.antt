@@ -16,7 +16,7 @@ use Rattle.scm_model.specs.declared.steps.Answer.{Answer}
 use Rattle.scm_model.specs.declared.steps.Answer.TheVariants as answer
 use Rattle.scm_model.specs.declared.steps.Kept.{Kept}
 use Rattle.scm_model.specs.declared.steps.Step.{Step}
-use Rattle.scm_model.specs.declared.steps.Step.TheVariants.{Joined, Call, EndStart, LaunchTaken, Launched, LaunchFailed, Tick, Gone, NoMemory}
+use Rattle.scm_model.specs.declared.steps.Step.TheVariants.{Joined, Call, EndStart, LaunchTaken, Launched, LaunchFailed, Report, Ended, ControlTaken, Tick, Gone, NoMemory}
 use Rattle.scm_model.specs.Refused.{answered}
 use Rattle.start_plan.specs.Decided.{code_of}
 use Rattle.start_plan.specs.Entered.{HasNumbers as HasProcessNumbers, wanted_process}
@@ -52,24 +52,26 @@ of_new_config : (f : Flat) (number : ℕ) (config : Option Config) → NumbersRi
 of_new_config f number None = same f f refl
 of_new_config f number (Some config) = same f (with_new_config f number (Some config)) refl
 
-of_done : (f : Flat) (caller : ℕ) (asked : Request) → NumbersRise f (done_of f caller asked).1
-of_done f caller (request.Close handle) = same f (done_of f caller (request.Close handle)).1 refl
-of_done f caller (request.Delete handle) = same f (done_of f caller (request.Delete handle)).1 refl
-of_done f caller (request.Lock handle) = record { handle = omega arith; caller = omega arith; service = omega arith; plan = omega arith; due = omega arith; process = refl }
-of_done f caller (request.Unlock handle) = same f (done_of f caller (request.Unlock handle)).1 refl
-of_done f caller (request.QueryStatus handle) = same f f refl
-of_done f caller (request.Change change) = of_new_config f (service_in (opened f caller change.handle)) (asked_config f caller change)
-of_done f caller (request.Create new) = record { handle = omega arith; caller = omega arith; service = omega arith; plan = omega arith; due = omega arith; process = refl }
-of_done f caller (request.OpenManager database access) = record { handle = omega arith; caller = omega arith; service = omega arith; plan = omega arith; due = omega arith; process = refl }
-of_done f caller (request.OpenService handle name access) = record { handle = omega arith; caller = omega arith; service = omega arith; plan = omega arith; due = omega arith; process = refl }
-of_done f caller (request.QueryConfig handle size) = same f f refl
-of_done f caller (request.QueryLock handle size) = same f f refl
-of_done f caller (request.Start handle words) = record { handle = omega arith; caller = omega arith; service = omega arith; plan = omega arith; due = omega arith; process = refl }
-of_done f caller (request.DisplayName handle name size) = same f f refl
-of_done f caller (request.KeyName handle name size) = same f f refl
+of_done : (l : Limits) (f : Flat) (caller : ℕ) (asked : Request) → NumbersRise f (done_of l f caller asked).1
+of_done l f caller (request.Close handle) = same f (done_of l f caller (request.Close handle)).1 refl
+of_done l f caller (request.Control handle control) = same f (done_of l f caller (request.Control handle control)).1 refl
+of_done l f caller (request.Delete handle) = same f (done_of l f caller (request.Delete handle)).1 refl
+of_done l f caller (request.Lock handle) = record { handle = omega arith; caller = omega arith; service = omega arith; plan = omega arith; due = omega arith; process = refl }
+of_done l f caller (request.SetStatus handle status) = same f (done_of l f caller (request.SetStatus handle status)).1 refl
+of_done l f caller (request.Unlock handle) = same f (done_of l f caller (request.Unlock handle)).1 refl
+of_done l f caller (request.QueryStatus handle) = same f f refl
+of_done l f caller (request.Change change) = of_new_config f (service_in (opened f caller change.handle)) (asked_config f caller change)
+of_done l f caller (request.Create new) = record { handle = omega arith; caller = omega arith; service = omega arith; plan = omega arith; due = omega arith; process = refl }
+of_done l f caller (request.OpenManager database access) = record { handle = omega arith; caller = omega arith; service = omega arith; plan = omega arith; due = omega arith; process = refl }
+of_done l f caller (request.OpenService handle name access) = record { handle = omega arith; caller = omega arith; service = omega arith; plan = omega arith; due = omega arith; process = refl }
+of_done l f caller (request.QueryConfig handle size) = same f f refl
+of_done l f caller (request.QueryLock handle size) = same f f refl
+of_done l f caller (request.Start handle words) = record { handle = omega arith; caller = omega arith; service = omega arith; plan = omega arith; due = omega arith; process = refl }
+of_done l f caller (request.DisplayName handle name size) = same f f refl
+of_done l f caller (request.KeyName handle name size) = same f f refl
 
 of_call : (l : Limits) (f : Flat) (caller : ℕ) (asked : Request) (append : Kept) → NumbersRise f (call_of l f caller asked append).1
-of_call l f caller asked append = of_answered (verdict l f caller asked append) (told_refused f caller asked (verdict l f caller asked append)) f (done_of f caller asked) (of_done f caller asked)
+of_call l f caller asked append = of_answered (verdict l f caller asked append) (told_refused f caller asked (verdict l f caller asked append)) f (done_of l f caller asked) (of_done l f caller asked)
 
 -- ## Steps
 
@@ -80,6 +82,9 @@ of_effect l f (EndStart caller plan) = same f (effect_of l f (EndStart caller pl
 of_effect l f LaunchTaken = same f (effect_of l f LaunchTaken).1 refl
 of_effect l f (Launched process pid) = same f (effect_of l f (Launched process pid)).1 refl
 of_effect l f (LaunchFailed process code) = same f (effect_of l f (LaunchFailed process code)).1 refl
+of_effect l f (Report process status) = same f (effect_of l f (Report process status)).1 refl
+of_effect l f (Ended process) = same f (effect_of l f (Ended process)).1 refl
+of_effect l f (ControlTaken process) = same f (effect_of l f (ControlTaken process)).1 refl
 of_effect l f Tick = same f (effect_of l f Tick).1 refl
 of_effect l f (Gone caller) = same f (effect_of l f (Gone caller)).1 refl
 of_effect l f (NoMemory caller) = same f f refl
@@ -92,6 +97,9 @@ at_next f moment (EndStart caller plan) = refl
 at_next f moment LaunchTaken = refl
 at_next f moment (Launched process pid) = refl
 at_next f moment (LaunchFailed process code) = refl
+at_next f moment (Report process status) = refl
+at_next f moment (Ended process) = refl
+at_next f moment (ControlTaken process) = refl
 at_next f moment Tick = refl
 at_next f moment (Gone caller) = refl
 
@@ -147,6 +155,9 @@ finished_next f (answer.Begun plan) = left_next f plan (code_of f.plans plan)
 finished_next f (answer.Caller number) = refl
 finished_next f (answer.Reply told) = refl
 finished_next f (answer.Launch process) = refl
+finished_next f (answer.Control code) = refl
+finished_next f (answer.Refused code) = refl
+finished_next f answer.Stale = refl
 finished_next f answer.Done = refl
 
 -- ## A whole step

@@ -31,5 +31,6 @@ pub record IsSound (a : Inside) : Type 0 where
   pub dues : a.tables.flat.next.due ≤ a.steps + 1
   pub processes : a.tables.flat.next.process ≤ a.steps * 2 ^ 12 + 1
   pub limit : a.tables.limits.processes ≤ 2 ^ 12
+  pub controls : a.tables.limits.controls ≤ 16
   pub room : KeepsRoom a.tables a.room
   pub made : KeepsMade a.tables.limits a.tables.flat a.made a.room

@@ -5,6 +5,7 @@ ghost use Rattle.scm_core.specs.Room.{HasNumbers, HasRoomFor, HasRoomForCall, Is
 
 use super::made::Made;
 use scm_arms_handle::{close, join, leave, lock, open_manager, open_service, query_lock, unlock};
+use scm_arms_process::{control, end, report, set_status, take_control};
 use scm_arms_service::{change, create, delete, query};
 use scm_arms_start::{end_start, fail_launch, finish, launched, start, take_launch, tick};
 use scm_model::{Answer, Kept, Request, Step};
@@ -23,6 +24,7 @@ fn call(
     requires made { made.old ≡ made_for tables.old.limits tables.old.flat caller request }
     requires room { HasRoomForCall tables.old caller request }
     requires numbers { HasNumbers tables.old.flat }
+    requires controls { tables.old.limits.controls ≤ 16 }
     ensures answer { result ≡ (effect_of tables.old.limits tables.old.flat (Call caller request kept)).0 }
     ensures flat { tables.new.flat ≡ (effect_of tables.old.limits tables.old.flat (Call caller request kept)).1 }
     ensures limits { tables.new.limits ≡ tables.old.limits }
@@ -31,9 +33,16 @@ fn call(
     let code = made.code;
     match request {
         Request::Close { handle } => Answer::Reply(close(tables, caller, handle)),
+        Request::Control {
+            handle,
+            control: code,
+        } => Answer::Reply(control(tables, caller, handle, code)),
         Request::Delete { handle } => Answer::Reply(delete(tables, caller, handle, kept)),
         Request::Lock { handle } => Answer::Reply(lock(tables, &limits, caller, handle)),
         Request::QueryStatus { handle } => Answer::Reply(query(tables, caller, handle)),
+        Request::SetStatus { handle, status } => {
+            Answer::Reply(set_status(tables, caller, handle, &status))
+        }
         Request::Unlock { handle } => Answer::Reply(unlock(tables, caller, handle)),
         Request::Change(asked) => {
             let config = made.config.take();
@@ -78,6 +87,9 @@ fn begin(tables: &mut Tables, moment: u64, step: &Step)
         | Step::LaunchTaken
         | Step::Launched { .. }
         | Step::LaunchFailed { .. }
+        | Step::Report { .. }
+        | Step::Ended { .. }
+        | Step::ControlTaken { .. }
         | Step::Tick
         | Step::Gone { .. } => tables.move_to(moment),
     }
@@ -88,6 +100,7 @@ fn effect(tables: &mut Tables, alloc: Global, step: Step, made: &mut Made) -> An
     requires made { IsMadeFor tables.old.limits tables.old.flat made.old step }
     requires room { HasRoomFor tables.old step }
     requires numbers { HasNumbers tables.old.flat }
+    requires controls { tables.old.limits.controls ≤ 16 }
     ensures answer { result ≡ (effect_of tables.old.limits tables.old.flat step).0 }
     ensures flat { tables.new.flat ≡ (effect_of tables.old.limits tables.old.flat step).1 }
     ensures limits { tables.new.limits ≡ tables.old.limits }
@@ -103,6 +116,9 @@ fn effect(tables: &mut Tables, alloc: Global, step: Step, made: &mut Made) -> An
         Step::LaunchTaken => take_launch(tables),
         Step::Launched { process, pid } => launched(tables, process, pid),
         Step::LaunchFailed { process, code } => fail_launch(tables, process, code),
+        Step::Report { process, status } => report(tables, process, &status),
+        Step::Ended { process } => end(tables, process),
+        Step::ControlTaken { process } => take_control(tables, process),
         Step::Tick => tick(tables),
         Step::Gone { caller } => leave(tables, caller),
         Step::NoMemory { caller: _ } => Answer::Done,
@@ -117,6 +133,7 @@ pub fn act(tables: &mut Tables, alloc: Global, moment: u64, step: Step, made: &m
     requires room { HasRoomFor tables.old step }
     requires numbers { HasNumbers tables.old.flat }
     requires limit { tables.old.limits.processes < 2 ^ 32 }
+    requires controls { tables.old.limits.controls ≤ 16 }
     requires processes { tables.old.flat.next.process ≤ 2 ^ 62 }
     ensures answer { result ≡ (step_of tables.old.limits tables.old.flat moment step).0 }
     ensures flat { tables.new.flat ≡ (step_of tables.old.limits tables.old.flat moment step).1 }

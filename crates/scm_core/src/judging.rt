@@ -25,6 +25,9 @@ pub fn may_come(tables: &Tables, moment: u64, step: &Step) -> bool
         Step::LaunchTaken => tables.is_wanted(),
         Step::Launched { process, pid: _ } => tables.is_taken(*process),
         Step::LaunchFailed { process, code } => tables.is_taken(*process) && *code != 0,
+        Step::Report { process, status: _ } => tables.is_running(*process),
+        Step::Ended { process } => tables.is_running(*process),
+        Step::ControlTaken { process } => tables.waiting(*process).is_some_and(|most| 0 < most),
         Step::Tick => tables.is_due(tables.moment().max(moment)),
         Step::Gone { caller } => tables.is_caller(*caller),
         Step::NoMemory { caller } => tables.is_caller(*caller),
@@ -48,8 +51,10 @@ fn call_changes(
         ),
         Request::Change(change) => changes(tables, caller, change, alloc),
         Request::Close { .. }
+        | Request::Control { .. }
         | Request::Lock { .. }
         | Request::QueryStatus { .. }
+        | Request::SetStatus { .. }
         | Request::Unlock { .. }
         | Request::OpenManager { .. }
         | Request::OpenService { .. }
@@ -76,6 +81,9 @@ pub fn makes_change(tables: &Tables, step: &Step, alloc: Global) -> Result<bool,
         | Step::LaunchTaken
         | Step::Launched { .. }
         | Step::LaunchFailed { .. }
+        | Step::Report { .. }
+        | Step::Ended { .. }
+        | Step::ControlTaken { .. }
         | Step::Tick
         | Step::Gone { .. }
         | Step::NoMemory { .. } => Ok(false),
@@ -107,6 +115,9 @@ pub fn is_told(tables: &Tables, step: &Step, alloc: Global) -> Result<bool, OutO
         | Step::LaunchTaken
         | Step::Launched { .. }
         | Step::LaunchFailed { .. }
+        | Step::Report { .. }
+        | Step::Ended { .. }
+        | Step::ControlTaken { .. }
         | Step::Tick
         | Step::Gone { .. }
         | Step::NoMemory { .. } => Ok(true),
@@ -133,8 +144,10 @@ fn change_of_call(
         }
         Request::Change(change) => changed(tables, caller, change, alloc),
         Request::Close { .. }
+        | Request::Control { .. }
         | Request::Lock { .. }
         | Request::QueryStatus { .. }
+        | Request::SetStatus { .. }
         | Request::Unlock { .. }
         | Request::OpenManager { .. }
         | Request::OpenService { .. }
@@ -161,6 +174,9 @@ pub fn change_of(tables: &Tables, step: &Step, alloc: Global) -> Result<Option<C
         | Step::LaunchTaken
         | Step::Launched { .. }
         | Step::LaunchFailed { .. }
+        | Step::Report { .. }
+        | Step::Ended { .. }
+        | Step::ControlTaken { .. }
         | Step::Tick
         | Step::Gone { .. }
         | Step::NoMemory { .. } => Ok(None),

@@ -141,9 +141,11 @@ fn make_for_call(
             tables, caller, *handle, name, *size, alloc,
         )?)),
         Request::Close { .. }
+        | Request::Control { .. }
         | Request::Delete { .. }
         | Request::Lock { .. }
         | Request::QueryStatus { .. }
+        | Request::SetStatus { .. }
         | Request::Unlock { .. }
         | Request::OpenManager { .. }
         | Request::OpenService { .. } => Ok(nothing_made()),
@@ -165,6 +167,9 @@ pub fn make_for(tables: &Tables, step: &Step, alloc: Global) -> Result<Made, Out
         | Step::LaunchTaken
         | Step::Launched { .. }
         | Step::LaunchFailed { .. }
+        | Step::Report { .. }
+        | Step::Ended { .. }
+        | Step::ControlTaken { .. }
         | Step::Tick
         | Step::Gone { .. }
         | Step::NoMemory { .. } => Ok(nothing_made()),

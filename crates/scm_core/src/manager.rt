@@ -1,5 +1,6 @@
 ghost use Rattle.std.specs.Prelude.{◌≡◌, ◌+◌, ◌<◌, ◌≤◌, ◌==◌, ◌^◌, max, nat_le, IsTrue, OnOk, OnErr, IfOk, None, Some, length, filter, is_some, []};
 ghost use Rattle.std.specs.List.{list_any};
+ghost use Rattle.scm_rules.specs.Controls.{waiting};
 ghost use Rattle.scm_rules.specs.Opening.{opening};
 ghost use Rattle.scm_rules.specs.Start.{is_due};
 ghost use Rattle.start_plan.specs.Decided.{caller_of, code_of};
@@ -149,6 +150,13 @@ impl Manager {
         ensures { result ≡ is_wanted self.now.flat.wanted }
     {
         self.tables.is_wanted()
+    }
+
+    /// How many controls wait for a process; none where it isn't listed. It takes no memory.
+    pub fn waiting(&self, process: u64) -> Option<u32>
+        ensures { result ≡ waiting self.now.flat process }
+    {
+        self.tables.waiting(process)
     }
 
     /// Whether something is due at a moment, or at the moment up to which the manager has come. It takes no memory.

@@ -42,8 +42,10 @@ fn reserve_call(
         }
         Request::Start { .. } => reserve_plan(tables, &made.entries),
         Request::Close { .. }
+        | Request::Control { .. }
         | Request::Delete { .. }
         | Request::QueryStatus { .. }
+        | Request::SetStatus { .. }
         | Request::Unlock { .. }
         | Request::Change(_)
         | Request::QueryConfig { .. }
@@ -71,6 +73,9 @@ pub fn reserve(tables: &mut Tables, step: &Step, made: &Made) -> Result<(), OutO
         | Step::LaunchTaken
         | Step::Launched { .. }
         | Step::LaunchFailed { .. }
+        | Step::Report { .. }
+        | Step::Ended { .. }
+        | Step::ControlTaken { .. }
         | Step::Tick
         | Step::Gone { .. }
         | Step::NoMemory { .. } => Ok(()),

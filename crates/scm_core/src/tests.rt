@@ -1,5 +1,7 @@
 use crate::Manager;
-use scm_model::{Answer, Change, Kept, Limits, NewService, Principal, Reply, Request, Step};
+use scm_model::{
+    Answer, Change, Kept, Limits, NewService, Principal, Reply, Request, Status, Step,
+};
 use scm_text::{Items, TextRoom, WText, same_units};
 use std::alloc::Global;
 use std::test::Fail;
@@ -60,6 +62,9 @@ fn with_kept(step: Step, kept: Kept) -> Step {
         | Step::LaunchTaken
         | Step::Launched { .. }
         | Step::LaunchFailed { .. }
+        | Step::Report { .. }
+        | Step::Ended { .. }
+        | Step::ControlTaken { .. }
         | Step::Tick
         | Step::Gone { .. }
         | Step::NoMemory { .. } => step,
@@ -113,7 +118,13 @@ fn code_of(answer: Answer) -> u32 {
                 code,
             },
         ) => code,
-        Answer::Caller(_) | Answer::Begun(_) | Answer::Launch(_) | Answer::Done => 0,
+        Answer::Refused(code) => code,
+        Answer::Caller(_)
+        | Answer::Begun(_)
+        | Answer::Launch(_)
+        | Answer::Control(_)
+        | Answer::Stale
+        | Answer::Done => 0,
     }
 }
 
@@ -153,7 +164,7 @@ fn service(name: WText, path: WText, needs: Option<Items<u8>>) -> Request {
         handle: 1,
         name,
         display: None,
-        access: 0x10010,
+        access: 0x10030,
         kind: 0x10,
         start: 3,
         error: 1,
@@ -302,6 +313,68 @@ fn is_due(manager: &Manager, moment: u64) -> bool {
     manager.due(moment)
 }
 
+/// What a process of its own tells in a state, in which it accepts STOP.
+fn in_state(state: u32) -> Status {
+    Status {
+        kind: 0x10,
+        state,
+        accepted: 1,
+        win32: 0,
+        specific: 0,
+        checkpoint: 0,
+        hint: 0,
+    }
+}
+
+/// The first process reports a state, which is answered with this code.
+fn report(manager: &mut Manager, state: u32, code: u32) -> Result<(), Fail> {
+    let step = Step::Report {
+        process: 1,
+        status: in_state(state),
+    };
+    is(code_of(done(manager, step)?) == code)
+}
+
+/// The first process is launched and runs.
+fn run(alloc: Global, manager: &mut Manager) -> Result<(), Fail> {
+    let (process, _, _) = taken(alloc, manager)?;
+    let _launched = done(manager, Step::Launched { process, pid: 7 })?;
+    report(manager, 4, 0)?;
+    is(manager.running() == 1)
+}
+
+/// A STOP waits for the first process, and is taken.
+fn stop(manager: &mut Manager) -> Result<(), Fail> {
+    let stop = Request::Control {
+        handle: 2,
+        control: 1,
+    };
+    wants(manager, 1, stop, 0)?;
+    is(manager.waiting(1) == Some(1))?;
+    let told = done(manager, Step::ControlTaken { process: 1 })?;
+    is(matches!(told, Answer::Control(1)))?;
+    is(manager.waiting(1) == Some(0))
+}
+
+/// The first process ends.
+fn end_process(manager: &mut Manager) -> Result<(), Fail> {
+    let told = done(manager, Step::Ended { process: 1 })?;
+    is(matches!(told, Answer::Done))?;
+    is(manager.waiting(1).is_none())?;
+    is(manager.running() == 0)
+}
+
+fn stopping(alloc: Global, manager: &mut Manager) -> Result<(), Fail> {
+    create(alloc, manager, &[97], 0)?;
+    let plan = begin(alloc, manager, 0, 2)?;
+    run(alloc, manager)?;
+    end(manager, 0, plan, 0)?;
+    stop(manager)?;
+    report(manager, 3, 0)?;
+    report(manager, 4, 13)?;
+    end_process(manager)
+}
+
 fn deleting(alloc: Global, manager: &mut Manager) -> Result<(), Fail> {
     create(alloc, manager, &[97], 0)?;
     open_as_another(alloc, manager)?;
@@ -342,4 +415,10 @@ fn a_start_fails_with_what_it_needs(rt: HostRuntime) -> Result<(), Fail> {
 fn a_start_is_given_up_after_two_minutes(rt: HostRuntime) -> Result<(), Fail> {
     let mut manager = opened(rt.alloc())?;
     giving_up(rt.alloc(), &mut manager)
+}
+
+#[test]
+fn a_stop_is_taken_and_a_stopping_service_does_not_run_again(rt: HostRuntime) -> Result<(), Fail> {
+    let mut manager = opened(rt.alloc())?;
+    stopping(rt.alloc(), &mut manager)
 }

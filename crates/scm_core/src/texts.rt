@@ -107,9 +107,11 @@ fn text_of_call(request: &Request) -> u128
         } => 2 * name.units().len() as u128,
         Request::Start { handle: _, words } => some_words(words),
         Request::Close { .. }
+        | Request::Control { .. }
         | Request::Delete { .. }
         | Request::Lock { .. }
         | Request::QueryStatus { .. }
+        | Request::SetStatus { .. }
         | Request::Unlock { .. }
         | Request::QueryConfig { .. }
         | Request::QueryLock { .. } => 0,
@@ -131,6 +133,9 @@ pub fn text_of(step: &Step) -> u128
         | Step::LaunchTaken
         | Step::Launched { .. }
         | Step::LaunchFailed { .. }
+        | Step::Report { .. }
+        | Step::Ended { .. }
+        | Step::ControlTaken { .. }
         | Step::Tick
         | Step::Gone { .. }
         | Step::NoMemory { .. } => 0,

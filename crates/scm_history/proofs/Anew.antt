@@ -1,5 +1,5 @@
 -- What an entry makes was not made before.
-use Rattle.std.proofs.Common.{ℕ, ◌≡◌, ◌∙◌, ◌<◌, ◌≤◌, ◌==◌, ◌&&◌, ◌||◌, ◌++◌, Bool, true, false, not, cond, IsTrue, List, [], ◌∷◌, Option, None, Some, filter, find, map, ap, sym, refl, subst, arith, eq-eqb, eqb-true}
+use Rattle.std.proofs.Common.{ℕ, ◌≡◌, ◌∙◌, ◌<◌, ◌≤◌, ◌==◌, ◌&&◌, ◌||◌, ◌++◌, Bool, true, false, cond, IsTrue, List, [], ◌∷◌, Option, None, Some, filter, find, map, ap, sym, refl, subst, arith, eq-eqb, eqb-true}
 use Rattle.std.specs.Prelude.{All, IfSome, is_some, option_map}
 use Rattle.std.proofs.lemmas.List.Elements.{All-head, All-tail}
 use Rattle.std.proofs.lemmas.Option.{IfSome_then}
@@ -10,28 +10,30 @@ use Rattle.scm_model.specs.declared.flat.Phase.TheVariants as phases
 use Rattle.scm_model.specs.declared.flat.Process.{Process}
 use Rattle.scm_model.specs.declared.flat.Wanted.{Wanted}
 use Rattle.scm_model.specs.declared.steps.Step.{Step}
-use Rattle.scm_model.specs.declared.steps.Step.TheVariants.{Joined, Call, LaunchTaken, Launched, LaunchFailed}
+use Rattle.scm_model.specs.declared.steps.Step.TheVariants.{Joined, Call, LaunchTaken, Launched, LaunchFailed, Ended, ControlTaken}
 use Rattle.scm_model.specs.Changes.{with_moment}
+use Rattle.scm_rules.specs.Controls.{relieved_if}
 use Rattle.scm_rules.specs.Launches.{first_wanted, is_taken, is_taken_phase, launched_if, process_of, taken_if}
 use Rattle.scm_rules.specs.Runs.{Entry, IsLegal, state_of}
 use Rattle.scm_rules.specs.Steps.{at_moment, effect_of, is_wanted, may, step_of}
 use Rattle.scm_rules.specs.Valid.{is_to_launch, is_wanted_phase}
 use Rattle.scm_laws.proofs.Along.{at_end}
 use Rattle.scm_laws.proofs.Calls.{came, keeps}
-use Rattle.scm_laws.proofs.Lists.{find_filter, found_owns}
+use Rattle.scm_laws.proofs.Lists.{found_owns}
 use Rattle.scm_laws.proofs.Processes.{first_there, number_of, process_in}
-use Rattle.scm_laws.proofs.Sound.{Sound}
+use Rattle.scm_laws.proofs.Sound.{Sound, controls_fewer}
 use Rattle.scm_laws.proofs.Wanted.{taken_is_listed}
 use Rattle.scm_history.specs.Anew.{MakesAnew}
 use Rattle.scm_history.specs.Entries.{caller_made, has_begun, has_made, has_taken, is_it, makes_caller, names_caller, plan_made, process_taken, takes_process}
+use Rattle.scm_history.specs.Processes.{apart_from_controls}
 use Rattle.scm_history.proofs.Callers.{rising}
-use Rattle.scm_history.proofs.Effects.{of_call}
+use Rattle.scm_history.proofs.Effects.{controls_apart, of_call}
 use Rattle.scm_history.proofs.Ends.{right}
 use Rattle.scm_history.proofs.Finds.{found_any, found_map}
-use Rattle.scm_history.proofs.Made.{may_behind}
+use Rattle.scm_history.proofs.Made.{front_legal, may_behind}
 use Rattle.scm_history.proofs.Numbers.{begun, joins_after, plan_rises}
 use Rattle.scm_history.proofs.Own.{given_it}
-use Rattle.scm_history.proofs.Processes.{after_effect, apart, has, launches, listed_below, process_rises, takes}
+use Rattle.scm_history.proofs.Processes.{after_effect, has, launches, left_not, listed_below, process_rises, takes, told_apart}
 
 -- what would make it smaller than it is isn't so
 not_yet : (b : Bool) (number next : ℕ) → (b ≡ true → number < next) → next ≤ number → b ≡ false
@@ -93,31 +95,22 @@ past_launched : (one pid : ℕ) (row : Option Process) → is_wanted_in row ≡ 
 past_launched one pid None past = refl
 past_launched one pid (Some row) past = elim (row.number == one) as (λ b. is_to_launch (cond b (record row { phase = phases.Launched; pid = pid }) row) ≡ false) [ true ↦ refl | false ↦ past ]
 
-failed_none : (number : ℕ) (rows : List Process) → is_wanted_in (find (has number) (filter (λ (row : Process). not (row.number == number)) rows)) ≡ false
-failed_none number [] = refl
-failed_none number (row ∷ rows) =
-    elim (row.number == number) as (λ b. (row.number == number) ≡ b
-    → is_wanted_in (find (has number) (cond (not b) (row ∷ filter (λ (row : Process). not (row.number == number)) rows) (filter (λ (row : Process). not (row.number == number)) rows))) ≡ false) [
-      | true ↦ λ e. failed_none number rows
-      | false ↦ λ e. rw e (failed_none number rows)
-    ] refl
-
-past_failed : (number process : ℕ) (rows : List Process) → is_wanted_in (find (has number) rows) ≡ false → is_wanted_in (find (has number) (filter (λ (row : Process). not (row.number == process)) rows)) ≡ false
-past_failed number process rows past =
-    elim (number == process) as (λ b. (number == process) ≡ b → is_wanted_in (find (has number) (filter (λ (row : Process). not (row.number == process)) rows)) ≡ false) [
-      | true ↦ λ e. subst (λ n. is_wanted_in (find (has number) (filter (λ (row : Process). not (row.number == n)) rows)) ≡ false) (eqb-true number process e) (failed_none number rows)
-      | false ↦ λ e. ap is_wanted_in (find_filter (has number) (λ (row : Process). not (row.number == process)) (λ row same. ap not (apart number process row e same)) rows) ∙ past
-    ] refl
+wanted_apart : (row : Option Process) → is_wanted_in (option_map apart_from_controls row) ≡ is_wanted_in row
+wanted_apart None = refl
+wanted_apart (Some row) = refl
 
 past_effect : (l : Limits) (f : Flat) (moment : ℕ) (step : Step) (number : ℕ) → is_wanted_in (process_of f number) ≡ false → is_wanted_in (process_of (effect_of l (at_moment f moment step) step).1 number) ≡ false
-past_effect l f moment (Call caller asked append) number past = ap (λ rows. is_wanted_in (find (has number) rows)) (of_call l (with_moment f moment) caller asked append).processes ∙ past
+past_effect l f moment (Call caller asked append) number past = told_apart is_wanted_in wanted_apart number f.processes _ (of_call l (with_moment f moment) caller asked append).processes ∙ past
 past_effect l f moment LaunchTaken number past =
     let one = first_wanted f.wanted in
     ap is_wanted_in (found_map (has number) (taken_if one) (λ row. ap (λ n. n == number) ((takes one).number_same row)) f.processes) ∙ past_taken one (find (has number) f.processes) past
 past_effect l f moment (Launched process pid) number past =
     ap is_wanted_in (found_map (has number) (launched_if process pid) (λ row. ap (λ n. n == number) ((launches process pid).number_same row)) f.processes)
     ∙ past_launched process pid (find (has number) f.processes) past
-past_effect l f moment (LaunchFailed process code) number past = past_failed number process f.processes past
+past_effect l f moment (LaunchFailed process code) number past = left_not is_wanted_in refl number process f.processes past
+past_effect l f moment (Ended process) number past = left_not is_wanted_in refl number process f.processes past
+past_effect l f moment (ControlTaken process) number past =
+    told_apart is_wanted_in wanted_apart number f.processes _ (controls_apart (relieved_if process) (controls_fewer process) f.processes) ∙ past
 past_effect l f moment step number past = past
 
 past_step : (l : Limits) (f : Flat) (moment : ℕ) (step : Step) (number : ℕ) → IsPast number f → IsPast number (step_of l f moment step).1
@@ -202,10 +195,6 @@ process_anew l f front moment LaunchTaken s sound legal ok =
 process_anew l f front moment step s sound legal ok = tt
 
 -- ## Histories
-
-front_legal : (l : Limits) (f : Flat) (front rest : List Entry) → IsLegal l f (front ++ rest) → IsLegal l f front
-front_legal l f [] rest legal = tt
-front_legal l f (e ∷ front) rest legal = (legal.0, front_legal l (step_of l f e.0 e.1).1 front rest legal.1)
 
 pub makes_anew : (l : Limits) (f : Flat) (es : List Entry) → Sound f → IsLegal l f es → (front : List Entry) (e : Entry) (rest : List Entry) → es ≡ front ++ e ∷ rest → MakesAnew l f front e
 makes_anew l f es s legal front e rest split =

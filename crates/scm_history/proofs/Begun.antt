@@ -12,9 +12,11 @@ use Rattle.scm_model.specs.declared.flat.Plan.{Plan}
 use Rattle.scm_model.specs.declared.calls.Reply.{Reply}
 use Rattle.scm_model.specs.declared.calls.Request.{Request}
 use Rattle.scm_model.specs.declared.calls.Request.TheVariants as request
+use Rattle.scm_model.specs.declared.steps.Answer.{Answer}
+use Rattle.scm_model.specs.declared.steps.Answer.TheVariants as answer
 use Rattle.scm_model.specs.declared.steps.Kept.{Kept}
 use Rattle.scm_model.specs.declared.steps.Step.{Step}
-use Rattle.scm_model.specs.declared.steps.Step.TheVariants.{Call, EndStart, Launched, LaunchFailed, Tick, Gone}
+use Rattle.scm_model.specs.declared.steps.Step.TheVariants.{Call, EndStart, Launched, LaunchFailed, Report, Ended, Tick, Gone}
 use Rattle.scm_model.specs.Changes.{with_moment}
 use Rattle.start_plan.specs.Decided.{aims_at, caller_of, code_of, decided_if, decided_in, is_callers, is_numbered, without_plan}
 use Rattle.start_plan.specs.Settle.{settle_all, settled, stays}
@@ -80,6 +82,10 @@ left : (number caller : ℕ) (g : Flat) (plan : ℕ) (code : Option ℕ) → Are
 left number caller g plan None all = all
 left number caller g plan (Some code) all = all_filter (IsOther number caller) (λ (row : Plan). not (is_numbered plan row)) g.plans all
 
+finishes : (number caller : ℕ) (g : Flat) (told : Answer) → AreOther number caller g.plans → AreOther number caller (finished g told).1.plans
+finishes number caller g (answer.Begun plan) all = left number caller g plan (code_of g.plans plan) all
+finishes number caller g told all = all
+
 -- ## Calls
 
 both_true : (a b : Bool) → (a && b) ≡ true → (a ≡ true) × (b ≡ true)
@@ -110,10 +116,10 @@ plans_configured : (f : Flat) (number : ℕ) (config : Option Config) → (with_
 plans_configured f number None = refl
 plans_configured f number (Some config) = refl
 
-change_done : (number caller : ℕ) (l : Limits) (g : Flat) (by : ℕ) (asked : Request) (append : Kept) → (done_of g by asked).1.plans ≡ g.plans → AreOther number caller g.plans → AreOther number caller (settled l (call_of l g by asked append).1).plans
+change_done : (number caller : ℕ) (l : Limits) (g : Flat) (by : ℕ) (asked : Request) (append : Kept) → (done_of l g by asked).1.plans ≡ g.plans → AreOther number caller g.plans → AreOther number caller (settled l (call_of l g by asked append).1).plans
 change_done number caller l g by asked append same all =
     settles l (call_of l g by asked append).1 number caller
-    (by_verdict (λ r. AreOther number caller r.1.plans) (verdict l g by asked append) (told_refused g by asked (verdict l g by asked append)) g (done_of g by asked) (λ e. subst (AreOther number caller) (sym same) all) (λ e. all))
+    (by_verdict (λ r. AreOther number caller r.1.plans) (verdict l g by asked append) (told_refused g by asked (verdict l g by asked append)) g (done_of l g by asked) (λ e. subst (AreOther number caller) (sym same) all) (λ e. all))
 
 of_call : (number caller : ℕ) (l : Limits) (f : Flat) (moment by : ℕ) (asked : Request) (append : Kept) → AreOther number caller f.plans
     → (caller == by && is_it number (plan_made (step_of l f moment (Call by asked append)).0)) ≡ false → AreOther number caller (step_of l f moment (Call by asked append)).1.plans
@@ -142,6 +148,12 @@ of_step number caller l f moment (Launched process pid) all not_told =
     settles l (effect_of l (with_moment f moment) (Launched process pid)).1 number caller (decided number caller (aims_at (service_of_process f process)) 0 f.plans all)
 of_step number caller l f moment (LaunchFailed process code) all not_told =
     settles l (effect_of l (with_moment f moment) (LaunchFailed process code)).1 number caller (decided number caller (aims_at (service_of_process f process)) code f.plans all)
+of_step number caller l f moment (Report process status) all not_told =
+    let done = effect_of l (with_moment f moment) (Report process status) in
+    finishes number caller (settled l done.1) done.0 (settles l done.1 number caller all)
+of_step number caller l f moment (Ended process) all not_told =
+    let done = effect_of l (with_moment f moment) (Ended process) in
+    finishes number caller (settled l done.1) done.0 (settles l done.1 number caller all)
 of_step number caller l f moment Tick all not_told =
     settles l (effect_of l (with_moment f moment) Tick).1 number caller (ticked number caller (with_moment f moment).moment f.plans f.dues all)
 of_step number caller l f moment (Gone by) all not_told =

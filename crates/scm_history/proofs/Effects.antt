@@ -1,23 +1,33 @@
 -- What steps leave of callers, processes, plans and next numbers.
-use Rattle.std.proofs.Common.{ℕ, ◌≡◌, Option, None, Some, refl}
+use Rattle.std.proofs.Common.{ℕ, ◌≡◌, List, Option, None, Some, map, ap, refl}
 use Rattle.scm_model.specs.declared.flat.Config.{Config}
 use Rattle.scm_model.specs.declared.flat.Flat.{Flat}
 use Rattle.scm_model.specs.declared.flat.Limits.{Limits}
+use Rattle.scm_model.specs.declared.flat.Process.{Process}
 use Rattle.scm_model.specs.declared.calls.Request.{Request}
 use Rattle.scm_model.specs.declared.calls.Request.TheVariants as request
 use Rattle.scm_model.specs.declared.steps.Kept.{Kept}
 use Rattle.scm_model.specs.declared.steps.Step.{Step}
 use Rattle.start_plan.specs.Settle.{settled}
 use Rattle.scm_rules.specs.Change.{asked_config, with_new_config}
+use Rattle.scm_rules.specs.Controls.{controlled_if}
 use Rattle.scm_rules.specs.Steps.{at_moment, effect_of, finished_step}
 use Rattle.scm_rules.specs.Verdicts.{call_of, done_of, told_refused, verdict}
 use Rattle.scm_laws.proofs.Calls.{by_verdict}
 use Rattle.scm_laws.proofs.Frames.{Frame, finished_frame, settled_frame}
+use Rattle.scm_laws.proofs.Lists.{map_same}
+use Rattle.scm_laws.proofs.Processes.{IsOfControls}
+use Rattle.scm_laws.proofs.Sound.{controls_more}
+use Rattle.scm_history.specs.Processes.{apart_from_controls}
 
--- callers and processes are as they were, with the next numbers of both
+-- a change of the controls alone leaves all else
+pub controls_apart : (change : Process → Process) → IsOfControls change → (rows : List Process) → map apart_from_controls (map change rows) ≡ map apart_from_controls rows
+controls_apart change only rows = map_same change apart_from_controls (λ row. ap apart_from_controls (only row)) rows
+
+-- callers and processes are as they were, apart from controls, with the next numbers of both
 pub record Spares (f g : Flat) : Type 0 where
   pub callers : g.callers ≡ f.callers
-  pub processes : g.processes ≡ f.processes
+  pub processes : map apart_from_controls g.processes ≡ map apart_from_controls f.processes
   pub next_caller : g.next.caller ≡ f.next.caller
   pub next_process : g.next.process ≡ f.next.process
 
@@ -28,15 +38,21 @@ of_configured : (f : Flat) (number : ℕ) (config : Option Config) → Spares f 
 of_configured f number None = spared f
 of_configured f number (Some config) = record { callers = refl; processes = refl; next_caller = refl; next_process = refl }
 
-of_done : (f : Flat) (caller : ℕ) (asked : Request) → Spares f (done_of f caller asked).1
-of_done f caller (request.Change change) = of_configured f _ (asked_config f caller change)
-of_done f caller asked = record { callers = refl; processes = refl; next_caller = refl; next_process = refl }
+of_done : (l : Limits) (f : Flat) (caller : ℕ) (asked : Request) → Spares f (done_of l f caller asked).1
+of_done l f caller (request.Change change) = of_configured f _ (asked_config f caller change)
+of_done l f caller (request.Control handle control) = record {
+  callers = refl;
+  processes = controls_apart (controlled_if l.controls _ control) (controls_more l.controls _ control) f.processes;
+  next_caller = refl;
+  next_process = refl;
+}
+of_done l f caller asked = record { callers = refl; processes = refl; next_caller = refl; next_process = refl }
 
 -- so it is with each call
 pub of_call : (l : Limits) (f : Flat) (caller : ℕ) (asked : Request) (append : Kept) → Spares f (call_of l f caller asked append).1
 of_call l f caller asked append =
-    by_verdict (λ r. Spares f r.1) (verdict l f caller asked append) (told_refused f caller asked (verdict l f caller asked append)) f (done_of f caller asked)
-    (λ e. of_done f caller asked) (λ e. spared f)
+    by_verdict (λ r. Spares f r.1) (verdict l f caller asked append) (told_refused f caller asked (verdict l f caller asked append)) f (done_of l f caller asked)
+    (λ e. of_done l f caller asked) (λ e. spared f)
 
 -- what stands before services leave differs from the effect in its frame
 pub framed : (l : Limits) (f : Flat) (moment : ℕ) (step : Step) → Frame (effect_of l (at_moment f moment step) step).1 (finished_step l f moment step).1

@@ -1,6 +1,6 @@
 -- Facts of plans that each step keeps.
 use Rattle.std.proofs.Common.{ℕ, ◌≡◌, ◌∙◌, ◌<◌, ◌==◌, Bool, true, false, cond, List, [], ◌∷◌, ◌++◌, Option, None, Some, find, map, filter, ap, sym, refl, subst, arith, ne_eqb}
-use Rattle.std.specs.Prelude.{IfSome, option_map}
+use Rattle.std.specs.Prelude.{IfSome, Result, Ok, Err, option_map}
 use Rattle.scm_model.specs.declared.flat.Config.{Config}
 use Rattle.scm_model.specs.declared.flat.Due.{Due}
 use Rattle.scm_model.specs.declared.flat.DueKind.{DueKind}
@@ -8,6 +8,8 @@ use Rattle.scm_model.specs.declared.flat.DueKind.TheVariants as dues
 use Rattle.scm_model.specs.declared.flat.Flat.{Flat}
 use Rattle.scm_model.specs.declared.flat.Limits.{Limits}
 use Rattle.scm_model.specs.declared.flat.Plan.{Plan}
+use Rattle.scm_model.specs.declared.flat.Service.{Service}
+use Rattle.scm_model.specs.declared.flat.Status.{Status}
 use Rattle.scm_model.specs.declared.calls.Reply.{Reply}
 use Rattle.scm_model.specs.declared.calls.Request.{Request}
 use Rattle.scm_model.specs.declared.calls.Request.TheVariants as request
@@ -15,73 +17,74 @@ use Rattle.scm_model.specs.declared.steps.Answer.{Answer}
 use Rattle.scm_model.specs.declared.steps.Answer.TheVariants as answer
 use Rattle.scm_model.specs.declared.steps.Kept.{Kept}
 use Rattle.scm_model.specs.declared.steps.Step.{Step}
-use Rattle.scm_model.specs.declared.steps.Step.TheVariants.{Call, EndStart, Launched, LaunchFailed, Tick, Gone}
+use Rattle.scm_model.specs.declared.steps.Step.TheVariants.{Call, EndStart, Launched, LaunchFailed, Report, Ended, Tick, Gone}
 use Rattle.scm_model.specs.Changes.{with_moment}
 use Rattle.start_plan.specs.Decided.{aims_at, code_of, decided_if, decided_in, is_numbered, without_plan, without_plans_of}
 use Rattle.start_plan.specs.Settle.{settle_all, settle_plan, settled, stays}
 use Rattle.start_plan.proofs.Keeps.{Keeps, keeps_all}
 use Rattle.scm_rules.specs.Change.{asked_config, with_new_config}
 use Rattle.scm_rules.specs.Launches.{service_of_process}
+use Rattle.scm_rules.specs.Reports.{current_of, end_told, report_answer, report_told}
 use Rattle.scm_rules.specs.Start.{expired, fired, fired_by, is_due}
 use Rattle.scm_rules.specs.Steps.{answer_of, at_moment, effect_of, finished, left_by, step_of, tells_plan}
 use Rattle.scm_rules.specs.Verdicts.{call_of, done_of, told_refused, verdict}
 use Rattle.scm_laws.proofs.Calls.{by_verdict}
 use Rattle.scm_history.specs.Entries.{plan_made}
 
--- a fact of plans that lasts where none with this number begins, and only plans of Ended end and only callers of Left leave
-pub record Lasts (number : ℕ) (Ended Left : ℕ → Type 0) (P : List Plan → Type 0) : Type 0 where
+-- a fact of plans that lasts where none with this number begins, and only plans of Over end and only callers of Left leave
+pub record Lasts (number : ℕ) (Over Left : ℕ → Type 0) (P : List Plan → Type 0) : Type 0 where
   pub codes : (test : Plan → Bool) (code : ℕ) (plans : List Plan) → P plans → P (map (decided_if test code) plans)
   pub tidies : (plans : List Plan) → P plans → P (filter stays plans)
   pub settles : (l : Limits) (f : Flat) (plans : List Plan) → P plans → P (settle_all l f plans).1
   pub begins : (plans : List Plan) (plan : Plan) → (plan.number == number) ≡ false → P plans → P (plans ++ plan ∷ [])
-  pub ends : (plan : ℕ) (plans : List Plan) → Ended plan → P plans → P (without_plan plans plan)
+  pub ends : (plan : ℕ) (plans : List Plan) → Over plan → P plans → P (without_plan plans plan)
   pub leaves : (caller : ℕ) (plans : List Plan) → Left caller → P plans → P (without_plans_of plans caller)
 
 -- whether a step ends only such plans, and only such callers leave in it
 abbrev pub Allows : (ℕ → Type 0) → (ℕ → Type 0) → Step → Type 0
-Allows Ended Left (EndStart caller plan) = Ended plan
-Allows Ended Left (Gone caller) = Left caller
-Allows Ended Left step = Unit {0}
+Allows Over Left (EndStart caller plan) = Over plan
+Allows Over Left (Gone caller) = Left caller
+Allows Over Left step = Unit {0}
 
 -- ## Effects
 
-decides : (number : ℕ) (Ended Left : ℕ → Type 0) (P : List Plan → Type 0) → Lasts number Ended Left P → (test : Plan → Bool) (code : ℕ) (plans : List Plan) → P plans → P (decided_in test code plans)
-decides number Ended Left P lasts test code plans p = lasts.tidies (map (decided_if test code) plans) (lasts.codes test code plans p)
+decides : (number : ℕ) (Over Left : ℕ → Type 0) (P : List Plan → Type 0) → Lasts number Over Left P → (test : Plan → Bool) (code : ℕ) (plans : List Plan) → P plans → P (decided_in test code plans)
+decides number Over Left P lasts test code plans p = lasts.tidies (map (decided_if test code) plans) (lasts.codes test code plans p)
 
-expires : (number : ℕ) (Ended Left : ℕ → Type 0) (P : List Plan → Type 0) → Lasts number Ended Left P → (plans : List Plan) (kind : DueKind) → P plans → P (expired plans kind)
-expires number Ended Left P lasts plans (dues.Deadline plan) p = decides number Ended Left P lasts (is_numbered plan) 1053 plans p
-expires number Ended Left P lasts plans kind p = p
+expires : (number : ℕ) (Over Left : ℕ → Type 0) (P : List Plan → Type 0) → Lasts number Over Left P → (plans : List Plan) (kind : DueKind) → P plans → P (expired plans kind)
+expires number Over Left P lasts plans (dues.Deadline plan) p = decides number Over Left P lasts (is_numbered plan) 1053 plans p
+expires number Over Left P lasts plans kind p = p
 
-ticks : (number : ℕ) (Ended Left : ℕ → Type 0) (P : List Plan → Type 0) → Lasts number Ended Left P → (moment : ℕ) (plans : List Plan) (rows : List Due) → P plans → P (fired moment plans rows)
-ticks number Ended Left P lasts moment plans [] p = p
-ticks number Ended Left P lasts moment plans (due ∷ rows) p =
-    ticks number Ended Left P lasts moment (fired_by moment plans due) rows
-    (elim (is_due moment due) as (λ b. P (cond b (expired plans due.kind) plans)) [ true ↦ expires number Ended Left P lasts plans due.kind p | false ↦ p ])
+ticks : (number : ℕ) (Over Left : ℕ → Type 0) (P : List Plan → Type 0) → Lasts number Over Left P → (moment : ℕ) (plans : List Plan) (rows : List Due) → P plans → P (fired moment plans rows)
+ticks number Over Left P lasts moment plans [] p = p
+ticks number Over Left P lasts moment plans (due ∷ rows) p =
+    ticks number Over Left P lasts moment (fired_by moment plans due) rows
+    (elim (is_due moment due) as (λ b. P (cond b (expired plans due.kind) plans)) [ true ↦ expires number Over Left P lasts plans due.kind p | false ↦ p ])
 
 plans_configured : (f : Flat) (number : ℕ) (config : Option Config) → (with_new_config f number config).plans ≡ f.plans
 plans_configured f number None = refl
 plans_configured f number (Some config) = refl
 
-of_done : (number : ℕ) (Ended Left : ℕ → Type 0) (P : List Plan → Type 0) → Lasts number Ended Left P → (f : Flat) (caller : ℕ) (asked : Request) → (f.next.plan == number) ≡ false → P f.plans → P (done_of f caller asked).1.plans
-of_done number Ended Left P lasts f caller (request.Change change) other p = subst P (sym (plans_configured f _ (asked_config f caller change))) p
-of_done number Ended Left P lasts f caller (request.Start handle words) other p = lasts.begins f.plans _ other p
-of_done number Ended Left P lasts f caller asked other p = p
+of_done : (number : ℕ) (Over Left : ℕ → Type 0) (P : List Plan → Type 0) → Lasts number Over Left P → (l : Limits) (f : Flat) (caller : ℕ) (asked : Request) → (f.next.plan == number) ≡ false → P f.plans → P (done_of l f caller asked).1.plans
+of_done number Over Left P lasts l f caller (request.Change change) other p = subst P (sym (plans_configured f _ (asked_config f caller change))) p
+of_done number Over Left P lasts l f caller (request.Start handle words) other p = lasts.begins f.plans _ other p
+of_done number Over Left P lasts l f caller asked other p = p
 
-of_call : (number : ℕ) (Ended Left : ℕ → Type 0) (P : List Plan → Type 0) → Lasts number Ended Left P → (l : Limits) (f : Flat) (caller : ℕ) (asked : Request) (append : Kept) → (f.next.plan == number) ≡ false → P f.plans
+of_call : (number : ℕ) (Over Left : ℕ → Type 0) (P : List Plan → Type 0) → Lasts number Over Left P → (l : Limits) (f : Flat) (caller : ℕ) (asked : Request) (append : Kept) → (f.next.plan == number) ≡ false → P f.plans
     → P (call_of l f caller asked append).1.plans
-of_call number Ended Left P lasts l f caller asked append other p =
-    by_verdict (λ r. P r.1.plans) (verdict l f caller asked append) (told_refused f caller asked (verdict l f caller asked append)) f (done_of f caller asked)
-    (λ e. of_done number Ended Left P lasts f caller asked other p) (λ e. p)
+of_call number Over Left P lasts l f caller asked append other p =
+    by_verdict (λ r. P r.1.plans) (verdict l f caller asked append) (told_refused f caller asked (verdict l f caller asked append)) f (done_of l f caller asked)
+    (λ e. of_done number Over Left P lasts l f caller asked other p) (λ e. p)
 
-of_effect : (number : ℕ) (Ended Left : ℕ → Type 0) (P : List Plan → Type 0) → Lasts number Ended Left P → (l : Limits) (f : Flat) (moment : ℕ) (step : Step) → (f.next.plan == number) ≡ false → Allows Ended Left step → P f.plans
+of_effect : (number : ℕ) (Over Left : ℕ → Type 0) (P : List Plan → Type 0) → Lasts number Over Left P → (l : Limits) (f : Flat) (moment : ℕ) (step : Step) → (f.next.plan == number) ≡ false → Allows Over Left step → P f.plans
     → P (effect_of l (at_moment f moment step) step).1.plans
-of_effect number Ended Left P lasts l f moment (Call caller asked append) other allowed p = of_call number Ended Left P lasts l (with_moment f moment) caller asked append other p
-of_effect number Ended Left P lasts l f moment (EndStart caller plan) other allowed p = lasts.ends plan f.plans allowed p
-of_effect number Ended Left P lasts l f moment (Launched process pid) other allowed p = decides number Ended Left P lasts (aims_at (service_of_process f process)) 0 f.plans p
-of_effect number Ended Left P lasts l f moment (LaunchFailed process code) other allowed p = decides number Ended Left P lasts (aims_at (service_of_process f process)) code f.plans p
-of_effect number Ended Left P lasts l f moment Tick other allowed p = ticks number Ended Left P lasts (with_moment f moment).moment f.plans f.dues p
-of_effect number Ended Left P lasts l f moment (Gone caller) other allowed p = lasts.leaves caller f.plans allowed p
-of_effect number Ended Left P lasts l f moment step other allowed p = p
+of_effect number Over Left P lasts l f moment (Call caller asked append) other allowed p = of_call number Over Left P lasts l (with_moment f moment) caller asked append other p
+of_effect number Over Left P lasts l f moment (EndStart caller plan) other allowed p = lasts.ends plan f.plans allowed p
+of_effect number Over Left P lasts l f moment (Launched process pid) other allowed p = decides number Over Left P lasts (aims_at (service_of_process f process)) 0 f.plans p
+of_effect number Over Left P lasts l f moment (LaunchFailed process code) other allowed p = decides number Over Left P lasts (aims_at (service_of_process f process)) code f.plans p
+of_effect number Over Left P lasts l f moment Tick other allowed p = ticks number Over Left P lasts (with_moment f moment).moment f.plans f.dues p
+of_effect number Over Left P lasts l f moment (Gone caller) other allowed p = lasts.leaves caller f.plans allowed p
+of_effect number Over Left P lasts l f moment step other allowed p = p
 
 -- ## Starts that end in their call
 
@@ -89,33 +92,51 @@ answers_next : (b : Bool) (plan : ℕ) (told : Reply) → IfSome (plan_made (ans
 answers_next true plan told = refl
 answers_next false plan told = tt
 
+-- neither a report nor an end begins a plan
+answer_begins : (result : Result Status ℕ) → plan_made (report_answer result) ≡ None
+answer_begins (Ok status) = refl
+answer_begins (Err code) = refl
+
+report_begins : (found : Option Service) (report : Status) → plan_made (report_told found report) ≡ None
+report_begins None report = refl
+report_begins (Some row) report = answer_begins _
+
+pub report_none : (P : ℕ → Type 0) (found : Option Service) (report : Status) → IfSome (plan_made (report_told found report)) P
+report_none P found report = subst (λ o. IfSome o P) (sym (report_begins found report)) tt
+
+pub end_none : (P : ℕ → Type 0) (found : Option Service) → IfSome (plan_made (end_told found)) P
+end_none P None = tt
+end_none P (Some row) = tt
+
 -- a plan that begins has the next number
 pub begins_next : (l : Limits) (f : Flat) (moment : ℕ) (step : Step) → IfSome (plan_made (effect_of l (at_moment f moment step) step).0) (λ number. number ≡ f.next.plan)
 begins_next l f moment (Call caller asked append) =
     let g = with_moment f moment in
     answers_next (tells_plan asked (verdict l g caller asked append)) f.next.plan (call_of l g caller asked append).0
+begins_next l f moment (Report process status) = report_none (λ number. number ≡ f.next.plan) (current_of f process) status
+begins_next l f moment (Ended process) = end_none (λ number. number ≡ f.next.plan) (current_of f process)
 begins_next l f moment step = tt
 
-left : (number : ℕ) (Ended Left : ℕ → Type 0) (P : List Plan → Type 0) → Lasts number Ended Left P → (g : Flat) (plan : ℕ) (code : Option ℕ) → Ended plan → P g.plans → P (left_by g plan code).plans
-left number Ended Left P lasts g plan None ended p = p
-left number Ended Left P lasts g plan (Some code) ended p = lasts.ends plan g.plans ended p
+left : (number : ℕ) (Over Left : ℕ → Type 0) (P : List Plan → Type 0) → Lasts number Over Left P → (g : Flat) (plan : ℕ) (code : Option ℕ) → Over plan → P g.plans → P (left_by g plan code).plans
+left number Over Left P lasts g plan None ended p = p
+left number Over Left P lasts g plan (Some code) ended p = lasts.ends plan g.plans ended p
 
-finishes : (number : ℕ) (Ended Left : ℕ → Type 0) (P : List Plan → Type 0) → Lasts number Ended Left P → (g : Flat) (told : Answer) → IfSome (plan_made told) Ended → P g.plans → P (finished g told).1.plans
-finishes number Ended Left P lasts g (answer.Begun plan) ended p = left number Ended Left P lasts g plan (code_of g.plans plan) ended p
-finishes number Ended Left P lasts g told ended p = p
+finishes : (number : ℕ) (Over Left : ℕ → Type 0) (P : List Plan → Type 0) → Lasts number Over Left P → (g : Flat) (told : Answer) → IfSome (plan_made told) Over → P g.plans → P (finished g told).1.plans
+finishes number Over Left P lasts g (answer.Begun plan) ended p = left number Over Left P lasts g plan (code_of g.plans plan) ended p
+finishes number Over Left P lasts g told ended p = p
 
-next_ended : (Ended : ℕ → Type 0) (next : ℕ) (made : Option ℕ) → IfSome made (λ number. number ≡ next) → Ended next → IfSome made Ended
-next_ended Ended next None is ended = tt
-next_ended Ended next (Some plan) is ended = subst Ended (sym is) ended
+next_ended : (Over : ℕ → Type 0) (next : ℕ) (made : Option ℕ) → IfSome made (λ number. number ≡ next) → Over next → IfSome made Over
+next_ended Over next None is ended = tt
+next_ended Over next (Some plan) is ended = subst Over (sym is) ended
 
 -- ## Steps
 
-pub of_step : (number : ℕ) (Ended Left : ℕ → Type 0) (P : List Plan → Type 0) → Lasts number Ended Left P → (l : Limits) (f : Flat) (moment : ℕ) (step : Step) → number < f.next.plan → Ended f.next.plan → Allows Ended Left step
+pub of_step : (number : ℕ) (Over Left : ℕ → Type 0) (P : List Plan → Type 0) → Lasts number Over Left P → (l : Limits) (f : Flat) (moment : ℕ) (step : Step) → number < f.next.plan → Over f.next.plan → Allows Over Left step
     → P f.plans → P (step_of l f moment step).1.plans
-of_step number Ended Left P lasts l f moment step low last allowed p =
+of_step number Over Left P lasts l f moment step low last allowed p =
     let done = effect_of l (at_moment f moment step) step in
-    let effect = of_effect number Ended Left P lasts l f moment step (ne_eqb f.next.plan number (λ e. absurd (omega (arith, e, low)))) allowed p in
-    finishes number Ended Left P lasts (settled l done.1) done.0 (next_ended Ended f.next.plan (plan_made done.0) (begins_next l f moment step) last)
+    let effect = of_effect number Over Left P lasts l f moment step (ne_eqb f.next.plan number (λ e. absurd (omega (arith, e, low)))) allowed p in
+    finishes number Over Left P lasts (settled l done.1) done.0 (next_ended Over f.next.plan (plan_made done.0) (begins_next l f moment step) last)
     (lasts.tidies (settle_all l done.1 done.1.plans).1 (lasts.settles l done.1 done.1.plans effect))
 
 -- ## What settling leaves of a plan

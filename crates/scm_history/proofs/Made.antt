@@ -1,34 +1,40 @@
 -- Who an entry names was made by an entry before it.
-use Rattle.std.proofs.Common.{ℕ, ◌≡◌, ◌∙◌, ◌==◌, ◌||◌, ◌++◌, true, false, not, cond, IsTrue, List, [], ◌∷◌, None, Some, filter, find, map, ap, refl, subst, eqb-true}
-use Rattle.std.specs.Prelude.{is_some}
+use Rattle.std.proofs.Common.{ℕ, ◌≡◌, ◌∙◌, ◌==◌, ◌||◌, ◌++◌, Bool, true, false, not, cond, IsTrue, List, [], ◌∷◌, Option, None, Some, find, map, ap, refl, subst, eqb-true}
+use Rattle.std.specs.Prelude.{is_some, option_map}
 use Rattle.std.proofs.lemmas.Option.{IfSome_then}
 use Rattle.scm_model.specs.declared.flat.Caller.{Caller}
 use Rattle.scm_model.specs.declared.flat.Flat.{Flat}
 use Rattle.scm_model.specs.declared.flat.Limits.{Limits}
+use Rattle.scm_model.specs.declared.flat.Phase.{Phase}
 use Rattle.scm_model.specs.declared.flat.Phase.TheVariants as phases
 use Rattle.scm_model.specs.declared.flat.Process.{Process}
 use Rattle.scm_model.specs.declared.steps.Step.{Step}
-use Rattle.scm_model.specs.declared.steps.Step.TheVariants.{Joined, Call, LaunchTaken, Launched, LaunchFailed, Gone}
+use Rattle.scm_model.specs.declared.steps.Step.TheVariants.{Joined, Call, LaunchTaken, Launched, LaunchFailed, Ended, ControlTaken, Gone}
 use Rattle.scm_model.specs.Rows.{is_caller}
 use Rattle.scm_model.specs.Changes.{with_moment}
 use Rattle.start_plan.specs.Entered.{wanted_process}
 use Rattle.start_plan.specs.Settle.{settled}
 use Rattle.start_plan.proofs.Enterings.{all_units}
 use Rattle.start_plan.proofs.Keeps.{Keeps, keeps_all}
-use Rattle.scm_rules.specs.Launches.{first_wanted, is_taken, launched_if, process_of, taken_if}
+use Rattle.scm_rules.specs.Controls.{relieved_if}
+use Rattle.scm_rules.specs.Launches.{first_wanted, is_running, is_running_phase, is_taken, is_taken_phase, launched_if, process_of, taken_if}
 use Rattle.scm_rules.specs.Runs.{Entry, IsLegal, state_of}
 use Rattle.scm_rules.specs.Steps.{at_moment, effect_of, may, step_of}
+use Rattle.scm_rules.specs.Valid.{is_to_launch, is_wanted_phase}
+use Rattle.scm_laws.proofs.Calls.{came}
 use Rattle.scm_laws.proofs.Frames.{finished_keeps}
 use Rattle.scm_laws.proofs.Handled.{has_caller}
-use Rattle.scm_laws.proofs.Lists.{find_filter}
+use Rattle.scm_laws.proofs.Sound.{controls_fewer}
 use Rattle.scm_history.specs.Entries.{caller_named, has_made, has_taken, makes_caller, process_named, takes_process}
 use Rattle.scm_history.specs.Made.{StandsBehind}
+use Rattle.scm_history.specs.Names.{has_come_to}
+use Rattle.scm_history.specs.Processes.{apart_from_controls}
 use Rattle.scm_history.proofs.Begun.{answers_own}
 use Rattle.scm_history.proofs.Callers.{caller_after}
-use Rattle.scm_history.proofs.Effects.{of_call}
+use Rattle.scm_history.proofs.Effects.{controls_apart, of_call}
 use Rattle.scm_history.proofs.Finds.{find_push, none_filter}
 use Rattle.scm_history.proofs.Names.{caller_there, process_there}
-use Rattle.scm_history.proofs.Processes.{apart, has, others_changed, takes}
+use Rattle.scm_history.proofs.Processes.{has, launches, left_not, others_changed, takes, told_apart}
 
 -- ## Callers
 
@@ -54,76 +60,96 @@ made l f number (e ∷ es) none there =
 
 -- ## Processes
 
--- whom a launch leaves isn't in hand
-launched_not : (number process pid : ℕ) (rows : List Process) → is_taken (find (has number) rows) ≡ false → is_taken (find (has number) (map (launched_if process pid) rows)) ≡ false
-launched_not number process pid [] none = refl
-launched_not number process pid (row ∷ rows) none =
-    elim (row.number == process) as (λ b. is_taken (cond ((cond b (record row { phase = phases.Launched; pid = pid }) row).number == number) (Some (cond b (record row { phase = phases.Launched; pid = pid }) row)) (find (has number) (map (launched_if process pid) rows))) ≡ false) [
-      | true ↦ elim (row.number == number) as (λ b. is_taken (cond b (Some row) (find (has number) rows)) ≡ false → is_taken (cond b (Some (record row { phase = phases.Launched; pid = pid })) (find (has number) (map (launched_if process pid) rows))) ≡ false)
-          [ true ↦ λ h. refl | false ↦ λ h. launched_not number process pid rows h ] none
-      | false ↦ elim (row.number == number) as (λ b. is_taken (cond b (Some row) (find (has number) rows)) ≡ false → is_taken (cond b (Some row) (find (has number) (map (launched_if process pid) rows))) ≡ false)
-          [ true ↦ λ h. h | false ↦ λ h. launched_not number process pid rows h ] none
-    ]
+-- listed, and no more to be launched
+abbrev is_begun : Option Process → Bool
+is_begun None = false
+is_begun (Some row) = not (is_to_launch row)
 
--- whose launch failed is listed no more
-failed_none : (number : ℕ) (rows : List Process) → is_taken (find (has number) (filter (λ (row : Process). not (row.number == number)) rows)) ≡ false
-failed_none number [] = refl
-failed_none number (row ∷ rows) =
-    elim (row.number == number) as (λ b. (row.number == number) ≡ b
-    → is_taken (find (has number) (cond (not b) (row ∷ filter (λ (row : Process). not (row.number == number)) rows) (filter (λ (row : Process). not (row.number == number)) rows))) ≡ false) [
-      | true ↦ λ e. failed_none number rows
-      | false ↦ λ e. rw e (failed_none number rows)
-    ] refl
+begun_apart : (row : Option Process) → is_begun (option_map apart_from_controls row) ≡ is_begun row
+begun_apart None = refl
+begun_apart (Some row) = refl
 
-failed_not : (number process : ℕ) (rows : List Process) → is_taken (find (has number) rows) ≡ false → is_taken (find (has number) (filter (λ (row : Process). not (row.number == process)) rows)) ≡ false
-failed_not number process rows none =
-    elim (number == process) as (λ b. (number == process) ≡ b → is_taken (find (has number) (filter (λ (row : Process). not (row.number == process)) rows)) ≡ false) [
-      | true ↦ λ e. subst (λ n. is_taken (find (has number) (filter (λ (row : Process). not (row.number == n)) rows)) ≡ false) (eqb-true number process e) (failed_none number rows)
-      | false ↦ λ e. ap is_taken (find_filter (has number) (λ (row : Process). not (row.number == process)) (λ row same. ap not (apart number process row e same)) rows) ∙ none
+phase_taken : (phase : Phase) → is_taken_phase phase ≡ true → not (is_wanted_phase phase) ≡ true
+phase_taken phases.Wanted h = absurd cc
+phase_taken phases.Taken h = refl
+phase_taken phases.Launched h = absurd cc
+
+phase_running : (phase : Phase) → is_running_phase phase ≡ true → not (is_wanted_phase phase) ≡ true
+phase_running phases.Wanted h = absurd cc
+phase_running phases.Taken h = absurd cc
+phase_running phases.Launched h = refl
+
+taken_begun : (row : Option Process) → is_taken row ≡ true → is_begun row ≡ true
+taken_begun None h = absurd cc
+taken_begun (Some row) h = phase_taken row.phase h
+
+running_begun : (row : Option Process) → is_running row ≡ true → is_begun row ≡ true
+running_begun None h = absurd cc
+running_begun (Some row) h = phase_running row.phase h
+
+-- whom a step names is listed and no more to be launched
+named_begun : (step : Step) (row : Option Process) → has_come_to step row ≡ true → is_begun row ≡ true
+named_begun (Launched process pid) row h = taken_begun row h
+named_begun (LaunchFailed process code) row h = taken_begun row h
+named_begun step row h = running_begun row h
+
+-- a launch comes of a process in hand alone
+launched_not : (number process pid : ℕ) (rows : List Process) → is_taken (find (has process) rows) ≡ true → is_begun (find (has number) rows) ≡ false → is_begun (find (has number) (map (launched_if process pid) rows)) ≡ false
+launched_not number process pid rows taken none =
+    elim (number == process) as (λ b. (number == process) ≡ b → is_begun (find (has number) (map (launched_if process pid) rows)) ≡ false) [
+      | true ↦ λ e. absurd (let there = taken_begun (find (has process) rows) taken in let same = ap (λ n. is_begun (find (has n) rows)) (eqb-true number process e) in cc)
+      | false ↦ λ e. ap is_begun (others_changed number process (launched_if process pid) rows (launches process pid) e) ∙ none
     ] refl
 
 -- an effect that takes another process in hand, or none
-not_taken : (l : Limits) (f : Flat) (moment : ℕ) (step : Step) (number : ℕ) → takes_process f number step ≡ false → is_taken (process_of f number) ≡ false
-    → is_taken (process_of (effect_of l (at_moment f moment step) step).1 number) ≡ false
-not_taken l f moment (Call caller asked append) number other none = ap (λ rows. is_taken (find (has number) rows)) (of_call l (with_moment f moment) caller asked append).processes ∙ none
-not_taken l f moment LaunchTaken number other none = ap is_taken (others_changed number (first_wanted f.wanted) (taken_if (first_wanted f.wanted)) f.processes (takes (first_wanted f.wanted)) other) ∙ none
-not_taken l f moment (Launched process pid) number other none = launched_not number process pid f.processes none
-not_taken l f moment (LaunchFailed process code) number other none = failed_not number process f.processes none
-not_taken l f moment step number other none = none
+not_begun : (l : Limits) (f : Flat) (moment : ℕ) (step : Step) (number : ℕ) → IsTrue (may l f moment step) → takes_process f number step ≡ false → is_begun (process_of f number) ≡ false
+    → is_begun (process_of (effect_of l (at_moment f moment step) step).1 number) ≡ false
+not_begun l f moment (Call caller asked append) number ok other none = told_apart is_begun begun_apart number f.processes _ (of_call l (with_moment f moment) caller asked append).processes ∙ none
+not_begun l f moment LaunchTaken number ok other none = ap is_begun (others_changed number (first_wanted f.wanted) (taken_if (first_wanted f.wanted)) f.processes (takes (first_wanted f.wanted)) other) ∙ none
+not_begun l f moment (Launched process pid) number ok other none = launched_not number process pid f.processes (came _ _ ok) none
+not_begun l f moment (LaunchFailed process code) number ok other none = left_not is_begun refl number process f.processes none
+not_begun l f moment (Ended process) number ok other none = left_not is_begun refl number process f.processes none
+not_begun l f moment (ControlTaken process) number ok other none =
+    told_apart is_begun begun_apart number f.processes _ (controls_apart (relieved_if process) (controls_fewer process) f.processes) ∙ none
+not_begun l f moment step number ok other none = none
 
--- a process that is wanted isn't in hand
-wanted_not : (number next service : ℕ) (rows : List Process) → is_taken (find (has number) rows) ≡ false → is_taken (find (has number) (rows ++ wanted_process next service ∷ [])) ≡ false
-wanted_not number next service [] none = elim (next == number) as (λ b. is_taken (cond b (Some (wanted_process next service)) None) ≡ false) [ true ↦ refl | false ↦ refl ]
+-- a process that is wanted is still to be launched
+wanted_not : (number next service : ℕ) (rows : List Process) → is_begun (find (has number) rows) ≡ false → is_begun (find (has number) (rows ++ wanted_process next service ∷ [])) ≡ false
+wanted_not number next service [] none = elim (next == number) as (λ b. is_begun (cond b (Some (wanted_process next service)) None) ≡ false) [ true ↦ refl | false ↦ refl ]
 wanted_not number next service (row ∷ rows) none =
-    elim (row.number == number) as (λ b. is_taken (cond b (Some row) (find (has number) rows)) ≡ false → is_taken (cond b (Some row) (find (has number) (rows ++ wanted_process next service ∷ []))) ≡ false)
+    elim (row.number == number) as (λ b. is_begun (cond b (Some row) (find (has number) rows)) ≡ false → is_begun (cond b (Some row) (find (has number) (rows ++ wanted_process next service ∷ []))) ≡ false)
     [ true ↦ λ h. h | false ↦ λ h. wanted_not number next service rows h ] none
 
-abbrev IsNotTaken : ℕ → Flat → Type 0
-IsNotTaken number f = is_taken (process_of f number) ≡ false
+abbrev IsNotBegun : ℕ → Flat → Type 0
+IsNotBegun number f = is_begun (process_of f number) ≡ false
 
-stays_not : (l : Limits) (number : ℕ) → Keeps l (IsNotTaken number) (λ plan. Unit {0})
+stays_not : (l : Limits) (number : ℕ) → Keeps l (IsNotBegun number) (λ plan. Unit {0})
 stays_not l number = record {
   enters = λ f plan service words entry none. wanted_not number f.next.process service f.processes none;
   tries = λ f plan service entry q. tt;
   drops = λ plan service rest code q. tt;
 }
 
-step_not : (l : Limits) (f : Flat) (moment : ℕ) (step : Step) (number : ℕ) → takes_process f number step ≡ false → is_taken (process_of f number) ≡ false → is_taken (process_of (step_of l f moment step).1 number) ≡ false
-step_not l f moment step number other none =
+step_not : (l : Limits) (f : Flat) (moment : ℕ) (step : Step) (number : ℕ) → IsTrue (may l f moment step) → takes_process f number step ≡ false → is_begun (process_of f number) ≡ false → is_begun (process_of (step_of l f moment step).1 number) ≡ false
+step_not l f moment step number ok other none =
     let done = effect_of l (at_moment f moment step) step in
-    finished_keeps (IsNotTaken number) (λ g plans h. h) (settled l done.1) done.0
-    (keeps_all l (IsNotTaken number) (λ plan. Unit {0}) (stays_not l number) done.1 done.1.plans (not_taken l f moment step number other none) (all_units done.1.plans)).flat
+    finished_keeps (IsNotBegun number) (λ g plans h. h) (settled l done.1) done.0
+    (keeps_all l (IsNotBegun number) (λ plan. Unit {0}) (stays_not l number) done.1 done.1.plans (not_begun l f moment step number ok other none) (all_units done.1.plans)).flat
 
--- who is in hand in the end and wasn't in the beginning was taken in hand
-taken : (l : Limits) (f : Flat) (number : ℕ) (es : List Entry) → is_taken (process_of f number) ≡ false → is_taken (process_of (state_of l f es) number) ≡ true → has_taken l f number es ≡ true
-taken l f number [] none there = absurd cc
-taken l f number (e ∷ es) none there =
+-- who is no more to be launched in the end and wasn't listed so in the beginning was taken in hand
+taken : (l : Limits) (f : Flat) (number : ℕ) (es : List Entry) → IsLegal l f es → is_begun (process_of f number) ≡ false → is_begun (process_of (state_of l f es) number) ≡ true → has_taken l f number es ≡ true
+taken l f number [] legal none there = absurd cc
+taken l f number (e ∷ es) legal none there =
     elim (takes_process f number e.1) as (λ b. takes_process f number e.1 ≡ b → (b || has_taken l (step_of l f e.0 e.1).1 number es) ≡ true) [
       | true ↦ λ h. refl
-      | false ↦ λ h. taken l (step_of l f e.0 e.1).1 number es (step_not l f e.0 e.1 number h none) there
+      | false ↦ λ h. taken l (step_of l f e.0 e.1).1 number es legal.1 (step_not l f e.0 e.1 number legal.0 h none) there
     ] refl
 
 -- ## Histories
+
+pub front_legal : (l : Limits) (f : Flat) (front rest : List Entry) → IsLegal l f (front ++ rest) → IsLegal l f front
+front_legal l f [] rest legal = tt
+front_legal l f (e ∷ front) rest legal = (legal.0, front_legal l (step_of l f e.0 e.1).1 front rest legal.1)
 
 -- an entry may be made in the state that the front ends in
 pub may_behind : (l : Limits) (f : Flat) (front : List Entry) (e : Entry) (rest : List Entry) → IsLegal l f (front ++ e ∷ rest) → IsTrue (may l (state_of l f front) e.0 e.1)
@@ -137,10 +163,12 @@ pub record IsEmpty (f : Flat) : Type 0 where
 
 pub stands_behind : (l : Limits) (f : Flat) (es : List Entry) → IsEmpty f → f.plans ≡ [] → IsLegal l f es → (front : List Entry) (e : Entry) (rest : List Entry) → es ≡ front ++ e ∷ rest → StandsBehind l f front e
 stands_behind l f es empty none legal front e rest split =
-    let ok = may_behind l f front e rest (subst (IsLegal l f) split legal) in
+    let whole = subst (IsLegal l f) split legal in
+    let ok = may_behind l f front e rest whole in
+    let before = front_legal l f front (e ∷ rest) whole in
     record {
       caller = IfSome_then (caller_named e.1) (caller_there l (state_of l f front) e.0 e.1 ok) (λ number there. made l f number front (ap (λ rows. has_caller rows number) empty.callers) there);
       process = IfSome_then (process_named e.1) (process_there l (state_of l f front) e.0 e.1 ok)
-          (λ number there. taken l f number front (ap (λ rows. is_taken (find (has number) rows)) empty.processes) there);
+          (λ number there. taken l f number front before (ap (λ rows. is_begun (find (has number) rows)) empty.processes) (named_begun e.1 (process_of (state_of l f front) number) there));
       start = answers_own l f front e.0 e.1 none ok;
     }

@@ -4,15 +4,15 @@ use Rattle.std.specs.Prelude.{IfSome}
 use Rattle.scm_model.specs.declared.flat.Flat.{Flat}
 use Rattle.scm_model.specs.declared.flat.Limits.{Limits}
 use Rattle.scm_model.specs.declared.steps.Step.{Step}
-use Rattle.scm_model.specs.declared.steps.Step.TheVariants.{Call, EndStart, Launched, LaunchFailed, Gone, NoMemory}
+use Rattle.scm_model.specs.declared.steps.Step.TheVariants.{Call, EndStart, Launched, LaunchFailed, Report, Ended, Gone, NoMemory}
 use Rattle.scm_model.specs.Rows.{is_caller}
-use Rattle.scm_rules.specs.Launches.{is_taken, process_of}
+use Rattle.scm_rules.specs.Launches.{process_of}
 use Rattle.scm_rules.specs.Steps.{may}
 use Rattle.scm_laws.proofs.Along.{Gives}
 use Rattle.scm_laws.proofs.Calls.{came}
 use Rattle.scm_laws.proofs.Sound.{Sound}
 use Rattle.scm_history.specs.Entries.{caller_named, process_named}
-use Rattle.scm_history.specs.Names.{NamesWhoIsThere}
+use Rattle.scm_history.specs.Names.{NamesWhoIsThere, has_come_to}
 
 pub caller_there : (l : Limits) (f : Flat) (moment : ℕ) (step : Step) → IsTrue (may l f moment step) → IfSome (caller_named step) (λ number. IsTrue (is_caller f number))
 caller_there l f moment (Call caller asked append) ok = came _ _ ok
@@ -21,9 +21,11 @@ caller_there l f moment (Gone caller) ok = came _ _ ok
 caller_there l f moment (NoMemory caller) ok = came _ _ ok
 caller_there l f moment step ok = tt
 
-pub process_there : (l : Limits) (f : Flat) (moment : ℕ) (step : Step) → IsTrue (may l f moment step) → IfSome (process_named step) (λ number. IsTrue (is_taken (process_of f number)))
+pub process_there : (l : Limits) (f : Flat) (moment : ℕ) (step : Step) → IsTrue (may l f moment step) → IfSome (process_named step) (λ number. IsTrue (has_come_to step (process_of f number)))
 process_there l f moment (Launched process pid) ok = came _ _ ok
 process_there l f moment (LaunchFailed process code) ok = came _ _ (came _ _ ok)
+process_there l f moment (Report process status) ok = came _ _ ok
+process_there l f moment (Ended process) ok = came _ _ ok
 process_there l f moment step ok = tt
 
 pub gives : (l : Limits) → Gives Sound NamesWhoIsThere l

@@ -11,11 +11,12 @@ use Rattle.scm_model.specs.declared.steps.Answer.{Answer}
 use Rattle.scm_model.specs.declared.steps.Answer.TheVariants as answer
 use Rattle.scm_model.specs.declared.steps.Kept.{Kept}
 use Rattle.scm_model.specs.declared.steps.Step.{Step}
-use Rattle.scm_model.specs.declared.steps.Step.TheVariants.{Joined, Call, EndStart, Gone}
+use Rattle.scm_model.specs.declared.steps.Step.TheVariants.{Joined, Call, EndStart, Report, Ended, Gone}
 use Rattle.scm_model.specs.Changes.{with_moment}
 use Rattle.start_plan.specs.Decided.{code_of, is_callers, is_numbered, plan_of}
 use Rattle.start_plan.specs.Settle.{settled, stays}
 use Rattle.scm_rules.specs.Change.{asked_config, with_new_config}
+use Rattle.scm_rules.specs.Reports.{current_of}
 use Rattle.scm_rules.specs.Start.{start_done, start_verdict}
 use Rattle.scm_rules.specs.Steps.{at_moment, effect_of, finished, answered_by, step_of}
 use Rattle.scm_rules.specs.Verdicts.{call_of, done_of, told_refused, verdict}
@@ -27,7 +28,7 @@ use Rattle.scm_history.specs.Numbers.{AreMadeOnce, IsGiven}
 use Rattle.scm_history.proofs.Callers.{next_after, rising, stays_out}
 use Rattle.scm_history.proofs.Effects.{framed}
 use Rattle.scm_history.proofs.Finds.{find_push, is_some-map, none_filter}
-use Rattle.scm_history.proofs.Lasting.{Allows, Lasts, coded_sides, of_step, settled_sides, sides}
+use Rattle.scm_history.proofs.Lasting.{Allows, Lasts, coded_sides, end_none, of_step, report_none, settled_sides, sides}
 use Rattle.scm_history.proofs.Processes.{after_effect, none_effect, process_rises}
 
 -- ## Plans
@@ -60,14 +61,14 @@ plan_configured : (f : Flat) (number : ℕ) (config : Option Config) → f.next.
 plan_configured f number None = omega arith
 plan_configured f number (Some config) = omega arith
 
-plan_done : (f : Flat) (caller : ℕ) (asked : Request) → f.next.plan ≤ (done_of f caller asked).1.next.plan
-plan_done f caller (request.Change change) = plan_configured f _ (asked_config f caller change)
-plan_done f caller asked = omega arith
+plan_done : (l : Limits) (f : Flat) (caller : ℕ) (asked : Request) → f.next.plan ≤ (done_of l f caller asked).1.next.plan
+plan_done l f caller (request.Change change) = plan_configured f _ (asked_config f caller change)
+plan_done l f caller asked = omega arith
 
 plan_call : (l : Limits) (f : Flat) (caller : ℕ) (asked : Request) (append : Kept) → f.next.plan ≤ (call_of l f caller asked append).1.next.plan
 plan_call l f caller asked append =
-    by_verdict (λ r. f.next.plan ≤ r.1.next.plan) (verdict l f caller asked append) (told_refused f caller asked (verdict l f caller asked append)) f (done_of f caller asked)
-    (λ e. plan_done f caller asked) (λ e. omega arith)
+    by_verdict (λ r. f.next.plan ≤ r.1.next.plan) (verdict l f caller asked append) (told_refused f caller asked (verdict l f caller asked append)) f (done_of l f caller asked)
+    (λ e. plan_done l f caller asked) (λ e. omega arith)
 
 plan_effect : (l : Limits) (f : Flat) (moment : ℕ) (step : Step) → f.next.plan ≤ (effect_of l (at_moment f moment step) step).1.next.plan
 plan_effect l f moment (Call caller asked append) = plan_call l (with_moment f moment) caller asked append
@@ -94,6 +95,8 @@ begun_call l f moment caller asked append = tt
 
 begun_effect : (l : Limits) (f : Flat) (moment : ℕ) (step : Step) → IfSome (plan_made (effect_of l (at_moment f moment step) step).0) (IsGiven f.next.plan (effect_of l (at_moment f moment step) step).1.next.plan)
 begun_effect l f moment (Call caller asked append) = begun_call l f moment caller asked append
+begun_effect l f moment (Report process status) = report_none (IsGiven f.next.plan f.next.plan) (current_of f process) status
+begun_effect l f moment (Ended process) = end_none (IsGiven f.next.plan f.next.plan) (current_of f process)
 begun_effect l f moment step = tt
 
 -- an answer that is a start's number was one before

@@ -1,5 +1,5 @@
 -- A process stays as it is but by the entries that are of it.
-use Rattle.std.proofs.Common.{ℕ, ◌≡◌, ◌∙◌, ◌<◌, ◌≤◌, ◌==◌, Bool, true, false, not, cond, List, Option, None, Some, find, map, ap, sym, refl, subst, arith, eqb-true, ne_eqb}
+use Rattle.std.proofs.Common.{ℕ, ◌≡◌, ◌∙◌, ◌<◌, ◌≤◌, ◌==◌, Bool, true, false, not, cond, List, [], ◌∷◌, Option, None, Some, filter, find, map, ap, sym, refl, subst, arith, eqb-true, ne_eqb}
 use Rattle.std.specs.Prelude.{is_some, option_map}
 use Rattle.scm_model.specs.declared.flat.Flat.{Flat}
 use Rattle.scm_model.specs.declared.flat.Limits.{Limits}
@@ -7,22 +7,23 @@ use Rattle.scm_model.specs.declared.flat.Phase.TheVariants as phases
 use Rattle.scm_model.specs.declared.flat.Process.{Process}
 use Rattle.scm_model.specs.declared.steps.Answer.{Answer}
 use Rattle.scm_model.specs.declared.steps.Step.{Step}
-use Rattle.scm_model.specs.declared.steps.Step.TheVariants.{Call, LaunchTaken, Launched, LaunchFailed}
+use Rattle.scm_model.specs.declared.steps.Step.TheVariants.{Call, LaunchTaken, Launched, LaunchFailed, Ended, ControlTaken}
 use Rattle.scm_model.specs.Changes.{with_moment}
 use Rattle.start_plan.specs.Entered.{wanted_process}
 use Rattle.start_plan.specs.Settle.{settled}
 use Rattle.start_plan.proofs.Enterings.{all_units}
 use Rattle.start_plan.proofs.Keeps.{Keeps, keeps_all}
+use Rattle.scm_rules.specs.Controls.{relieved_if}
 use Rattle.scm_rules.specs.Launches.{first_wanted, launched_if, process_of, taken_if}
 use Rattle.scm_rules.specs.Steps.{at_moment, effect_of, finished, step_of}
 use Rattle.scm_laws.proofs.Along.{Gives}
 use Rattle.scm_laws.proofs.Effects.{same_process}
 use Rattle.scm_laws.proofs.Frames.{finished_keeps}
 use Rattle.scm_laws.proofs.Lists.{find_filter}
-use Rattle.scm_laws.proofs.Sound.{Sound}
+use Rattle.scm_laws.proofs.Sound.{Sound, controls_fewer}
 use Rattle.scm_history.specs.Entries.{names_process, takes_process}
-use Rattle.scm_history.specs.Processes.{OthersStay}
-use Rattle.scm_history.proofs.Effects.{of_call}
+use Rattle.scm_history.specs.Processes.{OthersStay, apart_from_controls}
+use Rattle.scm_history.proofs.Effects.{controls_apart, of_call}
 use Rattle.scm_history.proofs.Finds.{find_map, find_push, found_below, found_map, none_filter}
 
 -- whether a process has a number
@@ -66,23 +67,64 @@ none_changed : (number one : ℕ) (change : Process → Process) (rows : List Pr
 none_changed number one change rows is =
     ap is_some (found_map (has number) change (λ row. ap (λ n. n == number) (is.number_same row)) rows) ∙ is_some-map change (find (has number) rows)
 
+-- ## Processes apart from their controls
+
+pub found_apart : (number : ℕ) (befores afters : List Process) → map apart_from_controls afters ≡ map apart_from_controls befores
+    → option_map apart_from_controls (find (has number) afters) ≡ option_map apart_from_controls (find (has number) befores)
+found_apart number befores afters e =
+    sym (found_map (has number) apart_from_controls (λ row. refl) afters) ∙ ap (find (has number)) e ∙ found_map (has number) apart_from_controls (λ row. refl) befores
+
+-- a test that looks at no controls tells the same
+pub told_apart : (test : Option Process → Bool) → ((row : Option Process) → test (option_map apart_from_controls row) ≡ test row) → (number : ℕ) (befores afters : List Process)
+    → map apart_from_controls afters ≡ map apart_from_controls befores → test (find (has number) afters) ≡ test (find (has number) befores)
+told_apart test same number befores afters e = sym (same (find (has number) afters)) ∙ ap test (found_apart number befores afters e) ∙ same (find (has number) befores)
+
+-- ## A process that leaves
+
+none_left : (number : ℕ) (rows : List Process) → find (has number) (filter (λ (row : Process). not (row.number == number)) rows) ≡ None
+none_left number [] = refl
+none_left number (row ∷ rows) =
+    elim (row.number == number) as (λ b. (row.number == number) ≡ b
+    → find (has number) (cond (not b) (row ∷ filter (λ (row : Process). not (row.number == number)) rows) (filter (λ (row : Process). not (row.number == number)) rows)) ≡ None) [
+      | true ↦ λ e. none_left number rows
+      | false ↦ λ e. rw e (none_left number rows)
+    ] refl
+
+-- what isn't so of a process, and of none, isn't so where one leaves
+pub left_not : (test : Option Process → Bool) → test None ≡ false → (number process : ℕ) (rows : List Process) → test (find (has number) rows) ≡ false → test (find (has number) (filter (λ (row : Process). not (row.number == process)) rows)) ≡ false
+left_not test none number process rows is =
+    elim (number == process) as (λ b. (number == process) ≡ b → test (find (has number) (filter (λ (row : Process). not (row.number == process)) rows)) ≡ false) [
+      | true ↦ λ e. subst (λ n. test (find (has number) (filter (λ (row : Process). not (row.number == n)) rows)) ≡ false) (eqb-true number process e) (ap test (none_left number rows) ∙ none)
+      | false ↦ λ e. ap test (find_filter (has number) (λ (row : Process). not (row.number == process)) (λ row same. ap not (apart number process row e same)) rows) ∙ is
+    ] refl
+
 -- ## Effects
 
+others_left : (number process : ℕ) (rows : List Process) → (number == process) ≡ false
+    → option_map apart_from_controls (find (has number) (filter (λ (row : Process). not (row.number == process)) rows)) ≡ option_map apart_from_controls (find (has number) rows)
+others_left number process rows other =
+    ap (option_map apart_from_controls) (find_filter (has number) (λ (row : Process). not (row.number == process)) (λ row same. ap not (apart number process row other same)) rows)
+
 of_effect : (l : Limits) (f : Flat) (moment : ℕ) (step : Step) (number : ℕ) → names_process number step ≡ false → takes_process f number step ≡ false
-    → process_of (effect_of l (at_moment f moment step) step).1 number ≡ process_of f number
-of_effect l f moment (Call caller asked append) number named taken = ap (λ rows. find (has number) rows) (of_call l (with_moment f moment) caller asked append).processes
-of_effect l f moment LaunchTaken number named taken = others_changed number (first_wanted f.wanted) (taken_if (first_wanted f.wanted)) f.processes (takes (first_wanted f.wanted)) taken
-of_effect l f moment (Launched process pid) number named taken = others_changed number process (launched_if process pid) f.processes (launches process pid) named
-of_effect l f moment (LaunchFailed process code) number named taken =
-    find_filter (has number) (λ (row : Process). not (row.number == process)) (λ row same. ap not (apart number process row named same)) f.processes
+    → option_map apart_from_controls (process_of (effect_of l (at_moment f moment step) step).1 number) ≡ option_map apart_from_controls (process_of f number)
+of_effect l f moment (Call caller asked append) number named taken = found_apart number f.processes _ (of_call l (with_moment f moment) caller asked append).processes
+of_effect l f moment LaunchTaken number named taken =
+    ap (option_map apart_from_controls) (others_changed number (first_wanted f.wanted) (taken_if (first_wanted f.wanted)) f.processes (takes (first_wanted f.wanted)) taken)
+of_effect l f moment (Launched process pid) number named taken =
+    ap (option_map apart_from_controls) (others_changed number process (launched_if process pid) f.processes (launches process pid) named)
+of_effect l f moment (LaunchFailed process code) number named taken = others_left number process f.processes named
+of_effect l f moment (Ended process) number named taken = others_left number process f.processes named
+of_effect l f moment (ControlTaken process) number named taken = found_apart number f.processes _ (controls_apart (relieved_if process) (controls_fewer process) f.processes)
 of_effect l f moment step number named taken = refl
 
 -- an effect lists nobody
 pub none_effect : (l : Limits) (f : Flat) (moment : ℕ) (step : Step) (number : ℕ) → is_some (process_of f number) ≡ false → is_some (process_of (effect_of l (at_moment f moment step) step).1 number) ≡ false
-none_effect l f moment (Call caller asked append) number none = ap (λ rows. is_some (find (has number) rows)) (of_call l (with_moment f moment) caller asked append).processes ∙ none
+none_effect l f moment (Call caller asked append) number none = told_apart is_some (is_some-map apart_from_controls) number f.processes _ (of_call l (with_moment f moment) caller asked append).processes ∙ none
 none_effect l f moment LaunchTaken number none = none_changed number (first_wanted f.wanted) (taken_if (first_wanted f.wanted)) f.processes (takes (first_wanted f.wanted)) ∙ none
 none_effect l f moment (Launched process pid) number none = none_changed number process (launched_if process pid) f.processes (launches process pid) ∙ none
 none_effect l f moment (LaunchFailed process code) number none = none_filter (has number) (λ (row : Process). not (row.number == process)) f.processes none
+none_effect l f moment (Ended process) number none = none_filter (has number) (λ (row : Process). not (row.number == process)) f.processes none
+none_effect l f moment (ControlTaken process) number none = told_apart is_some (is_some-map apart_from_controls) number f.processes _ (controls_apart (relieved_if process) (controls_fewer process) f.processes) ∙ none
 none_effect l f moment step number none = none
 
 -- ## Settling
@@ -124,7 +166,7 @@ listed_below f number s there = found_below (λ (row : Process). row.number) num
 
 pub gives : (l : Limits) → Gives Sound OthersStay l
 gives l f e s ok number named taken = record {
-  listed = λ there. after_effect l f e.0 e.1 number (listed_below f number s there) ∙ of_effect l f e.0 e.1 number named taken;
+  listed = λ there. ap (option_map apart_from_controls) (after_effect l f e.0 e.1 number (listed_below f number s there)) ∙ of_effect l f e.0 e.1 number named taken;
   unlisted = λ none low. ap is_some (after_effect l f e.0 e.1 number low) ∙ none_effect l f e.0 e.1 number none;
 }
 

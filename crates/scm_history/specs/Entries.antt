@@ -5,7 +5,7 @@ use Rattle.scm_model.specs.declared.flat.Limits.{Limits}
 use Rattle.scm_model.specs.declared.steps.Answer.{Answer}
 use Rattle.scm_model.specs.declared.steps.Answer.TheVariants as answer
 use Rattle.scm_model.specs.declared.steps.Step.{Step}
-use Rattle.scm_model.specs.declared.steps.Step.TheVariants.{Joined, Call, EndStart, LaunchTaken, Launched, LaunchFailed, Gone, NoMemory}
+use Rattle.scm_model.specs.declared.steps.Step.TheVariants.{Joined, Call, EndStart, LaunchTaken, Launched, LaunchFailed, Report, Ended, Gone, NoMemory}
 use Rattle.scm_rules.specs.Launches.{first_wanted}
 use Rattle.scm_rules.specs.Runs.{Entry}
 use Rattle.scm_rules.specs.Steps.{step_of}
@@ -25,10 +25,12 @@ caller_named (Gone caller) = Some caller
 caller_named (NoMemory caller) = Some caller
 caller_named step = None
 
--- the process that a step is of
+-- the process that a step is of, which tells of its launch, its service or its end
 abbrev pub process_named : Step → Option ℕ
 process_named (Launched process pid) = Some process
 process_named (LaunchFailed process code) = Some process
+process_named (Report process status) = Some process
+process_named (Ended process) = Some process
 process_named step = None
 
 abbrev pub names_caller : ℕ → Step → Bool

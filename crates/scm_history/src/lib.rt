@@ -16,7 +16,8 @@ ghost use Rattle.scm_rules.specs.Runs.{EachStep, IsLegal};
 use scm_model::{Flat, Limits, Step};
 use scm_text::Items;
 
-/// An entry names only a caller that is in the state before it, and a process that is listed there and in hand.
+/// An entry names only a caller that is in the state before it, and a process that is listed there: in hand where the entry tells the
+/// outcome of its launch, launched where it is a report or its end.
 pub fn names_who_is_there(limits: &Limits, steps: &Items<(u64, Step)>, opening: &Flat)
     requires begins { opening.now ≡ opening_at limits.now [] [] opening.now.moment }
     requires legal { IsLegal limits.now opening.now steps.now }
@@ -24,7 +25,7 @@ pub fn names_who_is_there(limits: &Limits, steps: &Items<(u64, Step)>, opening: 
 {}
 
 /// A process that an entry neither names nor takes in hand stays as it is: listed with the same service, phase and system's number, or
-/// not listed.
+/// not listed. Controls may come to wait for it, and be taken.
 pub fn others_stay(limits: &Limits, steps: &Items<(u64, Step)>, opening: &Flat)
     requires begins { opening.now ≡ opening_at limits.now [] [] opening.now.moment }
     requires legal { IsLegal limits.now opening.now steps.now }

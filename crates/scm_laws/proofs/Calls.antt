@@ -8,6 +8,7 @@ use Rattle.scm_model.specs.declared.flat.Flat.{Flat}
 use Rattle.scm_model.specs.declared.flat.HandleKind.TheVariants as kinds
 use Rattle.scm_model.specs.declared.flat.Limits.{Limits}
 use Rattle.scm_model.specs.declared.flat.Service.{Service}
+use Rattle.scm_model.specs.declared.flat.Status.{Status}
 use Rattle.scm_model.specs.declared.calls.ChangeService.{ChangeService}
 use Rattle.scm_model.specs.declared.calls.NewService.{NewService}
 use Rattle.scm_model.specs.declared.calls.Reply.{Reply}
@@ -17,15 +18,17 @@ use Rattle.scm_model.specs.declared.steps.Answer.{Answer}
 use Rattle.scm_model.specs.declared.steps.Answer.TheVariants as answer
 use Rattle.scm_model.specs.declared.steps.Kept.{Kept}
 use Rattle.scm_model.specs.declared.steps.Step.{Step}
-use Rattle.scm_model.specs.declared.steps.Step.TheVariants.{Joined, Call, EndStart, LaunchTaken, Launched, LaunchFailed, Tick, Gone, NoMemory}
+use Rattle.scm_model.specs.declared.steps.Step.TheVariants.{Joined, Call, EndStart, LaunchTaken, Launched, LaunchFailed, Report, Ended, ControlTaken, Tick, Gone, NoMemory}
 use Rattle.scm_model.specs.Refused.{answered, first_refusal}
 use Rattle.scm_model.specs.Rows.{handle_of, is_caller, manager_mask, opened, principal_of}
 use Rattle.scm_model.specs.Changes.{configured_if, with_moment, with_service}
 use Rattle.service_record.specs.Checks.{check_new, has_bad_names, has_bad_numbers, has_bad_texts, has_bad_lists, is_bad_account}
 use Rattle.scm_rules.specs.Change.{change_done, change_refusals, change_verdict, changed_service, checked, loops, new_config, tags_no_group, takes_name, with_new_config}
 use Rattle.scm_rules.specs.Close.{close_refusals}
+use Rattle.scm_rules.specs.Launches.{is_running, process_of}
 use Rattle.scm_rules.specs.Locks.{lock_refusals}
 use Rattle.scm_rules.specs.Needs.{are_unreadable, makes_cycle, start_order}
+use Rattle.scm_rules.specs.Reports.{may_report, process_in, reporting_service, set_status_refusals, set_status_verdict}
 use Rattle.scm_rules.specs.Start.{start_done, start_refusals, start_verdict, started_service}
 use Rattle.start_plan.specs.Decided.{code_of, is_target}
 use Rattle.start_plan.specs.Ready.{state_in}
@@ -45,7 +48,7 @@ use Rattle.scm_laws.proofs.Masks.{granted_within}
 use Rattle.scm_laws.proofs.Needed.{rows_added, rows_configured, tested}
 use Rattle.scm_laws.proofs.Ordered.{order_below}
 use Rattle.scm_laws.proofs.Settling.{settles}
-use Rattle.scm_laws.proofs.Sound.{Sound, moved, joined, left, handed, taken, given_back, closed, added, marked, cleared, planned, over, due, in_hand, running, not_running}
+use Rattle.scm_laws.proofs.Sound.{Sound, moved, joined, left, handed, taken, given_back, closed, added, marked, cleared, planned, over, due, in_hand, running, not_running, reported, no_more, control_waits, control_sent}
 
 -- ## A verdict of 0
 
@@ -72,6 +75,10 @@ all_pass (row ∷ rows) codes e =
 pub neither : (a b : Bool) → (a || b) ≡ false → (a ≡ false) × (b ≡ false)
 neither true b e = absurd (cc)
 neither false b e = (refl, e)
+
+pub came : (a b : Bool) → (a && b) ≡ true → a ≡ true
+came true b e = refl
+came false b e = absurd (cc)
 
 positive : (b : Bool) → not b ≡ false → b ≡ true
 positive true e = refl
@@ -147,16 +154,29 @@ started f caller handle words s there e =
     let below = target_below f target (started_service f caller handle) s refl (positive _ stopped.0) in
     planned f caller target (start_order f target) (unwrap_or words []) s there (order_below f f.next.service target s.services.numbered.below below)
 
+-- who may report has a process that runs
+reports_running : (f : Flat) (report : Status) (found : Option Service) → may_report f found report ≡ true → is_running (process_of f (process_in found)) ≡ true
+reports_running f report None may = absurd (cc)
+reports_running f report (Some row) may = came _ _ may
+
+-- a SetStatus with verdict 0
+set_status_runs : (f : Flat) (caller handle : ℕ) (report : Status) → set_status_verdict f caller handle report ≡ 0 → is_running (process_of f (process_in (reporting_service f caller handle))) ≡ true
+set_status_runs f caller handle report e =
+    let p = all_pass (set_status_refusals f caller handle report) (refl, (refl, (refl, tt))) e in
+    reports_running f report (reporting_service f caller handle) (positive _ p.1.1.0)
+
 -- ## Calls
 
-pub of_done : (l : Limits) (f : Flat) (caller : ℕ) (asked : Request) (append : Kept) → Sound f → is_caller f caller ≡ true → verdict l f caller asked append ≡ 0 → Sound (done_of f caller asked).1
+pub of_done : (l : Limits) (f : Flat) (caller : ℕ) (asked : Request) (append : Kept) → Sound f → is_caller f caller ≡ true → verdict l f caller asked append ≡ 0 → Sound (done_of l f caller asked).1
 of_done l f caller (request.Close handle) append s there e =
     let p = all_pass (close_refusals f caller handle) (refl, tt) e in
     closed f handle s (not_unlocked f.lock f.handles caller handle (handle_of f caller handle) refl (positive _ p.0) s.handles.lock)
+of_done l f caller (request.Control handle control) append s there e = control_waits l f _ control s
 of_done l f caller (request.Delete handle) append s there e = marked f _ s
 of_done l f caller (request.Lock handle) append s there e =
     let p = all_pass (lock_refusals l f caller handle) (refl, (refl, (refl, (refl, tt)))) e in
     taken f caller s there p.1.1.0
+of_done l f caller (request.SetStatus handle status) append s there e = reported f _ status (set_status_runs f caller handle status e) s
 of_done l f caller (request.Unlock handle) append s there e = given_back f handle s
 of_done l f caller (request.Change change) append s there e = change_done_sound f caller change append s e
 of_done l f caller (request.Create new) append s there e =
@@ -176,13 +196,9 @@ of_done l f caller asked append s there e = s
 
 of_call : (l : Limits) (f : Flat) (caller : ℕ) (asked : Request) (append : Kept) → Sound f → is_caller f caller ≡ true → Sound (call_of l f caller asked append).1
 of_call l f caller asked append s there =
-    by_verdict (λ r. Sound r.1) (verdict l f caller asked append) _ f (done_of f caller asked) (of_done l f caller asked append s there) (λ e. s)
+    by_verdict (λ r. Sound r.1) (verdict l f caller asked append) _ f (done_of l f caller asked) (of_done l f caller asked append s there) (λ e. s)
 
 -- ## Steps
-
-pub came : (a b : Bool) → (a && b) ≡ true → a ≡ true
-came true b e = refl
-came false b e = absurd (cc)
 
 pub of_effect : (l : Limits) (f : Flat) (moment : ℕ) (step : Step) → Sound f → IsTrue (may l f moment step) → Sound (effect_of l (at_moment f moment step) step).1
 of_effect l f moment (Joined principal) s ok = joined (with_moment f moment) principal (moved f moment s)
@@ -192,6 +208,9 @@ of_effect l f moment (EndStart caller plan) s ok = over (with_moment f moment) p
 of_effect l f moment LaunchTaken s ok = in_hand (with_moment f moment) (came _ _ ok) (moved f moment s)
 of_effect l f moment (Launched process pid) s ok = running (with_moment f moment) process pid (moved f moment s)
 of_effect l f moment (LaunchFailed process code) s ok = not_running (with_moment f moment) process code (moved f moment s)
+of_effect l f moment (Report process status) s ok = reported (with_moment f moment) process status (came _ _ ok) (moved f moment s)
+of_effect l f moment (Ended process) s ok = no_more (with_moment f moment) process (moved f moment s)
+of_effect l f moment (ControlTaken process) s ok = control_sent (with_moment f moment) process (moved f moment s)
 of_effect l f moment Tick s ok = due (with_moment f moment) (moved f moment s)
 of_effect l f moment (Gone caller) s ok = left (with_moment f moment) caller (moved f moment s)
 of_effect l f moment (NoMemory caller) s ok = s

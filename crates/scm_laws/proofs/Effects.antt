@@ -25,14 +25,14 @@ process_configured : (f : Flat) (number : ℕ) (config : Option Config) → (wit
 process_configured f number None = refl
 process_configured f number (Some config) = refl
 
-process_done : (f : Flat) (caller : ℕ) (asked : Request) → (done_of f caller asked).1.next.process ≡ f.next.process
-process_done f caller (request.Change change) = process_configured f _ (asked_config f caller change)
-process_done f caller asked = refl
+process_done : (l : Limits) (f : Flat) (caller : ℕ) (asked : Request) → (done_of l f caller asked).1.next.process ≡ f.next.process
+process_done l f caller (request.Change change) = process_configured f _ (asked_config f caller change)
+process_done l f caller asked = refl
 
 process_call : (l : Limits) (f : Flat) (caller : ℕ) (asked : Request) (append : Kept) → (call_of l f caller asked append).1.next.process ≡ f.next.process
 process_call l f caller asked append =
-    by_verdict (λ r. r.1.next.process ≡ f.next.process) (verdict l f caller asked append) (told_refused f caller asked (verdict l f caller asked append)) f (done_of f caller asked)
-    (λ e. process_done f caller asked) (λ e. refl)
+    by_verdict (λ r. r.1.next.process ≡ f.next.process) (verdict l f caller asked append) (told_refused f caller asked (verdict l f caller asked append)) f (done_of l f caller asked)
+    (λ e. process_done l f caller asked) (λ e. refl)
 
 -- an effect gives no number of a process
 pub same_process : (l : Limits) (f : Flat) (moment : ℕ) (step : Step) → (effect_of l (at_moment f moment step) step).1.next.process ≡ f.next.process
@@ -49,14 +49,14 @@ old_configured : (f : Flat) (bound number : ℕ) (config : Option Config) → Ar
 old_configured f bound number None old = old
 old_configured f bound number (Some config) old = old
 
-old_done : (l : Limits) (f : Flat) (caller : ℕ) (asked : Request) (append : Kept) → Sound f → IsTrue (is_caller f caller) → verdict l f caller asked append ≡ 0 → AreOld f.next.service (done_of f caller asked).1
+old_done : (l : Limits) (f : Flat) (caller : ℕ) (asked : Request) (append : Kept) → Sound f → IsTrue (is_caller f caller) → verdict l f caller asked append ≡ 0 → AreOld f.next.service (done_of l f caller asked).1
 old_done l f caller (request.Start handle words) append s there e = (of_done l f caller (request.Start handle words) append s there e).plans
 old_done l f caller (request.Change change) append s there e = old_configured f f.next.service _ (asked_config f caller change) s.plans
 old_done l f caller asked append s there e = s.plans
 
 old_call : (l : Limits) (f : Flat) (caller : ℕ) (asked : Request) (append : Kept) → Sound f → IsTrue (is_caller f caller) → AreOld f.next.service (call_of l f caller asked append).1
 old_call l f caller asked append s there =
-    by_verdict (λ r. AreOld f.next.service r.1) (verdict l f caller asked append) (told_refused f caller asked (verdict l f caller asked append)) f (done_of f caller asked)
+    by_verdict (λ r. AreOld f.next.service r.1) (verdict l f caller asked append) (told_refused f caller asked (verdict l f caller asked append)) f (done_of l f caller asked)
     (old_done l f caller asked append s there) (λ e. s.plans)
 
 pub old_plans : (l : Limits) (f : Flat) (moment : ℕ) (step : Step) → Sound f → IsTrue (may l f moment step) → AreOld f.next.service (effect_of l (at_moment f moment step) step).1

@@ -96,18 +96,18 @@ plans_configured : (f : Flat) (number : ℕ) (config : Option Config) → (with_
 plans_configured f number None = refl
 plans_configured f number (Some config) = refl
 
-of_done : (f : Flat) (caller : ℕ) (asked : Request) → Sound f → AllWent f.plans (done_of f caller asked).1.plans
-of_done f caller (request.Change change) s = subst (AllWent f.plans) (sym (plans_configured f _ (asked_config f caller change))) (all_same f.plans s.plans.rising)
-of_done f caller (request.Start handle words) s =
+of_done : (l : Limits) (f : Flat) (caller : ℕ) (asked : Request) → Sound f → AllWent f.plans (done_of l f caller asked).1.plans
+of_done l f caller (request.Change change) s = subst (AllWent f.plans) (sym (plans_configured f _ (asked_config f caller change))) (all_same f.plans s.plans.rising)
+of_done l f caller (request.Start handle words) s =
     all_more (Went f.plans) f.plans _ (all_same f.plans s.plans.rising)
     (went_above f.plans _ (all_weaker (IsPlan f.next.plan f.next.service f.callers) (λ (plan : Plan). plan.number < f.next.plan) (λ plan is. is.below) f.plans s.plans.each))
-of_done f caller asked s = all_same f.plans s.plans.rising
+of_done l f caller asked s = all_same f.plans s.plans.rising
 
 of_call : (l : Limits) (f : Flat) (moment caller : ℕ) (asked : Request) (append : Kept) → Sound (with_moment f moment) → AllWent f.plans (call_of l (with_moment f moment) caller asked append).1.plans
 of_call l f moment caller asked append s =
     let g = with_moment f moment in
-    by_verdict (λ r. AllWent f.plans r.1.plans) (verdict l g caller asked append) (told_refused g caller asked (verdict l g caller asked append)) g (done_of g caller asked)
-    (λ e. of_done g caller asked s) (λ e. all_same f.plans s.plans.rising)
+    by_verdict (λ r. AllWent f.plans r.1.plans) (verdict l g caller asked append) (told_refused g caller asked (verdict l g caller asked append)) g (done_of l g caller asked)
+    (λ e. of_done l g caller asked s) (λ e. all_same f.plans s.plans.rising)
 
 of_effect : (l : Limits) (f : Flat) (moment : ℕ) (step : Step) → Sound f → AllWent f.plans (effect_of l (at_moment f moment step) step).1.plans
 of_effect l f moment (Call caller asked append) s = of_call l f moment caller asked append (moved f moment s)

@@ -47,22 +47,24 @@ configured : (f : Flat) (number : ℕ) (config : Option Config) → Once f (with
 configured f number None = same f
 configured f number (Some config) = record { rows = all_stood f; rising = omega arith }
 
-of_done : (f : Flat) (caller : ℕ) (asked : Request) → Once f (done_of f caller asked).1
-of_done f caller (request.Close handle) = record { rows = All-filter _ (StoodOrIsNew f) f.handles (all_stood f); rising = omega arith }
-of_done f caller (request.Delete handle) = record { rows = all_stood f; rising = omega arith }
-of_done f caller (request.Lock handle) = record { rows = All-push (StoodOrIsNew f) f.handles _ (all_stood f) (inr (omega arith)); rising = omega arith }
-of_done f caller (request.Unlock handle) = record { rows = All-filter _ (StoodOrIsNew f) f.handles (all_stood f); rising = omega arith }
-of_done f caller (request.Change change) = configured f _ (asked_config f caller change)
-of_done f caller (request.Create new) = record { rows = All-push (StoodOrIsNew f) f.handles _ (all_stood f) (inr (omega arith)); rising = omega arith }
-of_done f caller (request.OpenManager database access) = record { rows = All-push (StoodOrIsNew f) f.handles _ (all_stood f) (inr (omega arith)); rising = omega arith }
-of_done f caller (request.OpenService handle name access) = record { rows = All-push (StoodOrIsNew f) f.handles _ (all_stood f) (inr (omega arith)); rising = omega arith }
-of_done f caller (request.Start handle words) = record { rows = all_stood f; rising = omega arith }
-of_done f caller asked = same f
+of_done : (l : Limits) (f : Flat) (caller : ℕ) (asked : Request) → Once f (done_of l f caller asked).1
+of_done l f caller (request.Close handle) = record { rows = All-filter _ (StoodOrIsNew f) f.handles (all_stood f); rising = omega arith }
+of_done l f caller (request.Control handle control) = record { rows = all_stood f; rising = omega arith }
+of_done l f caller (request.Delete handle) = record { rows = all_stood f; rising = omega arith }
+of_done l f caller (request.Lock handle) = record { rows = All-push (StoodOrIsNew f) f.handles _ (all_stood f) (inr (omega arith)); rising = omega arith }
+of_done l f caller (request.SetStatus handle status) = record { rows = all_stood f; rising = omega arith }
+of_done l f caller (request.Unlock handle) = record { rows = All-filter _ (StoodOrIsNew f) f.handles (all_stood f); rising = omega arith }
+of_done l f caller (request.Change change) = configured f _ (asked_config f caller change)
+of_done l f caller (request.Create new) = record { rows = All-push (StoodOrIsNew f) f.handles _ (all_stood f) (inr (omega arith)); rising = omega arith }
+of_done l f caller (request.OpenManager database access) = record { rows = All-push (StoodOrIsNew f) f.handles _ (all_stood f) (inr (omega arith)); rising = omega arith }
+of_done l f caller (request.OpenService handle name access) = record { rows = All-push (StoodOrIsNew f) f.handles _ (all_stood f) (inr (omega arith)); rising = omega arith }
+of_done l f caller (request.Start handle words) = record { rows = all_stood f; rising = omega arith }
+of_done l f caller asked = same f
 
 of_call : (l : Limits) (f : Flat) (moment caller : ℕ) (asked : Request) (append : Kept) → Once (with_moment f moment) (call_of l (with_moment f moment) caller asked append).1
 of_call l f moment caller asked append =
-    by_verdict (λ r. Once (with_moment f moment) r.1) (verdict l (with_moment f moment) caller asked append) _ (with_moment f moment) (done_of (with_moment f moment) caller asked)
-    (λ e. of_done (with_moment f moment) caller asked) (λ e. same (with_moment f moment))
+    by_verdict (λ r. Once (with_moment f moment) r.1) (verdict l (with_moment f moment) caller asked append) _ (with_moment f moment) (done_of l (with_moment f moment) caller asked)
+    (λ e. of_done l (with_moment f moment) caller asked) (λ e. same (with_moment f moment))
 
 of_effect : (l : Limits) (f : Flat) (moment : ℕ) (step : Step) → Once f (effect_of l (at_moment f moment step) step).1
 of_effect l f moment (Call caller asked append) =

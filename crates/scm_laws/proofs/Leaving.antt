@@ -19,7 +19,7 @@ use Rattle.scm_model.specs.declared.steps.Answer.{Answer}
 use Rattle.scm_model.specs.declared.steps.Answer.TheVariants as answer
 use Rattle.scm_model.specs.declared.steps.Kept.{Kept}
 use Rattle.scm_model.specs.declared.steps.Step.{Step}
-use Rattle.scm_model.specs.declared.steps.Step.TheVariants.{Call, LaunchFailed}
+use Rattle.scm_model.specs.declared.steps.Step.TheVariants.{Call, LaunchFailed, Report, Ended}
 use Rattle.scm_model.specs.Rows.{opened}
 use Rattle.scm_model.specs.Changes.{configured_if, leaves, marked_if, with_moment}
 use Rattle.start_plan.specs.Entered.{started, starting}
@@ -30,16 +30,18 @@ use Rattle.scm_rules.specs.Create.{told_tag}
 use Rattle.scm_rules.specs.Delete.{delete_done}
 use Rattle.scm_rules.specs.Launches.{fallen_if, is_taken, process_of}
 use Rattle.scm_rules.specs.Query.{service_in}
+use Rattle.scm_rules.specs.Reports.{process_in, process_in_state, reported_if, reporting_service}
 use Rattle.scm_rules.specs.Steps.{at_moment, effect_of, may, step_of}
 use Rattle.scm_rules.specs.Verdicts.{call_of, done_of, told_refused, verdict}
-use Rattle.scm_laws.specs.Leaving.{IsFresh, IsSameService, LawOfLeaving, before_leaving, created, marks, numbers}
+use Rattle.scm_laws.specs.Leaving.{IsFresh, IsSameService, LawOfLeaving, before_leaving, created, marks, numbers, reports}
 use Rattle.scm_laws.proofs.Along.{Gives}
 use Rattle.scm_laws.proofs.Calls.{by_verdict, came}
 use Rattle.scm_laws.proofs.Configured.{HasText, name, name_kept, names_found, number_kept, replaced}
 use Rattle.scm_laws.proofs.Effects.{step_settled}
 use Rattle.scm_laws.proofs.Frames.{finished_keeps}
 use Rattle.scm_laws.proofs.Lists.{found_has, found_passes, map_same, passes_not}
-use Rattle.scm_laws.proofs.Rows.{fallen_or}
+use Rattle.scm_laws.proofs.Processes.{running_first}
+use Rattle.scm_laws.proofs.Rows.{fallen_or, kind_taken, reported_or}
 use Rattle.scm_laws.proofs.Settling.{AreSettled, IsSettled}
 use Rattle.scm_laws.proofs.Sound.{Sound}
 
@@ -68,7 +70,7 @@ zip_map R g (x ∷ xs) each = (All-head (λ y. R y (g y)) x xs each, zip_map R g
 same_row : (f : Flat) (step : Step) (told : Answer) (row : Service) → marks f step told row.number ≡ false → IsSameService f step told row row
 same_row f step told row unmarked = record {
   row = ap (λ (marked : Bool). record row { marked = marked }) (or_false row.marked ∙ ap (λ marked. row.marked || marked) (sym unmarked));
-  state = λ same. refl;
+  state = λ same quiet. refl;
   config = λ other. (refl, refl);
   name = refl;
 }
@@ -120,7 +122,7 @@ configured_row f caller change append tag config row has =
         | false ↦ ap (λ (marked : Bool). record row { marked = marked }) (or_false row.marked)
       ];
       state = elim (row.number == number) as (λ b. (cond b (replaced config row) row).process ≡ row.process
-          → (cond b (replaced config row) row).status ≡ record row.status { kind = (cond b (replaced config row) row).status.kind }) [ true ↦ λ same. refl | false ↦ λ same. refl ];
+          → false ≡ false → (cond b (replaced config row) row).status ≡ record row.status { kind = (cond b (replaced config row) row).status.kind }) [ true ↦ λ same quiet. refl | false ↦ λ same quiet. refl ];
       config = elim (row.number == number) as (λ b. b ≡ false → ((cond b (replaced config row) row).config ≡ row.config)
           × ((cond b (replaced config row) row).status.kind ≡ row.status.kind))
           [ true ↦ λ e. absurd (cc) | false ↦ λ e. (refl, refl) ];
@@ -137,11 +139,30 @@ stood_change f moment caller change append (Some row) s e =
     stood_mapped f _ _ (configured_if number config) (number_kept number config) refl
     (λ k d lt. configured_row f caller change append _ config _ (names_found f number row config s.services e refl k d lt))
 
+-- ## Reports
+
+reported_row : (f : Flat) (step : Step) (told : Answer) (process : ℕ) (report : Status) (row : Service) → ((number : ℕ) → marks f step told number ≡ false) → (reports f step row ≡ false → (row.process == process) ≡ false)
+    → IsSameService f step told row (reported_if process report row)
+reported_row f step told process report row unmarked other =
+    reported_or (IsSameService f step told row) process report row
+    (λ is taken. record {
+      row = ap (λ (marked : Bool). record row { status = report; process = process_in_state report.state row.process; marked = marked }) (or_false row.marked ∙ ap (λ marked. row.marked || marked) (sym (unmarked row.number)));
+      state = λ same quiet. absurd (let isnt = other quiet in cc);
+      config = λ kept. (refl, kind_taken row.status report taken);
+      name = refl;
+    }) (same_row f step told row (unmarked row.number))
+
+stood_reported : (f : Flat) (step : Step) (told : Answer) (process : ℕ) (report : Status) → created f step told ≡ [] → ((number : ℕ) → marks f step told number ≡ false)
+    → ((row : Service) → reports f step row ≡ false → (row.process == process) ≡ false) → Stood f step told (map (reported_if process report) f.services)
+stood_reported f step told process report none unmarked other =
+    stood_mapped f step told (reported_if process report) (λ row. reported_or (λ new. new.number ≡ row.number) process report row (λ e t. refl) refl) none
+    (λ k d lt. reported_row f step told process report _ unmarked (other _))
+
 -- ## Calls
 
 stood_marked : (f : Flat) (moment caller handle : ℕ) (append : Kept) → Stood f (Call caller (request.Delete handle) append) (answer.Reply (reply.Code 0)) (delete_done (with_moment f moment) caller handle).1.services
 stood_marked f moment caller handle append =
-    stood_mapped f _ _ (marked_if (service_in (opened f caller handle))) (λ row. refl) refl (λ k d lt. record { row = refl; state = λ same. refl; config = λ other. (refl, refl); name = refl })
+    stood_mapped f _ _ (marked_if (service_in (opened f caller handle))) (λ row. refl) refl (λ k d lt. record { row = refl; state = λ same quiet. refl; config = λ other. (refl, refl); name = refl })
 
 -- a call that is refused adds none and marks none
 not_marked : (f : Flat) (caller handle : ℕ) (append : Kept) (code : ℕ) → (code == 0) ≡ false → Stood f (Call caller (request.Delete handle) append) (answer.Reply (reply.Code code)) f.services
@@ -156,24 +177,30 @@ stood_call l f moment caller (request.Delete handle) append s =
     let g = with_moment f moment in
     let asked = request.Delete handle in
     let code = verdict l g caller asked append in
-    by_verdict (λ r. Stood f (Call caller asked append) (answer.Reply r.0) r.1.services) code (told_refused g caller asked code) g (done_of g caller asked)
+    by_verdict (λ r. Stood f (Call caller asked append) (answer.Reply r.0) r.1.services) code (told_refused g caller asked code) g (done_of l g caller asked)
     (λ e. stood_marked f moment caller handle append) (not_marked f caller handle append code)
 stood_call l f moment caller (request.Change change) append s =
     let g = with_moment f moment in
     let asked = request.Change change in
     let code = verdict l g caller asked append in
-    by_verdict (λ r. Stood f (Call caller asked append) (answer.Reply r.0) r.1.services) code (told_refused g caller asked code) g (done_of g caller asked)
+    by_verdict (λ r. Stood f (Call caller asked append) (answer.Reply r.0) r.1.services) code (told_refused g caller asked code) g (done_of l g caller asked)
     (λ e. stood_change f moment caller change append (changed_service f caller change) s refl) (λ e. stood_same f _ _ refl (λ number. refl))
 stood_call l f moment caller (request.Create new) append s =
     let g = with_moment f moment in
     let asked = request.Create new in
     let code = verdict l g caller asked append in
-    by_verdict (λ r. Stood f (Call caller asked append) (answer.Reply r.0) r.1.services) code (told_refused g caller asked code) g (done_of g caller asked)
+    by_verdict (λ r. Stood f (Call caller asked append) (answer.Reply r.0) r.1.services) code (told_refused g caller asked code) g (done_of l g caller asked)
     (λ e. stood_added f _ _ _ refl (λ number. refl) (record { state = refl; process = refl; marked = refl }) (omega arith)) (not_added f caller new append new.tag 0 code)
+stood_call l f moment caller (request.SetStatus handle status) append s =
+    let g = with_moment f moment in
+    let asked = request.SetStatus handle status in
+    let code = verdict l g caller asked append in
+    by_verdict (λ r. Stood f (Call caller asked append) (answer.Reply r.0) r.1.services) code (told_refused g caller asked code) g (done_of l g caller asked)
+    (λ e. stood_reported f _ _ (process_in (reporting_service f caller handle)) status refl (λ number. refl) (λ row quiet. quiet)) (λ e. stood_same f _ _ refl (λ number. refl))
 stood_call l f moment caller asked append s =
     let g = with_moment f moment in
     let code = verdict l g caller asked append in
-    by_verdict (λ r. Stood f (Call caller asked append) (step_of l f moment (Call caller asked append)).0 r.1.services) code (told_refused g caller asked code) g (done_of g caller asked)
+    by_verdict (λ r. Stood f (Call caller asked append) (step_of l f moment (Call caller asked append)).0 r.1.services) code (told_refused g caller asked code) g (done_of l g caller asked)
     (λ e. stood_same f _ _ refl (λ number. refl)) (λ e. stood_same f _ _ refl (λ number. refl))
 
 -- ## A launch that failed
@@ -183,7 +210,7 @@ fallen_row f step told process code row unmarked first =
     fallen_or (IsSameService f step told row) process code row
     (λ is. record {
       row = ap (λ (marked : Bool). record row { status = take_end row.status code; process = 0; marked = marked }) (or_false row.marked ∙ ap (λ marked. row.marked || marked) (sym (unmarked row.number)));
-      state = λ none. absurd (let e = eqb-true row.process process is in omega (arith, none, e, first));
+      state = λ none quiet. absurd (let e = eqb-true row.process process is in omega (arith, none, e, first));
       config = λ other. (refl, refl);
       name = refl;
     }) (same_row f step told row (unmarked row.number))
@@ -202,6 +229,10 @@ stood_effect l f moment (Call caller asked append) s ok = stood_call l f moment 
 stood_effect l f moment (LaunchFailed process code) s ok =
     stood_mapped f _ _ (fallen_if process code) (λ row. fallen_or (λ new. new.number ≡ row.number) process code row (λ e. refl) refl) refl
     (λ k d lt. fallen_row f _ _ process code _ (λ number. refl) (in_hand_first f process (process_of f process) s refl (came _ _ (came _ _ ok))))
+stood_effect l f moment (Report process status) s ok = stood_reported f _ _ process status refl (λ number. refl) (λ row quiet. quiet)
+stood_effect l f moment (Ended process) s ok =
+    stood_mapped f _ _ (fallen_if process 1067) (λ row. fallen_or (λ new. new.number ≡ row.number) process 1067 row (λ e. refl) refl) refl
+    (λ k d lt. fallen_row f _ _ process 1067 _ (λ number. refl) (running_first f.next.process process f.processes (process_of f process) s.processes.numbered refl (came _ _ ok)))
 stood_effect l f moment step s ok = stood_same f _ _ refl (λ number. refl)
 
 -- ## Settling
@@ -258,7 +289,7 @@ settled_row f step told next bound old mid new small is (inr entered) =
       row = e ∙ ap (started new.process) is.row
           ∙ ap (λ (c : Config). record old { config = c; status = starting mid.status; process = new.process; marked = old.marked || marks f step told old.number }) (sym config)
           ∙ ap (λ (st : Status). record old { config = new.config; status = st; process = new.process; marked = old.marked || marks f step told old.number }) (sym (ap (λ (r : Service). r.status) e));
-      state = λ same. absurd (let up = entered.process in omega (arith, up, same, small));
+      state = λ same quiet. absurd (let up = entered.process in omega (arith, up, same, small));
       config = λ other. (let was = is.config other in (config ∙ was.0, kind ∙ was.1));
       name = ap (λ (c : Config). c.name) config ∙ is.name;
     }

@@ -1,6 +1,6 @@
 -- What is true of processes and wanted launches, and what each change of them keeps.
-use Rattle.std.proofs.Common.{ℕ, ◌≡◌, ◌∙◌, ◌+◌, ◌≤◌, ◌==◌, ◌||◌, ◌&&◌, Bool, true, false, not, cond, List, [], ◌∷◌, ◌++◌, Some, filter, find, map, get_or, ap, sym, refl, subst, arith, eq-eqb, eqb-true, ne_eqb}
-use Rattle.std.specs.Prelude.{All, is_some}
+use Rattle.std.proofs.Common.{ℕ, ◌≡◌, ◌∙◌, ◌+◌, ◌<◌, ◌≤◌, ◌==◌, ◌||◌, ◌&&◌, Bool, true, false, not, cond, List, [], ◌∷◌, ◌++◌, Option, None, Some, filter, find, map, get_or, ap, sym, refl, subst, arith, eq-eqb, eqb-true, ne_eqb}
+use Rattle.std.specs.Prelude.{All, AllPairs, is_some}
 use Rattle.std.specs.List.{list_any}
 use Rattle.std.proofs.lemmas.List.{map-append}
 use Rattle.std.proofs.lemmas.List.Elements.{All-filter, All-map, All-nil, All-push, All-weaker, filter-append, filter_passes}
@@ -10,18 +10,20 @@ use Rattle.scm_model.specs.declared.flat.Phase.{Phase}
 use Rattle.scm_model.specs.declared.flat.Phase.TheVariants as phases
 use Rattle.scm_model.specs.declared.flat.Process.{Process}
 use Rattle.scm_model.specs.declared.flat.Service.{Service}
+use Rattle.scm_model.specs.declared.flat.Status.{Status}
 use Rattle.scm_model.specs.declared.flat.Wanted.{Wanted}
 use Rattle.scm_model.specs.Changes.{leaves}
 use Rattle.start_plan.specs.Entered.{started, started_if, wanted_process, wanted_row}
 use Rattle.start_plan.proofs.Rows.{started_or}
 use Rattle.dependency_index.proofs.Lists.{or_right}
 use Rattle.status_machine.specs.Moves.{take_end}
-use Rattle.scm_rules.specs.Launches.{fallen_if, first_wanted, is_taken, launched_if, taken_if, wanted_of_others}
+use Rattle.scm_rules.specs.Launches.{fallen_if, first_wanted, is_running, is_running_phase, is_taken, launched_if, taken_if, wanted_of_others}
+use Rattle.scm_rules.specs.Reports.{reported_if}
 use Rattle.scm_rules.specs.Steps.{is_wanted}
-use Rattle.scm_rules.specs.Valid.{AreNumbered, HasListed, HasStarting, has_process, is_launched, is_started_by, is_to_launch, is_wanted_phase}
-use Rattle.scm_laws.proofs.Lists.{any_filter, found_owns}
+use Rattle.scm_rules.specs.Valid.{AreNumbered, HasListed, HasStarting, has_process, is_started_by, is_to_launch, is_wanted_phase}
+use Rattle.scm_laws.proofs.Lists.{any_filter, found_has, found_only, found_owns, found_passes}
 use Rattle.scm_laws.proofs.Numbers.{numbered_filter, numbered_map, numbered_none, numbered_push}
-use Rattle.scm_laws.proofs.Rows.{fallen_or}
+use Rattle.scm_laws.proofs.Rows.{fallen_or, reported_or}
 
 abbrev pub number_of : Process → ℕ
 number_of row = row.number
@@ -96,7 +98,7 @@ taken_out next number change processes wanted services t s starting = record {
 }
 
 -- who is still to be launched isn't launched
-wanted_not : (phase : Phase) → is_wanted_phase phase ≡ true → is_launched phase ≡ false
+wanted_not : (phase : Phase) → is_wanted_phase phase ≡ true → is_running_phase phase ≡ false
 wanted_not phases.Wanted wanted = refl
 wanted_not phases.Taken wanted = absurd cc
 wanted_not phases.Launched wanted = absurd cc
@@ -200,7 +202,7 @@ is_by process row h =
 pub start_kept : (process : Process) (change : Service → Service) (services : List Service) → ((row : Service) → is_started_by process row ≡ true → is_started_by process (change row) ≡ true)
     → HasStarting services process → HasStarting (map change services) process
 start_kept process change services keeps h =
-    last_or (process.service == 0) (is_launched process.phase) (list_any (is_started_by process) services) (list_any (is_started_by process) (map change services))
+    last_or (process.service == 0) (is_running_phase process.phase) (list_any (is_started_by process) services) (list_any (is_started_by process) (map change services))
     (any_map (is_started_by process) change services keeps) h
 
 pub starts_kept : (processes : List Process) (change : Service → Service) (services : List Service) → ((process : Process) (row : Service) → is_started_by process row ≡ true → is_started_by process (change row) ≡ true)
@@ -211,7 +213,7 @@ starts_kept processes change services keeps all = All-weaker (HasStarting servic
 pub starts_more : (processes : List Process) (services : List Service) (row : Service) → All (HasStarting services) processes → All (HasStarting (services ++ row ∷ [])) processes
 starts_more processes services row all =
     All-weaker (HasStarting services) (HasStarting (services ++ row ∷ []))
-    (λ process h. last_or (process.service == 0) (is_launched process.phase) (list_any (is_started_by process) services) (list_any (is_started_by process) (services ++ row ∷ []))
+    (λ process h. last_or (process.service == 0) (is_running_phase process.phase) (list_any (is_started_by process) services) (list_any (is_started_by process) (services ++ row ∷ []))
     (λ there. list_any-append (is_started_by process) services (row ∷ []) ∙ ap (λ b. b || list_any (is_started_by process) (row ∷ [])) there) h) processes all
 
 not_stopped : (m h : Bool) (state : ℕ) → (state == 2) ≡ true → not (m && state == 1 && h) ≡ true
@@ -222,7 +224,7 @@ not_stopped false h state is = refl
 pub starts_stay : (handles : List HandleRow) (processes : List Process) (services : List Service) → All (HasStarting services) processes → All (HasStarting (filter (λ (row : Service). not (leaves handles row)) services)) processes
 starts_stay handles processes services all =
     All-weaker (HasStarting services) (HasStarting (filter (λ (row : Service). not (leaves handles row)) services))
-    (λ process h. last_or (process.service == 0) (is_launched process.phase) (list_any (is_started_by process) services) (list_any (is_started_by process) (filter (λ (row : Service). not (leaves handles row)) services))
+    (λ process h. last_or (process.service == 0) (is_running_phase process.phase) (list_any (is_started_by process) services) (list_any (is_started_by process) (filter (λ (row : Service). not (leaves handles row)) services))
     (any_filter (is_started_by process) (λ (row : Service). not (leaves handles row)) services
     (λ k d lt is. not_stopped (get_or services k d).marked _ (get_or services k d).status.state (is_by process (get_or services k d) is).state)) h) processes all
 
@@ -288,6 +290,79 @@ failed next number code processes wanted services s = record {
       (λ row. fallen_still number code (get_or (filter p processes) k d) row (not_true _ (filter_passes p processes k d lt)))
       (All-filter p (HasStarting services) processes s.starting k d lt));
 }
+
+-- ## A process that tells how its service stands
+
+-- a process that is found running has a number
+pub running_first : (next number : ℕ) (rows : List Process) (found : Option Process) → AreNumbered number_of next rows → find (λ (row : Process). row.number == number) rows ≡ found → is_running found ≡ true → 1 ≤ number
+running_first next number rows None numbered e runs = absurd cc
+running_first next number rows (Some row) numbered e runs =
+    let is = eqb-true row.number number (found_passes (λ (r : Process). r.number == number) row rows e) in
+    subst (λ n. 1 ≤ n) is (found_has (λ (r : Process). 1 ≤ r.number) (λ (r : Process). r.number == number) row rows numbered.positive e)
+
+-- who has this number was launched
+abbrev pub IsLaunchedAt : ℕ → Process → Type 0
+IsLaunchedAt number row = (row.number == number) ≡ true → is_running_phase row.phase ≡ true
+
+pub running_launched : (number : ℕ) (rows : List Process) (found : Option Process) → AllPairs (λ (a b : Process). a.number < b.number) rows → find (λ (row : Process). row.number == number) rows ≡ found → is_running found ≡ true
+    → All (IsLaunchedAt number) rows
+running_launched number rows None rising e runs = absurd cc
+running_launched number rows (Some row) rising e runs =
+    λ k d lt same. ap (λ (r : Process). is_running_phase r.phase) (found_only number_of number row rows rising e k d lt same) ∙ runs
+
+reported_still : (number : ℕ) (report : Status) (process : Process) (row : Service) → (process.number == number) ≡ false → is_started_by process row ≡ true → is_started_by process (reported_if number report row) ≡ true
+reported_still number report process row other is =
+    reported_or (λ new. is_started_by process new ≡ true) number report row
+    (λ e t. absurd (let same = eqb-true row.process process.number (is_by process row is).process_same in let both = eq-eqb process.number number (sym same ∙ eqb-true row.process number e) in cc)) is
+
+-- a report comes of a process that was launched, and leaves who is START_PENDING by another
+report_starts : (number : ℕ) (report : Status) (services : List Service) (process : Process) → IsLaunchedAt number process → HasStarting services process → HasStarting (map (reported_if number report) services) process
+report_starts number report services process launched h =
+    elim (process.number == number) as (λ b. (process.number == number) ≡ b → HasStarting (map (reported_if number report) services) process) [
+      | true ↦ λ e. rw (launched e) (or_launched (process.service == 0) (list_any (is_started_by process) (map (reported_if number report) services)))
+      | false ↦ λ e. start_kept process (reported_if number report) services (λ row. reported_still number report process row e) h
+    ] refl
+
+report_listed : (number : ℕ) (report : Status) (processes : List Process) (row : Service) → HasListed processes row → HasListed processes (reported_if number report row)
+report_listed number report processes row h =
+    reported_or (HasListed processes) number report row
+    (λ e t. elim (report.state == 1) as (λ b. (cond b 0 row.process == 0 || has_process processes (cond b 0 row.process)) ≡ true) [ true ↦ refl | false ↦ h ]) h
+
+-- a process that was launched tells how its service stands
+pub reported : (next number : ℕ) (report : Status) (processes : List Process) (wanted : List Wanted) (services : List Service) → All (IsLaunchedAt number) processes → AreProcesses next processes wanted services
+    → AreProcesses next processes wanted (map (reported_if number report) services)
+reported next number report processes wanted services launched s = record {
+  numbered = s.numbered;
+  wanted = s.wanted;
+  listed = All-map (HasListed processes) (reported_if number report) services (λ k d lt. report_listed number report processes (get_or services k d) (s.listed k d lt));
+  starting = λ k d lt. report_starts number report services (get_or processes k d) (launched k d lt) (s.starting k d lt);
+}
+
+-- ## Controls that wait
+
+-- a change of the controls alone
+abbrev pub IsOfControls : (Process → Process) → Type 0
+IsOfControls change = (row : Process) → change row ≡ record row { controls = (change row).controls }
+
+to_launch_same : (change : Process → Process) → IsOfControls change → (rows : List Process) → map number_of (filter is_to_launch (map change rows)) ≡ map number_of (filter is_to_launch rows)
+to_launch_same change only [] = refl
+to_launch_same change only (row ∷ rows) =
+    let rest = to_launch_same change only rows in
+    ap (λ (r : Process). map number_of (filter is_to_launch (r ∷ map change rows))) (only row)
+    ∙ elim (is_to_launch row) as (λ b. map number_of (cond b (record row { controls = (change row).controls } ∷ filter is_to_launch (map change rows)) (filter is_to_launch (map change rows)))
+    ≡ map number_of (cond b (row ∷ filter is_to_launch rows) (filter is_to_launch rows))) [ true ↦ ap (λ ns. row.number ∷ ns) rest | false ↦ rest ]
+
+pub controlled : (next : ℕ) (change : Process → Process) (processes : List Process) (wanted : List Wanted) (services : List Service) → IsOfControls change → AreProcesses next processes wanted services
+    → AreProcesses next (map change processes) wanted services
+controlled next change processes wanted services only s =
+    let same : (row : Process) → (change row).number ≡ row.number = λ row. ap (λ (r : Process). r.number) (only row) in
+    record {
+      numbered = numbered_map number_of next change same processes s.numbered;
+      wanted = s.wanted ∙ sym (to_launch_same change only processes);
+      listed = All-weaker (HasListed processes) (HasListed (map change processes))
+          (λ row h. ap (λ b. (row.process == 0) || b) (listed_map change same row.process processes) ∙ h) services s.listed;
+      starting = All-map (HasStarting services) change processes (λ k d lt. subst (HasStarting services) (sym (only (get_or processes k d))) (s.starting k d lt));
+    }
 
 -- ## A process more
 

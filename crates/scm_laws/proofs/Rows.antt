@@ -1,21 +1,23 @@
 -- What is true of the services of every state, and what each change of them keeps.
-use Rattle.std.proofs.Common.{ℕ, ◌≡◌, ◌∙◌, ◌+◌, ◌<◌, ◌≤◌, ◌==◌, Bool, true, false, cond, List, [], ◌∷◌, ◌++◌, None, filter, map, get_or, ap, sym, refl, subst, arith, ne_eqb}
-use Rattle.std.specs.Prelude.{All, AllPairs}
+use Rattle.std.proofs.Common.{ℕ, ◌≡◌, ◌∙◌, ◌+◌, ◌<◌, ◌≤◌, ◌==◌, ◌&&◌, Bool, true, false, cond, List, [], ◌∷◌, ◌++◌, None, filter, map, get_or, ap, sym, refl, subst, arith, eqb-true, ne_eqb}
+use Rattle.std.specs.Prelude.{All, AllPairs, Ok, Err}
 use Rattle.std.proofs.lemmas.List.Elements.{All-filter, All-push, All-map, All-nil}
 use Rattle.std.proofs.lemmas.List.Kept.{AllPairs-filter}
 use Rattle.std.proofs.lemmas.List.Quantifiers.{all_pairs_push}
 use Rattle.scm_text.specs.Fold.{same_text}
 use Rattle.scm_model.specs.declared.flat.Config.{Config}
 use Rattle.scm_model.specs.declared.flat.Service.{Service}
+use Rattle.scm_model.specs.declared.flat.Status.{Status}
 use Rattle.scm_model.specs.Changes.{marked_if}
 use Rattle.dependency_index.specs.Needs.{needs_of}
 use Rattle.dependency_index.specs.Walks.{IsWalk}
 use Rattle.service_record.specs.Checks.{check_new}
 use Rattle.start_plan.specs.Entered.{started_if}
 use Rattle.start_plan.proofs.Rows.{started_or, same_number}
-use Rattle.status_machine.specs.Moves.{take_end}
+use Rattle.status_machine.specs.Moves.{take_end, take_report, takes}
 use Rattle.scm_rules.specs.Launches.{fallen_if}
 use Rattle.scm_rules.specs.Needs.{need_row}
+use Rattle.scm_rules.specs.Reports.{moved_by, process_in_state, reported_if}
 use Rattle.scm_rules.specs.Valid.{AreNumbered}
 use Rattle.scm_laws.proofs.Lists.{pairs_map}
 use Rattle.scm_laws.proofs.Needed.{HasNoCycle, fewer, same_graph}
@@ -138,6 +140,46 @@ fallen next process number code rows s =
     (All-map IsStoppedWithout (fallen_if number code) rows (λ k d lt. fallen_or IsStoppedWithout number code (get_or rows k d) (λ e. refl) (s.stopped k d lt)))
     (All-map (λ (row : Service). row.process < process) (fallen_if number code) rows
     (λ k d lt. fallen_or (λ (row : Service). row.process < process) number code (get_or rows k d) (λ e. let first = s.first_process in omega arith) (s.current k d lt)))
+
+-- who has this process moves by a report that is taken
+pub reported_or : (P : Service → Type 0) (process : ℕ) (report : Status) (row : Service) → ((row.process == process) ≡ true → takes row.status report ≡ true → P (moved_by row (Ok report))) → P row → P (reported_if process report row)
+reported_or P process report row moves stays =
+    elim (row.process == process) as (λ b. (row.process == process) ≡ b → P (cond b (moved_by row (take_report row.status report)) row)) [
+      | true ↦ λ e. elim (takes row.status report) as (λ t. takes row.status report ≡ t → P (moved_by row (cond t (Ok report) (Err 13)))) [ true ↦ moves e | false ↦ λ t. stays ] refl
+      | false ↦ λ e. stays
+    ] refl
+
+first_true : (a b : Bool) → (a && b) ≡ true → a ≡ true
+first_true true b h = refl
+first_true false b h = absurd cc
+
+-- a report that is taken tells the type
+pub kind_taken : (now report : Status) → takes now report ≡ true → report.kind ≡ now.kind
+kind_taken now report taken = eqb-true report.kind now.kind (first_true _ _ (first_true _ _ (first_true _ _ (first_true _ _ taken))))
+
+reports_mildly : (process : ℕ) (report : Status) → IsMild (reported_if process report)
+reports_mildly process report = record {
+  number = λ row. reported_or (λ new. new.number ≡ row.number) process report row (λ e t. refl) refl;
+  config = λ row. reported_or (λ new. new.config ≡ row.config) process report row (λ e t. refl) refl;
+  kind = λ row. reported_or (λ new. new.status.kind ≡ row.status.kind) process report row (λ e t. kind_taken row.status report t) refl;
+}
+
+-- who had a process and is STOPPED now has none
+stopped_without : (state process : ℕ) → (process == 0) ≡ false → (state == 1) ≡ (process_in_state state process == 0)
+stopped_without state process has = elim (state == 1) as (λ b. b ≡ (cond b 0 process == 0)) [ true ↦ refl | false ↦ sym has ]
+
+below_still : (bound state process : ℕ) → 1 ≤ bound → process < bound → process_in_state state process < bound
+below_still bound state process first below = elim (state == 1) as (λ b. cond b 0 process < bound) [ true ↦ omega (arith, first) | false ↦ below ]
+
+pub reported : (next process number : ℕ) (report : Status) (rows : List Service) → 1 ≤ number → AreServices next process rows → AreServices next process (map (reported_if number report) rows)
+reported next process number report rows there s =
+    mildly next process process (reported_if number report) rows (reports_mildly number report) s (omega arith)
+    (All-map IsStoppedWithout (reported_if number report) rows
+    (λ k d lt. (let row = get_or rows k d in reported_or IsStoppedWithout number report row
+    (λ e t. stopped_without report.state row.process (ne_eqb row.process 0 (λ none. absurd (let is = eqb-true row.process number e in omega (arith, none, is, there))))) (s.stopped k d lt))))
+    (All-map (λ (row : Service). row.process < process) (reported_if number report) rows
+    (λ k d lt. (let row = get_or rows k d in reported_or (λ (row : Service). row.process < process) number report row
+    (λ e t. below_still process report.state row.process s.first_process (s.current k d lt)) (s.current k d lt))))
 
 -- ## A service more, and services fewer
 

@@ -1,6 +1,6 @@
 -- What is true of every state, before and after services leave, and that each change keeps it.
-use Rattle.std.proofs.Common.{ℕ, ◌≡◌, ◌<◌, ◌≤◌, ◌==◌, true, false, not, List, [], ◌∷◌, Option, None, ap, refl, subst, arith, eqb}
-use Rattle.std.specs.Prelude.{All, is_some}
+use Rattle.std.proofs.Common.{ℕ, ◌≡◌, ◌<◌, ◌≤◌, ◌==◌, ◌&&◌, true, false, not, cond, List, [], ◌∷◌, ◌++◌, Option, None, drop, length, map, ap, refl, subst, arith, eqb}
+use Rattle.std.specs.Prelude.{All, is_some, nat_lt}
 use Rattle.std.proofs.lemmas.List.Elements.{All-filter, All-map, All-push, All-weaker, All-from_recursion}
 use Rattle.std.specs.List.{AllByRecursion, IsDistinct}
 use Rattle.scm_text.specs.Fold.{same_text}
@@ -13,6 +13,7 @@ use Rattle.scm_model.specs.declared.flat.HandleRow.{HandleRow}
 use Rattle.scm_model.specs.declared.flat.Limits.{Limits}
 use Rattle.scm_model.specs.declared.flat.LockRow.{LockRow}
 use Rattle.scm_model.specs.declared.flat.Plan.{Plan}
+use Rattle.scm_model.specs.declared.flat.Process.{Process}
 use Rattle.scm_model.specs.declared.flat.Principal.{Principal}
 use Rattle.scm_model.specs.declared.flat.Registration.{Registration}
 use Rattle.scm_model.specs.declared.flat.Service.{Service}
@@ -25,9 +26,11 @@ use Rattle.service_record.specs.Checks.{check_new}
 use Rattle.start_plan.specs.Decided.{aims_at, is_callers, is_numbered}
 use Rattle.start_plan.specs.Settle.{settled, stays}
 use Rattle.start_plan.specs.Started.{TriedOnce}
-use Rattle.scm_rules.specs.Launches.{launch_failed, launch_taken, launched, service_of_process}
+use Rattle.scm_rules.specs.Controls.{controlled_if, relieved_if, with_control, with_control_taken}
+use Rattle.scm_rules.specs.Launches.{is_running, launch_failed, launch_taken, launched, process_of, service_of_process}
 use Rattle.scm_rules.specs.Locks.{lock_done, unlock_done}
 use Rattle.scm_rules.specs.Opening.{empty_at}
+use Rattle.scm_rules.specs.Reports.{process_ended, with_report}
 use Rattle.scm_rules.specs.Start.{ended, is_due, new_plan, ticked, with_plan}
 use Rattle.scm_rules.specs.Steps.{gone, is_wanted}
 use Rattle.scm_rules.specs.Valid.{AreNumbered, HasDeadline, HasListed, HasPlainMask, IsValid}
@@ -39,8 +42,8 @@ use Rattle.scm_laws.proofs.Locked.{Locked, one_holds, one_more}
 use Rattle.scm_laws.proofs.Needed.{HasNoCycle}
 use Rattle.scm_laws.proofs.Numbers.{numbered_empty, numbered_filter, numbered_none, numbered_push}
 use Rattle.scm_laws.proofs.Plans.{AreBelow, ArePlans, IsKnown, IsPlan, all_weaker, caller_left as plans_left, caller_more, decided, fewer, more, no_plans, numbered, service_more, ticked as plans_ticked}
-use Rattle.scm_laws.proofs.Processes.{AreProcesses, beside, failed, first_taken, no_processes, one_launched, starts_kept, starts_more, starts_stay}
-use Rattle.scm_laws.proofs.Rows.{AreServices, added as row_added, cleared as rows_cleared, fallen, marked as rows_marked, no_services}
+use Rattle.scm_laws.proofs.Processes.{AreProcesses, IsOfControls, beside, controlled, failed, first_taken, no_processes, one_launched, reported as processes_reported, running_first, running_launched, starts_kept, starts_more, starts_stay}
+use Rattle.scm_laws.proofs.Rows.{AreServices, added as row_added, cleared as rows_cleared, fallen, marked as rows_marked, no_services, reported as rows_reported}
 
 -- rows that become due have numbers
 pub record AreDues (next : ℕ) (rows : List Due) : Type 0 where
@@ -257,6 +260,57 @@ not_running f number code s = record {
   deadlines = plans_decided f.next.plan (aims_at (service_of_process f number)) code f.plans f.dues s.deadlines;
   registrations = s.registrations;
 }
+
+-- a process that runs tells how its service stands
+pub reported : (f : Flat) (number : ℕ) (report : Status) → is_running (process_of f number) ≡ true → Sound f → Sound (with_report f number report)
+reported f number report runs s = record {
+  services = rows_reported f.next.service f.next.process number report f.services (running_first f.next.process number f.processes (process_of f number) s.processes.numbered refl runs) s.services;
+  handles = s.handles;
+  processes = processes_reported f.next.process number report f.processes f.wanted f.services (running_launched number f.processes (process_of f number) s.processes.numbered.rising refl runs) s.processes;
+  plans = s.plans;
+  dues = s.dues;
+  deadlines = s.deadlines;
+  registrations = s.registrations;
+}
+
+pub no_more : (f : Flat) (number : ℕ) → Sound f → Sound (process_ended f number).1
+no_more f number s = record {
+  services = fallen f.next.service f.next.process number 1067 f.services s.services;
+  handles = s.handles;
+  processes = failed f.next.process number 1067 f.processes f.wanted f.services s.processes;
+  plans = s.plans;
+  dues = s.dues;
+  deadlines = s.deadlines;
+  registrations = s.registrations;
+}
+
+-- ## Controls
+
+of_controls : (f : Flat) (change : Process → Process) → IsOfControls change → Sound f → Sound (record f { processes = map change f.processes })
+of_controls f change only s = record {
+  services = s.services;
+  handles = s.handles;
+  processes = controlled f.next.process change f.processes f.wanted f.services only s.processes;
+  plans = s.plans;
+  dues = s.dues;
+  deadlines = s.deadlines;
+  registrations = s.registrations;
+}
+
+pub controls_more : (limit number code : ℕ) → IsOfControls (controlled_if limit number code)
+controls_more limit number code row =
+    elim (row.number == number && nat_lt (length row.controls) limit) as (λ b. cond b (record row { controls = row.controls ++ code ∷ [] }) row
+    ≡ record row { controls = (cond b (record row { controls = row.controls ++ code ∷ [] }) row).controls }) [ true ↦ refl | false ↦ refl ]
+
+pub controls_fewer : (number : ℕ) → IsOfControls (relieved_if number)
+controls_fewer number row =
+    elim (row.number == number) as (λ b. cond b (record row { controls = drop 1 row.controls }) row ≡ record row { controls = (cond b (record row { controls = drop 1 row.controls }) row).controls }) [ true ↦ refl | false ↦ refl ]
+
+pub control_waits : (l : Limits) (f : Flat) (number code : ℕ) → Sound f → Sound (with_control l f number code)
+control_waits l f number code s = of_controls f (controlled_if l.controls number code) (controls_more l.controls number code) s
+
+pub control_sent : (f : Flat) (number : ℕ) → Sound f → Sound (with_control_taken f number)
+control_sent f number s = of_controls f (relieved_if number) (controls_fewer number) s
 
 -- ## What it says
 

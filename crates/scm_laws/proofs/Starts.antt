@@ -12,11 +12,12 @@ use Rattle.scm_model.specs.declared.flat.Need.{Need}
 use Rattle.scm_model.specs.declared.flat.Need.TheVariants as needs
 use Rattle.scm_model.specs.declared.flat.Plan.{Plan}
 use Rattle.scm_model.specs.declared.flat.Service.{Service}
+use Rattle.scm_model.specs.declared.flat.Status.{Status}
 use Rattle.scm_model.specs.declared.calls.Request.{Request}
 use Rattle.scm_model.specs.declared.calls.Request.TheVariants as request
 use Rattle.scm_model.specs.declared.steps.Kept.{Kept}
 use Rattle.scm_model.specs.declared.steps.Step.{Step}
-use Rattle.scm_model.specs.declared.steps.Step.TheVariants.{Call, LaunchFailed}
+use Rattle.scm_model.specs.declared.steps.Step.TheVariants.{Call, LaunchFailed, Report, Ended}
 use Rattle.scm_model.specs.Changes.{configured_if, leaves, marked_if, purged, with_moment}
 use Rattle.start_plan.specs.Ready.{is_fulfilled, is_running, is_up}
 use Rattle.start_plan.specs.Settle.{settled}
@@ -24,6 +25,7 @@ use Rattle.start_plan.specs.Started.{IsOnce, IsStarted}
 use Rattle.start_plan.proofs.Enterings.{enters_the_ready}
 use Rattle.scm_rules.specs.Change.{asked_config, with_new_config}
 use Rattle.scm_rules.specs.Launches.{fallen_if}
+use Rattle.scm_rules.specs.Reports.{reported_if}
 use Rattle.scm_rules.specs.Steps.{at_moment, effect_of, finished_step, may}
 use Rattle.scm_rules.specs.Verdicts.{call_of, done_of, told_refused, verdict}
 use Rattle.scm_laws.specs.Starts.{IsStarting, LawOfStarts}
@@ -32,7 +34,7 @@ use Rattle.scm_laws.proofs.Calls.{by_verdict, of_effect}
 use Rattle.scm_laws.proofs.Effects.{same_process, step_settled}
 use Rattle.scm_laws.proofs.Frames.{finished_keeps}
 use Rattle.scm_laws.proofs.Lists.{any_at}
-use Rattle.scm_laws.proofs.Rows.{fallen_or}
+use Rattle.scm_laws.proofs.Rows.{fallen_or, reported_or}
 use Rattle.scm_laws.proofs.Settling.{IsEntered, IsSettled}
 use Rattle.scm_laws.proofs.Sound.{Sound}
 
@@ -59,22 +61,35 @@ old_change f number (Some config) =
     (λ k d lt. (let row = get_or f.services k d in
     elim (row.number == number) as (λ b. HasOld f.services (cond b (record row { config = config; status = record row.status { kind = config.kind } }) row)) [ true ↦ all_old f.services k d lt | false ↦ all_old f.services k d lt ]))
 
-old_done : (f : Flat) (caller : ℕ) (asked : Request) → All (HasOld f.services) (done_of f caller asked).1.services
-old_done f caller (request.Delete handle) = All-map (HasOld f.services) (marked_if _) f.services (all_old f.services)
-old_done f caller (request.Change change) = old_change f _ (asked_config f caller change)
-old_done f caller (request.Create new) = All-push (HasOld f.services) f.services _ (all_old f.services) refl
-old_done f caller asked = all_old f.services
+old_reported : (f : Flat) (process : ℕ) (report : Status) → All (HasOld f.services) (map (reported_if process report) f.services)
+old_reported f process report =
+    All-map (HasOld f.services) (reported_if process report) f.services
+    (λ k d lt. (let row = get_or f.services k d in
+    reported_or (HasOld f.services) process report row
+    (λ e t. elim (report.state == 1) as (λ b. HasOld f.services (record row { status = report; process = cond b 0 row.process })) [ true ↦ refl | false ↦ all_old f.services k d lt ]) (all_old f.services k d lt)))
+
+old_fallen : (f : Flat) (process code : ℕ) → All (HasOld f.services) (map (fallen_if process code) f.services)
+old_fallen f process code =
+    All-map (HasOld f.services) (fallen_if process code) f.services (λ k d lt. fallen_or (HasOld f.services) process code (get_or f.services k d) (λ e. refl) (all_old f.services k d lt))
+
+old_done : (l : Limits) (f : Flat) (caller : ℕ) (asked : Request) → All (HasOld f.services) (done_of l f caller asked).1.services
+old_done l f caller (request.Delete handle) = All-map (HasOld f.services) (marked_if _) f.services (all_old f.services)
+old_done l f caller (request.SetStatus handle status) = old_reported f _ status
+old_done l f caller (request.Change change) = old_change f _ (asked_config f caller change)
+old_done l f caller (request.Create new) = All-push (HasOld f.services) f.services _ (all_old f.services) refl
+old_done l f caller asked = all_old f.services
 
 old_call : (l : Limits) (f : Flat) (caller : ℕ) (asked : Request) (append : Kept) → All (HasOld f.services) (call_of l f caller asked append).1.services
 old_call l f caller asked append =
-    by_verdict (λ r. All (HasOld f.services) r.1.services) (verdict l f caller asked append) (told_refused f caller asked (verdict l f caller asked append)) f (done_of f caller asked)
-    (λ e. old_done f caller asked) (λ e. all_old f.services)
+    by_verdict (λ r. All (HasOld f.services) r.1.services) (verdict l f caller asked append) (told_refused f caller asked (verdict l f caller asked append)) f (done_of l f caller asked)
+    (λ e. old_done l f caller asked) (λ e. all_old f.services)
 
 -- an effect gives nobody a process
 old_effect : (l : Limits) (f : Flat) (moment : ℕ) (step : Step) → All (HasOld f.services) (effect_of l (at_moment f moment step) step).1.services
 old_effect l f moment (Call caller asked append) = old_call l (with_moment f moment) caller asked append
-old_effect l f moment (LaunchFailed process code) =
-    All-map (HasOld f.services) (fallen_if process code) f.services (λ k d lt. fallen_or (HasOld f.services) process code (get_or f.services k d) (λ e. refl) (all_old f.services k d lt))
+old_effect l f moment (LaunchFailed process code) = old_fallen f process code
+old_effect l f moment (Report process status) = old_reported f process status
+old_effect l f moment (Ended process) = old_fallen f process 1067
 old_effect l f moment step = all_old f.services
 
 -- ## What settling makes of them

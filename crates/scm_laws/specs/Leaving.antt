@@ -10,10 +10,11 @@ use Rattle.scm_model.specs.declared.calls.Request.TheVariants as request
 use Rattle.scm_model.specs.declared.steps.Answer.{Answer}
 use Rattle.scm_model.specs.declared.steps.Answer.TheVariants as answer
 use Rattle.scm_model.specs.declared.steps.Step.{Step}
-use Rattle.scm_model.specs.declared.steps.Step.TheVariants.{Call}
+use Rattle.scm_model.specs.declared.steps.Step.TheVariants.{Call, Report}
 use Rattle.scm_model.specs.Rows.{opened}
 use Rattle.scm_model.specs.Changes.{leaves}
 use Rattle.scm_rules.specs.Query.{service_in}
+use Rattle.scm_rules.specs.Reports.{process_in, reporting_service}
 use Rattle.scm_rules.specs.Steps.{finished_step}
 use Rattle.scm_rules.specs.Runs.{Entry}
 
@@ -43,6 +44,9 @@ succeeds (answer.Caller caller) = false
 succeeds (answer.Reply told) = has_zero told
 succeeds (answer.Begun plan) = true
 succeeds (answer.Launch process) = false
+succeeds (answer.Control code) = false
+succeeds (answer.Refused code) = false
+succeeds answer.Stale = false
 succeeds answer.Done = false
 
 -- the number of the service that a Create with code 0 adds
@@ -64,8 +68,15 @@ abbrev pub configures : Flat → Step → Answer → ℕ → Bool
 configures f (Call caller (request.Change change) append) told number = succeeds told && is_handle_of f caller change.handle number
 configures f step told number = false
 
+-- whether a step is a report of the service's current process, its own or by a call
+abbrev pub reports : Flat → Step → Service → Bool
+reports f (Report process status) row = row.process == process
+reports f (Call caller (request.SetStatus handle status) append) row = row.process == process_in (reporting_service f caller handle)
+reports f step row = false
+
 -- a service after a step is the one before it: only its Delete marks it, and only its Change gives it another configuration, with another
--- type in its status, under the same name; as long as its current process is the same, so is its status but for the type
+-- type in its status, under the same name; as long as its current process is the same and reports nothing, so is its status but for the
+-- type
 pub record IsSameService (f : Flat) (step : Step) (told : Answer) (old new : Service) : Type 0 where
   pub row : new ≡ record old {
     config = new.config;
@@ -73,7 +84,7 @@ pub record IsSameService (f : Flat) (step : Step) (told : Answer) (old new : Ser
     process = new.process;
     marked = old.marked || marks f step told old.number;
   }
-  pub state : new.process ≡ old.process → new.status ≡ record old.status { kind = new.status.kind }
+  pub state : new.process ≡ old.process → reports f step old ≡ false → new.status ≡ record old.status { kind = new.status.kind }
   pub config : configures f step told old.number ≡ false → (new.config ≡ old.config) × (new.status.kind ≡ old.status.kind)
   pub name : new.config.name ≡ old.config.name
 

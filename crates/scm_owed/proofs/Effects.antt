@@ -1,5 +1,5 @@
 -- What a step that isn't owed makes owed.
-use Rattle.std.proofs.Common.{ℕ, ◌≡◌, ◌≤◌, ◌+◌, ◌*◌, ◌==◌, ◌||◌, ◌&&◌, Bool, true, false, not, cond, List, [], ◌∷◌, Option, None, Some, length, length-append, map, find, eqb, refl, sym, arith, eq-eqb, eqb-true}
+use Rattle.std.proofs.Common.{ℕ, ◌≡◌, ◌≤◌, ◌+◌, ◌*◌, ◌==◌, ◌||◌, ◌&&◌, Bool, true, false, not, cond, List, [], ◌∷◌, Option, None, Some, length, length-append, map, find, eqb, ap, refl, sym, arith, eq-eqb, eqb-true}
 use Rattle.std.specs.Prelude.{is_none, is_some, unwrap_or}
 use Rattle.std.proofs.lemmas.List.{length-map}
 use Rattle.scm_model.specs.declared.flat.Config.{Config}
@@ -9,13 +9,14 @@ use Rattle.scm_model.specs.declared.flat.DueKind.TheVariants as dues
 use Rattle.scm_model.specs.declared.flat.Flat.{Flat}
 use Rattle.scm_model.specs.declared.flat.Limits.{Limits}
 use Rattle.scm_model.specs.declared.flat.Plan.{Plan}
+use Rattle.scm_model.specs.declared.flat.Process.{Process}
 use Rattle.scm_model.specs.declared.flat.Service.{Service}
 use Rattle.scm_model.specs.declared.calls.Reply.{Reply}
 use Rattle.scm_model.specs.declared.calls.Request.{Request}
 use Rattle.scm_model.specs.declared.calls.Request.TheVariants as request
 use Rattle.scm_model.specs.declared.steps.Kept.{Kept}
 use Rattle.scm_model.specs.declared.steps.Step.{Step}
-use Rattle.scm_model.specs.declared.steps.Step.TheVariants.{Joined, Call, EndStart, LaunchTaken, Launched, LaunchFailed, Tick, Gone, NoMemory}
+use Rattle.scm_model.specs.declared.steps.Step.TheVariants.{Joined, Call, EndStart, LaunchTaken, Launched, LaunchFailed, Report, Ended, ControlTaken, Tick, Gone, NoMemory}
 use Rattle.scm_model.specs.Refused.{answered, first_refusal}
 use Rattle.scm_model.specs.Rows.{opened, service_of}
 use Rattle.dependency_index.specs.Needs.{has, numbers_of}
@@ -23,14 +24,18 @@ use Rattle.start_plan.specs.Decided.{decided_if, decided_in, is_numbered, is_tar
 use Rattle.start_plan.specs.Ready.{state_in, state_of}
 use Rattle.start_plan.specs.Settle.{stays}
 use Rattle.scm_rules.specs.Change.{asked_config, with_new_config}
+use Rattle.scm_rules.specs.Controls.{controlled_if, controlled_service, relieved_if}
 use Rattle.scm_rules.specs.Delete.{is_marked}
 use Rattle.scm_rules.specs.Needs.{need_row, need_rows, start_order}
 use Rattle.scm_rules.specs.Query.{service_in}
+use Rattle.scm_rules.specs.Reports.{process_in}
 use Rattle.scm_rules.specs.Rights.{lacks}
 use Rattle.scm_rules.specs.Start.{are_bad_words, expired, fired, fired_by, is_disabled, is_due, lacks_need, new_plan, start_done, start_verdict, with_plan}
 use Rattle.scm_rules.specs.Steps.{effect_of}
 use Rattle.scm_rules.specs.Verdicts.{call_of, done_of, told_refused, verdict}
-use Rattle.scm_owed.specs.Owed.{owed, owed_by_plan, owed_to, total, untried}
+use Rattle.scm_laws.proofs.Processes.{IsOfControls}
+use Rattle.scm_laws.proofs.Sound.{controls_fewer, controls_more}
+use Rattle.scm_owed.specs.Owed.{owed, owed_by_plan, owed_by_process, owed_to, total, untried}
 use Rattle.scm_owed.specs.Room.{is_owed, need}
 use Rattle.scm_owed.proofs.Fewer.{few_in_order}
 use Rattle.scm_owed.proofs.Settling.{kept_owes, total_more}
@@ -103,26 +108,39 @@ of_config : (f : Flat) (number : ℕ) (config : Option Config) → owed (with_ne
 of_config f number None = refl
 of_config f number (Some config) = refl
 
+-- controls make nothing owed
+pub controls_owe : (change : Process → Process) → IsOfControls change → (rows : List Process) → total owed_by_process (map change rows) ≡ total owed_by_process rows
+controls_owe change only [] = refl
+controls_owe change only (row ∷ rows) =
+    let one = ap owed_by_process (only row) in
+    let rest = controls_owe change only rows in
+    omega (arith, one, rest)
+
 of_call : (l : Limits) (f : Flat) (caller : ℕ) (asked : Request) (append : Kept) → owed (call_of l f caller asked append).1 + 1 ≤ owed f + need f (Call caller asked append)
 of_call l f caller (request.Start handle words) append =
     let code = verdict l f caller (request.Start handle words) append in
-    of_answered code (told_refused f caller (request.Start handle words) code) f (done_of f caller (request.Start handle words)) (3 * length f.services + 2) (omega arith) (λ e. start_owes f caller handle words e)
+    of_answered code (told_refused f caller (request.Start handle words) code) f (done_of l f caller (request.Start handle words)) (3 * length f.services + 2) (omega arith) (λ e. start_owes f caller handle words e)
 of_call l f caller (request.Change change) append =
     let code = verdict l f caller (request.Change change) append in
     let same = of_config f (service_in (opened f caller change.handle)) (asked_config f caller change) in
-    of_answered code (told_refused f caller (request.Change change) code) f (done_of f caller (request.Change change)) 1 (omega arith) (λ e. omega (arith, same))
-of_call l f caller (request.Close handle) append = of_answered (verdict l f caller (request.Close handle) append) _ f (done_of f caller (request.Close handle)) 1 (omega arith) (λ e. omega arith)
-of_call l f caller (request.Delete handle) append = of_answered (verdict l f caller (request.Delete handle) append) _ f (done_of f caller (request.Delete handle)) 1 (omega arith) (λ e. omega arith)
-of_call l f caller (request.Lock handle) append = of_answered (verdict l f caller (request.Lock handle) append) _ f (done_of f caller (request.Lock handle)) 1 (omega arith) (λ e. omega arith)
-of_call l f caller (request.QueryStatus handle) append = of_answered (verdict l f caller (request.QueryStatus handle) append) _ f (done_of f caller (request.QueryStatus handle)) 1 (omega arith) (λ e. omega arith)
-of_call l f caller (request.Unlock handle) append = of_answered (verdict l f caller (request.Unlock handle) append) _ f (done_of f caller (request.Unlock handle)) 1 (omega arith) (λ e. omega arith)
-of_call l f caller (request.Create new) append = of_answered (verdict l f caller (request.Create new) append) _ f (done_of f caller (request.Create new)) 1 (omega arith) (λ e. omega arith)
-of_call l f caller (request.OpenManager database access) append = of_answered (verdict l f caller (request.OpenManager database access) append) _ f (done_of f caller (request.OpenManager database access)) 1 (omega arith) (λ e. omega arith)
-of_call l f caller (request.OpenService handle name access) append = of_answered (verdict l f caller (request.OpenService handle name access) append) _ f (done_of f caller (request.OpenService handle name access)) 1 (omega arith) (λ e. omega arith)
-of_call l f caller (request.QueryConfig handle size) append = of_answered (verdict l f caller (request.QueryConfig handle size) append) _ f (done_of f caller (request.QueryConfig handle size)) 1 (omega arith) (λ e. omega arith)
-of_call l f caller (request.QueryLock handle size) append = of_answered (verdict l f caller (request.QueryLock handle size) append) _ f (done_of f caller (request.QueryLock handle size)) 1 (omega arith) (λ e. omega arith)
-of_call l f caller (request.DisplayName handle name size) append = of_answered (verdict l f caller (request.DisplayName handle name size) append) _ f (done_of f caller (request.DisplayName handle name size)) 1 (omega arith) (λ e. omega arith)
-of_call l f caller (request.KeyName handle name size) append = of_answered (verdict l f caller (request.KeyName handle name size) append) _ f (done_of f caller (request.KeyName handle name size)) 1 (omega arith) (λ e. omega arith)
+    of_answered code (told_refused f caller (request.Change change) code) f (done_of l f caller (request.Change change)) 1 (omega arith) (λ e. omega (arith, same))
+of_call l f caller (request.Control handle control) append =
+    let code = verdict l f caller (request.Control handle control) append in
+    let same = controls_owe (controlled_if l.controls (process_in (controlled_service f caller handle)) control) (controls_more l.controls (process_in (controlled_service f caller handle)) control) f.processes in
+    of_answered code (told_refused f caller (request.Control handle control) code) f (done_of l f caller (request.Control handle control)) 1 (omega arith) (λ e. omega (arith, same))
+of_call l f caller (request.Close handle) append = of_answered (verdict l f caller (request.Close handle) append) _ f (done_of l f caller (request.Close handle)) 1 (omega arith) (λ e. omega arith)
+of_call l f caller (request.Delete handle) append = of_answered (verdict l f caller (request.Delete handle) append) _ f (done_of l f caller (request.Delete handle)) 1 (omega arith) (λ e. omega arith)
+of_call l f caller (request.Lock handle) append = of_answered (verdict l f caller (request.Lock handle) append) _ f (done_of l f caller (request.Lock handle)) 1 (omega arith) (λ e. omega arith)
+of_call l f caller (request.QueryStatus handle) append = of_answered (verdict l f caller (request.QueryStatus handle) append) _ f (done_of l f caller (request.QueryStatus handle)) 1 (omega arith) (λ e. omega arith)
+of_call l f caller (request.SetStatus handle status) append = of_answered (verdict l f caller (request.SetStatus handle status) append) _ f (done_of l f caller (request.SetStatus handle status)) 1 (omega arith) (λ e. omega arith)
+of_call l f caller (request.Unlock handle) append = of_answered (verdict l f caller (request.Unlock handle) append) _ f (done_of l f caller (request.Unlock handle)) 1 (omega arith) (λ e. omega arith)
+of_call l f caller (request.Create new) append = of_answered (verdict l f caller (request.Create new) append) _ f (done_of l f caller (request.Create new)) 1 (omega arith) (λ e. omega arith)
+of_call l f caller (request.OpenManager database access) append = of_answered (verdict l f caller (request.OpenManager database access) append) _ f (done_of l f caller (request.OpenManager database access)) 1 (omega arith) (λ e. omega arith)
+of_call l f caller (request.OpenService handle name access) append = of_answered (verdict l f caller (request.OpenService handle name access) append) _ f (done_of l f caller (request.OpenService handle name access)) 1 (omega arith) (λ e. omega arith)
+of_call l f caller (request.QueryConfig handle size) append = of_answered (verdict l f caller (request.QueryConfig handle size) append) _ f (done_of l f caller (request.QueryConfig handle size)) 1 (omega arith) (λ e. omega arith)
+of_call l f caller (request.QueryLock handle size) append = of_answered (verdict l f caller (request.QueryLock handle size) append) _ f (done_of l f caller (request.QueryLock handle size)) 1 (omega arith) (λ e. omega arith)
+of_call l f caller (request.DisplayName handle name size) append = of_answered (verdict l f caller (request.DisplayName handle name size) append) _ f (done_of l f caller (request.DisplayName handle name size)) 1 (omega arith) (λ e. omega arith)
+of_call l f caller (request.KeyName handle name size) append = of_answered (verdict l f caller (request.KeyName handle name size) append) _ f (done_of l f caller (request.KeyName handle name size)) 1 (omega arith) (λ e. omega arith)
 
 -- ## Decisions
 
@@ -162,10 +180,13 @@ fired_owes moment plans (due ∷ rows) =
 pub effects_owe : (l : Limits) (f : Flat) (step : Step) → is_owed step ≡ false → owed (effect_of l f step).1 + 1 ≤ owed f + need f step
 effects_owe l f (Joined principal) e = let more = length-append f.callers (record { number = f.next.caller; principal = principal } ∷ []) in omega (arith, more)
 effects_owe l f (Call caller asked append) e = of_call l f caller asked append
+effects_owe l f (Report process status) e = omega arith
+effects_owe l f (ControlTaken process) e = let same = controls_owe (relieved_if process) (controls_fewer process) f.processes in omega (arith, same)
 effects_owe l f Tick e = let fewer = fired_owes f.moment f.plans f.dues in omega (arith, fewer)
 effects_owe l f (NoMemory caller) e = omega arith
 effects_owe l f (EndStart caller plan) e = absurd cc
 effects_owe l f LaunchTaken e = absurd cc
 effects_owe l f (Launched process pid) e = absurd cc
 effects_owe l f (LaunchFailed process code) e = absurd cc
+effects_owe l f (Ended process) e = absurd cc
 effects_owe l f (Gone caller) e = absurd cc

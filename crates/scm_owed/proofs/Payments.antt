@@ -1,5 +1,5 @@
 -- What an owed step pays.
-use Rattle.std.proofs.Common.{ℕ, ◌≡◌, ◌≤◌, ◌<◌, ◌+◌, ◌==◌, ◌&&◌, Bool, true, false, not, cond, zero, suc, List, [], ◌∷◌, Some, length, map, filter, find, get_or, refl, sym, ap, subst, arith, eq-eqb, eqb-true, ne_eqb}
+use Rattle.std.proofs.Common.{ℕ, ◌≡◌, ◌≤◌, ◌<◌, ◌+◌, ◌==◌, ◌&&◌, Bool, true, false, not, cond, zero, suc, List, [], ◌∷◌, Option, None, Some, length, map, filter, find, get_or, refl, sym, ap, subst, arith, eq-eqb, eqb-true, ne_eqb}
 use Rattle.std.specs.Prelude.{All, AllPairs, is_some, option_map}
 use Rattle.std.proofs.lemmas.List.Folds.{list_any_none}
 use Rattle.scm_model.specs.declared.flat.Caller.{Caller}
@@ -11,9 +11,9 @@ use Rattle.scm_model.specs.declared.flat.Plan.{Plan}
 use Rattle.scm_model.specs.declared.flat.Process.{Process}
 use Rattle.scm_model.specs.declared.flat.Wanted.{Wanted}
 use Rattle.scm_model.specs.declared.steps.Step.{Step}
-use Rattle.scm_model.specs.declared.steps.Step.TheVariants.{EndStart, LaunchTaken, Launched, LaunchFailed, Gone, Joined, Call, Tick, NoMemory}
+use Rattle.scm_model.specs.declared.steps.Step.TheVariants.{EndStart, LaunchTaken, Launched, LaunchFailed, Report, Ended, ControlTaken, Gone, Joined, Call, Tick, NoMemory}
 use Rattle.start_plan.specs.Decided.{aims_at, caller_of, is_numbered, without_plan}
-use Rattle.scm_rules.specs.Launches.{first_wanted, is_taken, launched_if, service_of_process, taken_if}
+use Rattle.scm_rules.specs.Launches.{first_wanted, is_running, is_taken, launched_if, process_of, service_of_process, taken_if}
 use Rattle.scm_rules.specs.Start.{is_caller_of}
 use Rattle.scm_rules.specs.Steps.{at_moment, effect_of, is_wanted, may}
 use Rattle.scm_rules.specs.Valid.{AreNumbered, has_process, is_to_launch}
@@ -127,14 +127,23 @@ kept_least p (row ∷ rows) =
     let rest = kept_least p rows in
     elim (p row) as (λ b. total owed_by_process (cond b (row ∷ filter p rows) (filter p rows)) ≤ owed_by_process row + total owed_by_process rows) [ true ↦ omega (arith, rest) | false ↦ omega (arith, rest) ]
 
-failed_pays : (n : ℕ) (rows : List Process) → is_taken (find (λ (row : Process). row.number == n) rows) ≡ true → total owed_by_process (filter (λ (row : Process). not (row.number == n)) rows) + 1 ≤ total owed_by_process rows
-failed_pays n [] e = absurd cc
-failed_pays n (row ∷ rows) e =
-    elim (row.number == n) as (λ b. (row.number == n) ≡ b → is_taken (cond b (Some row) (find (λ (row : Process). row.number == n) rows)) ≡ true
+-- whoever is listed owes, and pays where it leaves
+left_pays : (n : ℕ) (rows : List Process) → is_some (find (λ (row : Process). row.number == n) rows) ≡ true → total owed_by_process (filter (λ (row : Process). not (row.number == n)) rows) + 1 ≤ total owed_by_process rows
+left_pays n [] e = absurd cc
+left_pays n (row ∷ rows) e =
+    elim (row.number == n) as (λ b. (row.number == n) ≡ b → is_some (cond b (Some row) (find (λ (row : Process). row.number == n) rows)) ≡ true
     → total owed_by_process (cond (not b) (row ∷ filter (λ (row : Process). not (row.number == n)) rows) (filter (λ (row : Process). not (row.number == n)) rows)) + 1 ≤ owed_by_process row + total owed_by_process rows) [
-      | true ↦ λ h g. let two = taken_owes row g in let rest = kept_least (λ (row : Process). not (row.number == n)) rows in omega (arith, two, rest)
-      | false ↦ λ h g. let rest = failed_pays n rows g in omega (arith, rest)
+      | true ↦ λ h g. let least = in_phase_least row.phase in let rest = kept_least (λ (row : Process). not (row.number == n)) rows in omega (arith, least, rest)
+      | false ↦ λ h g. let rest = left_pays n rows g in omega (arith, rest)
     ] refl e
+
+taken_listed : (found : Option Process) → is_taken found ≡ true → is_some found ≡ true
+taken_listed None e = absurd cc
+taken_listed (Some row) e = refl
+
+running_listed : (found : Option Process) → is_running found ≡ true → is_some found ≡ true
+running_listed None e = absurd cc
+running_listed (Some row) e = refl
 
 -- ## A caller that goes
 
@@ -205,14 +214,19 @@ owed_steps_pay l f moment (Launched process pid) s ok e =
     let decided = decision_owes (aims_at (service_of_process f process)) 0 f.plans in
     omega (arith, pays, decided)
 owed_steps_pay l f moment (LaunchFailed process code) s ok e =
-    let pays = failed_pays process f.processes (first _ _ (first _ _ ok)) in
+    let pays = left_pays process f.processes (taken_listed (process_of f process) (first _ _ (first _ _ ok))) in
     let decided = decision_owes (aims_at (service_of_process f process)) code f.plans in
     omega (arith, pays, decided)
+owed_steps_pay l f moment (Ended process) s ok e =
+    let pays = left_pays process f.processes (running_listed (process_of f process) (first _ _ ok)) in
+    omega (arith, pays)
 owed_steps_pay l f moment (Gone caller) s ok e =
     let pays = gone_pays caller f.callers (first _ _ ok) in
     let plans = kept_owes (λ (plan : Plan). not (plan.caller == caller)) f.plans in
     omega (arith, pays, plans)
 owed_steps_pay l f moment (Joined principal) s ok e = absurd cc
 owed_steps_pay l f moment (Call caller asked append) s ok e = absurd cc
+owed_steps_pay l f moment (Report process status) s ok e = absurd cc
+owed_steps_pay l f moment (ControlTaken process) s ok e = absurd cc
 owed_steps_pay l f moment Tick s ok e = absurd cc
 owed_steps_pay l f moment (NoMemory caller) s ok e = absurd cc

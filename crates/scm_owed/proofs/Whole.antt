@@ -6,7 +6,7 @@ use Rattle.scm_model.specs.declared.flat.Plan.{Plan}
 use Rattle.scm_model.specs.declared.steps.Answer.{Answer}
 use Rattle.scm_model.specs.declared.steps.Answer.TheVariants as answer
 use Rattle.scm_model.specs.declared.steps.Step.{Step}
-use Rattle.scm_model.specs.declared.steps.Step.TheVariants.{Joined, Call, EndStart, LaunchTaken, Launched, LaunchFailed, Tick, Gone, NoMemory}
+use Rattle.scm_model.specs.declared.steps.Step.TheVariants.{Joined, Call, EndStart, LaunchTaken, Launched, LaunchFailed, Report, Ended, ControlTaken, Tick, Gone, NoMemory}
 use Rattle.start_plan.specs.Decided.{code_of, is_numbered}
 use Rattle.start_plan.specs.Settle.{settled}
 use Rattle.scm_rules.specs.Runs.{Entry, IsLegal, state_of}
@@ -31,6 +31,9 @@ finished_owes f (answer.Begun plan) = left_owes f plan (code_of f.plans plan)
 finished_owes f (answer.Caller number) = omega arith
 finished_owes f (answer.Reply told) = omega arith
 finished_owes f (answer.Launch process) = omega arith
+finished_owes f (answer.Control code) = omega arith
+finished_owes f (answer.Refused code) = omega arith
+finished_owes f answer.Stale = omega arith
 finished_owes f answer.Done = omega arith
 
 -- what comes behind the effect makes nothing owed
@@ -50,6 +53,9 @@ same_at f moment (EndStart caller plan) = (refl, refl)
 same_at f moment LaunchTaken = (refl, refl)
 same_at f moment (Launched process pid) = (refl, refl)
 same_at f moment (LaunchFailed process code) = (refl, refl)
+same_at f moment (Report process status) = (refl, refl)
+same_at f moment (Ended process) = (refl, refl)
+same_at f moment (ControlTaken process) = (refl, refl)
 same_at f moment Tick = (refl, refl)
 same_at f moment (Gone caller) = (refl, refl)
 

@@ -5,7 +5,7 @@ use Rattle.scm_model.specs.declared.flat.Limits.{Limits}
 use Rattle.scm_model.specs.declared.calls.Request.{Request}
 use Rattle.scm_model.specs.declared.calls.Request.TheVariants as request
 use Rattle.scm_model.specs.declared.steps.Step.{Step}
-use Rattle.scm_model.specs.declared.steps.Step.TheVariants.{Joined, Call, EndStart, LaunchTaken, Launched, LaunchFailed, Tick, Gone}
+use Rattle.scm_model.specs.declared.steps.Step.TheVariants.{Joined, Call, EndStart, LaunchTaken, Launched, LaunchFailed, Ended, Tick, Gone}
 use Rattle.scm_rules.specs.Texts.{text_of}
 use Rattle.scm_owed.specs.Owed.{owed}
 
@@ -33,6 +33,7 @@ is_owed (EndStart caller plan) = true
 is_owed LaunchTaken = true
 is_owed (Launched process pid) = true
 is_owed (LaunchFailed process code) = true
+is_owed (Ended process) = true
 is_owed (Gone caller) = true
 is_owed step = false
 

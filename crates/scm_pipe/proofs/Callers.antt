@@ -54,12 +54,12 @@ of_config : (f : Flat) (number : ℕ) (config : Option Config) → (with_new_con
 of_config f number None = refl
 of_config f number (Some config) = refl
 
-of_done : (f : Flat) (caller : ℕ) (asked : Request) → (done_of f caller asked).1.callers ≡ f.callers
-of_done f caller (request.Change change) = of_config f (service_in (opened f caller change.handle)) (asked_config f caller change)
-of_done f caller asked = refl
+of_done : (l : Limits) (f : Flat) (caller : ℕ) (asked : Request) → (done_of l f caller asked).1.callers ≡ f.callers
+of_done l f caller (request.Change change) = of_config f (service_in (opened f caller change.handle)) (asked_config f caller change)
+of_done l f caller asked = refl
 
 pub callers_of_call : (l : Limits) (f : Flat) (moment caller : ℕ) (asked : Request) (append : Kept) → (step_of l f moment (Call caller asked append)).1.callers ≡ f.callers
 callers_of_call l f moment caller asked append =
     let begun = with_moment f moment in
     let code = verdict l begun caller asked append in
-    callers_kept l f moment (Call caller asked append) (of_answered code (told_refused begun caller asked code) begun (done_of begun caller asked) (of_done begun caller asked))
+    callers_kept l f moment (Call caller asked append) (of_answered code (told_refused begun caller asked code) begun (done_of l begun caller asked) (of_done l begun caller asked))

@@ -60,7 +60,7 @@ short_owner : (f : Flat) (held : Option LockRow) → length (owner_of f held) �
 short_owner f None = omega arith
 short_owner f (Some row) = short_principal _
 
-of_done : (l : Limits) (f : Flat) (caller : ℕ) (asked : Request) (append : Kept) → AllShort f → IsInRange asked → verdict l f caller asked append ≡ 0 → Answers asked (done_of f caller asked).0
+of_done : (l : Limits) (f : Flat) (caller : ℕ) (asked : Request) (append : Kept) → AllShort f → IsInRange asked → verdict l f caller asked append ≡ 0 → Answers asked (done_of l f caller asked).0
 of_done l f caller (request.QueryConfig handle size) append short range e = shown_fits f caller handle size range e
 of_done l f caller (request.QueryLock handle size) append short range e = short_owner f f.lock
 of_done l f caller (request.DisplayName handle name size) append short range e = short_display (named f name) (short_by_name f name short)
@@ -69,5 +69,5 @@ of_done l f caller asked append short range e = tt
 
 pub of_call : (l : Limits) (f : Flat) (caller : ℕ) (asked : Request) (append : Kept) → AllShort f → IsInRange asked → Answers asked (call_of l f caller asked append).0
 of_call l f caller asked append short range =
-    by_verdict (λ r. Answers asked r.0) (verdict l f caller asked append) (told_refused f caller asked (verdict l f caller asked append)) f (done_of f caller asked)
+    by_verdict (λ r. Answers asked r.0) (verdict l f caller asked append) (told_refused f caller asked (verdict l f caller asked append)) f (done_of l f caller asked)
     (of_done l f caller asked append short range) (λ e. of_told f caller asked (verdict l f caller asked append))

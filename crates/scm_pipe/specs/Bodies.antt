@@ -5,9 +5,9 @@ use Rattle.scm_model.specs.declared.calls.Request.{Request as Call}
 use Rattle.scm_model.specs.declared.calls.Reply.{Reply}
 use Rattle.scm_model.specs.Refused.{refused}
 use Rattle.ndr_body.specs.declared.fault.BodyFault.{BodyFault}
-use Rattle.scm_calls.specs.Requests.{request_at}
+use Rattle.scm_calls.specs.Requests.{is_served, request_at}
 use Rattle.scm_calls.specs.Replies.{reply_bytes as body_of}
-use Rattle.scm_calls_cfg.specs.Requests.{request_at as config_request_at}
+use Rattle.scm_calls_cfg.specs.Requests.{is_served as is_config, request_at as config_request_at}
 use Rattle.rpc_pdu.specs.Written.{fault_bytes}
 use Rattle.rpc_session.specs.Replies.{reply_bytes as fragments_of}
 use Rattle.rpc_session.specs.declared.contexts.Interface.{Interface}
@@ -18,15 +18,6 @@ use Rattle.rpc_session.specs.declared.state.RequestItem.{RequestItem}
 
 -- ## Requests
 
--- the calls on handles, names, the lock and starts that are served so far
-abbrev pub is_plain : ℕ → Bool
-is_plain opnum =
-    opnum == 0 || opnum == 2 || opnum == 3 || opnum == 6 || opnum == 8 || opnum == 15 || opnum == 16 || opnum == 18 || opnum == 19 || opnum == 20 || opnum == 21
-
--- the calls on configurations that are served so far
-abbrev pub is_on_config : ℕ → Bool
-is_on_config opnum = opnum == 11 || opnum == 12 || opnum == 17
-
 -- a body that can't be read is nca_s_fault_ndr
 abbrev pub or_fault : Result Call BodyFault → Result Call ℕ
 or_fault (Ok request) = Ok request
@@ -36,8 +27,8 @@ or_fault (Err fault) = Err 0x6F7
 unfoldable pub asked_in : Interface → ℕ → List ℕ → Result Call ℕ
 asked_in Trigger opnum body = Err 0x1C010002
 asked_in Svcctl opnum body =
-    if is_plain opnum then or_fault (request_at opnum body) else
-    if is_on_config opnum then or_fault (config_request_at opnum body) else Err 0x1C010002
+    if is_served opnum then or_fault (request_at opnum body) else
+    if is_config opnum then or_fault (config_request_at opnum body) else Err 0x1C010002
 
 abbrev pub asked_of : RequestItem → Result Call ℕ
 asked_of r = asked_in r.interface r.opnum r.body

@@ -3,7 +3,7 @@ ghost use Rattle.scm_model.specs.declared.calls.Request.{Request};
 ghost use Rattle.ndr_body.specs.declared.fault.BodyFault.{BodyFault};
 ghost use Rattle.ndr_body.specs.Reading.{Gives};
 ghost use Rattle.scm_calls.specs.Requests.{IsInRange};
-ghost use Rattle.scm_pipe.specs.Bodies.{asked_in, asked_of, is_on_config, is_plain, or_fault};
+ghost use Rattle.scm_pipe.specs.Bodies.{asked_in, asked_of, or_fault};
 
 use ndr_body::BodyFault;
 use rpc_session::{Interface, RequestItem};
@@ -16,20 +16,6 @@ const OP_RANGE: u32 = 0x1C01_0002;
 
 /// nca_s_fault_ndr of MS-RPCE: the body can't be read.
 const BAD_BODY: u32 = 0x6F7;
-
-/// Whether a call is one on handles, names, the lock or a start that is served.
-fn is_plain(opnum: u16) -> bool
-    ensures { result ≡ is_plain opnum }
-{
-    matches!(opnum, 0 | 2 | 3 | 6 | 8 | 15 | 16 | 18 | 19 | 20 | 21)
-}
-
-/// Whether a call is one on configurations that is served.
-fn is_on_config(opnum: u16) -> bool
-    ensures { result ≡ is_on_config opnum }
-{
-    matches!(opnum, 11 | 12 | 17)
-}
 
 /// What a body that was read asks, or the fault of one that can't be.
 fn or_fault(read: Result<Request, BodyFault>) -> Result<Result<Request, u32>, OutOfMemory>
@@ -63,9 +49,9 @@ fn asked_in(
     match interface {
         Interface::Trigger => Ok(Err(OP_RANGE)),
         Interface::Svcctl => {
-            if is_plain(opnum) {
+            if scm_calls::is_served(opnum) {
                 or_fault(scm_calls::read_request(alloc, opnum, body))
-            } else if is_on_config(opnum) {
+            } else if scm_calls_cfg::is_served(opnum) {
                 or_fault(scm_calls_cfg::read_request(alloc, opnum, body))
             } else {
                 Ok(Err(OP_RANGE))

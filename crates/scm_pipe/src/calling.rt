@@ -41,6 +41,9 @@ fn told(step: Step, now: Kept) -> Step
         | Step::LaunchTaken
         | Step::Launched { .. }
         | Step::LaunchFailed { .. }
+        | Step::Report { .. }
+        | Step::Ended { .. }
+        | Step::ControlTaken { .. }
         | Step::Tick
         | Step::Gone { .. }
         | Step::NoMemory { .. } => step,
@@ -99,7 +102,12 @@ fn heard<R: Wait, C: Clock>(
     match answer {
         Answer::Reply(reply) => reply,
         Answer::Begun(plan) => Reply::Code(wait(rt, manager, plan, clock)),
-        Answer::Caller(_) | Answer::Launch(_) | Answer::Done => refusal,
+        Answer::Caller(_)
+        | Answer::Launch(_)
+        | Answer::Control(_)
+        | Answer::Refused(_)
+        | Answer::Stale
+        | Answer::Done => refusal,
     }
 }
 

@@ -3,7 +3,6 @@ use Rattle.std.specs.Prelude.{ℕ, Bool, false, true, not, ◌==◌, List, [], �
 use Rattle.scm_model.specs.declared.flat.Flat.{Flat}
 use Rattle.scm_model.specs.declared.flat.Phase.{Phase}
 use Rattle.scm_model.specs.declared.flat.Phase.TheVariants as phases
-use Rattle.scm_model.specs.declared.flat.Plan.{Plan}
 use Rattle.scm_model.specs.declared.flat.Process.{Process}
 use Rattle.scm_model.specs.declared.flat.Service.{Service}
 use Rattle.scm_model.specs.declared.flat.Wanted.{Wanted}
@@ -32,6 +31,16 @@ is_taken_phase phases.Launched = false
 abbrev pub is_taken : Option Process → Bool
 is_taken None = false
 is_taken (Some row) = is_taken_phase row.phase
+
+abbrev pub is_running_phase : Phase → Bool
+is_running_phase phases.Wanted = false
+is_running_phase phases.Taken = false
+is_running_phase phases.Launched = true
+
+-- whether a process is listed and was launched
+abbrev pub is_running : Option Process → Bool
+is_running None = false
+is_running (Some row) = is_running_phase row.phase
 
 -- the process that is to be launched first, or 0
 abbrev pub first_wanted : List Wanted → ℕ

@@ -14,6 +14,8 @@ pub mod Locks
 pub mod Start
 pub mod Verdicts
 pub mod Launches
+pub mod Reports
+pub mod Controls
 pub mod Steps
 pub mod Opening
 pub mod Texts

@@ -10,14 +10,16 @@ use Rattle.scm_model.specs.declared.calls.Reply.TheVariants as reply
 use Rattle.scm_model.specs.declared.calls.Request.{Request}
 use Rattle.scm_model.specs.declared.calls.Request.TheVariants as request
 use Rattle.scm_model.specs.declared.steps.Step.{Step}
-use Rattle.scm_model.specs.declared.steps.Step.TheVariants.{Joined, Call, EndStart, LaunchTaken, Launched, LaunchFailed, Tick, Gone, NoMemory}
+use Rattle.scm_model.specs.declared.steps.Step.TheVariants.{Joined, Call, EndStart, LaunchTaken, Launched, LaunchFailed, Report, Ended, ControlTaken, Tick, Gone, NoMemory}
 use Rattle.scm_model.specs.declared.steps.Answer.{Answer}
 use Rattle.scm_model.specs.declared.steps.Answer.TheVariants as answer
 use Rattle.scm_model.specs.Rows.{is_caller}
 use Rattle.scm_model.specs.Changes.{with_moment, with_caller, without_caller, without_handles_of, without_lock_of, purged}
 use Rattle.start_plan.specs.Decided.{code_of, without_plans_of}
 use Rattle.start_plan.specs.Settle.{settled}
-use Rattle.scm_rules.specs.Launches.{first_wanted, is_taken, launch_failed, launch_taken, launched, process_of}
+use Rattle.scm_rules.specs.Controls.{control_taken, controls_of, waits}
+use Rattle.scm_rules.specs.Launches.{first_wanted, is_running, is_taken, launch_failed, launch_taken, launched, process_of}
+use Rattle.scm_rules.specs.Reports.{process_ended, reported}
 use Rattle.scm_rules.specs.Start.{can_end, ended, is_due, ticked}
 use Rattle.scm_rules.specs.Verdicts.{call_of, change_of_call, tells_right, verdict}
 
@@ -51,6 +53,9 @@ effect_of l f (EndStart caller plan) = (answer.Reply (reply.Code (unwrap_or (cod
 effect_of l f LaunchTaken = (answer.Launch (first_wanted f.wanted), launch_taken f)
 effect_of l f (Launched process pid) = (answer.Done, launched f process pid)
 effect_of l f (LaunchFailed process code) = (answer.Done, launch_failed f process code)
+effect_of l f (Report process status) = reported f process status
+effect_of l f (Ended process) = process_ended f process
+effect_of l f (ControlTaken process) = control_taken f process
 effect_of l f Tick = (answer.Done, ticked f)
 effect_of l f (Gone caller) = (answer.Done, gone f caller)
 effect_of l f (NoMemory caller) = (answer.Done, f)
@@ -93,6 +98,9 @@ may_come l f moment (EndStart caller plan) = is_caller f caller && can_end f cal
 may_come l f moment LaunchTaken = is_wanted f.wanted
 may_come l f moment (Launched process pid) = is_taken (process_of f process)
 may_come l f moment (LaunchFailed process code) = is_taken (process_of f process) && not (code == 0)
+may_come l f moment (Report process status) = is_running (process_of f process)
+may_come l f moment (Ended process) = is_running (process_of f process)
+may_come l f moment (ControlTaken process) = waits (controls_of f process)
 may_come l f moment Tick = list_any (is_due (max f.moment moment)) f.dues
 may_come l f moment (Gone caller) = is_caller f caller
 may_come l f moment (NoMemory caller) = is_caller f caller

@@ -26,6 +26,7 @@ use Rattle.dependency_index.specs.Walks.{IsAcyclic}
 use Rattle.service_record.specs.Checks.{check_new}
 use Rattle.start_plan.specs.Settle.{is_due_still, settled, stays}
 use Rattle.start_plan.specs.Started.{TriedOnce}
+use Rattle.scm_rules.specs.Launches.{is_running_phase}
 use Rattle.scm_rules.specs.Needs.{need_rows}
 
 -- numbers are at least 1, rise, and lie below the next one
@@ -53,11 +54,6 @@ is_wanted_phase phases.Launched = false
 abbrev pub is_to_launch : Process → Bool
 is_to_launch row = is_wanted_phase row.phase
 
-abbrev pub is_launched : Phase → Bool
-is_launched phases.Wanted = false
-is_launched phases.Taken = false
-is_launched phases.Launched = true
-
 abbrev pub has_process : List Process → ℕ → Bool
 has_process rows number = list_any (λ (row : Process). row.number == number) rows
 
@@ -71,7 +67,7 @@ is_started_by process row = row.number == process.service && row.process == proc
 
 -- until a service's process is launched, it is that service's current one, which is START_PENDING
 abbrev pub HasStarting : List Service → Process → Type 0
-HasStarting services row = (row.service == 0 || is_launched row.phase || list_any (is_started_by row) services) ≡ true
+HasStarting services row = (row.service == 0 || is_running_phase row.phase || list_any (is_started_by row) services) ≡ true
 
 -- ## Plans
 

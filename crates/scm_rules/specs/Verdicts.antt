@@ -12,11 +12,13 @@ use Rattle.scm_model.specs.declared.steps.Step.{Step}
 use Rattle.scm_model.specs.declared.steps.Step.TheVariants.{Call}
 use Rattle.scm_model.specs.Refused.{answered, refused}
 use Rattle.scm_rules.specs.Create.{create_verdict, create_done, create_change}
+use Rattle.scm_rules.specs.Controls.{control_verdict, control_told, control_done}
 use Rattle.scm_rules.specs.Delete.{delete_verdict, delete_done, delete_change}
 use Rattle.scm_rules.specs.Query.{query_verdict, query_done}
 use Rattle.scm_rules.specs.Change.{change_verdict, change_done, change_change}
 use Rattle.scm_rules.specs.QueryConfig.{query_config_verdict, query_config_told, query_config_done}
 use Rattle.scm_rules.specs.Locks.{lock_verdict, lock_done, unlock_verdict, unlock_done, query_lock_verdict, query_lock_told, query_lock_done}
+use Rattle.scm_rules.specs.Reports.{set_status_verdict, set_status_done}
 use Rattle.scm_rules.specs.Start.{start_verdict, start_done}
 use Rattle.scm_rules.specs.OtherName.{display_by_name, name_by_display, other_name_verdict, other_name_told, other_name_done}
 use Rattle.scm_rules.specs.Close.{close_verdict, close_done}
@@ -26,9 +28,11 @@ use Rattle.scm_rules.specs.OpenService.{open_service_verdict, open_service_done}
 -- the first refusal of a call, or 0
 abbrev pub verdict : Limits → Flat → ℕ → Request → Kept → ℕ
 verdict l f caller (request.Close handle) append = close_verdict f caller handle
+verdict l f caller (request.Control handle control) append = control_verdict l f caller handle control
 verdict l f caller (request.Delete handle) append = delete_verdict f caller handle append
 verdict l f caller (request.Lock handle) append = lock_verdict l f caller handle
 verdict l f caller (request.QueryStatus handle) append = query_verdict f caller handle
+verdict l f caller (request.SetStatus handle status) append = set_status_verdict f caller handle status
 verdict l f caller (request.Unlock handle) append = unlock_verdict f caller handle
 verdict l f caller (request.Change change) append = change_verdict f caller change append
 verdict l f caller (request.Create new) append = create_verdict l f caller new append
@@ -40,8 +44,9 @@ verdict l f caller (request.Start handle words) append = start_verdict f caller 
 verdict l f caller (request.DisplayName handle name size) append = other_name_verdict f caller handle size (display_by_name f name)
 verdict l f caller (request.KeyName handle name size) append = other_name_verdict f caller handle size (name_by_display f name)
 
--- what a call is told that is refused: where a size is too small, how much is needed
+-- what a call is told that is refused: where a size is too small, how much is needed; how a service stands that gets no control now
 abbrev pub told_refused : Flat → ℕ → Request → ℕ → Reply
+told_refused f caller (request.Control handle control) code = control_told f caller handle code
 told_refused f caller (request.QueryConfig handle size) code = query_config_told f caller handle code
 told_refused f caller (request.QueryLock handle size) code = query_lock_told f code
 told_refused f caller (request.DisplayName handle name size) code = other_name_told (display_by_name f name) code
@@ -49,26 +54,28 @@ told_refused f caller (request.KeyName handle name size) code = other_name_told 
 told_refused f caller asked code = refused asked code
 
 -- the reply and the state of a call that is not refused
-abbrev pub done_of : Flat → ℕ → Request → Reply × Flat
-done_of f caller (request.Close handle) = close_done f handle
-done_of f caller (request.Delete handle) = delete_done f caller handle
-done_of f caller (request.Lock handle) = lock_done f caller
-done_of f caller (request.QueryStatus handle) = query_done f caller handle
-done_of f caller (request.Unlock handle) = unlock_done f handle
-done_of f caller (request.Change change) = change_done f caller change
-done_of f caller (request.Create new) = create_done f caller new
-done_of f caller (request.OpenManager database access) = open_manager_done f caller access
-done_of f caller (request.OpenService handle name access) = open_service_done f caller name access
-done_of f caller (request.QueryConfig handle size) = query_config_done f caller handle
-done_of f caller (request.QueryLock handle size) = query_lock_done f
-done_of f caller (request.Start handle words) = start_done f caller handle words
-done_of f caller (request.DisplayName handle name size) = other_name_done f (display_by_name f name)
-done_of f caller (request.KeyName handle name size) = other_name_done f (name_by_display f name)
+abbrev pub done_of : Limits → Flat → ℕ → Request → Reply × Flat
+done_of l f caller (request.Close handle) = close_done f handle
+done_of l f caller (request.Control handle control) = control_done l f caller handle control
+done_of l f caller (request.Delete handle) = delete_done f caller handle
+done_of l f caller (request.Lock handle) = lock_done f caller
+done_of l f caller (request.QueryStatus handle) = query_done f caller handle
+done_of l f caller (request.SetStatus handle status) = set_status_done f caller handle status
+done_of l f caller (request.Unlock handle) = unlock_done f handle
+done_of l f caller (request.Change change) = change_done f caller change
+done_of l f caller (request.Create new) = create_done f caller new
+done_of l f caller (request.OpenManager database access) = open_manager_done f caller access
+done_of l f caller (request.OpenService handle name access) = open_service_done f caller name access
+done_of l f caller (request.QueryConfig handle size) = query_config_done f caller handle
+done_of l f caller (request.QueryLock handle size) = query_lock_done f
+done_of l f caller (request.Start handle words) = start_done f caller handle words
+done_of l f caller (request.DisplayName handle name size) = other_name_done f (display_by_name f name)
+done_of l f caller (request.KeyName handle name size) = other_name_done f (name_by_display f name)
 
 -- the reply and the state of a call
 abbrev pub call_of : Limits → Flat → ℕ → Request → Kept → Reply × Flat
 call_of l f caller asked append =
-    answered (verdict l f caller asked append) (told_refused f caller asked (verdict l f caller asked append)) f (done_of f caller asked)
+    answered (verdict l f caller asked append) (told_refused f caller asked (verdict l f caller asked append)) f (done_of l f caller asked)
 
 -- no change where a call is refused
 abbrev pub unless_refused : ℕ → Option Change → Option Change

@@ -10,6 +10,10 @@ use Rattle.scm_model.specs.declared.flat.Plan.{Plan}
 use Rattle.scm_model.specs.declared.flat.Service.{Service}
 use Rattle.scm_model.specs.Changes.{configured_if}
 use Rattle.scm_rules.specs.Launches.{fallen_if}
+use Rattle.scm_rules.specs.Reports.{moved_by, reported_if}
+use Rattle.status_machine.specs.Moves.{take_report}
+use Rattle.scm_model.specs.declared.flat.Status.{Status}
+use Rattle.std.specs.Prelude.{Result, Ok, Err}
 use Rattle.start_plan.specs.Decided.{decided_if, decided_in}
 use Rattle.start_plan.specs.Entered.{started_if}
 use Rattle.start_plan.specs.Settle.{is_due_still, settle_all, settled, stays, with_plans}
@@ -47,6 +51,24 @@ pub fallen_number : (process code : ℕ) (row : Service) → (fallen_if process 
 fallen_number process code row =
     elim (row.process == process) as (λ b. (cond b (record row { status = record { kind = row.status.kind; state = 1; accepted = 0; win32 = code; specific = 0; checkpoint = 0; hint = 0 }; process = 0 }) row).number ≡ row.number)
     [ true ↦ refl | false ↦ refl ]
+
+moved_path : (row : Service) (told : Result Status ℕ) → (moved_by row told).config.path ≡ row.config.path
+moved_path row (Ok status) = refl
+moved_path row (Err code) = refl
+
+moved_number : (row : Service) (told : Result Status ℕ) → (moved_by row told).number ≡ row.number
+moved_number row (Ok status) = refl
+moved_number row (Err code) = refl
+
+pub reported_path : (process : ℕ) (report : Status) (row : Service) → (reported_if process report row).config.path ≡ row.config.path
+reported_path process report row =
+    elim (row.process == process) as (λ b. (cond b (moved_by row (take_report row.status report)) row).config.path ≡ row.config.path)
+    [ true ↦ moved_path row (take_report row.status report) | false ↦ refl ]
+
+pub reported_number : (process : ℕ) (report : Status) (row : Service) → (reported_if process report row).number ≡ row.number
+reported_number process report row =
+    elim (row.process == process) as (λ b. (cond b (moved_by row (take_report row.status report)) row).number ≡ row.number)
+    [ true ↦ moved_number row (take_report row.status report) | false ↦ refl ]
 
 -- another configuration has a short path too
 pub paths_configured : (number : ℕ) (config : Config) (rows : List Service) → length config.path ≤ 2048 → All HasShortPath rows → All HasShortPath (map (configured_if number config) rows)

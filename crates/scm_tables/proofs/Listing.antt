@@ -1,7 +1,8 @@
 -- Changes of the processes, in both lists of the flat state.
-use Rattle.std.proofs.Common.{ℕ, ◌≡◌, ◌==◌, true, false, not, cond, List, [], ◌∷◌, refl, sym, ap, subst, map, filter}
+use Rattle.std.proofs.Common.{ℕ, ◌≡◌, ◌==◌, ◌&&◌, ◌++◌, true, false, not, nat_lt, cond, List, [], ◌∷◌, refl, sym, ap, subst, map, filter, drop, length}
 use Rattle.scm_model.specs.declared.flat.Process.{Process}
 use Rattle.scm_model.specs.declared.flat.Wanted.{Wanted}
+use Rattle.scm_rules.specs.Controls.{controlled_if, relieved_if}
 use Rattle.scm_rules.specs.Launches.{taken_if, launched_if}
 use Rattle.scm_tables.specs.declared.process_rows.ProcessRow.{ProcessRow}
 use Rattle.scm_tables.specs.Listed.{processes_in, wanted_in, listed_as, process_of, is_wanted, wanted_of}
@@ -64,3 +65,27 @@ wanted_taken number rows = wanted_changed number (taken_if number) (λ row e. rw
 
 pub wanted_launched : (number pid : ℕ) (rows : List ProcessRow) → wanted_in (map (listed_as (launched_if number pid)) rows) ≡ others number (wanted_in rows)
 wanted_launched number pid rows = wanted_changed number (launched_if number pid) (λ row e. rw e refl) (λ row e. rw e refl) rows
+
+-- a change that leaves the phases alone, and with them the launches that are wanted
+pub wanted_alone : (change : Process → Process) → ((row : ProcessRow) → is_wanted (listed_as change row) ≡ is_wanted row) → ((row : ProcessRow) → wanted_of (listed_as change row) ≡ wanted_of row)
+    → (rows : List ProcessRow) → wanted_in (map (listed_as change) rows) ≡ wanted_in rows
+wanted_alone change phase launch [] = refl
+wanted_alone change phase launch (row ∷ rows) =
+    rw (phase row) (elim (is_wanted row) as (λ w. map wanted_of (cond w (listed_as change row ∷ filter is_wanted (map (listed_as change) rows)) (filter is_wanted (map (listed_as change) rows))) ≡ map wanted_of (cond w (row ∷ filter is_wanted rows) (filter is_wanted rows))) [
+      | true ↦ rw (launch row) (ap (λ x. wanted_of row ∷ x) (wanted_alone change phase launch rows))
+      | false ↦ wanted_alone change phase launch rows
+    ])
+
+pub wanted_controlled : (limit number code : ℕ) (rows : List ProcessRow) → wanted_in (map (listed_as (controlled_if limit number code)) rows) ≡ wanted_in rows
+wanted_controlled limit number code rows =
+    wanted_alone (controlled_if limit number code)
+    (λ row. elim (row.number == number && nat_lt (length row.controls) limit) as (λ b. is_wanted (listed_as (λ p. cond b (record p { controls = p.controls ++ code ∷ [] }) p) row) ≡ is_wanted row) [ true ↦ refl | false ↦ refl ])
+    (λ row. elim (row.number == number && nat_lt (length row.controls) limit) as (λ b. wanted_of (listed_as (λ p. cond b (record p { controls = p.controls ++ code ∷ [] }) p) row) ≡ wanted_of row) [ true ↦ refl | false ↦ refl ])
+    rows
+
+pub wanted_relieved : (number : ℕ) (rows : List ProcessRow) → wanted_in (map (listed_as (relieved_if number)) rows) ≡ wanted_in rows
+wanted_relieved number rows =
+    wanted_alone (relieved_if number)
+    (λ row. elim (row.number == number) as (λ b. is_wanted (listed_as (λ p. cond b (record p { controls = drop 1 p.controls }) p) row) ≡ is_wanted row) [ true ↦ refl | false ↦ refl ])
+    (λ row. elim (row.number == number) as (λ b. wanted_of (listed_as (λ p. cond b (record p { controls = drop 1 p.controls }) p) row) ≡ wanted_of row) [ true ↦ refl | false ↦ refl ])
+    rows

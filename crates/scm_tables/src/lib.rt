@@ -6,6 +6,7 @@ mod handle_rows;
 mod indexing;
 mod planning;
 mod process_rows;
+mod running;
 mod service_rows;
 mod settling;
 mod tables;

@@ -1,9 +1,11 @@
-ghost use Rattle.std.specs.Prelude.{◌≡◌, ◌==◌, [], length, nat_le, not, position, map, filter, find, option_copied, vec_capacity};
+ghost use Rattle.std.specs.Prelude.{◌≡◌, ◌==◌, ◌≤◌, [], length, nat_le, not, position, map, filter, find, option_copied, option_map, vec_capacity};
 ghost use Rattle.scm_model.specs.declared.flat.Process.{Process};
-ghost use Rattle.scm_rules.specs.Launches.{first_wanted, is_taken, launched_if, service_in_process, taken_if};
+ghost use Rattle.scm_rules.specs.Controls.{controlled_if, controls_in, first_control, relieved_if};
+ghost use Rattle.scm_rules.specs.Launches.{first_wanted, is_running, is_taken, launched_if, service_in_process, taken_if};
 ghost use Rattle.scm_rules.specs.Steps.{is_wanted as is_any_wanted};
 ghost use Rattle.scm_tables.specs.Listed.{is_wanted, listed_as, processes_in, wanted_in, without_words, words_in};
 
+use control_dispatch::Controls;
 use scm_model::Phase;
 use scm_text::{Items, WText};
 use std::alloc::Global;
@@ -19,7 +21,7 @@ pub struct ProcessRow {
     /// The system's number of it, or 0.
     pub pid: u32,
     /// The controls that wait.
-    pub controls: Items<u32>,
+    pub controls: Controls,
     pub words: Items<WText>,
 }
 
@@ -92,6 +94,82 @@ pub fn is_taken_in(rows: &[ProcessRow], number: u64) -> bool
         }
     }
     false
+}
+
+/// Whether a process is listed and was launched.
+pub fn is_running_in(rows: &[ProcessRow], number: u64) -> bool
+    ensures { result ≡ is_running (find (λ row. row.number == number) (processes_in rows.now)) }
+{
+    for row in rows {
+        if row.number == number {
+            return matches!(row.phase, Phase::Launched);
+        }
+    }
+    false
+}
+
+/// How many controls wait for a process; none where it isn't listed.
+pub fn waiting_in(rows: &[ProcessRow], number: u64) -> Option<u32>
+    ensures { result ≡ option_map (λ row. length row.controls) (find (λ row. row.number == number) (processes_in rows.now)) }
+{
+    for row in rows {
+        if row.number == number {
+            return Some(row.controls.len());
+        }
+    }
+    None
+}
+
+/// The control that waits first for a process, or 0.
+pub fn first_control_in(rows: &[ProcessRow], number: u64) -> u32
+    ensures { result ≡ first_control (controls_in (find (λ row. row.number == number) (processes_in rows.now))) }
+{
+    for row in rows {
+        if row.number == number {
+            return row.controls.first().unwrap_or(0);
+        }
+    }
+    0
+}
+
+/// A control more waits for a process, as long as fewer do than may.
+fn control_row(row: &mut ProcessRow, limit: u32, number: u64, code: u32)
+    requires { limit ≤ 16 }
+    ensures { row.new ≡ listed_as (controlled_if limit number code) row.old }
+{
+    if row.number == number && row.controls.len() < limit {
+        row.controls.enqueue(code);
+    }
+}
+
+/// A control more waits for a process, as long as fewer do than may.
+pub fn control_in(rows: &mut Vec<ProcessRow>, limit: u32, number: u64, code: u32)
+    requires { limit ≤ 16 }
+    ensures rows { rows.new.items ≡ map (listed_as (controlled_if limit number code)) rows.old.items }
+    ensures capacity { vec_capacity rows.new ≡ vec_capacity rows.old }
+{
+    for row in rows.iter_mut() {
+        control_row(row, limit, number, code);
+    }
+}
+
+/// The control that waits first for a process waits no longer.
+fn relieve_row(row: &mut ProcessRow, number: u64)
+    ensures { row.new ≡ listed_as (relieved_if number) row.old }
+{
+    if row.number == number {
+        let _code = row.controls.take_next();
+    }
+}
+
+/// The control that waits first for a process waits no longer.
+pub fn relieve_in(rows: &mut Vec<ProcessRow>, number: u64)
+    ensures rows { rows.new.items ≡ map (listed_as (relieved_if number)) rows.old.items }
+    ensures capacity { vec_capacity rows.new ≡ vec_capacity rows.old }
+{
+    for row in rows.iter_mut() {
+        relieve_row(row, number);
+    }
 }
 
 /// The process that is to be launched first, or 0.

@@ -1,16 +1,21 @@
-ghost use Rattle.std.specs.Prelude.{◌≡◌, ◌≢◌, ◌<◌, ◌==◌, ◌&&◌, ◌||◌, not, find, filter, length, map, option_copied, vec_capacity, slice_get, All, AllPairs, IfSome, IfNone};
+ghost use Rattle.std.specs.Prelude.{◌≡◌, ◌≢◌, ◌<◌, ◌+◌, ◌-◌, ◌^◌, ◌==◌, ◌&&◌, ◌||◌, min, not, find, filter, length, map, option_copied, vec_capacity, if◌then◌else◌, slice_get, All, AllPairs, IfSome, IfNone};
 ghost use Rattle.std.specs.List.{list_any};
+ghost use Rattle.dependency_index.specs.Naming.{is_named};
 ghost use Rattle.scm_text.specs.Fold.{same_text};
 ghost use Rattle.scm_model.specs.Changes.{configured_if, leaves, marked_if};
+ghost use Rattle.scm_rules.specs.Controls.{is_active_by};
 ghost use Rattle.scm_rules.specs.Create.{greatest_tag};
 ghost use Rattle.scm_rules.specs.Launches.{fallen_if};
+ghost use Rattle.scm_rules.specs.Reports.{reported_if};
 ghost use Rattle.start_plan.specs.Entered.{started_if};
 ghost use Rattle.start_plan.specs.Ready.{is_running};
 ghost use Rattle.scm_tables.specs.Tags.{tag_in};
 
 use super::handle_rows::is_open_in;
-use scm_model::{Config, HandleRow, Service, Status};
+use dependency_index::is_named;
+use scm_model::{Config, HandleRow, Need, Service, Status};
 use scm_text::{WText, same};
+use status_machine::{take_end, take_report};
 
 /// The service with a number.
 pub fn row_with(rows: &[Service], number: u64) -> Option<&Service>
@@ -199,12 +204,75 @@ pub fn start_in(rows: &mut Vec<Service>, number: u64, process: u64)
     }
 }
 
+/// Whether one of some needs names the service of this name.
+fn is_among(needs: &[Need], name: &WText) -> bool
+    ensures { result ≡ list_any (is_named name.now) needs.now }
+{
+    for need in needs {
+        if is_named(name, need) {
+            return true;
+        }
+    }
+    false
+}
+
+/// Whether a service names the one of this name as a need and isn't STOPPED.
+fn is_active_by(row: &Service, name: &WText) -> bool
+    ensures { result ≡ is_active_by name.now row.now }
+{
+    is_among(row.config.needs.as_slice(), name) && row.status.state != 1
+}
+
+/// A count with one more or not, in 32 bits.
+fn raised(count: u32, more: bool) -> u32
+    ensures { result ≡ min (count + (if more then 1 else 0)) (2 ^ 32 - 1) }
+{
+    if more { count.saturating_add(1) } else { count }
+}
+
+/// How many services name the one of this name as a need and aren't STOPPED, in 32 bits.
+pub fn active_in(rows: &[Service], name: &WText) -> u32
+    ensures { result ≡ min (length (filter (is_active_by name.now) rows.now)) (2 ^ 32 - 1) }
+{
+    let mut count = 0;
+    for row in rows {
+        count = raised(count, is_active_by(row, name));
+    }
+    count
+}
+
+/// A service whose current process this is takes a report of it, if it is one that it may make.
+fn report_row(row: &mut Service, process: u64, report: &Status)
+    ensures { row.new ≡ reported_if process report.now row.old }
+{
+    if row.process == process && take_report(&row.status, report).is_ok() {
+        row.status = *report;
+        row.process = if report.state == 1 { 0 } else { process };
+    }
+}
+
+/// The service takes a report whose current process this is.
+pub fn report_in(rows: &mut Vec<Service>, process: u64, report: &Status)
+    ensures { rows.new.items ≡ map (reported_if process report.now) rows.old.items }
+{
+    for row in rows.iter_mut() {
+        report_row(row, process, report);
+    }
+}
+
+/// The service whose current process this is.
+pub fn current_in(rows: &[Service], process: u64) -> Option<&Service>
+    ensures { option_copied result ≡ find (λ row. row.process == process) rows.now }
+{
+    rows.iter().find(|row| row.process == process)
+}
+
 /// A service whose current process this is falls.
 fn fall_row(row: &mut Service, process: u64, code: u32)
     ensures { row.new ≡ fallen_if process code row.old }
 {
     if row.process == process {
-        row.status = bare_status(row.status.kind, 1, code);
+        row.status = take_end(&row.status, code);
         row.process = 0;
     }
 }

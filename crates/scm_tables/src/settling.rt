@@ -10,6 +10,7 @@ use super::due_rows::keep_due;
 use super::process_rows::{ProcessRow, is_full};
 use super::service_rows::{has_running, start_in};
 use super::tables::Tables;
+use control_dispatch::Controls;
 use dependency_index::StateOf;
 use scm_model::{Need, Phase, Service};
 use scm_text::{Items, WText};
@@ -150,7 +151,7 @@ impl Field for Tables {
             service,
             phase: Phase::Wanted,
             pid: 0,
-            controls: Items::new(self.alloc),
+            controls: Controls::new(),
             words,
         });
         self.next.process += 1;

@@ -13,6 +13,7 @@ invariant_of-self-2 c =
       dues = rw c.reserve.ensures.flat sound.dues;
       processes = rw c.reserve.ensures.flat sound.processes;
       limit = rw c.reserve.ensures.limits sound.limit;
+      controls = rw c.reserve.ensures.limits sound.controls;
       room = rw c.in_ok-copy.ensures (has_room_unkept c.reserve.new.tables c.args.step.now c.in_ok-reserve.ensures.room);
       made = rw (c.in_ok-copy.ensures, c.reserve.ensures.flat, c.reserve.ensures.limits)
           (is_made_unkept c.self.inside.tables.limits c.self.inside.tables.flat c.in_ok-made.made c.args.step.now c.in_ok-made.ensures);

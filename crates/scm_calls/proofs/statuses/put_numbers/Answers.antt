@@ -1,7 +1,7 @@
 use Rattle.std.proofs.Common.{length, get_or, ap, refl, arith}
 use Rattle.ndr_body.specs.Writing.{Draft}
 use Rattle.scm_calls.proofs.Sizes.{one_fits}
-use Rattle.scm_calls.proofs.replies.put_numbers.Goals as goal
+use Rattle.scm_calls.proofs.statuses.put_numbers.Goals as goal
 
 pub returns-in_err-number-clause-enough : goal.returns-in_err-number-clause-enough
 returns-in_err-number-clause-enough c =

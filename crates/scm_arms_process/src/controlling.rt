@@ -1,0 +1,94 @@
+ghost use Rattle.std.specs.Prelude.{◌≡◌, ◌≤◌, option_copied};
+ghost use Rattle.scm_model.specs.Refused.{answered};
+ghost use Rattle.scm_model.specs.Rows.{service_of};
+ghost use Rattle.scm_rules.specs.Controls.{control_done, control_taken, control_told, control_verdict, granted_in, status_told, tells_status, waiting_for};
+
+use super::reporting::process_in;
+use control_dispatch::judge;
+use scm_model::{Answer, Opened, Reply, Service, Status, zero_status};
+use scm_tables::Tables;
+
+/// The rights of a handle, where it is one of a service.
+fn granted_in(handle: Option<Opened>) -> Option<u32>
+    ensures { result ≡ granted_in handle }
+{
+    match handle {
+        Some(opened) => Some(opened.granted),
+        None => None,
+    }
+}
+
+/// How many controls wait for a service's process.
+fn waiting_for(tables: &Tables, service: Option<&Service>) -> u32
+    ensures { result ≡ waiting_for tables.now.flat (option_copied service.entry) }
+{
+    tables.waiting(process_in(service)).unwrap_or(0)
+}
+
+/// What `RControlService` is refused with, or 0: `ERROR_INVALID_HANDLE` (6), `ERROR_INVALID_PARAMETER` (87), `ERROR_ACCESS_DENIED` (5),
+/// `ERROR_SERVICE_NOT_ACTIVE` (1062), `ERROR_SERVICE_CANNOT_ACCEPT_CTRL` (1061), `ERROR_INVALID_SERVICE_CONTROL` (1052) or
+/// `ERROR_DEPENDENT_SERVICES_RUNNING` (1051).
+pub fn control_verdict(tables: &Tables, caller: u64, handle: u64, control: u32) -> u32
+    ensures { result ≡ control_verdict tables.now.limits tables.now.flat caller handle control }
+{
+    let number = tables.opened_service(caller, handle);
+    let service = tables.service(number);
+    judge(
+        granted_in(tables.opened(caller, handle)),
+        control,
+        &tables.status_of(number),
+        tables.active_needing(number),
+        waiting_for(tables, service),
+        tables.limits().controls,
+    )
+}
+
+/// Whether the service's status is told with a code that refuses a control.
+fn tells_status(code: u32) -> bool
+    ensures { result ≡ tells_status code }
+{
+    code == 1052 || code == 1061 || code == 1062
+}
+
+/// The status of a service that is told with a code that refuses a control.
+fn status_told(tables: &Tables, code: u32, service: u64) -> Status
+    ensures { result ≡ status_told code (service_of tables.now.flat service) }
+{
+    if tells_status(code) {
+        tables.status_of(service)
+    } else {
+        zero_status()
+    }
+}
+
+/// A control more waits for a service's process; its status is told. It takes no memory.
+pub fn control(tables: &mut Tables, caller: u64, handle: u64, control: u32) -> Reply
+    requires { tables.old.limits.controls ≤ 16 }
+    ensures reply { result ≡ (answered (control_verdict tables.old.limits tables.old.flat caller handle control) (control_told tables.old.flat caller handle (control_verdict tables.old.limits tables.old.flat caller handle control)) tables.old.flat (control_done tables.old.limits tables.old.flat caller handle control)).0 }
+    ensures flat { tables.new.flat ≡ (answered (control_verdict tables.old.limits tables.old.flat caller handle control) (control_told tables.old.flat caller handle (control_verdict tables.old.limits tables.old.flat caller handle control)) tables.old.flat (control_done tables.old.limits tables.old.flat caller handle control)).1 }
+    ensures limits { tables.new.limits ≡ tables.old.limits }
+{
+    let code = control_verdict(tables, caller, handle, control);
+    let service = tables.opened_service(caller, handle);
+    if code != 0 {
+        return Reply::State {
+            status: status_told(tables, code, service),
+            code,
+        };
+    }
+    let status = tables.status_of(service);
+    let process = process_in(tables.service(service));
+    tables.control(process, control);
+    Reply::State { status, code: 0 }
+}
+
+/// The control that waits first for a process is taken in hand. It takes no memory.
+pub fn take_control(tables: &mut Tables, process: u64) -> Answer
+    ensures answer { result ≡ (control_taken tables.old.flat process).0 }
+    ensures flat { tables.new.flat ≡ (control_taken tables.old.flat process).1 }
+    ensures limits { tables.new.limits ≡ tables.old.limits }
+{
+    let code = tables.first_control(process);
+    tables.take_control(process);
+    Answer::Control(code)
+}

@@ -1,0 +1,128 @@
+ghost use Rattle.std.specs.Prelude.{◌≡◌, ◌&&◌, option_copied};
+ghost use Rattle.scm_model.specs.declared.calls.Request.TheVariants as request;
+ghost use Rattle.scm_model.specs.Refused.{outcome};
+ghost use Rattle.scm_model.specs.Rows.{service_of};
+ghost use Rattle.scm_rules.specs.Reports.{end_told, may_report, process_ended, process_in, report_answer, report_told, reported, set_status_done, set_status_verdict};
+ghost use Rattle.status_machine.specs.Moves.{takes};
+
+use scm_model::{Answer, Reply, Service, Status};
+use scm_tables::{Tables, mask_lacks};
+use status_machine::take_report;
+
+/// The right to report.
+const SERVICE_SET_STATUS: u32 = 0x8000;
+
+/// `ERROR_PROCESS_ABORTED`: a process that ended without a word.
+const PROCESS_ABORTED: u32 = 1067;
+
+/// How a report of a service's current process is answered.
+fn report_answer(taken: Result<Status, u32>) -> Answer
+    ensures { result ≡ report_answer taken }
+{
+    match taken {
+        Ok(_) => Answer::Done,
+        Err(code) => Answer::Refused(code),
+    }
+}
+
+/// How a report of the current process of a service is answered, if there is such a service.
+fn report_told(service: Option<&Service>, report: &Status) -> Answer
+    ensures { result ≡ report_told (option_copied service.entry) report.now }
+{
+    match service {
+        Some(row) => report_answer(take_report(&row.status, report)),
+        None => Answer::Stale,
+    }
+}
+
+/// The service whose current process this is takes its report, if it is one that it may make. It takes no memory.
+pub fn report(tables: &mut Tables, process: u64, report: &Status) -> Answer
+    ensures answer { result ≡ (reported tables.old.flat process report.now).0 }
+    ensures flat { tables.new.flat ≡ (reported tables.old.flat process report.now).1 }
+    ensures limits { tables.new.limits ≡ tables.old.limits }
+{
+    let answer = report_told(tables.current(process), report);
+    tables.report(process, report);
+    answer
+}
+
+/// How the end of the current process of a service is answered, if there is such a service.
+fn end_told(service: Option<&Service>) -> Answer
+    ensures { result ≡ end_told (option_copied service.entry) }
+{
+    match service {
+        Some(_) => Answer::Done,
+        None => Answer::Stale,
+    }
+}
+
+/// A process leaves, and the service falls whose current one it is. It takes no memory.
+pub fn end(tables: &mut Tables, process: u64) -> Answer
+    ensures answer { result ≡ (process_ended tables.old.flat process).0 }
+    ensures flat { tables.new.flat ≡ (process_ended tables.old.flat process).1 }
+    ensures limits { tables.new.limits ≡ tables.old.limits }
+{
+    let answer = end_told(tables.current(process));
+    tables.fall(process, PROCESS_ABORTED);
+    tables.remove_process(process);
+    answer
+}
+
+/// The current process of a service, or 0.
+pub fn process_in(service: Option<&Service>) -> u64
+    ensures { result ≡ process_in (option_copied service.entry) }
+{
+    match service {
+        Some(row) => row.process,
+        None => 0,
+    }
+}
+
+/// Whether a report is one that may be made after a status.
+fn takes(now: &Status, report: &Status) -> bool
+    ensures { result ≡ takes now.now report.now }
+{
+    take_report(now, report).is_ok()
+}
+
+/// Whether a service's current process runs and may report so.
+fn may_report(tables: &Tables, service: Option<&Service>, report: &Status) -> bool
+    ensures { result ≡ may_report tables.now.flat (option_copied service.entry) report.now }
+{
+    match service {
+        Some(row) => tables.is_running(row.process) && takes(&row.status, report),
+        None => false,
+    }
+}
+
+/// What `RSetServiceStatus` is refused with, or 0: `ERROR_INVALID_HANDLE` (6), `ERROR_ACCESS_DENIED` (5) or `ERROR_INVALID_DATA` (13),
+/// which is also for a service none of whose processes runs.
+pub fn set_status_verdict(tables: &Tables, caller: u64, handle: u64, report: &Status) -> u32
+    ensures { result ≡ set_status_verdict tables.now.flat caller handle report.now }
+{
+    let Some(opened) = tables.opened(caller, handle) else {
+        return 6;
+    };
+    if mask_lacks(opened.granted, SERVICE_SET_STATUS) {
+        return 5;
+    }
+    if !may_report(tables, tables.service(opened.service), report) {
+        return 13;
+    }
+    0
+}
+
+/// A service takes a report as if its current process had made it. It takes no memory.
+pub fn set_status(tables: &mut Tables, caller: u64, handle: u64, report: &Status) -> Reply
+    ensures reply { result ≡ (outcome (set_status_verdict tables.old.flat caller handle report.now) (request.SetStatus handle report.now) tables.old.flat (set_status_done tables.old.flat caller handle report.now)).0 }
+    ensures flat { tables.new.flat ≡ (outcome (set_status_verdict tables.old.flat caller handle report.now) (request.SetStatus handle report.now) tables.old.flat (set_status_done tables.old.flat caller handle report.now)).1 }
+    ensures limits { tables.new.limits ≡ tables.old.limits }
+{
+    let code = set_status_verdict(tables, caller, handle, report);
+    if code != 0 {
+        return Reply::Code(code);
+    }
+    let process = process_in(tables.service(tables.opened_service(caller, handle)));
+    tables.report(process, report);
+    Reply::Code(0)
+}

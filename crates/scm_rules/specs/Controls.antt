@@ -1,0 +1,106 @@
+-- Control: a control that waits for a service's process.
+use Rattle.std.specs.Prelude.{ℕ, Bool, not, ◌&&◌, ◌||◌, ◌==◌, ◌++◌, ◌-◌, ◌^◌, min, nat_lt, List, [], ◌∷◌, Option, None, Some, drop, filter, length, map, option_map, if◌then◌else◌}
+use Rattle.std.specs.List.{list_any}
+use Rattle.scm_model.specs.declared.flat.Flat.{Flat}
+use Rattle.scm_model.specs.declared.flat.Limits.{Limits}
+use Rattle.scm_model.specs.declared.flat.Opened.{Opened}
+use Rattle.scm_model.specs.declared.flat.Process.{Process}
+use Rattle.scm_model.specs.declared.flat.Service.{Service}
+use Rattle.scm_model.specs.declared.flat.Status.{Status}
+use Rattle.scm_model.specs.declared.calls.Reply.{Reply}
+use Rattle.scm_model.specs.declared.calls.Reply.TheVariants as reply
+use Rattle.scm_model.specs.declared.steps.Answer.{Answer}
+use Rattle.scm_model.specs.declared.steps.Answer.TheVariants as answer
+use Rattle.scm_model.specs.Rows.{opened, service_of}
+use Rattle.scm_model.specs.Refused.{zero_status}
+use Rattle.control_dispatch.specs.Judging.{judge}
+use Rattle.dependency_index.specs.Naming.{is_named}
+use Rattle.scm_rules.specs.Launches.{process_of}
+use Rattle.scm_rules.specs.Query.{service_in, status_in}
+use Rattle.scm_rules.specs.Reports.{process_in}
+
+-- ## Controls that wait
+
+abbrev pub controls_in : Option Process → List ℕ
+controls_in None = []
+controls_in (Some row) = row.controls
+
+-- the controls that wait for a process
+abbrev pub controls_of : Flat → ℕ → List ℕ
+controls_of f process = controls_in (process_of f process)
+
+-- how many wait for a process that is listed
+abbrev pub waiting : Flat → ℕ → Option ℕ
+waiting f process = option_map (λ (row : Process). length row.controls) (process_of f process)
+
+-- the control that waits first, or 0
+abbrev pub first_control : List ℕ → ℕ
+first_control [] = 0
+first_control (code ∷ codes) = code
+
+-- whether a control waits
+abbrev pub waits : List ℕ → Bool
+waits codes = nat_lt 0 (length codes)
+
+-- as long as fewer wait than may, one more does
+abbrev pub controlled_if : ℕ → ℕ → ℕ → Process → Process
+controlled_if limit process code row =
+    if row.number == process && nat_lt (length row.controls) limit then record row { controls = row.controls ++ code ∷ [] } else row
+
+abbrev pub with_control : Limits → Flat → ℕ → ℕ → Flat
+with_control l f process code = record f { processes = map (controlled_if l.controls process code) f.processes }
+
+abbrev pub relieved_if : ℕ → Process → Process
+relieved_if process row = if row.number == process then record row { controls = drop 1 row.controls } else row
+
+abbrev pub with_control_taken : Flat → ℕ → Flat
+with_control_taken f process = record f { processes = map (relieved_if process) f.processes }
+
+-- the control that waits first is taken in hand
+abbrev pub control_taken : Flat → ℕ → Answer × Flat
+control_taken f process = (answer.Control (first_control (controls_of f process)), with_control_taken f process)
+
+-- ## The call
+
+-- the service that a control is for
+abbrev pub controlled_service : Flat → ℕ → ℕ → Option Service
+controlled_service f caller handle = service_of f (service_in (opened f caller handle))
+
+-- the rights of a handle, where it is one of a service
+abbrev pub granted_in : Option Opened → Option ℕ
+granted_in handle = option_map (λ (of : Opened). of.granted) handle
+
+-- whether a service names the one of this name as a need and isn't STOPPED
+abbrev pub is_active_by : List ℕ → Service → Bool
+is_active_by name row = list_any (is_named name) row.config.needs && not (row.status.state == 1)
+
+-- how many do so with a service, in 32 bits
+abbrev pub active_among : List Service → Option Service → ℕ
+active_among rows None = 0
+active_among rows (Some target) = min (length (filter (is_active_by target.config.name) rows)) (2 ^ 32 - 1)
+
+-- how many controls wait for a service's process
+abbrev pub waiting_for : Flat → Option Service → ℕ
+waiting_for f service = length (controls_of f (process_in service))
+
+abbrev pub control_verdict : Limits → Flat → ℕ → ℕ → ℕ → ℕ
+control_verdict l f caller handle control =
+    judge (granted_in (opened f caller handle)) control (status_in (controlled_service f caller handle))
+    (active_among f.services (controlled_service f caller handle)) (waiting_for f (controlled_service f caller handle)) l.controls
+
+-- whether the service's status is told with a code that refuses
+abbrev pub tells_status : ℕ → Bool
+tells_status code = code == 1052 || code == 1061 || code == 1062
+
+abbrev pub status_told : ℕ → Option Service → Status
+status_told code service = if tells_status code then status_in service else zero_status
+
+abbrev pub control_told : Flat → ℕ → ℕ → ℕ → Reply
+control_told f caller handle code = reply.State (status_told code (controlled_service f caller handle)) code
+
+-- the control waits, and the service's status is as it was
+abbrev pub control_done : Limits → Flat → ℕ → ℕ → ℕ → Reply × Flat
+control_done l f caller handle control = (
+  reply.State (status_in (controlled_service f caller handle)) 0,
+  with_control l f (process_in (controlled_service f caller handle)) control,
+)

@@ -1,0 +1,90 @@
+-- What a process tells of its service, and its end.
+use Rattle.std.specs.Prelude.{ℕ, Bool, false, not, ◌&&◌, ◌==◌, List, [], ◌∷◌, Option, None, Some, Result, Ok, Err, find, is_none, map, if◌then◌else◌}
+use Rattle.scm_model.specs.declared.flat.Flat.{Flat}
+use Rattle.scm_model.specs.declared.flat.Service.{Service}
+use Rattle.scm_model.specs.declared.flat.Status.{Status}
+use Rattle.scm_model.specs.declared.calls.Reply.{Reply}
+use Rattle.scm_model.specs.declared.calls.Reply.TheVariants as reply
+use Rattle.scm_model.specs.declared.steps.Answer.{Answer}
+use Rattle.scm_model.specs.declared.steps.Answer.TheVariants as answer
+use Rattle.scm_model.specs.Rows.{opened, service_of}
+use Rattle.scm_model.specs.Refused.{first_refusal}
+use Rattle.status_machine.specs.Moves.{take_report, takes}
+use Rattle.scm_rules.specs.Launches.{is_running, process_of, with_fallen, without_process}
+use Rattle.scm_rules.specs.Query.{service_in}
+use Rattle.scm_rules.specs.Rights.{lacks}
+
+-- ## Reports
+
+-- the service whose current process this is
+abbrev pub current_of : Flat → ℕ → Option Service
+current_of f process = find (λ (row : Service). row.process == process) f.services
+
+-- a service that is STOPPED has no process any more
+abbrev pub process_in_state : ℕ → ℕ → ℕ
+process_in_state state process = if state == 1 then 0 else process
+
+-- a report that is taken replaces the status
+abbrev pub moved_by : Service → Result Status ℕ → Service
+moved_by row (Ok status) = record row { status = status; process = process_in_state status.state row.process }
+moved_by row (Err code) = row
+
+abbrev pub reported_if : ℕ → Status → Service → Service
+reported_if process report row = if row.process == process then moved_by row (take_report row.status report) else row
+
+-- the service whose current process this is takes the report
+abbrev pub with_report : Flat → ℕ → Status → Flat
+with_report f process report = record f { services = map (reported_if process report) f.services }
+
+-- how a report of the current process is answered
+abbrev pub report_answer : Result Status ℕ → Answer
+report_answer (Ok status) = answer.Done
+report_answer (Err code) = answer.Refused code
+
+-- a report of a process that is not its service's current one is stale
+abbrev pub report_told : Option Service → Status → Answer
+report_told None report = answer.Stale
+report_told (Some row) report = report_answer (take_report row.status report)
+
+abbrev pub reported : Flat → ℕ → Status → Answer × Flat
+reported f process report = (report_told (current_of f process) report, with_report f process report)
+
+-- ## A report by a call
+
+-- the service that a caller's handle is of
+abbrev pub reporting_service : Flat → ℕ → ℕ → Option Service
+reporting_service f caller handle = service_of f (service_in (opened f caller handle))
+
+-- the current process of a service, or 0
+abbrev pub process_in : Option Service → ℕ
+process_in None = 0
+process_in (Some row) = row.process
+
+-- whether a service's current process runs and may report so
+abbrev pub may_report : Flat → Option Service → Status → Bool
+may_report f None report = false
+may_report f (Some row) report = is_running (process_of f row.process) && takes row.status report
+
+abbrev pub set_status_refusals : Flat → ℕ → ℕ → Status → List (Bool × ℕ)
+set_status_refusals f caller handle report =
+    (is_none (opened f caller handle), 6)
+    ∷ (lacks (opened f caller handle) 0x8000, 5)
+    ∷ (not (may_report f (reporting_service f caller handle) report), 13)
+    ∷ []
+
+abbrev pub set_status_verdict : Flat → ℕ → ℕ → Status → ℕ
+set_status_verdict f caller handle report = first_refusal (set_status_refusals f caller handle report)
+
+abbrev pub set_status_done : Flat → ℕ → ℕ → Status → Reply × Flat
+set_status_done f caller handle report = (reply.Code 0, with_report f (process_in (reporting_service f caller handle)) report)
+
+-- ## Ends
+
+-- an end of a process that is not its service's current one is stale
+abbrev pub end_told : Option Service → Answer
+end_told None = answer.Stale
+end_told (Some row) = answer.Done
+
+-- the process leaves, and a service falls whose current one it is: its process ended without a word (1067)
+abbrev pub process_ended : Flat → ℕ → Answer × Flat
+process_ended f process = (end_told (current_of f process), without_process (with_fallen f process 1067) process)

@@ -1,0 +1,11 @@
+use Rattle.std.proofs.Common.{arith}
+use Rattle.std.proofs.lemmas.List.Edits.{map_over_more}
+use Rattle.scm_rules.specs.Controls.{relieved_if}
+use Rattle.scm_tables.specs.Listed.{listed_as}
+use Rattle.scm_tables.proofs.process_rows.relieve_in.Goals as goal
+
+pub loop-row-preserved : goal.loop-row-preserved
+loop-row-preserved c =
+    rw (c.relieve_row.ensures, ← c.row-item.is)
+    (map_over_more (listed_as (relieved_if c.args.number)) c.deref_mut-row-items.result.now c.loop-row.row-items c.loop-row.row-index c.row-item.result
+    (omega arith) c.loop-row.invariant c.row-item.is)

@@ -1,0 +1,15 @@
+use Rattle.scm_rules.specs.Reports.{reported_if}
+use Rattle.scm_tables.proofs.Keeping.{paths_map, reported_number, reported_path}
+use Rattle.scm_tables.proofs.Rising.{rising_map}
+use Rattle.scm_tables.proofs.tables.Tables.report.Goals as goal
+
+pub invariant_of-self : goal.invariant_of-self
+invariant_of-self c =
+    let kept = c.self.invariant in
+    record {
+      rising = rw c.report_in.ensures (rising_map _ (reported_if c.args.process c.args.report.now) (reported_number c.args.process c.args.report.now) _ kept.rising);
+      paths = rw c.report_in.ensures (paths_map (reported_if c.args.process c.args.report.now) (reported_path c.args.process c.args.report.now) _ kept.paths);
+      room = kept.room;
+      plans = kept.plans;
+      untried = kept.untried;
+    }
