@@ -1,0 +1,220 @@
+-- The law of controls.
+use Rattle.std.proofs.Common.{ℕ, ◌≡◌, ◌∙◌, ◌<◌, ◌≤◌, ◌==◌, ◌&&◌, ◌||◌, true, false, cond, IsTrue, List, [], ◌∷◌, Option, None, Some, drop, find, length, map, ap, sym, refl, subst, arith, eq-eqb, eqb-true, inl, inr, ne_eqb}
+use Rattle.std.specs.Prelude.{All, is_none, is_some, max, nat_le, nat_lt, option_and_then}
+use Rattle.std.proofs.lemmas.Bool.Decides.{nat_tests}
+use Rattle.std.proofs.lemmas.List.{length-map}
+use Rattle.std.proofs.lemmas.List.Elements.{All-head, All-tail}
+use Rattle.scm_model.specs.declared.flat.Flat.{Flat}
+use Rattle.scm_model.specs.declared.flat.HandleKind.{HandleKind}
+use Rattle.scm_model.specs.declared.flat.HandleKind.TheVariants as kinds
+use Rattle.scm_model.specs.declared.flat.HandleRow.{HandleRow}
+use Rattle.scm_model.specs.declared.flat.Limits.{Limits}
+use Rattle.scm_model.specs.declared.flat.Process.{Process}
+use Rattle.scm_model.specs.declared.flat.Service.{Service}
+use Rattle.scm_model.specs.declared.calls.Reply.TheVariants as reply
+use Rattle.scm_model.specs.declared.calls.Request.TheVariants as request
+use Rattle.scm_model.specs.declared.steps.Answer.TheVariants as answer
+use Rattle.scm_model.specs.declared.steps.Kept.{Kept}
+use Rattle.scm_model.specs.declared.steps.Step.{Step}
+use Rattle.scm_model.specs.declared.steps.Step.TheVariants.{Call, ControlTaken, Ended, LaunchFailed}
+use Rattle.scm_model.specs.Changes.{purged, with_moment}
+use Rattle.scm_model.specs.Rows.{handle_of, opened, opened_at, opened_by, service_of}
+use Rattle.start_plan.specs.Settle.{settled}
+use Rattle.scm_rules.specs.Controls.{active_among, control_done, control_told, control_verdict, controlled_if, controlled_service, controls_in, controls_of, first_control, granted_in, waiting_for, waits, with_control, with_control_taken}
+use Rattle.scm_rules.specs.Launches.{process_of}
+use Rattle.scm_rules.specs.Query.{service_in, status_in}
+use Rattle.scm_rules.specs.Reports.{process_in}
+use Rattle.scm_rules.specs.Runs.{Entry}
+use Rattle.scm_rules.specs.Steps.{may, step_of}
+use Rattle.scm_rules.specs.Valid.{HasListed, IsValid, has_process}
+use Rattle.scm_laws.proofs.Calls.{by_verdict, came}
+use Rattle.scm_laws.proofs.Lists.{found_has}
+use Rattle.scm_moves.specs.Controls.{FirstIsTaken, IsControlled, IsNeededStill, LawOfControls, OfControls, OneMoreWaits, changes_controls, shown_at}
+use Rattle.scm_moves.proofs.Judged.{IsTaken, held, holds_up, is_taken}
+use Rattle.scm_moves.proofs.Known.{Holds, IsBelow, IsOfOne, Known, holds}
+use Rattle.scm_moves.proofs.Needed.{needed_same}
+use Rattle.scm_moves.proofs.Still.{stays_put}
+use Rattle.scm_moves.proofs.Waiting.{controlled, controlled_others, ended_none, found, others_wait, relieved, waiting_settled}
+
+-- ## Who gets a control
+
+opened_kind : (services : List Service) (kind : HandleKind) (granted : ℕ) → IsOfOne services kind → is_none (granted_in (opened_at kind granted)) ≡ false
+    → is_some (find (λ (row : Service). row.number == service_in (opened_at kind granted)) services) ≡ true
+opened_kind services kinds.Manager granted is some = absurd cc
+opened_kind services (kinds.Service number) granted is some = is
+opened_kind services kinds.Lock granted is some = absurd cc
+opened_kind services (kinds.Notify number) granted is some = absurd cc
+
+opened_one : (f : Flat) (caller handle : ℕ) (row : Option HandleRow) → Known f → handle_of f caller handle ≡ row → is_none (granted_in (option_and_then opened_by row)) ≡ false
+    → is_some (service_of f (service_in (option_and_then opened_by row))) ≡ true
+opened_one f caller handle None known e some = absurd cc
+opened_one f caller handle (Some row) known e some =
+    opened_kind f.services row.kind row.granted (found_has (λ (r : HandleRow). IsOfOne f.services r.kind) (λ (r : HandleRow). r.caller == caller && r.number == handle) row f.handles known.opened e) some
+
+listed_found : (number : ℕ) (rows : List Process) → has_process rows number ≡ true → is_some (found number rows) ≡ true
+listed_found number [] h = absurd cc
+listed_found number (row ∷ rows) h =
+    elim (row.number == number) as (λ b. (b || has_process rows number) ≡ true → is_some (cond b (Some row) (found number rows)) ≡ true) [ true ↦ λ g. refl | false ↦ λ g. listed_found number rows g ] h
+
+-- a service that isn't STOPPED has a process that is listed
+record IsRunning (f : Flat) (process : ℕ) : Type 0 where
+  there : 1 ≤ process
+  listed : is_some (process_of f process) ≡ true
+
+has_one : (f : Flat) (row : Service) → (row.status.state == 1) ≡ (row.process == 0) → (row.status.state == 1) ≡ false → HasListed f.processes row → IsRunning f row.process
+has_one f row same runs listed =
+    let some : (row.process == 0) ≡ false = sym same ∙ runs in
+    record {
+      there = not_zero row.process some;
+      listed = listed_found row.process f.processes (ap (λ b. b || has_process f.processes row.process) (sym some) ∙ listed);
+    }
+  where
+    not_zero : (n : ℕ) → (n == 0) ≡ false → 1 ≤ n
+    not_zero n e = grind (arith, nat_tests)
+
+running : (l : Limits) (f : Flat) (number : ℕ) (row : Option Service) → IsValid l f → service_of f number ≡ row → is_some row ≡ true → ((status_in row).state == 1) ≡ false → IsRunning f (process_in row)
+running l f number None v e some runs = absurd cc
+running l f number (Some row) v e some runs =
+    has_one f row (found_has (λ (r : Service). (r.status.state == 1) ≡ (r.process == 0)) (λ (r : Service). r.number == number) row f.services v.stopped e) runs
+    (found_has (HasListed f.processes) (λ (r : Service). r.number == number) row f.services v.current e)
+
+-- ## A Control that is taken
+
+fewer_wait : (limit waiting : ℕ) → nat_le limit waiting ≡ false → nat_lt waiting limit ≡ true
+fewer_wait limit waiting e = grind (arith, nat_tests)
+
+one_more : (l : Limits) (f : Flat) (moment caller handle control : ℕ) → IsValid l f → Known f → control_verdict l f caller handle control ≡ 0
+    → OneMoreWaits f (purged (settled l (with_control l (with_moment f moment) (process_in (controlled_service f caller handle)) control))) (process_in (controlled_service f caller handle)) control
+one_more l f moment caller handle control v known e =
+    let service = controlled_service f caller handle in
+    let process = process_in service in
+    let is : IsTaken (granted_in (opened f caller handle)) (status_in service) (waiting_for f service) l.controls =
+    is_taken (granted_in (opened f caller handle)) control (status_in service) (active_among f.services service) (waiting_for f service) l.controls e in
+    let runs = running l f (service_in (opened f caller handle)) service v refl (opened_one f caller handle (handle_of f caller handle) known refl is.opened) is.runs in
+    record {
+      there = runs.there;
+      waits = waiting_settled l (with_control l (with_moment f moment) process control) process ∙ controlled l.controls process control f.processes runs.listed (fewer_wait l.controls (waiting_for f service) is.few);
+      others = λ number other. waiting_settled l (with_control l (with_moment f moment) process control) number ∙ controlled_others l.controls process control number f.processes other;
+    }
+
+-- ## The answer
+
+shown_zero : (f : Flat) (caller handle code : ℕ) → (code == 0) ≡ false → control_told f caller handle code ≡ reply.State (shown_at code (controlled_service f caller handle)) code
+shown_zero f caller handle code e = rw e refl
+
+still_needed : (l : Limits) (f : Flat) (caller handle control : ℕ) → control_verdict l f caller handle control ≡ 1051 → IsNeededStill f caller handle control
+still_needed l f caller handle control e =
+    let service = controlled_service f caller handle in
+    let is = held (granted_in (opened f caller handle)) control (status_in service) (active_among f.services service) (waiting_for f service) l.controls e in
+    record { stop = is.stop; taken = is.taken; needed = sym (needed_same f service) ∙ is.needed }
+
+needed_still : (l : Limits) (f : Flat) (caller handle control : ℕ) → IsNeededStill f caller handle control → control_verdict l f caller handle control ≡ 1051
+needed_still l f caller handle control is =
+    let service = controlled_service f caller handle in
+    holds_up (granted_in (opened f caller handle)) control (status_in service) (active_among f.services service) (waiting_for f service) l.controls
+    (record { stop = is.stop; taken = is.taken; needed = needed_same f service ∙ is.needed })
+
+controlled_call : (l : Limits) (f : Flat) (moment caller handle control : ℕ) (append : Kept) → IsValid l f → Known f
+    → IsControlled l f caller handle control (step_of l f moment (Call caller (request.Control handle control) append)).0 (step_of l f moment (Call caller (request.Control handle control) append)).1
+controlled_call l f moment caller handle control append v known =
+    let g = with_moment f moment in
+    let code = control_verdict l f caller handle control in
+    by_verdict (λ r. IsControlled l f caller handle control (answer.Reply r.0) (purged (settled l r.1))) code (control_told f caller handle code) g (control_done l g caller handle control)
+    (λ e. record {
+      code = 0;
+      verdict = sym e;
+      answers = refl;
+      taken = λ same. one_more l f moment caller handle control v known e;
+      refused = λ other. absurd cc;
+      services = stays_put l f (map (controlled_if l.controls (process_in (controlled_service f caller handle)) control) f.processes) f.wanted (max f.moment moment) v
+          (let long = length-map f.processes (controlled_if l.controls (process_in (controlled_service f caller handle)) control) in omega arith);
+      needed = (λ h. absurd cc, λ is. sym e ∙ needed_still l f caller handle control is);
+    })
+    (λ e. record {
+      code = code;
+      verdict = refl;
+      answers = ap answer.Reply (shown_zero f caller handle code e);
+      taken = λ zero. absurd (let yes = eq-eqb code 0 zero in cc);
+      refused = λ other number. waiting_settled l g number;
+      services = stays_put l f f.processes f.wanted (max f.moment moment) v (omega arith);
+      needed = (still_needed l f caller handle control, needed_still l f caller handle control);
+    })
+
+-- ## A control that is taken in hand
+
+first_left : (codes left : List ℕ) → nat_lt 0 (length codes) ≡ true → left ≡ drop 1 codes → codes ≡ first_control codes ∷ left
+first_left [] left some e = absurd cc
+first_left (code ∷ codes) left some e = ap (λ rest. code ∷ rest) (sym e)
+
+taken_first : (l : Limits) (f : Flat) (moment process : ℕ) → waits (controls_of f process) ≡ true → FirstIsTaken f process (step_of l f moment (ControlTaken process)).0 (step_of l f moment (ControlTaken process)).1
+taken_first l f moment process some = record {
+  code = first_control (controls_of f process);
+  answers = refl;
+  first = first_left (controls_of f process) _ some (waiting_settled l (with_control_taken (with_moment f moment) process) process ∙ relieved process f.processes);
+}
+
+of_controls : (l : Limits) (f : Flat) (moment : ℕ) (step : Step) → IsValid l f → Known f → IsTrue (may l f moment step) → OfControls l f step (step_of l f moment step).0 (step_of l f moment step).1
+of_controls l f moment (Call caller (request.Control handle control) append) v known ok = controlled_call l f moment caller handle control append v known
+of_controls l f moment (ControlTaken process) v known ok = taken_first l f moment process (came _ _ ok)
+of_controls l f moment step v known ok = tt
+
+-- ## Processes that are new
+
+-- who isn't listed has no controls
+unlisted : (next number : ℕ) (rows : List Process) → All (λ (row : Process). row.number < next) rows → next ≤ number → controls_in (found number rows) ≡ []
+unlisted next number [] below up = refl
+unlisted next number (row ∷ rows) below up =
+    let here = All-head (λ (r : Process). r.number < next) row rows below in
+    let other : (row.number == number) ≡ false = ne_eqb row.number number (λ e. absurd (omega (arith, e, here, up))) in
+    rw other (unlisted next number rows (All-tail (λ (r : Process). r.number < next) row rows below) up)
+
+-- a control that is taken waits for a process whose number was given
+given_before : (l : Limits) (f : Flat) (number of : ℕ) (row : Option Service) → Holds f → service_of f of ≡ row → 1 ≤ process_in row → process_in row ≡ number → f.next.process ≤ number → ⊥
+given_before l f number of None h e first same up = absurd (omega arith)
+given_before l f number of (Some row) h e first same up =
+    elim (found_has (IsBelow f.next.process) (λ (r : Service). r.number == of) row f.services h.own.below e) as (λ _. ⊥) [
+      | inl none ↦ absurd (omega (arith, none, first))
+      | inr below ↦ absurd (omega (arith, below, same, up))
+    ]
+
+fresh_control : (l : Limits) (f : Flat) (moment caller handle control number : ℕ) (append : Kept) → IsValid l f → Known f → process_in (controlled_service f caller handle) ≡ number → f.next.process ≤ number
+    → controls_of (step_of l f moment (Call caller (request.Control handle control) append)).1 number ≡ []
+fresh_control l f moment caller handle control number append v known same up =
+    let is = controlled_call l f moment caller handle control append v known in
+    elim (is.code == 0) as (λ b. (is.code == 0) ≡ b → controls_of (step_of l f moment (Call caller (request.Control handle control) append)).1 number ≡ []) [
+      | true ↦ λ e. absurd (given_before l f number (service_in (opened f caller handle)) (controlled_service f caller handle) (holds l f v known) refl (is.taken (eqb-true is.code 0 e)).there same up)
+      | false ↦ λ e. is.refused e number ∙ unlisted f.next.process number f.processes v.processes.below up
+    ] refl
+
+none_taken : (code : ℕ) (codes left : List ℕ) → codes ≡ [] → codes ≡ code ∷ left → left ≡ []
+none_taken code codes left none some = absurd cc
+
+fresh_changed : (l : Limits) (f : Flat) (moment : ℕ) (step : Step) (number : ℕ) → IsValid l f → Known f → IsTrue (may l f moment step) → changes_controls f step number ≡ true → f.next.process ≤ number
+    → controls_of (step_of l f moment step).1 number ≡ []
+fresh_changed l f moment (Call caller (request.Control handle control) append) number v known ok changed up =
+    fresh_control l f moment caller handle control number append v known (eqb-true (process_in (controlled_service f caller handle)) number changed) up
+fresh_changed l f moment (ControlTaken process) number v known ok changed up =
+    let first = taken_first l f moment process (came _ _ ok) in
+    let is = eqb-true process number changed in
+    subst (λ n. controls_of (step_of l f moment (ControlTaken process)).1 n ≡ []) is
+    (none_taken first.code (controls_of f process) _ (unlisted f.next.process process f.processes v.processes.below (omega (arith, is, up))) first.first)
+fresh_changed l f moment (LaunchFailed process code) number v known ok changed up = ended_none l f moment (LaunchFailed process code) number changed
+fresh_changed l f moment (Ended process) number v known ok changed up = ended_none l f moment (Ended process) number changed
+fresh_changed l f moment step number v known ok changed up = absurd cc
+
+fresh : (l : Limits) (f : Flat) (moment : ℕ) (step : Step) (number : ℕ) → IsValid l f → Known f → IsTrue (may l f moment step) → f.next.process ≤ number → controls_of (step_of l f moment step).1 number ≡ []
+fresh l f moment step number v known ok up =
+    elim (changes_controls f step number) as (λ b. changes_controls f step number ≡ b → controls_of (step_of l f moment step).1 number ≡ []) [
+      | true ↦ λ e. fresh_changed l f moment step number v known ok e up
+      | false ↦ λ e. others_wait l f moment step number e ∙ unlisted f.next.process number f.processes v.processes.below up
+    ] refl
+
+-- ## The law
+
+pub controls : (l : Limits) (f : Flat) (e : Entry) → IsValid l f → Known f → IsTrue (may l f e.0 e.1) → LawOfControls l f e (step_of l f e.0 e.1).0 (step_of l f e.0 e.1).1
+controls l f e v known ok = record {
+  controls = of_controls l f e.0 e.1 v known ok;
+  ended = ended_none l f e.0 e.1;
+  fresh = λ number. fresh l f e.0 e.1 number v known ok;
+  others = others_wait l f e.0 e.1;
+}

@@ -1,0 +1,12 @@
+pub mod Found
+pub mod Entered
+pub mod Own
+pub mod Moved
+pub mod Known
+pub mod Still
+pub mod Stale
+pub mod Waiting
+pub mod Needed
+pub mod Judged
+pub mod Controlled
+pub mod Whole

@@ -1,0 +1,185 @@
+-- How services move before plans are settled.
+use Rattle.std.proofs.Common.{ℕ, suc, ◌≡◌, ◌∙◌, ◌<◌, ◌≤◌, ◌==◌, Bool, true, false, not, cond, IsTrue, Result, Ok, Err, List, [], ◌∷◌, Option, None, Some, map, get_or, ap, sym, refl, subst, arith, inl, inr, eq-eqb, eqb-true}
+use Rattle.std.specs.Prelude.{All, AllPairs}
+use Rattle.std.proofs.lemmas.List.{map-id}
+use Rattle.std.proofs.lemmas.List.Elements.{All-cons, All-map, All-nil, All-push, All-weaker}
+use Rattle.scm_model.specs.declared.flat.Config.{Config}
+use Rattle.scm_model.specs.declared.flat.Flat.{Flat}
+use Rattle.scm_model.specs.declared.flat.Limits.{Limits}
+use Rattle.scm_model.specs.declared.flat.Process.{Process}
+use Rattle.scm_model.specs.declared.flat.Service.{Service}
+use Rattle.scm_model.specs.declared.flat.Status.{Status}
+use Rattle.scm_model.specs.declared.calls.Request.{Request}
+use Rattle.scm_model.specs.declared.calls.Request.TheVariants as request
+use Rattle.scm_model.specs.declared.steps.Kept.{Kept}
+use Rattle.scm_model.specs.declared.steps.Step.{Step}
+use Rattle.scm_model.specs.declared.steps.Step.TheVariants.{Call, LaunchFailed, Report, Ended}
+use Rattle.scm_model.specs.Changes.{configured_if, marked_if, with_moment}
+use Rattle.status_machine.specs.Moves.{take_end, take_report, takes}
+use Rattle.scm_rules.specs.Change.{asked_config, with_new_config}
+use Rattle.scm_rules.specs.Launches.{fallen_if, is_running, is_taken, process_of}
+use Rattle.scm_rules.specs.Reports.{may_report, moved_by, process_in, reported_if, reporting_service, set_status_refusals, set_status_verdict}
+use Rattle.scm_rules.specs.Steps.{at_moment, effect_of, may}
+use Rattle.scm_rules.specs.Valid.{IsValid}
+use Rattle.scm_rules.specs.Verdicts.{call_of, done_of, told_refused, verdict}
+use Rattle.scm_laws.specs.Leaving.{reports}
+use Rattle.scm_laws.proofs.Calls.{all_pass, by_verdict, came}
+use Rattle.scm_laws.proofs.Lists.{found_has, found_passes}
+use Rattle.scm_moves.specs.Moves.{MovesItself, code_of_end, report_in}
+
+-- ## Rows
+
+-- where numbers rise, no other row has a row's number
+pub alone : {X : Type 0} (number : X → ℕ) (rows : List X) → AllPairs (λ a b. number a < number b) rows → All (λ row. All (λ other. number other ≡ number row → other ≡ row) rows) rows
+alone number [] rising = All-nil (λ row. All (λ other. number other ≡ number row → other ≡ row) [])
+alone number (x ∷ xs) rising =
+    All-cons (λ row. All (λ other. number other ≡ number row → other ≡ row) (x ∷ xs)) x xs
+    (All-cons (λ other. number other ≡ number x → other ≡ x) x xs (λ e. refl)
+    (λ k d lt e. absurd (let up : number x < number (get_or xs k d) = rising 0 (suc k) d (omega arith) (omega arith) in omega arith)))
+    (λ k d lt. All-cons (λ other. number other ≡ number (get_or xs k d) → other ≡ get_or xs k d) x xs
+    (λ e. absurd (let up : number x < number (get_or xs k d) = rising 0 (suc k) d (omega arith) (omega arith) in omega arith))
+    (alone number xs (λ i j c lt within. rising (suc i) (suc j) c (omega arith) (omega arith)) k d lt))
+
+abbrev pub AreRising : List Service → Type 0
+AreRising rows = AllPairs (λ (a b : Service). a.number < b.number) rows
+
+-- the service with the same number before has moved so
+abbrev pub HasOwn : Flat → Step → Service → Type 0
+HasOwn f step new = All (λ (old : Service). old.number ≡ new.number → MovesItself f step old new.status) f.services
+
+-- a step that changes rows one by one
+own_mapped : (f : Flat) (step : Step) (g : Service → Service) → AreRising f.services → ((row : Service) → (g row).number ≡ row.number) → All (λ row. MovesItself f step row (g row).status) f.services
+    → All (HasOwn f step) (map g f.services)
+own_mapped f step g rising same each =
+    All-map (HasOwn f step) g f.services
+    (λ k d lt. let row = get_or f.services k d in
+    All-weaker (λ (old : Service). old.number ≡ row.number → old ≡ row) (λ (old : Service). old.number ≡ (g row).number → MovesItself f step old (g row).status)
+    (λ old is e. subst (λ (r : Service). MovesItself f step r (g row).status) (sym (is (e ∙ same row))) (each k d lt)) f.services (alone (λ (r : Service). r.number) f.services rising k d lt))
+
+-- a step that changes no row
+own_same : (f : Flat) (step : Step) → AreRising f.services → All (HasOwn f step) f.services
+own_same f step rising = subst (λ rows. All (HasOwn f step) rows) (map-id f.services) (own_mapped f step (λ row. row) rising (λ row. refl) (λ k d lt. inl refl))
+
+-- ## Processes
+
+-- a process that is listed has a number
+listed_first : (l : Limits) (f : Flat) (process : ℕ) (row : Process) → IsValid l f → process_of f process ≡ Some row → 1 ≤ process
+listed_first l f process row v e =
+    let is = eqb-true row.number process (found_passes (λ (r : Process). r.number == process) row f.processes e) in
+    subst (λ n. 1 ≤ n) is (found_has (λ (r : Process). 1 ≤ r.number) (λ (r : Process). r.number == process) row f.processes v.processes.positive e)
+
+pub taken_first : (l : Limits) (f : Flat) (process : ℕ) (found : Option Process) → IsValid l f → process_of f process ≡ found → is_taken found ≡ true → 1 ≤ process
+taken_first l f process None v e taken = absurd cc
+taken_first l f process (Some row) v e taken = listed_first l f process row v e
+
+pub running_first : (l : Limits) (f : Flat) (process : ℕ) (found : Option Process) → IsValid l f → process_of f process ≡ found → is_running found ≡ true → 1 ≤ process
+running_first l f process None v e runs = absurd cc
+running_first l f process (Some row) v e runs = listed_first l f process row v e
+
+-- ## Ends
+
+fallen_own : (f : Flat) (step : Step) (process code : ℕ) (row : Service) → 1 ≤ process → code_of_end step process ≡ Some code → MovesItself f step row (fallen_if process code row).status
+fallen_own f step process code row first by =
+    elim (row.process == process) as (λ b. (row.process == process) ≡ b → MovesItself f step row (cond b (record row { status = take_end row.status code; process = 0 }) row).status) [
+      | true ↦ λ e. (let is = eqb-true row.process process e in inr (inr (record { process = omega (arith, is, first); code = code; by = ap (code_of_end step) is ∙ by; fallen = refl })))
+      | false ↦ λ e. inl refl
+    ] refl
+
+pub fallen_number : (process code : ℕ) (row : Service) → (fallen_if process code row).number ≡ row.number
+fallen_number process code row = elim (row.process == process) as (λ b. (cond b (record row { status = take_end row.status code; process = 0 }) row).number ≡ row.number) [ true ↦ refl | false ↦ refl ]
+
+own_fallen : (f : Flat) (step : Step) (process code : ℕ) → AreRising f.services → 1 ≤ process → code_of_end step process ≡ Some code → All (HasOwn f step) (map (fallen_if process code) f.services)
+own_fallen f step process code rising first by =
+    own_mapped f step (fallen_if process code) rising (fallen_number process code) (λ k d lt. fallen_own f step process code (get_or f.services k d) first by)
+
+-- ## Reports
+
+moved_own : (f : Flat) (step : Step) (report : Status) (row : Service) → 1 ≤ row.process → reports f step row ≡ true → report_in step ≡ Some report → MovesItself f step row (moved_by row (take_report row.status report)).status
+moved_own f step report row first by is =
+    elim (takes row.status report) as (λ b. takes row.status report ≡ b → MovesItself f step row (moved_by row (cond b (Ok report) (Err 13))).status) [
+      | true ↦ λ e. inr (inl (record { process = first; by = by; report = is; taken = e }))
+      | false ↦ λ e. inl refl
+    ] refl
+
+reported_own : (f : Flat) (step : Step) (process : ℕ) (report : Status) (row : Service) → 1 ≤ process → ((row.process == process) ≡ true → reports f step row ≡ true) → report_in step ≡ Some report
+    → MovesItself f step row (reported_if process report row).status
+reported_own f step process report row first by is =
+    elim (row.process == process) as (λ b. (row.process == process) ≡ b → MovesItself f step row (cond b (moved_by row (take_report row.status report)) row).status) [
+      | true ↦ λ e. moved_own f step report row (let same = eqb-true row.process process e in omega (arith, same, first)) (by e) is
+      | false ↦ λ e. inl refl
+    ] refl
+
+moved_number : (row : Service) (r : Result Status ℕ) → (moved_by row r).number ≡ row.number
+moved_number row (Ok status) = refl
+moved_number row (Err code) = refl
+
+pub reported_number : (process : ℕ) (report : Status) (row : Service) → (reported_if process report row).number ≡ row.number
+reported_number process report row =
+    elim (row.process == process) as (λ b. (cond b (moved_by row (take_report row.status report)) row).number ≡ row.number) [ true ↦ moved_number row (take_report row.status report) | false ↦ refl ]
+
+own_reported : (f : Flat) (step : Step) (process : ℕ) (report : Status) → AreRising f.services → 1 ≤ process → ((row : Service) → (row.process == process) ≡ true → reports f step row ≡ true) → report_in step ≡ Some report
+    → All (HasOwn f step) (map (reported_if process report) f.services)
+own_reported f step process report rising first by is =
+    own_mapped f step (reported_if process report) rising (reported_number process report) (λ k d lt. reported_own f step process report (get_or f.services k d) first (by (get_or f.services k d)) is)
+
+-- ## Calls
+
+own_configured : (f : Flat) (step : Step) (number : ℕ) (config : Config) (row : Service) → MovesItself f step row (configured_if number config row).status
+own_configured f step number config row =
+    elim (row.number == number) as (λ b. MovesItself f step row (cond b (record row { config = config; status = record row.status { kind = config.kind } }) row).status) [ true ↦ inl refl | false ↦ inl refl ]
+
+pub configured_number : (number : ℕ) (config : Config) (row : Service) → (configured_if number config row).number ≡ row.number
+configured_number number config row =
+    elim (row.number == number) as (λ b. (cond b (record row { config = config; status = record row.status { kind = config.kind } }) row).number ≡ row.number) [ true ↦ refl | false ↦ refl ]
+
+own_change : (f : Flat) (step : Step) (moment number : ℕ) (config : Option Config) → AreRising f.services → All (HasOwn f step) (with_new_config (with_moment f moment) number config).services
+own_change f step moment number None rising = own_same f step rising
+own_change f step moment number (Some config) rising =
+    own_mapped f step (configured_if number config) rising (configured_number number config) (λ k d lt. own_configured f step number config (get_or f.services k d))
+
+-- the service that may report has a process
+may_first : (l : Limits) (f : Flat) (found : Option Service) (report : Status) → IsValid l f → may_report f found report ≡ true → 1 ≤ process_in found
+may_first l f None report v e = absurd cc
+may_first l f (Some row) report v e = running_first l f row.process (process_of f row.process) v refl (came (is_running (process_of f row.process)) (takes row.status report) e)
+
+positive : (b : Bool) → not b ≡ false → b ≡ true
+positive true e = refl
+positive false e = absurd (cc)
+
+pub set_first : (l : Limits) (f : Flat) (moment caller handle : ℕ) (report : Status) → IsValid l f → set_status_verdict (with_moment f moment) caller handle report ≡ 0 → 1 ≤ process_in (reporting_service f caller handle)
+set_first l f moment caller handle report v e =
+    let p = all_pass (set_status_refusals (with_moment f moment) caller handle report) (refl, (refl, (refl, tt))) e in
+    may_first l f (reporting_service f caller handle) report v (positive _ p.1.1.0)
+
+own_done : (l : Limits) (f : Flat) (moment caller : ℕ) (asked : Request) (append : Kept) → IsValid l f → verdict l (with_moment f moment) caller asked append ≡ 0
+    → All (HasOwn f (Call caller asked append)) (done_of l (with_moment f moment) caller asked).1.services
+own_done l f moment caller (request.Delete handle) append v e = own_mapped f _ (marked_if _) v.services.rising (λ row. refl) (λ k d lt. inl refl)
+own_done l f moment caller (request.SetStatus handle report) append v e =
+    own_reported f _ (process_in (reporting_service f caller handle)) report v.services.rising (set_first l f moment caller handle report v e) (λ row h. h) refl
+own_done l f moment caller (request.Change change) append v e = own_change f _ moment _ (asked_config (with_moment f moment) caller change) v.services.rising
+own_done l f moment caller (request.Create new) append v e =
+    All-push (HasOwn f _) f.services _ (own_same f _ v.services.rising) (λ k d lt same. absurd (let below = v.services.below k d lt in omega arith))
+own_done l f moment caller asked append v e = own_same f _ v.services.rising
+
+own_call : (l : Limits) (f : Flat) (moment caller : ℕ) (asked : Request) (append : Kept) → IsValid l f
+    → All (HasOwn f (Call caller asked append)) (call_of l (with_moment f moment) caller asked append).1.services
+own_call l f moment caller asked append v =
+    let g = with_moment f moment in
+    let code = verdict l g caller asked append in
+    by_verdict (λ r. All (HasOwn f (Call caller asked append)) r.1.services) code (told_refused g caller asked code) g (done_of l g caller asked)
+    (own_done l f moment caller asked append v) (λ e. own_same f _ v.services.rising)
+
+-- ## Effects
+
+ends_with : (process code : ℕ) → cond (process == process) (Some code) None ≡ Some code
+ends_with process code = rw (eq-eqb process process refl) refl
+
+pub own_effect : (l : Limits) (f : Flat) (moment : ℕ) (step : Step) → IsValid l f → IsTrue (may l f moment step) → All (HasOwn f step) (effect_of l (at_moment f moment step) step).1.services
+own_effect l f moment (Call caller asked append) v ok = own_call l f moment caller asked append v
+own_effect l f moment (LaunchFailed process code) v ok =
+    own_fallen f _ process code v.services.rising (taken_first l f process (process_of f process) v refl (came _ _ (came _ _ ok))) (ends_with process code)
+own_effect l f moment (Ended process) v ok =
+    own_fallen f _ process 1067 v.services.rising (running_first l f process (process_of f process) v refl (came _ _ ok)) (ends_with process 1067)
+own_effect l f moment (Report process report) v ok =
+    own_reported f _ process report v.services.rising (running_first l f process (process_of f process) v refl (came _ _ ok)) (λ row h. h) refl
+own_effect l f moment step v ok = own_same f _ v.services.rising

@@ -1,0 +1,104 @@
+-- What is settled stays so where processes become no more, whatever their rows say.
+use Rattle.std.proofs.Common.{ℕ, ◌≡◌, ◌⊎◌, ◌∙◌, ◌≤◌, ◌==◌, ◌||◌, Bool, true, false, not, cond, List, [], ◌∷◌, Option, None, Some, length, ap, refl, subst, arith, inl, inr}
+use Rattle.std.specs.Prelude.{is_some, nat_le}
+use Rattle.std.specs.List.{AllByRecursion}
+use Rattle.std.proofs.lemmas.Bool.Decides.{nat_tests}
+use Rattle.scm_model.specs.declared.flat.Flat.{Flat}
+use Rattle.scm_model.specs.declared.flat.Limits.{Limits}
+use Rattle.scm_model.specs.declared.flat.Plan.{Plan}
+use Rattle.scm_model.specs.declared.flat.Process.{Process}
+use Rattle.scm_model.specs.declared.flat.Service.{Service}
+use Rattle.scm_model.specs.declared.flat.Wanted.{Wanted}
+use Rattle.scm_model.specs.Changes.{purged}
+use Rattle.scm_model.specs.Rows.{service_of}
+use Rattle.start_plan.specs.Moves.{cause_at, entering_at, has, is_full, is_pending, move_by, move_of}
+use Rattle.start_plan.specs.Ready.{is_ready, state_in}
+use Rattle.start_plan.specs.Settle.{code_in, dropped, moved, settle_all, settle_entries, settled, tidied}
+use Rattle.start_plan.specs.declared.settling.Move.{Move}
+use Rattle.start_plan.specs.declared.settling.Move.TheVariants as moves
+use Rattle.scm_rules.specs.Valid.{IsValid}
+use Rattle.scm_laws.proofs.Rests.{Rests, settled_rest}
+
+-- a plan that has no entry left, or waits
+abbrev RestsAt : Limits → Flat → Plan → List ℕ → Type 0
+RestsAt l f plan [] = Unit {0}
+RestsAt l f plan (x ∷ xs) = move_of l f plan.tried x ≡ moves.Waits
+
+-- the state with other processes and other wanted launches, at another moment
+abbrev pub with_others : Flat → List Process → List Wanted → ℕ → Flat
+with_others f processes wanted moment = record f { processes = processes; wanted = wanted; moment = moment }
+
+-- a move by what is in the way
+abbrev MoveBy : Bool → Bool → Bool → Bool → Bool → Bool → Bool → Move
+MoveBy running pending marked disabled unready full locked =
+    cond running moves.Passes
+    (cond pending moves.Waits (move_by (entering_at (cond marked 1072 (cond disabled 1058 (cond unready 1068 (cond full 1054 0)))) locked)))
+
+-- who waits waits still where more processes may be listed
+still_waits : (a b m d u p p' k : Bool) → (p ≡ false → p' ≡ false) → MoveBy a b m d u p k ≡ moves.Waits → MoveBy a b m d u p' k ≡ moves.Waits
+still_waits true b m d u p p' k keeps h = absurd cc
+still_waits false true m d u p p' k keeps h = refl
+still_waits false false true d u p p' k keeps h = absurd cc
+still_waits false false false true u p p' k keeps h = absurd cc
+still_waits false false false false true p p' k keeps h = absurd cc
+still_waits false false false false false true p' k keeps h = absurd cc
+still_waits false false false false false false p' k keeps h = rw (keeps refl) h
+
+not_full : (limit a b : ℕ) → b ≤ a → nat_le limit a ≡ false → nat_le limit b ≡ false
+not_full limit a b few h = grind (arith, nat_tests)
+
+-- what a plan does at a service that is found
+abbrev MoveAt : Limits → Flat → List ℕ → ℕ → Option Service → Move
+MoveAt l f tried x found =
+    cond (state_in found == 4) moves.Passes
+    (cond (is_pending (state_in found)) moves.Waits (move_by (entering_at (cause_at l f (has tried x) found) (is_some f.lock))))
+
+waits_at : (l : Limits) (f : Flat) (processes : List Process) (wanted : List Wanted) (moment : ℕ) (tried : List ℕ) (x : ℕ) (found : Option Service) → length processes ≤ length f.processes
+    → MoveAt l f tried x found ≡ moves.Waits → MoveAt l (with_others f processes wanted moment) tried x found ≡ moves.Waits
+waits_at l f processes wanted moment tried x None few h = h
+waits_at l f processes wanted moment tried x (Some row) few h =
+    still_waits (row.status.state == 4) (is_pending row.status.state) row.marked (row.config.start == 4) (not (is_ready f row) || not (row.status.state == 1) || has tried x)
+    (is_full l f) (is_full l (with_others f processes wanted moment)) (is_some f.lock) (not_full l.processes (length f.processes) (length processes) few) h
+
+rests_at : (l : Limits) (f : Flat) (processes : List Process) (wanted : List Wanted) (moment : ℕ) (plan : Plan) (entries : List ℕ) → length processes ≤ length f.processes
+    → RestsAt l f plan entries → RestsAt l (with_others f processes wanted moment) plan entries
+rests_at l f processes wanted moment plan [] few rests = tt
+rests_at l f processes wanted moment plan (x ∷ xs) few rests = waits_at l f processes wanted moment plan.tried x (service_of f x) few rests
+
+one_rests : (l : Limits) (f : Flat) (processes : List Process) (wanted : List Wanted) (moment : ℕ) (plan : Plan) → length processes ≤ length f.processes → Rests l f plan → Rests l (with_others f processes wanted moment) plan
+one_rests l f processes wanted moment plan few (inl decided) = inl decided
+one_rests l f processes wanted moment plan few (inr rests) = inr (rests_at l f processes wanted moment plan plan.entries few rests)
+
+all_rest : (l : Limits) (f : Flat) (processes : List Process) (wanted : List Wanted) (moment : ℕ) (plans : List Plan) → length processes ≤ length f.processes → AllByRecursion (Rests l f) plans
+    → AllByRecursion (Rests l (with_others f processes wanted moment)) plans
+all_rest l f processes wanted moment [] few rests = tt
+all_rest l f processes wanted moment (plan ∷ plans) few rests = (one_rests l f processes wanted moment plan few rests.0, all_rest l f processes wanted moment plans few rests.1)
+
+-- ## What rests is settled
+
+entries_still : (l : Limits) (f : Flat) (plan : Plan) (entries : List ℕ) → (is_some plan.code ≡ true) ⊎ RestsAt l f plan entries → settle_entries l f plan entries ≡ (f, plan)
+entries_still l f plan [] rests = refl
+entries_still l f plan (x ∷ xs) (inl decided) = rw decided refl
+entries_still l f plan (x ∷ xs) (inr waits) =
+    elim (is_some plan.code) as (λ b. cond b (f, plan) (moved f plan x (settle_entries l f (dropped plan x xs (code_in (move_of l f plan.tried x))) xs) (move_of l f plan.tried x)) ≡ (f, plan)) [
+      | true ↦ refl
+      | false ↦ rw waits refl
+    ]
+
+all_still : (l : Limits) (f : Flat) (plans : List Plan) → AllByRecursion (Rests l f) plans → settle_all l f plans ≡ (f, plans)
+all_still l f [] rests = refl
+all_still l f (plan ∷ plans) rests = rw (entries_still l f plan plan.entries rests.0, all_still l f plans rests.1) refl
+
+-- ## States
+
+-- nothing is left for settling to do but to tidy
+pub still : (l : Limits) (f : Flat) (processes : List Process) (wanted : List Wanted) (moment : ℕ) → IsValid l f → length processes ≤ length f.processes
+    → settled l (with_others f processes wanted moment) ≡ tidied (with_others f processes wanted moment) f.plans
+still l f processes wanted moment v few =
+    let rests : AllByRecursion (Rests l f) f.plans = subst (λ (g : Flat). AllByRecursion (Rests l g) g.plans) v.settled (settled_rest l f) in
+    ap (λ (r : Flat × List Plan). tidied r.0 r.1) (all_still l (with_others f processes wanted moment) f.plans (all_rest l f processes wanted moment f.plans few rests))
+
+-- and no service leaves
+pub stays_put : (l : Limits) (f : Flat) (processes : List Process) (wanted : List Wanted) (moment : ℕ) → IsValid l f → length processes ≤ length f.processes
+    → (purged (settled l (with_others f processes wanted moment))).services ≡ f.services
+stays_put l f processes wanted moment v few = ap (λ (g : Flat). (purged g).services) (still l f processes wanted moment v few) ∙ ap (λ (g : Flat). g.services) v.purged

@@ -1,0 +1,197 @@
+-- Which controls wait after a step.
+use Rattle.std.proofs.Common.{ℕ, ◌≡◌, ◌∙◌, ◌==◌, ◌&&◌, Bool, true, false, not, cond, List, [], ◌∷◌, ◌++◌, Option, None, Some, drop, filter, find, length, map, ap, sym, refl, subst, eq-eqb, eqb-true}
+use Rattle.std.specs.Prelude.{is_some, nat_lt}
+use Rattle.scm_model.specs.declared.flat.Config.{Config}
+use Rattle.scm_model.specs.declared.flat.Flat.{Flat}
+use Rattle.scm_model.specs.declared.flat.Limits.{Limits}
+use Rattle.scm_model.specs.declared.flat.Phase.TheVariants as phases
+use Rattle.scm_model.specs.declared.flat.Process.{Process}
+use Rattle.scm_model.specs.declared.calls.Request.{Request}
+use Rattle.scm_model.specs.declared.calls.Request.TheVariants as request
+use Rattle.scm_model.specs.declared.steps.Answer.{Answer}
+use Rattle.scm_model.specs.declared.steps.Answer.TheVariants as answer
+use Rattle.scm_model.specs.declared.steps.Kept.{Kept}
+use Rattle.scm_model.specs.declared.steps.Step.{Step}
+use Rattle.scm_model.specs.declared.steps.Step.TheVariants.{Call, LaunchTaken, Launched, LaunchFailed, Ended, ControlTaken}
+use Rattle.scm_model.specs.Changes.{with_moment}
+use Rattle.start_plan.specs.Decided.{code_of}
+use Rattle.start_plan.specs.Entered.{wanted_process}
+use Rattle.start_plan.specs.Settle.{settled}
+use Rattle.start_plan.proofs.Enterings.{all_units}
+use Rattle.start_plan.proofs.Keeps.{Keeps, keeps_all}
+use Rattle.scm_rules.specs.Change.{asked_config, with_new_config}
+use Rattle.scm_rules.specs.Controls.{controlled_if, controlled_service, controls_in, controls_of, relieved_if}
+use Rattle.scm_rules.specs.Launches.{first_wanted, launched_if, taken_if}
+use Rattle.scm_rules.specs.Reports.{process_in}
+use Rattle.scm_rules.specs.Steps.{at_moment, effect_of, finished, left_by, step_of}
+use Rattle.scm_rules.specs.Verdicts.{call_of, done_of, told_refused, verdict}
+use Rattle.scm_laws.proofs.Calls.{by_verdict}
+use Rattle.scm_laws.proofs.Lists.{find_filter}
+use Rattle.scm_moves.specs.Controls.{changes_controls, ends}
+
+-- the process with a number
+abbrev pub found : ℕ → List Process → Option Process
+found number rows = find (λ (row : Process). row.number == number) rows
+
+-- ## Rows that change
+
+-- a change of each row that makes these controls of those of one
+controls_mapped : (g : Process → Process) (h : List ℕ → List ℕ) (number : ℕ) (rows : List Process) → ((row : Process) → (g row).number ≡ row.number)
+    → ((row : Process) → (row.number == number) ≡ true → (g row).controls ≡ h row.controls) → h [] ≡ [] → controls_in (found number (map g rows)) ≡ h (controls_in (found number rows))
+controls_mapped g h number [] same makes none = sym none
+controls_mapped g h number (row ∷ rows) same makes none =
+    ap (λ n. controls_in (cond (n == number) (Some (g row)) (found number (map g rows)))) (same row)
+    ∙ elim (row.number == number) as (λ b. (row.number == number) ≡ b → controls_in (cond b (Some (g row)) (found number (map g rows))) ≡ h (controls_in (cond b (Some row) (found number rows)))) [
+      | true ↦ λ e. makes row e
+      | false ↦ λ e. controls_mapped g h number rows same makes none
+    ] refl
+
+taken_same : (of number : ℕ) (rows : List Process) → controls_in (found number (map (taken_if of) rows)) ≡ controls_in (found number rows)
+taken_same of number rows =
+    controls_mapped (taken_if of) (λ codes. codes) number rows
+    (λ row. elim (row.number == of) as (λ b. (cond b (record row { phase = phases.Taken }) row).number ≡ row.number) [ true ↦ refl | false ↦ refl ])
+    (λ row e. elim (row.number == of) as (λ b. (cond b (record row { phase = phases.Taken }) row).controls ≡ row.controls) [ true ↦ refl | false ↦ refl ]) refl
+
+launched_same : (of pid number : ℕ) (rows : List Process) → controls_in (found number (map (launched_if of pid) rows)) ≡ controls_in (found number rows)
+launched_same of pid number rows =
+    controls_mapped (launched_if of pid) (λ codes. codes) number rows
+    (λ row. elim (row.number == of) as (λ b. (cond b (record row { phase = phases.Launched; pid = pid }) row).number ≡ row.number) [ true ↦ refl | false ↦ refl ])
+    (λ row e. elim (row.number == of) as (λ b. (cond b (record row { phase = phases.Launched; pid = pid }) row).controls ≡ row.controls) [ true ↦ refl | false ↦ refl ]) refl
+
+relieved_number : (of : ℕ) (row : Process) → (relieved_if of row).number ≡ row.number
+relieved_number of row = elim (row.number == of) as (λ b. (cond b (record row { controls = drop 1 row.controls }) row).number ≡ row.number) [ true ↦ refl | false ↦ refl ]
+
+pub relieved : (process : ℕ) (rows : List Process) → controls_in (found process (map (relieved_if process) rows)) ≡ drop 1 (controls_in (found process rows))
+relieved process rows = controls_mapped (relieved_if process) (λ codes. drop 1 codes) process rows (relieved_number process) (λ row e. rw e refl) refl
+
+-- who has one number hasn't another
+other_number : (of number n : ℕ) → (of == number) ≡ false → (n == number) ≡ true → (n == of) ≡ false
+other_number of number n other e = subst (λ m. (m == of) ≡ false) (sym (eqb-true n number e)) (turned (number == of) (λ h. eq-eqb of number (sym (eqb-true number of h))) other)
+  where
+    turned : (b : Bool) → (b ≡ true → (of == number) ≡ true) → (of == number) ≡ false → b ≡ false
+    turned true then_same other = absurd (let yes = then_same refl in cc)
+    turned false then_same other = refl
+
+relieved_others : (process number : ℕ) (rows : List Process) → (process == number) ≡ false → controls_in (found number (map (relieved_if process) rows)) ≡ controls_in (found number rows)
+relieved_others process number rows other =
+    controls_mapped (relieved_if process) (λ codes. codes) number rows (relieved_number process) (λ row e. rw (other_number process number row.number other e) refl) refl
+
+controlled_number : (limit process code : ℕ) (row : Process) → (controlled_if limit process code row).number ≡ row.number
+controlled_number limit process code row =
+    elim (row.number == process && nat_lt (length row.controls) limit) as (λ b. (cond b (record row { controls = row.controls ++ code ∷ [] }) row).number ≡ row.number) [ true ↦ refl | false ↦ refl ]
+
+pub controlled_others : (limit process code number : ℕ) (rows : List Process) → (process == number) ≡ false → controls_in (found number (map (controlled_if limit process code) rows)) ≡ controls_in (found number rows)
+controlled_others limit process code number rows other =
+    controls_mapped (controlled_if limit process code) (λ codes. codes) number rows (controlled_number limit process code) (λ row e. rw (other_number process number row.number other e) refl) refl
+
+-- a process for which fewer controls wait than may gets one more
+pub controlled : (limit process code : ℕ) (rows : List Process) → is_some (found process rows) ≡ true → nat_lt (length (controls_in (found process rows))) limit ≡ true
+    → controls_in (found process (map (controlled_if limit process code) rows)) ≡ controls_in (found process rows) ++ code ∷ []
+controlled limit process code [] there few = absurd cc
+controlled limit process code (row ∷ rows) there few =
+    ap (λ n. controls_in (cond (n == process) (Some (controlled_if limit process code row)) (found process (map (controlled_if limit process code) rows)))) (controlled_number limit process code row)
+    ∙ elim (row.number == process) as (λ b. is_some (cond b (Some row) (found process rows)) ≡ true → nat_lt (length (controls_in (cond b (Some row) (found process rows)))) limit ≡ true
+    → controls_in (cond b (Some (cond (b && nat_lt (length row.controls) limit) (record row { controls = row.controls ++ code ∷ [] }) row)) (found process (map (controlled_if limit process code) rows)))
+    ≡ controls_in (cond b (Some row) (found process rows)) ++ code ∷ []) [
+      | true ↦ λ t h. rw h refl
+      | false ↦ λ t h. controlled limit process code rows t h
+    ] there few
+
+-- ## Processes that leave
+
+left_others : (process number : ℕ) (rows : List Process) → (process == number) ≡ false → controls_in (found number (filter (λ (row : Process). not (row.number == process)) rows)) ≡ controls_in (found number rows)
+left_others process number rows other =
+    ap controls_in (find_filter (λ (row : Process). row.number == number) (λ (row : Process). not (row.number == process)) (λ row e. rw (other_number process number row.number other e) refl) rows)
+
+left_none : (process number : ℕ) (rows : List Process) → process ≡ number → controls_in (found number (filter (λ (row : Process). not (row.number == process)) rows)) ≡ []
+left_none process number [] is = refl
+left_none process number (row ∷ rows) is =
+    elim (row.number == process) as (λ b. (row.number == process) ≡ b
+    → controls_in (found number (cond (not b) (row ∷ filter (λ (row : Process). not (row.number == process)) rows) (filter (λ (row : Process). not (row.number == process)) rows))) ≡ []) [
+      | true ↦ λ e. left_none process number rows is
+      | false ↦ λ e. rw (ap (λ n. row.number == n) (sym is) ∙ e) (left_none process number rows is)
+    ] refl
+
+-- ## Effects
+
+waiting_configured : (f : Flat) (number of : ℕ) (config : Option Config) → controls_of (with_new_config f of config) number ≡ controls_of f number
+waiting_configured f number of None = refl
+waiting_configured f number of (Some config) = refl
+
+waiting_done : (l : Limits) (f : Flat) (caller : ℕ) (asked : Request) (append : Kept) (number : ℕ) → changes_controls f (Call caller asked append) number ≡ false → controls_of (done_of l f caller asked).1 number ≡ controls_of f number
+waiting_done l f caller (request.Control handle control) append number other = controlled_others l.controls (process_in (controlled_service f caller handle)) control number f.processes other
+waiting_done l f caller (request.Change change) append number other = waiting_configured f number _ (asked_config f caller change)
+waiting_done l f caller asked append number other = refl
+
+waiting_call : (l : Limits) (f : Flat) (moment caller : ℕ) (asked : Request) (append : Kept) (number : ℕ) → changes_controls f (Call caller asked append) number ≡ false
+    → controls_of (call_of l (with_moment f moment) caller asked append).1 number ≡ controls_of f number
+waiting_call l f moment caller asked append number other =
+    let g = with_moment f moment in
+    let code = verdict l g caller asked append in
+    by_verdict (λ r. controls_of r.1 number ≡ controls_of f number) code (told_refused g caller asked code) g (done_of l g caller asked) (λ e. waiting_by l f moment caller asked append number other) (λ e. refl)
+  where
+    waiting_by : (l : Limits) (f : Flat) (moment caller : ℕ) (asked : Request) (append : Kept) (number : ℕ) → changes_controls f (Call caller asked append) number ≡ false
+        → controls_of (done_of l (with_moment f moment) caller asked).1 number ≡ controls_of f number
+    waiting_by l f moment caller (request.Control handle control) append number other = waiting_done l (with_moment f moment) caller (request.Control handle control) append number other
+    waiting_by l f moment caller asked append number other = waiting_done l (with_moment f moment) caller asked append number refl
+
+some_not : (b : Bool) (code : ℕ) → is_some (cond b (Some code) None) ≡ false → b ≡ false
+some_not true code h = absurd cc
+some_not false code h = refl
+
+some_is : (b : Bool) (code : ℕ) → is_some (cond b (Some code) None) ≡ true → b ≡ true
+some_is true code h = refl
+some_is false code h = absurd cc
+
+waiting_effect : (l : Limits) (f : Flat) (moment : ℕ) (step : Step) (number : ℕ) → changes_controls f step number ≡ false → controls_of (effect_of l (at_moment f moment step) step).1 number ≡ controls_of f number
+waiting_effect l f moment (Call caller asked append) number other = waiting_call l f moment caller asked append number other
+waiting_effect l f moment LaunchTaken number other = taken_same (first_wanted f.wanted) number f.processes
+waiting_effect l f moment (Launched process pid) number other = launched_same process pid number f.processes
+waiting_effect l f moment (LaunchFailed process code) number other = left_others process number f.processes (some_not (process == number) code other)
+waiting_effect l f moment (Ended process) number other = left_others process number f.processes (some_not (process == number) 1067 other)
+waiting_effect l f moment (ControlTaken process) number other = relieved_others process number f.processes other
+waiting_effect l f moment step number other = refl
+
+ended_effect : (l : Limits) (f : Flat) (moment : ℕ) (step : Step) (number : ℕ) → ends step number ≡ true → controls_of (effect_of l (at_moment f moment step) step).1 number ≡ []
+ended_effect l f moment (LaunchFailed process code) number is = left_none process number f.processes (eqb-true process number (some_is (process == number) code is))
+ended_effect l f moment (Ended process) number is = left_none process number f.processes (eqb-true process number (some_is (process == number) 1067 is))
+ended_effect l f moment step number is = absurd cc
+
+-- ## The end of a step
+
+-- a process that is new has no controls
+new_none : (process service number : ℕ) (rows : List Process) → controls_in (found number (rows ++ wanted_process process service ∷ [])) ≡ controls_in (found number rows)
+new_none process service number [] = elim (process == number) as (λ b. controls_in (cond b (Some (wanted_process process service)) None) ≡ []) [ true ↦ refl | false ↦ refl ]
+new_none process service number (row ∷ rows) =
+    elim (row.number == number) as (λ b. controls_in (cond b (Some row) (found number (rows ++ wanted_process process service ∷ []))) ≡ controls_in (cond b (Some row) (found number rows)))
+    [ true ↦ refl | false ↦ new_none process service number rows ]
+
+waits_on : (l : Limits) (f : Flat) (number : ℕ) → Keeps l (λ (g : Flat). controls_of g number ≡ controls_of f number) (λ plan. Unit {0})
+waits_on l f number = record {
+  enters = λ g plan n words entry same. new_none g.next.process n number g.processes ∙ same;
+  tries = λ g plan n entry q. tt;
+  drops = λ plan n rest code q. tt;
+}
+
+-- settling leaves what waits
+pub waiting_settled : (l : Limits) (f : Flat) (number : ℕ) → controls_of (settled l f) number ≡ controls_of f number
+waiting_settled l f number = (keeps_all l (λ (g : Flat). controls_of g number ≡ controls_of f number) (λ plan. Unit {0}) (waits_on l f number) f f.plans refl (all_units f.plans)).flat
+
+waiting_left : (g : Flat) (plan : ℕ) (code : Option ℕ) (number : ℕ) → controls_of (left_by g plan code) number ≡ controls_of g number
+waiting_left g plan None number = refl
+waiting_left g plan (Some code) number = refl
+
+waiting_finished : (g : Flat) (told : Answer) (number : ℕ) → controls_of (finished g told).1 number ≡ controls_of g number
+waiting_finished g (answer.Begun plan) number = waiting_left g plan (code_of g.plans plan) number
+waiting_finished g told number = refl
+
+waiting_after : (l : Limits) (f : Flat) (moment : ℕ) (step : Step) (number : ℕ) → controls_of (step_of l f moment step).1 number ≡ controls_of (effect_of l (at_moment f moment step) step).1 number
+waiting_after l f moment step number =
+    let done = effect_of l (at_moment f moment step) step in
+    waiting_finished (settled l done.1) done.0 number ∙ waiting_settled l done.1 number
+
+pub others_wait : (l : Limits) (f : Flat) (moment : ℕ) (step : Step) (number : ℕ) → changes_controls f step number ≡ false → controls_of (step_of l f moment step).1 number ≡ controls_of f number
+others_wait l f moment step number other = waiting_after l f moment step number ∙ waiting_effect l f moment step number other
+
+pub ended_none : (l : Limits) (f : Flat) (moment : ℕ) (step : Step) (number : ℕ) → ends step number ≡ true → controls_of (step_of l f moment step).1 number ≡ []
+ended_none l f moment step number is = waiting_after l f moment step number ∙ ended_effect l f moment step number is

@@ -1,0 +1,42 @@
+-- Both laws hold in each step from a state that a run reaches.
+use Rattle.std.proofs.Common.{ℕ, [], arith}
+use Rattle.std.proofs.lemmas.List.Elements.{All-nil}
+use Rattle.scm_model.specs.declared.flat.Flat.{Flat}
+use Rattle.scm_model.specs.declared.flat.HandleRow.{HandleRow}
+use Rattle.scm_model.specs.declared.flat.Limits.{Limits}
+use Rattle.scm_rules.specs.Opening.{empty_at}
+use Rattle.scm_laws.proofs.Along.{Gives, Keeps}
+use Rattle.scm_laws.proofs.Clear.{Clear, clear_begun, clear_keeps, is_valid_clear}
+use Rattle.scm_moves.specs.Controls.{LawOfControls}
+use Rattle.scm_moves.specs.Moves.{LawOfMoves}
+use Rattle.scm_moves.proofs.Controlled.{controls}
+use Rattle.scm_moves.proofs.Known.{IsOfOne, Known, known}
+use Rattle.scm_moves.proofs.Moved.{moved}
+use Rattle.scm_moves.proofs.Stale.{refused, stale, unheard}
+
+-- what is true of every state
+pub record Whole (l : Limits) (f : Flat) : Type 0 where
+  pub clear : Clear l f
+  pub known : Known f
+
+pub whole_begun : (l : Limits) (moment : ℕ) → Whole l (empty_at moment)
+whole_begun l moment = record {
+  clear = clear_begun l moment;
+  known = record { apart = λ i j d lt within. absurd (omega arith); opened = All-nil (λ (row : HandleRow). IsOfOne [] row.kind) };
+}
+
+pub whole_keeps : (l : Limits) → Keeps (Whole l) l
+whole_keeps l f e whole ok = record { clear = clear_keeps l f e whole.clear ok; known = known l f e.0 e.1 (is_valid_clear l f whole.clear) whole.known }
+
+pub gives_moves : (l : Limits) → Gives (Whole l) (LawOfMoves l) l
+gives_moves l f e whole ok =
+    let valid = is_valid_clear l f whole.clear in
+    record {
+      moved = moved l f e.0 e.1 valid ok;
+      stale = stale l f e.0 e.1 valid;
+      refused = λ code. refused l f e.0 e.1 code valid whole.known ok;
+      unheard = λ code. unheard l f e.0 e.1 code valid;
+    }
+
+pub gives_controls : (l : Limits) → Gives (Whole l) (LawOfControls l) l
+gives_controls l f e whole ok = controls l f e (is_valid_clear l f whole.clear) whole.known ok

@@ -1,0 +1,101 @@
+-- Which controls services get, and which wait for their processes.
+use Rattle.std.specs.Prelude.{ℕ, Bool, ◌≡◌, ◌↔◌, ◌≤◌, true, false, not, ◌&&◌, ◌||◌, ◌==◌, ◌++◌, List, [], ◌∷◌, Option, None, Some, is_some, if◌then◌else◌}
+use Rattle.std.specs.List.{list_any}
+use Rattle.scm_model.specs.declared.flat.Flat.{Flat}
+use Rattle.scm_model.specs.declared.flat.Limits.{Limits}
+use Rattle.scm_model.specs.declared.flat.Service.{Service}
+use Rattle.scm_model.specs.declared.flat.Status.{Status}
+use Rattle.scm_model.specs.declared.calls.Reply.TheVariants as reply
+use Rattle.scm_model.specs.declared.calls.Request.TheVariants as request
+use Rattle.scm_model.specs.declared.steps.Answer.{Answer}
+use Rattle.scm_model.specs.declared.steps.Answer.TheVariants as answer
+use Rattle.scm_model.specs.declared.steps.Step.{Step}
+use Rattle.scm_model.specs.declared.steps.Step.TheVariants.{Call, ControlTaken}
+use Rattle.scm_model.specs.Refused.{zero_status}
+use Rattle.scm_model.specs.Rows.{opened}
+use Rattle.control_dispatch.specs.Judging.{judge}
+use Rattle.dependency_index.specs.Naming.{is_named}
+use Rattle.scm_rules.specs.Controls.{control_verdict, controlled_service, controls_of, granted_in}
+use Rattle.scm_rules.specs.Query.{status_in}
+use Rattle.scm_rules.specs.Reports.{process_in}
+use Rattle.scm_rules.specs.Runs.{Entry}
+use Rattle.scm_moves.specs.Moves.{code_of_end}
+
+-- ## What a Control is told
+
+-- the status is told where the service gets the control, doesn't accept it (1052), can't get it now (1061) or is STOPPED (1062), and else zeros
+abbrev pub shown_at : ℕ → Option Service → Status
+shown_at code service = if code == 0 || code == 1052 || code == 1061 || code == 1062 then status_in service else zero_status
+
+-- ## Who needs a service that is to stop
+
+-- whether a service names one of this name as a need, and isn't STOPPED
+abbrev pub is_active_with : List ℕ → Service → Bool
+is_active_with name row = list_any (is_named name) row.config.needs && not (row.status.state == 1)
+
+-- whether a service that isn't STOPPED names this one as a need
+abbrev pub is_needed_by_active : Flat → Option Service → Bool
+is_needed_by_active f None = false
+is_needed_by_active f (Some target) = list_any (is_active_with target.config.name) f.services
+
+-- a STOP that would be taken if nobody needed the service and nothing waited, of a service that somebody needs
+pub record IsNeededStill (f : Flat) (caller handle control : ℕ) : Type 0 where
+  pub stop : control ≡ 1
+  pub taken : judge (granted_in (opened f caller handle)) control (status_in (controlled_service f caller handle)) 0 0 1 ≡ 0
+  pub needed : is_needed_by_active f (controlled_service f caller handle) ≡ true
+
+-- ## The controls that wait
+
+-- each process has the controls that it had
+abbrev pub AllWaitAsBefore : Flat → Flat → Type 0
+AllWaitAsBefore before after = (number : ℕ) → controls_of after number ≡ controls_of before number
+
+-- one control more waits for a process, behind those that waited, and for every other process what waited before
+pub record OneMoreWaits (before after : Flat) (process control : ℕ) : Type 0 where
+  pub there : 1 ≤ process
+  pub waits : controls_of after process ≡ controls_of before process ++ control ∷ []
+  pub others : (number : ℕ) → (process == number) ≡ false → controls_of after number ≡ controls_of before number
+
+-- ## A Control, and a control that is taken in hand
+
+-- a Control is told its verdict in the state before, whatever the moment, and moves no service; where the verdict is 0 the control comes to
+-- wait for the service's process, and else nothing does; a STOP is refused with 1051 where the service is needed still, and only there
+pub record IsControlled (l : Limits) (before : Flat) (caller handle control : ℕ) (told : Answer) (after : Flat) : Type 0 where
+  pub code : ℕ
+  pub verdict : code ≡ control_verdict l before caller handle control
+  pub answers : told ≡ answer.Reply (reply.State (shown_at code (controlled_service before caller handle)) code)
+  pub taken : code ≡ 0 → OneMoreWaits before after (process_in (controlled_service before caller handle)) control
+  pub refused : (code == 0) ≡ false → AllWaitAsBefore before after
+  pub services : after.services ≡ before.services
+  pub needed : (code ≡ 1051) ↔ IsNeededStill before caller handle control
+
+-- the control that waited first is told, and waits no more
+pub record FirstIsTaken (before : Flat) (process : ℕ) (told : Answer) (after : Flat) : Type 0 where
+  pub code : ℕ
+  pub answers : told ≡ answer.Control code
+  pub first : controls_of before process ≡ code ∷ controls_of after process
+
+abbrev pub OfControls : Limits → Flat → Step → Answer → Flat → Type 0
+OfControls l before (Call caller (request.Control handle control) append) told after = IsControlled l before caller handle control told after
+OfControls l before (ControlTaken process) told after = FirstIsTaken before process told after
+OfControls l before step told after = Unit {0}
+
+-- ## The law
+
+-- whether a step is the end of this process
+abbrev pub ends : Step → ℕ → Bool
+ends step process = is_some (code_of_end step process)
+
+-- whether a step may change what waits for this process
+abbrev pub changes_controls : Flat → Step → ℕ → Bool
+changes_controls f (Call caller (request.Control handle control) append) number = process_in (controlled_service f caller handle) == number
+changes_controls f (ControlTaken process) number = process == number
+changes_controls f step number = ends step number
+
+-- a Control puts a control behind those that wait, which are taken from the front; a process that ends has none, nor has one that is new,
+-- and no other step changes what waits
+pub record LawOfControls (l : Limits) (before : Flat) (e : Entry) (told : Answer) (after : Flat) : Type 0 where
+  pub controls : OfControls l before e.1 told after
+  pub ended : (number : ℕ) → ends e.1 number ≡ true → controls_of after number ≡ []
+  pub fresh : (number : ℕ) → before.next.process ≤ number → controls_of after number ≡ []
+  pub others : (number : ℕ) → changes_controls before e.1 number ≡ false → controls_of after number ≡ controls_of before number

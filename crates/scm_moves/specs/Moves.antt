@@ -1,0 +1,86 @@
+-- How a service moves in a step.
+use Rattle.std.specs.Prelude.{ℕ, Bool, ◌≡◌, ◌⊎◌, ◌≤◌, true, false, ◌==◌, All, Option, None, Some, if◌then◌else◌}
+use Rattle.scm_model.specs.declared.flat.Flat.{Flat}
+use Rattle.scm_model.specs.declared.flat.Limits.{Limits}
+use Rattle.scm_model.specs.declared.flat.Service.{Service}
+use Rattle.scm_model.specs.declared.flat.Status.{Status}
+use Rattle.scm_model.specs.declared.calls.Reply.TheVariants as reply
+use Rattle.scm_model.specs.declared.calls.Request.TheVariants as request
+use Rattle.scm_model.specs.declared.steps.Answer.{Answer}
+use Rattle.scm_model.specs.declared.steps.Answer.TheVariants as answer
+use Rattle.scm_model.specs.declared.steps.Step.{Step}
+use Rattle.scm_model.specs.declared.steps.Step.TheVariants.{Call, LaunchFailed, Report, Ended}
+use Rattle.start_plan.specs.Entered.{starting}
+use Rattle.status_machine.specs.Moves.{take_end, takes}
+use Rattle.scm_rules.specs.Runs.{Entry}
+use Rattle.scm_laws.specs.Leaving.{reports}
+
+-- the status that a step reports
+abbrev pub report_in : Step → Option Status
+report_in (Report process status) = Some status
+report_in (Call caller (request.SetStatus handle status) append) = Some status
+report_in step = None
+
+-- the code that is left of a service whose current process this is, where a step ends it: 1067 where it ended without a word, and that of
+-- a launch that failed
+abbrev pub code_of_end : Step → ℕ → Option ℕ
+code_of_end (Ended ended) process = if ended == process then Some 1067 else None
+code_of_end (LaunchFailed failed code) process = if failed == process then Some code else None
+code_of_end step process = None
+
+-- ## Before plans are settled
+
+-- all is as it was but the type
+abbrev pub IsAsBefore : Status → Status → Type 0
+IsAsBefore old between = between ≡ record old { kind = between.kind }
+
+-- the service's current process reports it so, and may
+pub record IsReported (before : Flat) (step : Step) (old : Service) (between : Status) : Type 0 where
+  pub process : 1 ≤ old.process
+  pub by : reports before step old ≡ true
+  pub report : report_in step ≡ Some between
+  pub taken : takes old.status between ≡ true
+
+-- the service's current process ends, and it is STOPPED
+pub record IsFallen (step : Step) (old : Service) (between : Status) : Type 0 where
+  pub process : 1 ≤ old.process
+  pub code : ℕ
+  pub by : code_of_end step old.process ≡ Some code
+  pub fallen : between ≡ take_end old.status code
+
+-- how a service comes to stand by what its process does
+abbrev pub MovesItself : Flat → Step → Service → Status → Type 0
+MovesItself before step old between = IsAsBefore old.status between ⊎ (IsReported before step old between ⊎ IsFallen step old between)
+
+-- ## When plans are settled
+
+-- it was STOPPED, and is started by a process that none had before
+pub record IsStartedAnew (before : Flat) (between : Status) (new : Service) : Type 0 where
+  pub stopped : between.state ≡ 1
+  pub pending : new.status ≡ starting between
+  pub process : before.next.process ≤ new.process
+
+-- ## The law
+
+-- how a service stood between, what led there, and what came then
+pub record Moves (before : Flat) (step : Step) (old new : Service) : Type 0 where
+  pub between : Status
+  pub own : MovesItself before step old between
+  pub later : (new.status ≡ between) ⊎ IsStartedAnew before between new
+
+-- the service with the same number before, if there was one, moves so
+abbrev pub HasMoved : Flat → Step → Service → Type 0
+HasMoved before step new = All (λ (old : Service). old.number ≡ new.number → Moves before step old new) before.services
+
+-- whether a step is a report by a call
+abbrev pub is_called_report : Step → Bool
+is_called_report (Call caller (request.SetStatus handle status) append) = true
+is_called_report step = false
+
+-- a service moves by a report of its current process that the table allows, by the end of that process, or by being entered where it is
+-- STOPPED, and by nothing else; a stale step and a report that is refused, also one by a call, move none
+pub record LawOfMoves (l : Limits) (before : Flat) (e : Entry) (told : Answer) (after : Flat) : Type 0 where
+  pub moved : All (HasMoved before e.1) after.services
+  pub stale : told ≡ answer.Stale → after.services ≡ before.services
+  pub refused : (code : ℕ) → told ≡ answer.Refused code → (code ≡ 13) × (after.services ≡ before.services)
+  pub unheard : (code : ℕ) → is_called_report e.1 ≡ true → told ≡ answer.Reply (reply.Code code) → (code == 0) ≡ false → after.services ≡ before.services
