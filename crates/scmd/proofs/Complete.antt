@@ -1,15 +1,25 @@
 -- A run without faults ends with the status of its input, or for want of memory.
-use Rattle.std.proofs.Common.{[], ◌∷◌, ◌≤◌, subst, ℕ, ◌≡◌, inl, inr, ◌<◌, ◌^◌, List, ◌++◌, length, Option, None, Some, refl, sym, ap, ◌∙◌, append-nil, length-append, arith}
+use Rattle.std.proofs.Common.{[], ◌∷◌, ◌≤◌, subst, ℕ, ◌≡◌, ◌≢◌, inl, inr, ◌<◌, ◌^◌, List, ◌++◌, length, Option, None, Some, refl, sym, ap, ◌∙◌, append-nil, length-append, arith}
 use Rattle.std.specs.Io.KnownBytes.{Consumes, IsAtEnd}
+use Rattle.std.specs.Prelude.{IfSome}
 use Rattle.outside.specs.Causes.{Rose}
 use Rattle.outside.specs.Written.{Begins}
 use Rattle.scm_model.specs.declared.flat.Principal.{Principal}
 use Rattle.rpc_session.specs.declared.state.Incoming.{Incoming}
-use Rattle.rpc_session.specs.Items.{StreamEnd, AtRest, Unfinished, BadPdu, TooLong, Told, items}
+use Rattle.rpc_session.specs.Items.{StreamEnd, AtRest as Rested, Unfinished as Broken, BadPdu, TooLong, Told, items}
 use Rattle.scm_pipe.specs.declared.served.Served.{Served}
 use Rattle.scm_pipe.specs.declared.served.Served.TheVariants as served
 use Rattle.scm_pipe.specs.Connection.{IsCaused, IsOpenEnd}
-use Rattle.scmd.specs.Pipe.{IsPiped, IsComplete, EndsAs, status_at, status_of}
+use Rattle.scm_generate.specs.Printed.{IsCaused as IsCausedPrint}
+use Rattle.scm_generate.specs.declared.generated.Generated.{Generated}
+use Rattle.scm_generate.specs.declared.generated.Generated.TheVariants as printed
+use Rattle.scm_replay.specs.Replay.{TextEnd, AtRest, Unfinished, BadLine, Told as Text, IsOpenEnd as IsOpen, IsReplayed, IsCaused as IsCausedReplay, replayed}
+use Rattle.scm_replay.specs.declared.replayed.Replayed.{Replayed}
+use Rattle.scm_replay.specs.declared.replayed.Replayed.TheVariants as answered
+use Rattle.scmd.specs.declared.words.Job.{Job}
+use Rattle.scmd.specs.declared.words.Job.TheVariants.{Pipe, Replay, Generate}
+use Rattle.scmd.specs.Jobs.{EndsAsLines, HasAllDone, HasRun, Sides, program_opening, status_behind, status_of_generate, status_of_replay}
+use Rattle.scmd.specs.Pipe.{IsOrLacks, IsPiped, IsComplete, EndsAs, program_limits, status_at, status_of}
 
 rest_of : (bytes read : List ℕ) (left : Option (List ℕ)) → Consumes (Some bytes) left read → (rest : List ℕ) × (bytes ≡ read ++ rest)
 rest_of bytes read None h = absurd h
@@ -74,10 +84,10 @@ complete : (tells : ℕ → Type 0) (principal : Principal) (how : Served) (byte
     → EndsAs bytes (status_of how)
 complete tells principal served.Ended bytes left_now held held_now source source_now sink sink_now p c no_read no_write =
     let reached = p.connection.reached in
-    ends_so bytes p.talk.read p.talk.done AtRest (all_of bytes p.talk.read left_now p.seen.read reached.0) reached.1 reached.2.all
+    ends_so bytes p.talk.read p.talk.done Rested (all_of bytes p.talk.read left_now p.seen.read reached.0) reached.1 reached.2.all
 complete tells principal served.Truncated bytes left_now held held_now source source_now sink sink_now p c no_read no_write =
     let reached = p.connection.reached in
-    ends_so bytes p.talk.read p.talk.done Unfinished (all_of bytes p.talk.read left_now p.seen.read reached.0) reached.1 reached.2.all
+    ends_so bytes p.talk.read p.talk.done Broken (all_of bytes p.talk.read left_now p.seen.read reached.0) reached.1 reached.2.all
 complete tells principal (served.BadPdu place kind) bytes left_now held held_now source source_now sink sink_now p c no_read no_write =
     let rest = rest_of bytes p.talk.read left_now p.seen.read in
     ends_bad bytes p.talk.read rest.0 p.talk.done (BadPdu place kind) rest.1 p.seen.most p.connection.reached.all (λ h. h)
@@ -91,6 +101,64 @@ complete tells principal served.Worn bytes left_now held held_now source source_
     let rest = rest_of bytes p.talk.read left_now p.seen.read in
     ends_worn bytes p.talk.read rest.0 rest.1 p.connection.reached.0
 
+-- ## Lines
+
+abbrev here : List ℕ → Text
+here bytes = replayed program_limits program_opening bytes
+
+-- what was read ends so, and it was all
+lines_so : (bytes read written : List ℕ) (ending : TextEnd) → bytes ≡ read → length read < 2 ^ 40 → here read ≡ record { text = written; ending = ending } → EndsAsLines bytes (status_behind ending)
+lines_so bytes read written ending same small is = record {
+  whole = λ _. inl (ap (λ (t : Text). status_behind t.ending) (sym is ∙ ap here (sym same)));
+  worn = λ front b e _. absurd (too_long bytes front b e (omega (arith, small, ap length same)));
+}
+
+-- a bad line is that of all that begins so
+lines_bad : (bytes read rest written : List ℕ) → bytes ≡ read ++ rest → length read ≤ 2 ^ 40
+    → ((more : List ℕ) → here (read ++ more) ≡ record { text = written; ending = BadLine }) → EndsAsLines bytes 11
+lines_bad bytes read rest written e most all = record {
+  whole = λ _. inl (ap (λ (t : Text). status_behind t.ending) (sym (all rest) ∙ ap here (sym e)));
+  worn = λ front b same goes_on.
+      let z = shorter read rest front b.0 (sym e ∙ b.1) (omega (arith, most, same)) in
+      absurd (subst IsOpen (ap (λ (t : Text). t.ending) (ap here z.1 ∙ all z.0)) goes_on);
+}
+
+lines_worn : (bytes read rest : List ℕ) → bytes ≡ read ++ rest → length read ≡ 2 ^ 40 → EndsAsLines bytes 12
+lines_worn bytes read rest e same = record {
+  whole = λ small. absurd (too_long bytes read (rest, e) same small);
+  worn = λ _ _ _ _. inl refl;
+}
+
+lines_lack : (bytes : List ℕ) → EndsAsLines bytes 8
+lines_lack bytes = record { whole = λ _. inr refl; worn = λ _ _ _ _. inr refl }
+
+complete_lines : (how : Replayed) (bytes : List ℕ) (left_now held held_now : Option (List ℕ)) (source source_now sink sink_now : ℕ)
+    → IsReplayed program_limits program_opening (Some bytes) left_now held held_now how → IsCausedReplay how source source_now sink sink_now
+    → (Rose source source_now → ⊥) → (Rose sink sink_now → ⊥)
+    → EndsAsLines bytes (status_of_replay how)
+complete_lines answered.Ended bytes left_now held held_now source source_now sink sink_now p c no_read no_write =
+    lines_so bytes p.read p.written AtRest (all_of bytes p.read left_now p.consumed p.reached.0) p.reached.1 p.reached.2
+complete_lines answered.Truncated bytes left_now held held_now source source_now sink sink_now p c no_read no_write =
+    lines_so bytes p.read p.written Unfinished (all_of bytes p.read left_now p.consumed p.reached.0) p.reached.1 p.reached.2
+complete_lines answered.BadLine bytes left_now held held_now source source_now sink sink_now p c no_read no_write =
+    let rest = rest_of bytes p.read left_now p.consumed in
+    lines_bad bytes p.read rest.0 p.written rest.1 p.most p.reached
+complete_lines answered.Worn bytes left_now held held_now source source_now sink sink_now p c no_read no_write =
+    let rest = rest_of bytes p.read left_now p.consumed in
+    lines_worn bytes p.read rest.0 rest.1 p.reached.0
+complete_lines answered.OutOfMemory bytes left_now held held_now source source_now sink sink_now p c no_read no_write = lines_lack bytes
+complete_lines answered.ReadFault bytes left_now held held_now source source_now sink sink_now p c no_read no_write = absurd (no_read c)
+complete_lines answered.WriteFault bytes left_now held held_now source source_now sink sink_now p c no_read no_write = absurd (no_write c)
+
+-- ## A summary
+
+complete_summary : (how : Generated) (sink sink_now : ℕ) → IsCausedPrint how sink sink_now → (Rose sink sink_now → ⊥) → IsOrLacks 0 (status_of_generate how)
+complete_summary printed.Ended sink sink_now c no_write = inl refl
+complete_summary printed.WriteFault sink sink_now c no_write = absurd (no_write c)
+complete_summary printed.OutOfMemory sink sink_now c no_write = inr refl
+
+-- ## Jobs
+
 pub complete_in : (tells : ℕ → Type 0) (principal : Principal) (how : Served) (left left_now held held_now : Option (List ℕ)) (source source_now sink sink_now status : ℕ)
     → status ≡ status_of how
     → IsPiped tells principal how left left_now held held_now → IsCaused how source source_now sink sink_now
@@ -98,3 +166,49 @@ pub complete_in : (tells : ℕ → Type 0) (principal : Principal) (how : Served
 complete_in tells principal how None left_now held held_now source source_now sink sink_now status e p c = tt
 complete_in tells principal how (Some bytes) left_now held held_now source source_now sink sink_now status e p c =
     rw e (complete tells principal how bytes left_now held held_now source source_now sink sink_now p c)
+
+lines_in : (how : Replayed) (left left_now held held_now : Option (List ℕ)) (source source_now sink sink_now status : ℕ)
+    → status ≡ status_of_replay how
+    → IsReplayed program_limits program_opening left left_now held held_now how → IsCausedReplay how source source_now sink sink_now
+    → IfSome left (λ bytes. (Rose source source_now → ⊥) → (Rose sink sink_now → ⊥) → EndsAsLines bytes status)
+lines_in how None left_now held held_now source source_now sink sink_now status e p c = tt
+lines_in how (Some bytes) left_now held held_now source source_now sink sink_now status e p c =
+    rw e (complete_lines how bytes left_now held held_now source source_now sink sink_now p c)
+
+-- a job that came to its end has its status
+pub all_done : (tells : ℕ → Type 0) (job : Job) (s : Sides) (status : ℕ) → HasRun tells job s status → HasAllDone job s status
+all_done tells (Pipe principal) s status h =
+    complete_in tells principal h.how s.left s.left_now s.held s.held_now s.source s.source_now s.sink s.sink_now status h.status_is h.piped h.cause
+all_done tells Replay s status h =
+    lines_in h.how s.left s.left_now s.held s.held_now s.source s.source_now s.sink s.sink_now status h.status_is h.replayed h.cause
+all_done tells (Generate services) s status h = rw h.status_is (complete_summary h.how s.sink s.sink_now h.cause)
+
+-- no job has the status of words that are none
+not_of_pipe : (how : Served) → status_of how ≢ 5
+not_of_pipe served.Ended = λ e. cc
+not_of_pipe served.ReadFault = λ e. cc
+not_of_pipe served.WriteFault = λ e. cc
+not_of_pipe served.Truncated = λ e. cc
+not_of_pipe (served.BadPdu place kind) = λ e. cc
+not_of_pipe (served.TooLong length) = λ e. cc
+not_of_pipe served.Worn = λ e. cc
+not_of_pipe served.OutOfMemory = λ e. cc
+
+not_of_replay : (how : Replayed) → status_of_replay how ≢ 5
+not_of_replay answered.Ended = λ e. cc
+not_of_replay answered.ReadFault = λ e. cc
+not_of_replay answered.WriteFault = λ e. cc
+not_of_replay answered.Truncated = λ e. cc
+not_of_replay answered.BadLine = λ e. cc
+not_of_replay answered.Worn = λ e. cc
+not_of_replay answered.OutOfMemory = λ e. cc
+
+not_of_generate : (how : Generated) → status_of_generate how ≢ 5
+not_of_generate printed.Ended = λ e. cc
+not_of_generate printed.WriteFault = λ e. cc
+not_of_generate printed.OutOfMemory = λ e. cc
+
+pub not_5 : (tells : ℕ → Type 0) (job : Job) (s : Sides) (status : ℕ) → HasRun tells job s status → status ≢ 5
+not_5 tells (Pipe principal) s status h = λ e. not_of_pipe h.how (sym h.status_is ∙ e)
+not_5 tells Replay s status h = λ e. not_of_replay h.how (sym h.status_is ∙ e)
+not_5 tells (Generate services) s status h = λ e. not_of_generate h.how (sym h.status_is ∙ e)

@@ -15,8 +15,6 @@ use Rattle.scm_pipe.specs.declared.served.Served.TheVariants as served
 use Rattle.scm_pipe.specs.Bodies.{asked}
 use Rattle.scm_pipe.specs.Connection.{IsConnection, IsOpenEnd, IsSeen, Talk}
 use Rattle.scm_pipe.specs.Histories.{AreServed}
-use Rattle.scmd.specs.declared.words.Job.{Job}
-use Rattle.scmd.specs.declared.words.Job.TheVariants.{Pipe}
 
 abbrev pub status_of : Served → ℕ
 status_of served.Ended = 0
@@ -58,9 +56,6 @@ pub record IsPiped (tells : ℕ → Type 0) (principal : Principal) (how : Serve
   pub alone : IsPipeHistory principal program_limits (opening program_limits [] [] opened) (asked talk.done) talk.history
   pub opened_at : tells opened
   pub moments : All (λ (e : Entry). tells e.0) talk.history
-
-abbrev pub principal_of : Job → Principal
-principal_of (Pipe principal) = principal
 
 -- the status, unless memory ran out
 abbrev pub IsOrLacks : (due status : ℕ) → Type 0

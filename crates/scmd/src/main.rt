@@ -1,6 +1,9 @@
-//! `scmd`: the service control manager. `scmd pipe` serves one connection of svcctl from its input to its output.
+//! `scmd`: the service control manager. `scmd pipe` serves one connection of svcctl from its input to its output, `scmd replay`
+//! makes the steps that stand in the lines of its input and answers them, `scmd generate N` prints the summary of a stated list of steps.
 #![tactic(auto)]
 
+#[cfg(test)]
+mod rows;
 mod system;
 #[cfg(test)]
 mod tests;

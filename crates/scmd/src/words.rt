@@ -1,7 +1,10 @@
 ghost use Rattle.std.specs.Prelude.{◌≡◌};
-ghost use Rattle.scmd.specs.Words.{job_of, principal_in, principal_named, principal_of_pipe};
+ghost use Rattle.std.specs.Prelude.{option_and_then};
+ghost use Rattle.scm_replay.specs.Words.{number_at};
+ghost use Rattle.scmd.specs.Words.{generate_with, job_of, principal_in, principal_named, principal_of_pipe, replay_with, within};
 
 use scm_model::Principal;
+use scm_replay::number_at;
 use scm_text::{Items, Text};
 
 /// What the program is to do.
@@ -9,6 +12,10 @@ use scm_text::{Items, Text};
 pub enum Job {
     /// Serves one connection from the input to the output.
     Pipe { principal: Principal },
+    /// Makes the steps of the input's lines, and answers them.
+    Replay,
+    /// Makes the stated list of steps for so many services, and prints its summary.
+    Generate { services: u32 },
 }
 
 fn principal_named(value: &str) -> Option<Principal>
@@ -54,6 +61,41 @@ fn principal_of_pipe(words: &[Text]) -> Option<Principal>
     }
 }
 
+/// A replay goes by no further word.
+fn replay_with(words: &[Text]) -> Option<Job>
+    ensures { result ≡ replay_with words.now }
+{
+    match words {
+        [] => Some(Job::Replay),
+        _ => None,
+    }
+}
+
+/// A number of services, if there may be so many.
+fn within(number: u64) -> Option<u32>
+    ensures { result ≡ within number }
+{
+    if 1 <= number && number <= 512 {
+        Some(number as u32)
+    } else {
+        None
+    }
+}
+
+/// For how many services steps are generated, by the words behind `generate`.
+fn generate_with(words: &[Text]) -> Option<Job>
+    ensures { result ≡ generate_with words.now }
+{
+    match words {
+        [word] => {
+            let number = number_at(word.as_str().as_bytes())?;
+            let services = within(number)?;
+            Some(Job::Generate { services })
+        }
+        _ => None,
+    }
+}
+
 /// The job that the words ask for, or none where they aren't in the set.
 pub fn job_of(words: &Items<Text>) -> Option<Job>
     ensures { result ≡ job_of words.now }
@@ -64,6 +106,10 @@ pub fn job_of(words: &Items<Text>) -> Option<Job>
             if word.as_str() == "pipe" {
                 let principal = principal_of_pipe(rest)?;
                 Some(Job::Pipe { principal })
+            } else if word.as_str() == "replay" {
+                replay_with(rest)
+            } else if word.as_str() == "generate" {
+                generate_with(rest)
             } else {
                 None
             }

@@ -1,8 +1,8 @@
 use Rattle.std.proofs.Common.{sym}
-use Rattle.scmd.proofs.Complete.{complete_in}
+use Rattle.scmd.proofs.Complete.{all_done, not_5}
 use Rattle.scmd.proofs.top.scmd_main.Goals as goal
 
 pub returns-clause-complete : goal.returns-clause-complete
 returns-clause-complete g c =
-    rw (sym c.job_of.ensures, c.in-Some-Pipe.is)
-    (complete_in (g.C.Clock.tells c.args.world.clock) _ c.pipe-how.result _ _ _ _ _ _ _ _ c.status_of.result c.status_of.ensures c.pipe-how.ensures.piped c.pipe-how.ensures.cause)
+    rw (sym c.job_of.ensures, c.in-Some.is)
+    (all_done (g.C.Clock.tells c.args.world.clock) c.in-Some.job _ c.run-status.result c.run-status.ensures.run)

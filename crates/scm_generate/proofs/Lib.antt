@@ -1,0 +1,4 @@
+mod Along
+mod Units
+mod Ends
+mod Counts

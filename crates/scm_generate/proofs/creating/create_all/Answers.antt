@@ -1,0 +1,6 @@
+use Rattle.scm_generate.proofs.Along.{creations_more}
+use Rattle.scm_generate.proofs.creating.create_all.Goals as goal
+
+pub loop-before-preserved : goal.loop-before-preserved
+loop-before-preserved c =
+    creations_more c.args.run.now c.loop-before.run c.create.new.run c.loop-before.before c.loop-before.invariant c.in-Ok.ensures

@@ -1,0 +1,6 @@
+use Rattle.scm_generate.proofs.Along.{ups_more}
+use Rattle.scm_generate.proofs.starting.ups.Goals as goal
+
+pub loop-before-preserved : goal.loop-before-preserved
+loop-before-preserved c =
+    ups_more c.args.run.now c.loop-before.run c.up.new.run c.args.first c.loop-before.before c.loop-before.invariant c.in-Ok.ensures

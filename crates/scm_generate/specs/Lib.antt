@@ -1,0 +1,4 @@
+pub mod Listed
+pub mod Summary
+pub mod Progress
+pub mod Printed

@@ -1,0 +1,124 @@
+-- The stated list of steps for n services, S1 to Sn, in which Si needs Sj, where j is half of i: all are created, then each is
+-- started with what it needs, runs, and stops again.
+use Rattle.std.specs.Prelude.{ℕ, zero, suc, ◌+◌, ◌/◌, ◌%◌, ◌==◌, List, [], ◌∷◌, ◌++◌, length, Option, None, Some, codes, decimal, if◌then◌else◌}
+use Rattle.std.specs.Int.Digits.{digits_of}
+use Rattle.scm_model.specs.declared.flat.Principal.TheVariants.{Admin}
+use Rattle.scm_model.specs.declared.flat.Status.{Status}
+use Rattle.scm_model.specs.declared.calls.NewService.{NewService}
+use Rattle.scm_model.specs.declared.calls.Request.{Request}
+use Rattle.scm_model.specs.declared.calls.Request.TheVariants as request
+use Rattle.scm_model.specs.declared.steps.Kept.{Kept}
+use Rattle.scm_model.specs.declared.steps.Kept.TheVariants as appended
+use Rattle.scm_model.specs.declared.steps.Step.{Step}
+use Rattle.scm_model.specs.declared.steps.Step.TheVariants.{Joined, Call, EndStart, LaunchTaken, Launched, Report, Ended, Gone}
+use Rattle.scm_rules.specs.Runs.{Entry}
+
+-- all takes place at moment 0
+abbrev pub at_once : Step → Entry
+at_once step = (0, step)
+
+-- there is one caller
+abbrev pub called : Request → Kept → Entry
+called asked append = at_once (Call 1 asked append)
+
+-- ## The beginning
+
+-- an administrator joins, and opens the manager with every right that it may have; this is handle 1
+abbrev pub begun : List Entry
+begun = at_once (Joined Admin) ∷ called (request.OpenManager None 0x02000000) appended.NotAsked ∷ []
+
+-- ## The services
+
+abbrev pub name_of : ℕ → List ℕ
+name_of i = codes "S" ++ decimal i
+
+-- 16-bit units as bytes, the low one first
+abbrev pub bytes_of : List ℕ → List ℕ
+bytes_of [] = []
+bytes_of (unit ∷ units) = unit % 256 ∷ unit / 256 ∷ bytes_of units
+
+-- a list of one name: the name is ended by a 0, and the list by one more
+abbrev pub alone : List ℕ → List ℕ
+alone name = bytes_of name ++ 0 ∷ 0 ∷ 0 ∷ 0 ∷ []
+
+-- the need of the service with this number; there is none with number 0
+abbrev pub needing : ℕ → Option (List ℕ)
+needing j = if j == 0 then None else Some (alone (name_of j))
+
+-- a process of its own that is started on demand, of which an error is told
+abbrev pub new_service : ℕ → NewService
+new_service i = record {
+  handle = 1;
+  name = name_of i;
+  display = None;
+  access = 0xF01FF;
+  kind = 0x10;
+  start = 3;
+  error = 1;
+  path = codes "/bin/true";
+  group = None;
+  tag = None;
+  needs = needing (i / 2);
+  account = None;
+}
+
+abbrev pub created : ℕ → Entry
+created i = called (request.Create (new_service i)) appended.Kept
+
+-- S1 to Sn are created in order, so that Si has handle i + 1
+abbrev pub creations : ℕ → List Entry
+creations zero = []
+creations (suc i) = creations i ++ created (suc i) ∷ []
+
+-- ## A start
+
+-- Si and all that it needs are as many services as i has binary digits: i, half of i, and so on down to 1
+abbrev pub line_of : ℕ → ℕ
+line_of i = length (digits_of 2 i)
+
+-- a status that accepts these controls, without an error
+abbrev pub told : (state accepted : ℕ) → Status
+told state accepted = record { kind = 0x10; state = state; accepted = accepted; win32 = 0; specific = 0; checkpoint = 0; hint = 0 }
+
+-- a process is launched, which has its number as the system's too, and tells that it is RUNNING and accepts STOP
+abbrev pub up : ℕ → List Entry
+up process = at_once LaunchTaken ∷ at_once (Launched process process) ∷ at_once (Report process (told 4 1)) ∷ []
+
+-- a process tells that it is STOPPED, and ends
+abbrev pub down : ℕ → List Entry
+down process = at_once (Report process (told 1 0)) ∷ at_once (Ended process) ∷ []
+
+-- so many processes from a first one on are launched, in order
+abbrev pub ups : (first count : ℕ) → List Entry
+ups first zero = []
+ups first (suc count) = ups first count ++ up (first + count)
+
+-- they end, the last one first
+abbrev pub downs : (first count : ℕ) → List Entry
+downs first zero = []
+downs first (suc count) = down (first + count) ++ downs first count
+
+abbrev pub asked_start : ℕ → Entry
+asked_start i = called (request.Start (i + 1) (Some [])) appended.NotAsked
+
+-- Si is started with what it needs, the start is answered, and the processes end; this is the number of the first process,
+-- and that of the plan
+abbrev pub started : (i process plan : ℕ) → List Entry
+started i process plan =
+    asked_start i
+    ∷ (ups process (line_of i) ++ (at_once (EndStart 1 plan) ∷ downs process (line_of i)))
+
+-- this for Si down to S1; the numbers of processes and plans go on rising
+abbrev pub starts : (i process plan : ℕ) → List Entry
+starts zero process plan = []
+starts (suc i) process plan = started (suc i) process plan ++ starts i (process + line_of (suc i)) (plan + 1)
+
+-- ## All
+
+unfoldable pub generated : ℕ → List Entry
+generated n = begun ++ (creations n ++ (starts n 1 1 ++ (at_once (Gone 1) ∷ [])))
+
+-- how many processes there are in it
+abbrev pub lines_to : ℕ → ℕ
+lines_to zero = 0
+lines_to (suc i) = lines_to i + line_of (suc i)

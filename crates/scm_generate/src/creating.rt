@@ -1,0 +1,95 @@
+ghost use Rattle.std.specs.Prelude.{◌≡◌, ◌<◌, ◌^◌, IfOk, OnOk};
+ghost use Rattle.scm_generate.specs.Listed.{begun, created, creations, new_service};
+ghost use Rattle.scm_generate.specs.Progress.{after, after_one};
+
+use super::naming::{name_of, needing, text_of};
+use super::run::Run;
+use scm_model::{Kept, NewService, Principal, Request, Step};
+use scm_text::OutOfMemory;
+use std::alloc::Global;
+
+/// The caller that all calls come from.
+pub const CALLER: u64 = 1;
+
+/// The handle of the manager.
+const MANAGER: u64 = 1;
+
+/// `MAXIMUM_ALLOWED` of MS-DTYP 2.4.3: every right that the caller may have.
+const MAXIMUM_ALLOWED: u32 = 0x02000000;
+
+/// `SERVICE_ALL_ACCESS` of MS-SCMR 3.1.4.
+const SERVICE_ALL_ACCESS: u32 = 0xF01FF;
+
+/// `SERVICE_WIN32_OWN_PROCESS` of MS-SCMR 2.2.15.
+pub const OWN_PROCESS: u32 = 0x10;
+
+/// `SERVICE_DEMAND_START` of MS-SCMR 2.2.15.
+const DEMAND_START: u32 = 3;
+
+/// `SERVICE_ERROR_NORMAL` of MS-SCMR 2.2.15.
+const ERROR_NORMAL: u32 = 1;
+
+/// The administrator joins, and opens the manager.
+pub fn begin(run: &mut Run) -> Result<(), OutOfMemory>
+    ensures { OnOk result (run.new ≡ after run.old begun) }
+{
+    run.make(Step::Joined {
+        principal: Principal::Admin,
+    })?;
+    run.make(Step::Call {
+        caller: CALLER,
+        request: Request::OpenManager {
+            database: None,
+            access: MAXIMUM_ALLOWED,
+        },
+        kept: Kept::NotAsked,
+    })
+}
+
+/// What is asked of the service with this number.
+fn new_service(alloc: Global, number: u32) -> Result<NewService, OutOfMemory>
+    ensures { IfOk result (λ new. new ≡ new_service number) }
+{
+    let name = name_of(alloc, number)?;
+    let path = text_of(alloc, "/bin/true")?;
+    let needs = needing(alloc, number / 2)?;
+    Ok(NewService {
+        handle: MANAGER,
+        name,
+        display: None,
+        access: SERVICE_ALL_ACCESS,
+        kind: OWN_PROCESS,
+        start: DEMAND_START,
+        error: ERROR_NORMAL,
+        path,
+        group: None,
+        tag: None,
+        needs,
+        account: None,
+    })
+}
+
+/// Creates the service with this number.
+fn create(run: &mut Run, alloc: Global, number: u32) -> Result<(), OutOfMemory>
+    ensures { OnOk result (run.new ≡ after_one run.old (created number)) }
+{
+    let new = new_service(alloc, number)?;
+    run.make(Step::Call {
+        caller: CALLER,
+        request: Request::Create(new),
+        kept: Kept::Kept,
+    })
+}
+
+/// Creates the services from the first one to the last.
+pub fn create_all(run: &mut Run, alloc: Global, services: u32) -> Result<(), OutOfMemory>
+    ensures { OnOk result (run.new ≡ after run.old (creations services)) }
+{
+    for before in 0..services {
+        match create(run, alloc, before + 1) {
+            Ok(()) => {}
+            Err(fault) => return Err(fault),
+        }
+    }
+    Ok(())
+}

@@ -1,0 +1,129 @@
+ghost use Rattle.std.specs.Prelude.{◌≡◌, ◌≤◌, ◌<◌, ◌+◌, ◌^◌, IfOk, IsTrue, OnOk, Some};
+ghost use Rattle.scm_core.specs.Managed.{AreSmall, WasMadeFor};
+ghost use Rattle.scm_rules.specs.Steps.{may, step_of};
+ghost use Rattle.scm_rules.specs.Texts.{text_of};
+ghost use Rattle.scm_generate.specs.Listed.{at_once};
+ghost use Rattle.scm_generate.specs.Progress.{after_one, at_first, summed_up};
+ghost use Rattle.scm_generate.specs.Summary.{launch_in};
+
+use super::summary::summary_lines;
+use scm_core::Manager;
+use scm_model::{Limits, Step};
+use scm_text::{Items, OutOfMemory};
+use std::alloc::Global;
+use std::marker::Model;
+
+/// The moment at which every step takes place, in milliseconds.
+const MOMENT: u64 = 0;
+
+/// A run of steps over a manager of its own, which counts its steps and the launches that it took in hand.
+#[derive(Drop)]
+pub struct Run {
+    manager: Manager,
+    steps: u64,
+    launches: u64,
+}
+
+impl Model for Run {
+    ghost use Rattle.scm_generate.specs.Progress.{Progress};
+
+    ghost Value = { Progress };
+
+    ghost use Rattle.scm_generate.specs.Progress.{progress, IsCounted};
+
+    ghost view = { progress };
+
+    ghost invariant = { IsCounted };
+}
+
+/// Whether a step takes a launch in hand: 1 or 0.
+fn launch_in(step: &Step) -> u64
+    ensures value { result ≡ launch_in step.now }
+    ensures small { result ≤ 1 }
+{
+    match step {
+        Step::LaunchTaken => 1,
+        Step::Joined { .. }
+        | Step::Call { .. }
+        | Step::EndStart { .. }
+        | Step::Launched { .. }
+        | Step::LaunchFailed { .. }
+        | Step::Report { .. }
+        | Step::Ended { .. }
+        | Step::ControlTaken { .. }
+        | Step::Tick
+        | Step::Gone { .. }
+        | Step::NoMemory { .. } => 0,
+    }
+}
+
+/// Makes the room of a step, if it may be done. One that may not be done is answered as one without memory.
+fn prepare(manager: &mut Manager, step: &Step) -> Result<(), OutOfMemory>
+    ensures flat { manager.new.flat ≡ manager.old.flat }
+    ensures limits { manager.new.limits ≡ manager.old.limits }
+    ensures steps { manager.new.steps ≡ manager.old.steps }
+    ensures may { OnOk result (IsTrue (may manager.new.limits manager.new.flat 0 step.now)) }
+    ensures room { OnOk result (WasMadeFor manager.new.room step.now) }
+    ensures count { OnOk result (manager.new.steps < 2 ^ 50) }
+    ensures text { OnOk result (manager.new.text + text_of step.now < 2 ^ 63) }
+{
+    if !manager.admits(MOMENT, step)? {
+        return Err(OutOfMemory);
+    }
+    if !manager.fits(step) {
+        return Err(OutOfMemory);
+    }
+    manager.reserve_for(step)
+}
+
+/// Makes a step, whatever it answers.
+fn act(manager: &mut Manager, step: Step)
+    requires may { IsTrue (may manager.old.limits manager.old.flat 0 step) }
+    requires room { WasMadeFor manager.old.room step }
+    requires steps { manager.old.steps < 2 ^ 50 }
+    requires text { manager.old.text + text_of step < 2 ^ 63 }
+    ensures flat { manager.new.flat ≡ (step_of manager.old.limits manager.old.flat 0 step).1 }
+    ensures limits { manager.new.limits ≡ manager.old.limits }
+    ensures steps { manager.new.steps ≡ manager.old.steps + 1 }
+{
+    let _answer = manager.step(MOMENT, step);
+}
+
+impl Run {
+    /// A run that has made no step, over a manager without services and callers.
+    pub fn new(alloc: Global, limits: Limits) -> Result<Run, OutOfMemory>
+        requires { AreSmall limits }
+        ensures { IfOk result (λ run. run ≡ at_first limits) }
+    {
+        let manager = Manager::new(alloc, limits, Items::new(alloc), Items::new(alloc), MOMENT)?;
+        Ok(Run {
+            manager,
+            steps: 0,
+            launches: 0,
+        })
+    }
+
+    /// Makes a step.
+    pub fn make(&mut self, step: Step) -> Result<(), OutOfMemory>
+        ensures { OnOk result (self.new ≡ after_one self.old (at_once step)) }
+    {
+        prepare(&mut self.manager, &step)?;
+        self.launches += launch_in(&step);
+        self.steps += 1;
+        act(&mut self.manager, step);
+        Ok(())
+    }
+
+    /// The summary of the steps that were made.
+    pub fn summary(&self, alloc: Global) -> Result<Items<u8>, OutOfMemory>
+        ensures { IfOk result (λ text. text ≡ summed_up self.now) }
+    {
+        summary_lines(
+            alloc,
+            self.steps,
+            self.manager.services(),
+            self.launches,
+            self.manager.running(),
+        )
+    }
+}

@@ -1,0 +1,159 @@
+ghost use Rattle.std.specs.Prelude.{◌≡◌, ◌<◌, ◌≤◌, ◌+◌, ◌^◌, IfOk, OnOk};
+ghost use Rattle.scm_generate.specs.Listed.{asked_start, down, downs, line_of, started, starts, told, up, ups};
+ghost use Rattle.scm_generate.specs.Progress.{after, after_one};
+
+use super::creating::{CALLER, OWN_PROCESS};
+use super::run::Run;
+use scm_model::{Kept, Request, Status, Step};
+use scm_text::{Items, OutOfMemory};
+use std::alloc::Global;
+
+/// `SERVICE_STOPPED` of MS-SCMR 2.2.47.
+const STOPPED: u32 = 1;
+
+/// `SERVICE_RUNNING` of MS-SCMR 2.2.47.
+const RUNNING: u32 = 4;
+
+/// `SERVICE_ACCEPT_STOP` of MS-SCMR 2.2.47.
+const ACCEPT_STOP: u32 = 1;
+
+/// How many services are started with the one of this number: it and all that it needs, as many as the number has binary digits.
+fn line_of(number: u32) -> u32
+    ensures value { result ≡ line_of number }
+    ensures small { result ≤ 32 }
+{
+    let mut count = 0;
+    let mut rest = number;
+    while rest > 0 {
+        rest /= 2;
+        count += 1;
+    }
+    count
+}
+
+/// A status that accepts these controls, without an error.
+fn told(state: u32, accepted: u32) -> Status
+    ensures { result ≡ told state accepted }
+{
+    Status {
+        kind: OWN_PROCESS,
+        state,
+        accepted,
+        win32: 0,
+        specific: 0,
+        checkpoint: 0,
+        hint: 0,
+    }
+}
+
+/// Launches a process, which then runs.
+fn up(run: &mut Run, number: u32) -> Result<(), OutOfMemory>
+    ensures { OnOk result (run.new ≡ after run.old (up number)) }
+{
+    let process = number as u64;
+    run.make(Step::LaunchTaken)?;
+    run.make(Step::Launched {
+        process,
+        pid: number,
+    })?;
+    run.make(Step::Report {
+        process,
+        status: told(RUNNING, ACCEPT_STOP),
+    })
+}
+
+/// Launches so many processes from a first one on.
+fn ups(run: &mut Run, first: u32, count: u32) -> Result<(), OutOfMemory>
+    requires { first + count < 2 ^ 32 }
+    ensures { OnOk result (run.new ≡ after run.old (ups first count)) }
+{
+    for before in 0..count {
+        match up(run, first + before) {
+            Ok(()) => {}
+            Err(fault) => return Err(fault),
+        }
+    }
+    Ok(())
+}
+
+/// Stops a process, which then ends.
+fn down(run: &mut Run, number: u32) -> Result<(), OutOfMemory>
+    ensures { OnOk result (run.new ≡ after run.old (down number)) }
+{
+    let process = number as u64;
+    run.make(Step::Report {
+        process,
+        status: told(STOPPED, 0),
+    })?;
+    run.make(Step::Ended { process })
+}
+
+/// Ends so many processes from a first one on, the last one first.
+fn downs(run: &mut Run, first: u32, count: u32) -> Result<(), OutOfMemory>
+    requires { first + count < 2 ^ 32 }
+    ensures { OnOk result (run.new ≡ after run.old (downs first count)) }
+{
+    let mut left = count;
+    while left > 0 {
+        left -= 1;
+        match down(run, first + left) {
+            Ok(()) => {}
+            Err(fault) => return Err(fault),
+        }
+    }
+    Ok(())
+}
+
+/// Asks for the start of the service with this number.
+fn ask(run: &mut Run, alloc: Global, number: u32) -> Result<(), OutOfMemory>
+    ensures { OnOk result (run.new ≡ after_one run.old (asked_start number)) }
+{
+    run.make(Step::Call {
+        caller: CALLER,
+        request: Request::Start {
+            handle: number as u64 + 1,
+            words: Some(Items::new(alloc)),
+        },
+        kept: Kept::NotAsked,
+    })
+}
+
+/// Starts the service with this number and what it needs, and ends their processes, of which the first has the number `process`. Gives
+/// the number of the next process. A process whose number has more than 32 bits is answered as one without memory.
+fn start(
+    run: &mut Run,
+    alloc: Global,
+    number: u32,
+    process: u32,
+    plan: u64,
+) -> Result<u32, OutOfMemory>
+    ensures made { OnOk result (run.new ≡ after run.old (started number process plan)) }
+    ensures next { IfOk result (λ next. next ≡ process + line_of number) }
+{
+    let count = line_of(number);
+    let Some(next) = process.checked_add(count) else {
+        return Err(OutOfMemory);
+    };
+    ask(run, alloc, number)?;
+    ups(run, process, count)?;
+    run.make(Step::EndStart {
+        caller: CALLER,
+        plan,
+    })?;
+    downs(run, process, count)?;
+    Ok(next)
+}
+
+/// Starts and ends the services from the last one to the first.
+pub fn start_all(run: &mut Run, alloc: Global, services: u32) -> Result<(), OutOfMemory>
+    ensures { OnOk result (run.new ≡ after run.old (starts services 1 1)) }
+{
+    let mut process = 1;
+    for before in 0..services {
+        match start(run, alloc, services - before, process, before as u64 + 1) {
+            Ok(next) => process = next,
+            Err(fault) => return Err(fault),
+        }
+    }
+    Ok(())
+}

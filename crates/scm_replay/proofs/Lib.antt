@@ -1,0 +1,5 @@
+mod Numbers
+mod Lines
+mod Stretches
+mod Ends
+mod Admitted

@@ -1,0 +1,115 @@
+-- What a line says: at which moment which step is to be made.
+use Rattle.std.specs.Prelude.{ℕ, ◌^◌, List, [], ◌∷◌, Option, None, Some, option_map, bytes_eq, codes, if◌then◌else◌}
+use Rattle.std.specs.Result.{result_ok}
+use Rattle.scm_model.specs.declared.flat.Principal.TheVariants.{Admin, User}
+use Rattle.scm_model.specs.declared.flat.Status.{Status}
+use Rattle.scm_model.specs.declared.calls.Request.{Request}
+use Rattle.scm_model.specs.declared.steps.Kept.TheVariants as appended
+use Rattle.scm_model.specs.declared.steps.Step.{Step}
+use Rattle.scm_model.specs.declared.steps.Step.TheVariants.{Joined, Call, EndStart, LaunchTaken, Launched, LaunchFailed, Report, Ended, ControlTaken, Tick, Gone, NoMemory}
+use Rattle.scm_calls.specs.Requests.{is_served, request_at}
+use Rattle.scm_calls_cfg.specs.Requests.{is_served as is_config, request_at as config_request_at}
+use Rattle.scm_replay.specs.declared.line.Line.{Line}
+use Rattle.scm_replay.specs.declared.verb.Verb.{Verb}
+use Rattle.scm_replay.specs.declared.verb.Verb.TheVariants as verb
+use Rattle.scm_replay.specs.Verbs.{fails_by, verb_at}
+use Rattle.scm_replay.specs.Words.{◌>>=◌, words_of, number_at, number_below, bytes_at}
+
+-- ## What stands behind a verb
+
+-- who joins
+unfoldable pub joined_at : List ℕ → Option Step
+joined_at name =
+    if bytes_eq name (codes "admin") then Some (Joined Admin) else
+    if bytes_eq name (codes "user") then Some (Joined User) else None
+
+-- what a call asks: of the calls whose bodies can be read, what the body says
+unfoldable pub request_in : ℕ → List ℕ → Option Request
+request_in opnum body =
+    if is_served opnum then result_ok (request_at opnum body) else
+    if is_config opnum then result_ok (config_request_at opnum body) else None
+
+-- a caller, an opnum of 16 bits and a body; it isn't said what becomes of the call's change
+unfoldable pub call_at : List ℕ → List ℕ → List ℕ → Option Step
+call_at who opnum body = do
+  caller ← number_at who
+  number ← number_below (2 ^ 16) opnum
+  bytes ← bytes_at body
+  asked ← request_in number bytes
+  Some (Call caller asked appended.NotAsked)
+
+-- a caller and its plan
+unfoldable pub end_at : List ℕ → List ℕ → Option Step
+end_at who plan = do
+  caller ← number_at who
+  number ← number_at plan
+  Some (EndStart caller number)
+
+-- a process, and the system's number of it in 32 bits
+unfoldable pub launched_at : List ℕ → List ℕ → Option Step
+launched_at process pid = do
+  number ← number_at process
+  given ← number_below (2 ^ 32) pid
+  Some (Launched number given)
+
+-- a process, and a code of 32 bits
+unfoldable pub unlaunched_at : List ℕ → List ℕ → Option Step
+unlaunched_at process code = do
+  number ← number_at process
+  told ← number_below (2 ^ 32) code
+  Some (LaunchFailed number told)
+
+-- a status, by its seven numbers of 32 bits
+unfoldable pub status_at : List ℕ → List ℕ → List ℕ → List ℕ → List ℕ → List ℕ → List ℕ → Option Status
+status_at kind state accepted win32 specific checkpoint hint = do
+  a ← number_below (2 ^ 32) kind
+  b ← number_below (2 ^ 32) state
+  c ← number_below (2 ^ 32) accepted
+  d ← number_below (2 ^ 32) win32
+  e ← number_below (2 ^ 32) specific
+  f ← number_below (2 ^ 32) checkpoint
+  g ← number_below (2 ^ 32) hint
+  Some (record { kind = a; state = b; accepted = c; win32 = d; specific = e; checkpoint = f; hint = g })
+
+-- a process, and the status that it reports
+unfoldable pub report_at : List ℕ → Option Status → Option Step
+report_at process status = do
+  number ← number_at process
+  told ← status
+  Some (Report number told)
+
+-- the step of a verb and the words behind it: each verb has so many and no others
+abbrev pub step_at : Verb → List (List ℕ) → Option Step
+step_at verb.Join (name ∷ []) = joined_at name
+step_at verb.Call (who ∷ opnum ∷ body ∷ []) = call_at who opnum body
+step_at verb.FailCall (who ∷ opnum ∷ body ∷ []) = call_at who opnum body
+step_at verb.End (who ∷ plan ∷ []) = end_at who plan
+step_at verb.Take [] = Some LaunchTaken
+step_at verb.Launched (process ∷ pid ∷ []) = launched_at process pid
+step_at verb.Unlaunched (process ∷ code ∷ []) = unlaunched_at process code
+step_at verb.Report (process ∷ kind ∷ state ∷ accepted ∷ win32 ∷ specific ∷ checkpoint ∷ hint ∷ []) =
+    report_at process (status_at kind state accepted win32 specific checkpoint hint)
+step_at verb.Ended (process ∷ []) = option_map Ended (number_at process)
+step_at verb.Control (process ∷ []) = option_map ControlTaken (number_at process)
+step_at verb.Tick [] = Some Tick
+step_at verb.Gone (who ∷ []) = option_map Gone (number_at who)
+step_at verb.NoMemory (who ∷ []) = option_map NoMemory (number_at who)
+step_at other words = None
+
+-- ## Whole lines
+
+-- a moment, a verb and the words behind it
+unfoldable pub line_of : List ℕ → List ℕ → List (List ℕ) → Option Line
+line_of moment name words = do
+  at ← number_at moment
+  verb ← verb_at name
+  step ← step_at verb words
+  Some (record { moment = at; step = step; fails = fails_by verb })
+
+-- a line of these words, if it is one
+abbrev pub line_in : List (List ℕ) → Option Line
+line_in (moment ∷ name ∷ words) = line_of moment name words
+line_in words = None
+
+abbrev pub line_at : List ℕ → Option Line
+line_at text = line_in (words_of text)

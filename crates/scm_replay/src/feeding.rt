@@ -1,0 +1,151 @@
+ghost use Rattle.std.specs.Prelude.{◌≡◌, ◌+◌, ◌≤◌, ◌<◌, ◌^◌, ◌∷◌, [], length};
+ghost use Rattle.scm_replay.specs.Along.{Fed, HasStopCause, IsFit, IsOneLine, Keeps, Lined, stopped};
+
+use super::answers::answer_line;
+use super::making::outcome_at;
+use super::stop::Stop;
+use outside::Failed;
+use rpc_session::{Sink, write_all};
+use scm_core::Manager;
+use std::alloc::Global;
+
+/// What was read of the next line, and its number, counted from 1.
+#[derive(Drop)]
+pub struct Reading {
+    pub pending: Vec<u8>,
+    pub number: u64,
+}
+
+/// Why writing stopped.
+fn stopped(written: Result<(), Failed>) -> Result<(), Stop>
+    ensures { result ≡ stopped written }
+{
+    match written {
+        Ok(()) => Ok(()),
+        Err(Failed) => Err(Stop::WriteFault),
+    }
+}
+
+/// Answers a line. A bad one is answered too.
+fn answer<O: Sink>(
+    alloc: Global,
+    manager: &mut Manager,
+    number: u64,
+    line: &[u8],
+    output: &mut O,
+) -> Result<(), Stop>
+    requires { IsFit manager.old 0 1 }
+    ensures lined { Lined manager.old.limits number line.now manager.old.flat manager.new.flat
+        (O.held output.old) (O.held output.new) result }
+    ensures keeps { Keeps manager.old manager.new 1 }
+    ensures cause { HasStopCause (O.faults output.old) (O.faults output.new) result }
+{
+    let Ok(outcome) = outcome_at(alloc, manager, line) else {
+        return Err(Stop::OutOfMemory);
+    };
+    let Ok(text) = answer_line(alloc, number, &outcome) else {
+        return Err(Stop::OutOfMemory);
+    };
+    stopped(write_all(output, text.as_slice()))?;
+    if outcome.goes_on() {
+        Ok(())
+    } else {
+        Err(Stop::BadLine)
+    }
+}
+
+/// Begins the next line.
+fn next_line(reading: &mut Reading)
+    requires { reading.old.number < 2 ^ 63 }
+    ensures pending { reading.new.pending.items ≡ [] }
+    ensures number { reading.new.number ≡ reading.old.number + 1 }
+{
+    reading.pending.clear();
+    reading.number += 1;
+}
+
+/// Answers the line that was read, and begins the next one.
+fn end_line<O: Sink>(
+    alloc: Global,
+    manager: &mut Manager,
+    reading: &mut Reading,
+    output: &mut O,
+) -> Result<(), Stop>
+    requires fit { IsFit manager.old reading.old.number 1 }
+    requires clean { IsOneLine reading.old.pending.items }
+    ensures fed { Fed manager.old.limits (10 ∷ [])
+        (record { flat = manager.old.flat; number = reading.old.number; pending = reading.old.pending.items; held = O.held output.old })
+        (record { flat = manager.new.flat; number = reading.new.number; pending = reading.new.pending.items; held = O.held output.new })
+        result }
+    ensures keeps { Keeps manager.old manager.new 1 }
+    ensures number { reading.new.number ≤ reading.old.number + 1 }
+    ensures cause { HasStopCause (O.faults output.old) (O.faults output.new) result }
+{
+    match answer(
+        alloc,
+        manager,
+        reading.number,
+        reading.pending.as_slice(),
+        output,
+    ) {
+        Ok(()) => {
+            next_line(reading);
+            Ok(())
+        }
+        Err(stop) => Err(stop),
+    }
+}
+
+/// Takes a byte, and answers the line that it ends.
+fn take<O: Sink>(
+    alloc: Global,
+    manager: &mut Manager,
+    reading: &mut Reading,
+    byte: u8,
+    output: &mut O,
+) -> Result<(), Stop>
+    requires fit { IsFit manager.old reading.old.number 1 }
+    requires clean { IsOneLine reading.old.pending.items }
+    ensures fed { Fed manager.old.limits (byte ∷ [])
+        (record { flat = manager.old.flat; number = reading.old.number; pending = reading.old.pending.items; held = O.held output.old })
+        (record { flat = manager.new.flat; number = reading.new.number; pending = reading.new.pending.items; held = O.held output.new })
+        result }
+    ensures keeps { Keeps manager.old manager.new 1 }
+    ensures number { reading.new.number ≤ reading.old.number + 1 }
+    ensures cause { HasStopCause (O.faults output.old) (O.faults output.new) result }
+{
+    if byte == b'\n' {
+        return end_line(alloc, manager, reading, output);
+    }
+    match reading.pending.push(byte) {
+        Ok(()) => Ok(()),
+        Err(_) => Err(Stop::OutOfMemory),
+    }
+}
+
+/// Takes a piece, and answers the lines that end in it.
+pub fn feed<O: Sink>(
+    alloc: Global,
+    manager: &mut Manager,
+    reading: &mut Reading,
+    piece: &[u8],
+    output: &mut O,
+) -> Result<(), Stop>
+    requires fit { IsFit manager.old reading.old.number (length piece.now) }
+    requires clean { IsOneLine reading.old.pending.items }
+    ensures fed { Fed manager.old.limits piece.now
+        (record { flat = manager.old.flat; number = reading.old.number; pending = reading.old.pending.items; held = O.held output.old })
+        (record { flat = manager.new.flat; number = reading.new.number; pending = reading.new.pending.items; held = O.held output.new })
+        result }
+    ensures keeps { Keeps manager.old manager.new (length piece.now) }
+    ensures number { reading.new.number ≤ reading.old.number + length piece.now }
+    ensures cause { HasStopCause (O.faults output.old) (O.faults output.new) result }
+{
+    for byte in piece {
+        match take(alloc, manager, reading, *byte, output) {
+            Ok(()) => {}
+            Err(stop) => return Err(stop),
+        }
+    }
+    Ok(())
+}

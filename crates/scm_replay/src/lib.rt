@@ -1,0 +1,23 @@
+//! Steps that are read from lines, made by a manager and answered in lines.
+#![tactic(auto)]
+
+mod answers;
+mod feeding;
+mod line;
+mod looking;
+mod making;
+mod missed;
+mod outcome;
+mod reading;
+mod replayed;
+mod replaying;
+mod stop;
+mod verb;
+mod words;
+
+pub use replayed::Replayed;
+pub use replaying::replay;
+pub use words::number_at;
+
+#[cfg(test)]
+mod tests;

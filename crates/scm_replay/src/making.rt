@@ -1,0 +1,133 @@
+ghost use Rattle.std.specs.Prelude.{◌≡◌, ◌+◌, ◌<◌, ◌^◌, IfOk, IsTrue, Some};
+ghost use Rattle.scm_model.specs.Unkept.{unkept};
+ghost use Rattle.scm_rules.specs.Texts.{text_of};
+ghost use Rattle.scm_replay.specs.Along.{IsFit, Keeps};
+ghost use Rattle.scm_replay.specs.Outcomes.{kept_as, made_in, outcome_at, outcome_in, unmet, with_kept};
+
+use super::line::Line;
+use super::looking::missed_by;
+use super::outcome::Outcome;
+use super::reading::line_at;
+use scm_core::Manager;
+use scm_model::{Kept, Step};
+use scm_text::OutOfMemory;
+use std::alloc::Global;
+
+/// What becomes of a change, where there is one.
+fn kept_as(changes: bool, fails: bool) -> Kept
+    ensures { result ≡ kept_as changes fails }
+{
+    match (changes, fails) {
+        (false, _) => Kept::NotAsked,
+        (true, false) => Kept::Kept,
+        (true, true) => Kept::Failed,
+    }
+}
+
+/// The step, if it is a call with what became of its change.
+fn with_kept(step: Step, now: Kept) -> Step
+    ensures { result ≡ with_kept step now }
+{
+    match step {
+        Step::Call {
+            caller,
+            request,
+            kept: _,
+        } => Step::Call {
+            caller,
+            request,
+            kept: now,
+        },
+        Step::Joined { .. }
+        | Step::EndStart { .. }
+        | Step::LaunchTaken
+        | Step::Launched { .. }
+        | Step::LaunchFailed { .. }
+        | Step::Report { .. }
+        | Step::Ended { .. }
+        | Step::ControlTaken { .. }
+        | Step::Tick
+        | Step::Gone { .. }
+        | Step::NoMemory { .. } => step,
+    }
+}
+
+/// What the line of a step comes to that may not come.
+fn unmet(step: &Step) -> Outcome
+    ensures { result ≡ unmet step.now }
+{
+    match step {
+        Step::Joined { .. } => Outcome::TooMany,
+        Step::Call { .. }
+        | Step::EndStart { .. }
+        | Step::LaunchTaken
+        | Step::Launched { .. }
+        | Step::LaunchFailed { .. }
+        | Step::Report { .. }
+        | Step::Ended { .. }
+        | Step::ControlTaken { .. }
+        | Step::Tick
+        | Step::Gone { .. }
+        | Step::NoMemory { .. } => Outcome::Bad,
+    }
+}
+
+/// Makes room for a step, if there is memory and the manager can still count it.
+fn has_room(manager: &mut Manager, step: &Step) -> bool
+    ensures flat { manager.new.flat ≡ manager.old.flat }
+    ensures limits { manager.new.limits ≡ manager.old.limits }
+    ensures steps { manager.new.steps ≡ manager.old.steps }
+    ensures text { manager.new.text ≡ manager.old.text }
+    ensures room { IsTrue result → manager.new.room ≡ Some (unkept step.now) }
+    ensures fits { IsTrue result → manager.new.text + text_of step.now < 2 ^ 63 }
+{
+    match manager.reserve_for(step) {
+        Ok(()) => manager.fits(step),
+        Err(_) => false,
+    }
+}
+
+/// Makes the step of a line that isn't a look in vain, if it may come.
+#[tactic(auto, unfolding(crate::specs::Outcomes::made_in))]
+fn made_in(manager: &mut Manager, line: Line) -> Result<Outcome, OutOfMemory>
+    requires { IsFit manager.old 0 1 }
+    ensures outcome { IfOk result (λ outcome. outcome ≡ (made_in manager.old.limits manager.old.flat line).0) }
+    ensures flat { IfOk result (λ outcome. manager.new.flat ≡ (made_in manager.old.limits manager.old.flat line).1) }
+    ensures keeps { Keeps manager.old manager.new 1 }
+{
+    if !manager.may(line.moment, &line.step) {
+        return Ok(unmet(&line.step));
+    }
+    if !has_room(manager, &line.step) {
+        return Err(OutOfMemory);
+    }
+    let kept = kept_as(manager.makes_change(line.moment, &line.step)?, line.fails);
+    let answer = manager.step(line.moment, with_kept(line.step, kept));
+    Ok(Outcome::Answered(answer))
+}
+
+/// Makes the step of a line, unless it looks in vain or may not come.
+fn outcome_in(manager: &mut Manager, line: Line) -> Result<Outcome, OutOfMemory>
+    requires { IsFit manager.old 0 1 }
+    ensures outcome { IfOk result (λ outcome. outcome ≡ (outcome_in manager.old.limits manager.old.flat line).0) }
+    ensures flat { IfOk result (λ outcome. manager.new.flat ≡ (outcome_in manager.old.limits manager.old.flat line).1) }
+    ensures keeps { Keeps manager.old manager.new 1 }
+{
+    match missed_by(manager, line.moment, &line.step) {
+        Some(missed) => Ok(Outcome::InVain(missed)),
+        None => made_in(manager, line),
+    }
+}
+
+/// Makes the step of a text, if it is a line and its step may come.
+pub fn outcome_at(alloc: Global, manager: &mut Manager, text: &[u8]) -> Result<Outcome, OutOfMemory>
+    requires { IsFit manager.old 0 1 }
+    ensures outcome { IfOk result (λ outcome. outcome ≡ (outcome_at manager.old.limits manager.old.flat text.now).0) }
+    ensures flat { IfOk result (λ outcome. manager.new.flat ≡ (outcome_at manager.old.limits manager.old.flat text.now).1) }
+    ensures keeps { Keeps manager.old manager.new 1 }
+{
+    match line_at(alloc, text)? {
+        Some(line) => outcome_in(manager, line),
+        None => Ok(Outcome::Bad),
+    }
+}

@@ -1,0 +1,30 @@
+ghost use Rattle.std.specs.Prelude.{◌≡◌};
+ghost use Rattle.scm_replay.specs.Outcomes.{goes_on};
+
+use super::missed::Missed;
+use scm_model::Answer;
+
+/// What a line comes to.
+#[derive(Drop)]
+pub enum Outcome {
+    /// Its step was made.
+    Answered(Answer),
+    /// Its step only looks, and didn't find this. No step was made.
+    InVain(Missed),
+    /// As many callers are there as may be. No step was made.
+    TooMany,
+    /// It is no line, or its step may not come. No step was made.
+    Bad,
+}
+
+impl Outcome {
+    /// Whether lines behind it are read.
+    pub fn goes_on(&self) -> bool
+        ensures { result ≡ goes_on self.now }
+    {
+        match self {
+            Outcome::Answered(_) | Outcome::InVain(_) | Outcome::TooMany => true,
+            Outcome::Bad => false,
+        }
+    }
+}

@@ -1,0 +1,277 @@
+ghost use Rattle.std.specs.Prelude.{◌≡◌, ◌^◌, IfOk, Result, map, option_map};
+ghost use Rattle.std.specs.Result.{result_ok};
+ghost use Rattle.scm_model.specs.declared.calls.Request.{Request};
+ghost use Rattle.scm_model.specs.declared.steps.Step.TheVariants.{ControlTaken, Ended, Gone, NoMemory};
+ghost use Rattle.ndr_body.specs.declared.fault.BodyFault.{BodyFault};
+ghost use Rattle.ndr_body.specs.Reading.{Gives};
+ghost use Rattle.scm_replay.specs.Lines.{call_at, end_at, joined_at, launched_at, line_at, line_in, line_of, report_at, request_in, status_at, step_at, unlaunched_at};
+ghost use Rattle.scm_replay.specs.Words.{number_at, number_below};
+
+use super::line::Line;
+use super::verb::{Verb, verb_at};
+use super::words::{bytes_at, is, number_at, number_below, words_of};
+use ndr_body::BodyFault;
+use scm_model::{Kept, Principal, Request, Status, Step};
+use scm_text::OutOfMemory;
+use std::alloc::Global;
+
+/// Who joins.
+#[tactic(auto, unfolding(crate::specs::Lines::joined_at))]
+fn joined_at(name: &[u8]) -> Option<Step>
+    ensures { result ≡ joined_at name.now }
+{
+    if is(name, "admin") {
+        Some(Step::Joined {
+            principal: Principal::Admin,
+        })
+    } else if is(name, "user") {
+        Some(Step::Joined {
+            principal: Principal::User,
+        })
+    } else {
+        None
+    }
+}
+
+/// A number of 32 bits.
+fn code_at(text: &[u8]) -> Option<u32>
+    ensures { result ≡ number_below (2 ^ 32) text.now }
+{
+    let number = number_below(1 << 32, text)?;
+    Some(number as u32)
+}
+
+/// What a body that was read asks, or nothing of one that can't be.
+fn or_none(read: Result<Request, BodyFault>) -> Result<Option<Request>, OutOfMemory>
+    ensures { (at : Result Request BodyFault) → Gives (λ r. r) read at → IfOk result (λ told. told ≡ result_ok at) }
+{
+    match read {
+        Ok(request) => Ok(Some(request)),
+        Err(BodyFault::OutOfMemory) => Err(OutOfMemory),
+        Err(
+            BodyFault::Short(_)
+            | BodyFault::BadString(_)
+            | BodyFault::BadCount(_)
+            | BodyFault::Trailing(_),
+        ) => Ok(None),
+    }
+}
+
+/// What a body asks, if its call can be read and it is such a body.
+#[tactic(auto, unfolding(crate::specs::Lines::request_in))]
+fn request_in(alloc: Global, opnum: u16, body: &[u8]) -> Result<Option<Request>, OutOfMemory>
+    ensures { IfOk result (λ request. request ≡ request_in opnum body.now) }
+{
+    if scm_calls::is_served(opnum) {
+        or_none(scm_calls::read_request(alloc, opnum, body))
+    } else if scm_calls_cfg::is_served(opnum) {
+        or_none(scm_calls_cfg::read_request(alloc, opnum, body))
+    } else {
+        Ok(None)
+    }
+}
+
+/// A call, by the words behind its verb.
+#[tactic(auto, unfolding(crate::specs::Lines::call_at))]
+fn call_at(
+    alloc: Global,
+    who: &[u8],
+    opnum: &[u8],
+    body: &[u8],
+) -> Result<Option<Step>, OutOfMemory>
+    ensures { IfOk result (λ step. step ≡ call_at who.now opnum.now body.now) }
+{
+    let Some(caller) = number_at(who) else {
+        return Ok(None);
+    };
+    let Some(opnum) = number_below(65536, opnum) else {
+        return Ok(None);
+    };
+    let Some(bytes) = bytes_at(alloc, body)? else {
+        return Ok(None);
+    };
+    let Some(request) = request_in(alloc, opnum as u16, bytes.as_slice())? else {
+        return Ok(None);
+    };
+    Ok(Some(Step::Call {
+        caller,
+        request,
+        kept: Kept::NotAsked,
+    }))
+}
+
+/// The end of a start, by the words behind its verb.
+#[tactic(auto, unfolding(crate::specs::Lines::end_at))]
+fn end_at(who: &[u8], plan: &[u8]) -> Option<Step>
+    ensures { result ≡ end_at who.now plan.now }
+{
+    let caller = number_at(who)?;
+    let plan = number_at(plan)?;
+    Some(Step::EndStart { caller, plan })
+}
+
+/// A launch, by the words behind its verb.
+#[tactic(auto, unfolding(crate::specs::Lines::launched_at))]
+fn launched_at(process: &[u8], pid: &[u8]) -> Option<Step>
+    ensures { result ≡ launched_at process.now pid.now }
+{
+    let process = number_at(process)?;
+    let pid = code_at(pid)?;
+    Some(Step::Launched { process, pid })
+}
+
+/// A launch that failed, by the words behind its verb.
+#[tactic(auto, unfolding(crate::specs::Lines::unlaunched_at))]
+fn unlaunched_at(process: &[u8], code: &[u8]) -> Option<Step>
+    ensures { result ≡ unlaunched_at process.now code.now }
+{
+    let process = number_at(process)?;
+    let code = code_at(code)?;
+    Some(Step::LaunchFailed { process, code })
+}
+
+/// A status, by its seven numbers.
+#[tactic(auto, unfolding(crate::specs::Lines::status_at))]
+fn status_at(
+    kind: &[u8],
+    state: &[u8],
+    accepted: &[u8],
+    win32: &[u8],
+    specific: &[u8],
+    checkpoint: &[u8],
+    hint: &[u8],
+) -> Option<Status>
+    ensures { result ≡ status_at kind.now state.now accepted.now win32.now specific.now checkpoint.now hint.now }
+{
+    Some(Status {
+        kind: code_at(kind)?,
+        state: code_at(state)?,
+        accepted: code_at(accepted)?,
+        win32: code_at(win32)?,
+        specific: code_at(specific)?,
+        checkpoint: code_at(checkpoint)?,
+        hint: code_at(hint)?,
+    })
+}
+
+/// A report, by its process and the status that was read.
+#[tactic(auto, unfolding(crate::specs::Lines::report_at))]
+fn report_at(process: &[u8], status: Option<Status>) -> Option<Step>
+    ensures { result ≡ report_at process.now status }
+{
+    let process = number_at(process)?;
+    let status = status?;
+    Some(Step::Report { process, status })
+}
+
+/// The end of a process, by the word behind its verb.
+fn ended_at(process: &[u8]) -> Option<Step>
+    ensures { result ≡ option_map Ended (number_at process.now) }
+{
+    let process = number_at(process)?;
+    Some(Step::Ended { process })
+}
+
+/// That a control is taken, by the word behind its verb.
+fn control_at(process: &[u8]) -> Option<Step>
+    ensures { result ≡ option_map ControlTaken (number_at process.now) }
+{
+    let process = number_at(process)?;
+    Some(Step::ControlTaken { process })
+}
+
+/// That a caller goes, by the word behind its verb.
+fn gone_at(who: &[u8]) -> Option<Step>
+    ensures { result ≡ option_map Gone (number_at who.now) }
+{
+    let caller = number_at(who)?;
+    Some(Step::Gone { caller })
+}
+
+/// Want of memory for a caller, by the word behind its verb.
+fn no_memory_at(who: &[u8]) -> Option<Step>
+    ensures { result ≡ option_map NoMemory (number_at who.now) }
+{
+    let caller = number_at(who)?;
+    Some(Step::NoMemory { caller })
+}
+
+/// The step of a verb and the words behind it.
+fn step_at(alloc: Global, verb: Verb, words: &[&[u8]]) -> Result<Option<Step>, OutOfMemory>
+    ensures { IfOk result (λ step. step ≡ step_at verb (map (λ word. word.now) words.now)) }
+{
+    match (verb, words) {
+        (Verb::Join, [name]) => Ok(joined_at(name)),
+        (Verb::Call | Verb::FailCall, [who, opnum, body]) => call_at(alloc, who, opnum, body),
+        (Verb::End, [who, plan]) => Ok(end_at(who, plan)),
+        (Verb::Take, []) => Ok(Some(Step::LaunchTaken)),
+        (Verb::Launched, [process, pid]) => Ok(launched_at(process, pid)),
+        (Verb::Unlaunched, [process, code]) => Ok(unlaunched_at(process, code)),
+        (
+            Verb::Report,
+            [
+                process,
+                kind,
+                state,
+                accepted,
+                win32,
+                specific,
+                checkpoint,
+                hint,
+            ],
+        ) => Ok(report_at(
+            process,
+            status_at(kind, state, accepted, win32, specific, checkpoint, hint),
+        )),
+        (Verb::Ended, [process]) => Ok(ended_at(process)),
+        (Verb::Control, [process]) => Ok(control_at(process)),
+        (Verb::Tick, []) => Ok(Some(Step::Tick)),
+        (Verb::Gone, [who]) => Ok(gone_at(who)),
+        (Verb::NoMemory, [who]) => Ok(no_memory_at(who)),
+        _ => Ok(None),
+    }
+}
+
+/// A line, by its first two words and those behind them.
+#[tactic(auto, unfolding(crate::specs::Lines::line_of))]
+fn line_of(
+    alloc: Global,
+    moment: &[u8],
+    name: &[u8],
+    words: &[&[u8]],
+) -> Result<Option<Line>, OutOfMemory>
+    ensures { IfOk result (λ line. line ≡ line_of moment.now name.now (map (λ word. word.now) words.now)) }
+{
+    let Some(moment) = number_at(moment) else {
+        return Ok(None);
+    };
+    let Some(verb) = verb_at(name) else {
+        return Ok(None);
+    };
+    let Some(step) = step_at(alloc, verb, words)? else {
+        return Ok(None);
+    };
+    Ok(Some(Line {
+        moment,
+        step,
+        fails: verb.fails(),
+    }))
+}
+
+/// A line of some words.
+fn line_in(alloc: Global, words: &[&[u8]]) -> Result<Option<Line>, OutOfMemory>
+    ensures { IfOk result (λ line. line ≡ line_in (map (λ word. word.now) words.now)) }
+{
+    match words {
+        [moment, name, words @ ..] => line_of(alloc, moment, name, words),
+        _ => Ok(None),
+    }
+}
+
+/// What a line says, or nothing of a text that is none.
+pub fn line_at(alloc: Global, text: &[u8]) -> Result<Option<Line>, OutOfMemory>
+    ensures { IfOk result (λ line. line ≡ line_at text.now) }
+{
+    let words = words_of(alloc, text)?;
+    line_in(alloc, words.as_slice())
+}

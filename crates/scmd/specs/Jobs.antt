@@ -1,0 +1,101 @@
+-- What each job comes to, and with which status.
+use Rattle.std.specs.Prelude.{ℕ, ◌≡◌, ◌<◌, ◌^◌, List, [], length, Option, IfSome}
+use Rattle.outside.specs.Causes.{Rose}
+use Rattle.outside.specs.Written.{Begins}
+use Rattle.scm_generate.specs.Listed.{generated}
+use Rattle.scm_generate.specs.Printed.{Prints, IsCaused as IsCausedPrint}
+use Rattle.scm_generate.specs.Summary.{summary}
+use Rattle.scm_generate.specs.declared.generated.Generated.{Generated}
+use Rattle.scm_generate.specs.declared.generated.Generated.TheVariants as printed
+use Rattle.scm_pipe.specs.Connection.{IsCaused}
+use Rattle.scm_pipe.specs.declared.served.Served.{Served}
+use Rattle.scm_replay.specs.Replay.{TextEnd, AtRest, Unfinished, BadLine, IsOpenEnd, IsReplayed, replayed, IsCaused as IsCausedReplay}
+use Rattle.scm_replay.specs.declared.replayed.Replayed.{Replayed}
+use Rattle.scm_replay.specs.declared.replayed.Replayed.TheVariants as answered
+use Rattle.scm_model.specs.declared.flat.Flat.{Flat}
+use Rattle.scm_model.specs.declared.flat.Principal.{Principal}
+use Rattle.scm_rules.specs.Opening.{opening}
+use Rattle.scmd.specs.declared.words.Job.{Job}
+use Rattle.scmd.specs.declared.words.Job.TheVariants.{Pipe, Replay, Generate}
+use Rattle.scmd.specs.Pipe.{IsOrLacks, IsPiped, IsComplete, program_limits, status_of}
+
+-- ## Statuses
+
+abbrev pub status_of_replay : Replayed → ℕ
+status_of_replay answered.Ended = 0
+status_of_replay answered.ReadFault = 1
+status_of_replay answered.WriteFault = 2
+status_of_replay answered.Truncated = 6
+status_of_replay answered.OutOfMemory = 8
+status_of_replay answered.BadLine = 11
+status_of_replay answered.Worn = 12
+
+abbrev pub status_of_generate : Generated → ℕ
+status_of_generate printed.Ended = 0
+status_of_generate printed.WriteFault = 2
+status_of_generate printed.OutOfMemory = 8
+
+-- ## What a job comes to
+
+-- the state in which a replay and a generation begin: nobody and nothing is there, at moment 0
+abbrev pub program_opening : Flat
+program_opening = opening program_limits [] [] 0
+
+-- what is read and written of the input and the output, and their counts of faults, before and after
+pub record Sides : Type 0 where
+  pub left : Option (List ℕ)
+  pub left_now : Option (List ℕ)
+  pub held : Option (List ℕ)
+  pub held_now : Option (List ℕ)
+  pub source : ℕ
+  pub source_now : ℕ
+  pub sink : ℕ
+  pub sink_now : ℕ
+
+-- one connection was served
+pub record HasPiped (tells : ℕ → Type 0) (principal : Principal) (s : Sides) (status : ℕ) : Type 0 where
+  pub how : Served
+  pub status_is : status ≡ status_of how
+  pub piped : IsPiped tells principal how s.left s.left_now s.held s.held_now
+  pub cause : IsCaused how s.source s.source_now s.sink s.sink_now
+
+-- the input's lines were answered
+pub record HasReplayed (s : Sides) (status : ℕ) : Type 0 where
+  pub how : Replayed
+  pub status_is : status ≡ status_of_replay how
+  pub replayed : IsReplayed program_limits program_opening s.left s.left_now s.held s.held_now how
+  pub cause : IsCausedReplay how s.source s.source_now s.sink s.sink_now
+
+-- the summary of the stated list was written, and nothing was read
+pub record HasGenerated (services : ℕ) (s : Sides) (status : ℕ) : Type 0 where
+  pub how : Generated
+  pub status_is : status ≡ status_of_generate how
+  pub prints : Prints (summary program_limits program_opening (generated services)) s.held s.held_now how
+  pub cause : IsCausedPrint how s.sink s.sink_now
+  pub unread : s.left_now ≡ s.left
+  pub untouched : s.source_now ≡ s.source
+
+abbrev pub HasRun : (tells : ℕ → Type 0) → Job → Sides → (status : ℕ) → Type 0
+HasRun tells (Pipe principal) s status = HasPiped tells principal s status
+HasRun tells Replay s status = HasReplayed s status
+HasRun tells (Generate services) s status = HasGenerated services s status
+
+-- ## Completeness
+
+-- the status of lines that end so
+abbrev pub status_behind : TextEnd → ℕ
+status_behind AtRest = 0
+status_behind Unfinished = 6
+status_behind BadLine = 11
+
+-- Each end of the lines has its status; where more comes than an input may have and no bad line before that, it is 12.
+pub record EndsAsLines (bytes : List ℕ) (status : ℕ) : Type 0 where
+  pub whole : length bytes < 2 ^ 40 → IsOrLacks (status_behind (replayed program_limits program_opening bytes).ending) status
+  pub worn : (front : List ℕ) → Begins front bytes → length front ≡ 2 ^ 40 → IsOpenEnd (replayed program_limits program_opening front).ending → IsOrLacks 12 status
+
+-- where no count rose and the input is told, the status is that of the job's end, or want of memory
+abbrev pub HasAllDone : Job → Sides → (status : ℕ) → Type 0
+HasAllDone (Pipe principal) s status = IsComplete s.left s.source s.source_now s.sink s.sink_now status
+HasAllDone Replay s status =
+    IfSome s.left (λ bytes. (Rose s.source s.source_now → ⊥) → (Rose s.sink s.sink_now → ⊥) → EndsAsLines bytes status)
+HasAllDone (Generate services) s status = (Rose s.sink s.sink_now → ⊥) → IsOrLacks 0 status
