@@ -88,6 +88,17 @@ fn two_services_are_started_with_their_needs(rt: HostRuntime) -> Result<(), Fail
 }
 
 #[test]
+fn as_many_services_as_there_may_be_are_started(rt: HostRuntime) -> Result<(), Fail> {
+    tells(
+        &rt,
+        &["generate", "512"],
+        "",
+        0,
+        "steps 22074\nservices 512\nlaunches 4107\nrunning 0\n",
+    )
+}
+
+#[test]
 fn numbers_of_services_are_from_1_to_512(rt: HostRuntime) -> Result<(), Fail> {
     tells(&rt, &["generate", "0"], "", 5, "")?;
     tells(&rt, &["generate", "513"], "", 5, "")?;
