@@ -11,3 +11,5 @@ pub mod Made
 pub mod Ends
 pub mod Own
 pub mod Anew
+pub mod Whole
+pub mod Places

@@ -7,3 +7,5 @@ pub mod Anew
 pub mod Own
 pub mod Callers
 pub mod Plans
+pub mod Whole
+pub mod Places

@@ -8,10 +8,12 @@ ghost use Rattle.scm_history.specs.Made.{EachStandsBehind};
 ghost use Rattle.scm_history.specs.Names.{NamesWhoIsThere};
 ghost use Rattle.scm_history.specs.Numbers.{AreMadeOnce};
 ghost use Rattle.scm_history.specs.Own.{EachBeginsWithJoined};
+ghost use Rattle.scm_history.specs.Places.{PlacesStay};
 ghost use Rattle.scm_history.specs.Plans.{EachEndsOnce, PlansAreTheirCallers};
 ghost use Rattle.scm_history.specs.Processes.{OthersStay};
+ghost use Rattle.scm_history.specs.Whole.{IsWhole};
 ghost use Rattle.scm_rules.specs.Opening.{opening as opening_at};
-ghost use Rattle.scm_rules.specs.Runs.{EachStep, IsLegal};
+ghost use Rattle.scm_rules.specs.Runs.{EachStep, IsLegal, state_of};
 
 use scm_model::{Flat, Limits, Step};
 use scm_text::Items;
@@ -32,12 +34,29 @@ pub fn others_stay(limits: &Limits, steps: &Items<(u64, Step)>, opening: &Flat)
     ensures { EachStep OthersStay limits.now opening.now steps.now }
 {}
 
+/// Processes keep their places in the list: behind an entry stand those that were listed, in their order, without one whose launch failed
+/// or that ended, and then those that are new. Whom the entry neither names nor takes in hand stands there as it was, apart from its
+/// controls.
+pub fn places_stay(limits: &Limits, steps: &Items<(u64, Step)>, opening: &Flat)
+    requires begins { opening.now ≡ opening_at limits.now [] [] opening.now.moment }
+    requires legal { IsLegal limits.now opening.now steps.now }
+    ensures { EachStep PlacesStay limits.now opening.now steps.now }
+{}
+
 /// No number of a caller, a process or a plan is given twice: the next ones never fall, and whoever is new has one that was not given
 /// before.
 pub fn numbers_are_made_once(limits: &Limits, steps: &Items<(u64, Step)>, opening: &Flat)
     requires begins { opening.now ≡ opening_at limits.now [] [] opening.now.moment }
     requires legal { IsLegal limits.now opening.now steps.now }
     ensures { EachStep AreMadeOnce limits.now opening.now steps.now }
+{}
+
+/// Every state that a run ends in is whole: valid, with one short word for each command, registrations of callers alone, and at most one
+/// row that becomes due for each service.
+pub fn states_are_whole(limits: &Limits, steps: &Items<(u64, Step)>, opening: &Flat)
+    requires begins { opening.now ≡ opening_at limits.now [] [] opening.now.moment }
+    requires legal { IsLegal limits.now opening.now steps.now }
+    ensures { IsWhole limits.now (state_of limits.now opening.now steps.now) }
 {}
 
 /// Each entry that names a caller stands behind the Joined that made it, each that names a process behind a LaunchTaken that took it

@@ -3,3 +3,4 @@ pub mod Fewer
 pub mod Effects
 pub mod Payments
 pub mod Whole
+pub mod Histories

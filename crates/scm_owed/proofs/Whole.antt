@@ -72,10 +72,10 @@ pub gives : (l : Limits) → Gives Sound LawOfOwed l
 gives l f e s ok = record { pays = step_pays l f e.0 e.1 s ok }
 
 -- an owed step costs nothing, another its need
-cost_owed : (f : Flat) (step : Step) → is_owed step ≡ true → cost f step ≡ 0
+pub cost_owed : (f : Flat) (step : Step) → is_owed step ≡ true → cost f step ≡ 0
 cost_owed f step e = ap (λ b. cond b 0 (need f step)) e
 
-cost_most : (f : Flat) (step : Step) → cost f step ≤ need f step
+pub cost_most : (f : Flat) (step : Step) → cost f step ≤ need f step
 cost_most f step = elim (is_owed step) as (λ b. cond b 0 (need f step) ≤ need f step) [ true ↦ omega arith | false ↦ omega arith ]
 
 pub room_kept : (l : Limits) (f : Flat) (steps text : ℕ) (es : List Entry) → Sound f → steps + owed f ≤ l.steps → IsLegal l f es → FoundRoom l f steps text es

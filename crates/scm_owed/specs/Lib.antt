@@ -1,3 +1,4 @@
 pub mod Owed
 pub mod Room
 pub mod Paying
+pub mod Legal

@@ -1,0 +1,195 @@
+-- Each process keeps its place in the list.
+use Rattle.std.proofs.Common.{ℕ, ◌≡◌, ◌∙◌, ◌≤◌, ◌==◌, ◌||◌, Bool, true, false, not, cond, List, [], ◌∷◌, ◌++◌, filter, map, ap, sym, refl, arith}
+use Rattle.std.specs.Prelude.{All}
+use Rattle.std.proofs.lemmas.List.Elements.{All-nil, All-push}
+use Rattle.scm_model.specs.declared.flat.Flat.{Flat}
+use Rattle.scm_model.specs.declared.flat.Limits.{Limits}
+use Rattle.scm_model.specs.declared.flat.Process.{Process}
+use Rattle.scm_model.specs.declared.steps.Step.{Step}
+use Rattle.scm_model.specs.declared.steps.Step.TheVariants.{Call, LaunchTaken, Launched, LaunchFailed, Ended, ControlTaken}
+use Rattle.scm_model.specs.Changes.{with_moment}
+use Rattle.start_plan.specs.Entered.{wanted_process}
+use Rattle.start_plan.specs.Settle.{settled}
+use Rattle.start_plan.proofs.Enterings.{all_units}
+use Rattle.start_plan.proofs.Keeps.{Keeps, keeps_all}
+use Rattle.scm_rules.specs.Controls.{relieved_if}
+use Rattle.scm_rules.specs.Launches.{first_wanted, launched_if, taken_if}
+use Rattle.scm_rules.specs.Steps.{at_moment, effect_of, step_of}
+use Rattle.scm_laws.proofs.Along.{Gives}
+use Rattle.scm_laws.proofs.Effects.{same_process}
+use Rattle.scm_laws.proofs.Frames.{finished_keeps}
+use Rattle.scm_laws.proofs.Lists.{map_same}
+use Rattle.scm_laws.proofs.Sound.{Sound, controls_fewer}
+use Rattle.scm_history.specs.Entries.{names_process, takes_process}
+use Rattle.scm_history.specs.Places.{PlacesStay, numbers_of, those_not_meant, those_that_stay}
+use Rattle.scm_history.specs.Processes.{apart_from_controls}
+use Rattle.scm_history.proofs.Effects.{controls_apart, of_call}
+use Rattle.scm_history.proofs.Processes.{IsOf, launches, takes}
+
+-- ## Lists
+
+all_pass : (rows : List Process) → filter (λ (row : Process). true) rows ≡ rows
+all_pass [] = refl
+all_pass (row ∷ rows) = ap (λ rest. row ∷ rest) (all_pass rows)
+
+-- all those whose numbers pass no test, apart from their controls
+abbrev others_of : (ℕ → Bool) → List Process → List Process
+others_of test rows = map apart_from_controls (filter (λ (row : Process). not (test row.number)) rows)
+
+filter_apart : (test : ℕ → Bool) (rows : List Process) → others_of test rows ≡ filter (λ (row : Process). not (test row.number)) (map apart_from_controls rows)
+filter_apart test [] = refl
+filter_apart test (row ∷ rows) =
+    elim (not (test row.number)) as (λ b. map apart_from_controls (cond b (row ∷ filter (λ (row : Process). not (test row.number)) rows) (filter (λ (row : Process). not (test row.number)) rows))
+    ≡ cond b (apart_from_controls row ∷ filter (λ (row : Process). not (test row.number)) (map apart_from_controls rows)) (filter (λ (row : Process). not (test row.number)) (map apart_from_controls rows))) [
+      | true ↦ ap (λ rest. apart_from_controls row ∷ rest) (filter_apart test rows)
+      | false ↦ filter_apart test rows
+    ]
+
+-- lists that differ in controls alone
+others_apart : (test : ℕ → Bool) (befores afters : List Process) → map apart_from_controls afters ≡ map apart_from_controls befores → others_of test afters ≡ others_of test befores
+others_apart test befores afters same =
+    filter_apart test afters ∙ ap (filter (λ (row : Process). not (test row.number))) same ∙ sym (filter_apart test befores)
+
+numbers_apart : (befores afters : List Process) → map apart_from_controls afters ≡ map apart_from_controls befores → numbers_of afters ≡ numbers_of befores
+numbers_apart befores afters same =
+    sym (map_same apart_from_controls (λ (row : Process). row.number) (λ row. refl) afters) ∙ ap numbers_of same ∙ map_same apart_from_controls (λ (row : Process). row.number) (λ row. refl) befores
+
+-- a change of one that passes the test
+others_changed : (test : ℕ → Bool) (one : ℕ) (change : Process → Process) → IsOf one change → ((number : ℕ) → (number == one) ≡ true → test number ≡ true) → (rows : List Process)
+    → others_of test (map change rows) ≡ others_of test rows
+others_changed test one change is meant [] = refl
+others_changed test one change is meant (row ∷ rows) =
+    let rest = others_changed test one change is meant rows in
+    ap (λ n. map apart_from_controls (cond (not (test n)) (change row ∷ filter (λ (row : Process). not (test row.number)) (map change rows)) (filter (λ (row : Process). not (test row.number)) (map change rows)))) (is.number_same row)
+    ∙ elim (row.number == one) as (λ b. (row.number == one) ≡ b
+    → map apart_from_controls (cond (not (test row.number)) (change row ∷ filter (λ (row : Process). not (test row.number)) (map change rows)) (filter (λ (row : Process). not (test row.number)) (map change rows)))
+    ≡ map apart_from_controls (cond (not (test row.number)) (row ∷ filter (λ (row : Process). not (test row.number)) rows) (filter (λ (row : Process). not (test row.number)) rows))) [
+      | true ↦ λ e. rw (meant row.number e) rest
+      | false ↦ λ e. (rw (is.others row e)
+          (elim (not (test row.number)) as (λ b. map apart_from_controls (cond b (row ∷ filter (λ (row : Process). not (test row.number)) (map change rows)) (filter (λ (row : Process). not (test row.number)) (map change rows)))
+          ≡ map apart_from_controls (cond b (row ∷ filter (λ (row : Process). not (test row.number)) rows) (filter (λ (row : Process). not (test row.number)) rows))) [
+            | true ↦ ap (λ more. apart_from_controls row ∷ more) rest
+            | false ↦ rest
+          ]))
+    ] refl
+
+-- one leaves that passes the test
+others_left : (test : ℕ → Bool) (one : ℕ) → ((number : ℕ) → (number == one) ≡ true → test number ≡ true) → (rows : List Process)
+    → others_of test (filter (λ (row : Process). not (row.number == one)) rows) ≡ others_of test rows
+others_left test one meant [] = refl
+others_left test one meant (row ∷ rows) =
+    let rest = others_left test one meant rows in
+    elim (row.number == one) as (λ b. (row.number == one) ≡ b
+    → others_of test (cond (not b) (row ∷ filter (λ (row : Process). not (row.number == one)) rows) (filter (λ (row : Process). not (row.number == one)) rows))
+    ≡ map apart_from_controls (cond (not (test row.number)) (row ∷ filter (λ (row : Process). not (test row.number)) rows) (filter (λ (row : Process). not (test row.number)) rows))) [
+      | true ↦ λ e. rw (meant row.number e) rest
+      | false ↦ λ e. elim (not (test row.number)) as (λ b. map apart_from_controls (cond b (row ∷ filter (λ (row : Process). not (test row.number)) (filter (λ (row : Process). not (row.number == one)) rows)) (filter (λ (row : Process). not (test row.number)) (filter (λ (row : Process). not (row.number == one)) rows)))
+          ≡ map apart_from_controls (cond b (row ∷ filter (λ (row : Process). not (test row.number)) rows) (filter (λ (row : Process). not (test row.number)) rows))) [
+            | true ↦ ap (λ more. apart_from_controls row ∷ more) rest
+            | false ↦ rest
+          ]
+    ] refl
+
+-- ## Effects
+
+record HavePlaces (f : Flat) (step : Step) (rows : List Process) : Type 0 where
+  places : numbers_of rows ≡ numbers_of (those_that_stay step f.processes)
+  others : those_not_meant f step rows ≡ those_not_meant f step f.processes
+
+or_first : (a b : Bool) → a ≡ true → (a || b) ≡ true
+or_first true b e = refl
+or_first false b e = absurd cc
+
+-- only controls have changed
+apart_places : (f : Flat) (step : Step) (rows : List Process) → numbers_of f.processes ≡ numbers_of (those_that_stay step f.processes) → map apart_from_controls rows ≡ map apart_from_controls f.processes → HavePlaces f step rows
+apart_places f step rows stay same = record {
+  places = numbers_apart f.processes rows same ∙ stay;
+  others = others_apart (λ n. names_process n step || takes_process f n step) f.processes rows same;
+}
+
+-- one has changed that the step means
+one_places : (f : Flat) (step : Step) (one : ℕ) (change : Process → Process) → IsOf one change → ((number : ℕ) → (number == one) ≡ true → (names_process number step || takes_process f number step) ≡ true)
+    → numbers_of f.processes ≡ numbers_of (those_that_stay step f.processes) → HavePlaces f step (map change f.processes)
+one_places f step one change is meant stay = record {
+  places = map_same change (λ (row : Process). row.number) is.number_same f.processes ∙ stay;
+  others = others_changed (λ n. names_process n step || takes_process f n step) one change is meant f.processes;
+}
+
+all_stay : (rows : List Process) → numbers_of rows ≡ numbers_of (filter (λ (row : Process). true) rows)
+all_stay rows = ap numbers_of (sym (all_pass rows))
+
+of_effect : (l : Limits) (f : Flat) (moment : ℕ) (step : Step) → HavePlaces f step (effect_of l (at_moment f moment step) step).1.processes
+of_effect l f moment (Call caller asked append) =
+    apart_places f (Call caller asked append) _ (all_stay f.processes) (of_call l (with_moment f moment) caller asked append).processes
+of_effect l f moment LaunchTaken =
+    one_places f LaunchTaken (first_wanted f.wanted) (taken_if (first_wanted f.wanted)) (takes (first_wanted f.wanted)) (λ n e. e) (all_stay f.processes)
+of_effect l f moment (Launched process pid) =
+    one_places f (Launched process pid) process (launched_if process pid) (launches process pid) (λ n e. or_first _ _ e) (all_stay f.processes)
+of_effect l f moment (LaunchFailed process code) = record {
+  places = refl;
+  others = others_left (λ n. names_process n (LaunchFailed process code) || takes_process f n (LaunchFailed process code)) process (λ n e. or_first _ _ e) f.processes;
+}
+of_effect l f moment (Ended process) = record {
+  places = refl;
+  others = others_left (λ n. names_process n (Ended process) || takes_process f n (Ended process)) process (λ n e. or_first _ _ e) f.processes;
+}
+of_effect l f moment (ControlTaken process) =
+    apart_places f (ControlTaken process) _ (all_stay f.processes) (controls_apart (relieved_if process) (controls_fewer process) f.processes)
+of_effect l f moment step = record { places = all_stay f.processes; others = refl }
+
+-- ## Settling
+
+-- behind those that were listed stand new ones
+record Grown (bound : ℕ) (old : List Process) (g : Flat) : Type 0 where
+  new : List Process
+  listed : g.processes ≡ old ++ new
+  given : All (λ (row : Process). bound ≤ row.number) new
+  up : bound ≤ g.next.process
+
+append_assoc : (a b c : List Process) → (a ++ b) ++ c ≡ a ++ (b ++ c)
+append_assoc [] b c = refl
+append_assoc (x ∷ a) b c = ap (λ rows. x ∷ rows) (append_assoc a b c)
+
+append_none : (rows : List Process) → rows ≡ rows ++ []
+append_none [] = refl
+append_none (row ∷ rows) = ap (λ rest. row ∷ rest) (append_none rows)
+
+grows : (l : Limits) (bound : ℕ) (old : List Process) → Keeps l (Grown bound old) (λ plan. Unit {0})
+grows l bound old = record {
+  enters = λ g plan service words entry h. record {
+    new = h.new ++ wanted_process g.next.process service ∷ [];
+    listed = ap (λ rows. rows ++ wanted_process g.next.process service ∷ []) h.listed ∙ append_assoc old h.new (wanted_process g.next.process service ∷ []);
+    given = All-push (λ (row : Process). bound ≤ row.number) h.new (wanted_process g.next.process service) h.given h.up;
+    up = (let up = h.up in omega (arith, up));
+  };
+  tries = λ g plan service entry q. tt;
+  drops = λ plan service rest code q. tt;
+}
+
+none_new : (bound : ℕ) (g : Flat) → bound ≤ g.next.process → Grown bound g.processes g
+none_new bound g up = record { new = []; listed = append_none g.processes; given = All-nil (λ (row : Process). bound ≤ row.number); up = up }
+
+settled_grown : (l : Limits) (g : Flat) (bound : ℕ) → bound ≤ g.next.process → Grown bound g.processes (settled l g)
+settled_grown l g bound up =
+    let all = (keeps_all l (Grown bound g.processes) (λ plan. Unit {0}) (grows l bound g.processes) g g.plans (none_new bound g up) (all_units g.plans)).flat in
+    record { new = all.new; listed = all.listed; given = all.given; up = all.up }
+
+step_grown : (l : Limits) (f : Flat) (moment : ℕ) (step : Step) → Grown f.next.process (effect_of l (at_moment f moment step) step).1.processes (step_of l f moment step).1
+step_grown l f moment step =
+    let done = effect_of l (at_moment f moment step) step in
+    let before = finished_keeps (Grown f.next.process done.1.processes) (λ g plans h. record { new = h.new; listed = h.listed; given = h.given; up = h.up }) (settled l done.1) done.0
+    (settled_grown l done.1 f.next.process (let e = same_process l f moment step in omega (arith, e))) in
+    record { new = before.new; listed = before.listed; given = before.given; up = before.up }
+
+pub gives : (l : Limits) → Gives Sound PlacesStay l
+gives l f e s ok =
+    let grown = step_grown l f e.0 e.1 in
+    let have = of_effect l f e.0 e.1 in
+    record {
+      old = (effect_of l (at_moment f e.0 e.1) e.1).1.processes;
+      new = grown.new;
+      listed = grown.listed;
+      places = have.places;
+      others = have.others;
+      given = grown.given;
+    }

@@ -1,0 +1,12 @@
+use Rattle.std.proofs.Common.{sym, subst}
+use Rattle.scm_laws.proofs.Along.{along}
+use Rattle.scm_laws.proofs.Calls.{keeps}
+use Rattle.scm_laws.proofs.Sound.{Sound, begun}
+use Rattle.scm_history.specs.Places.{PlacesStay}
+use Rattle.scm_history.proofs.Places.{gives}
+use Rattle.scm_history.proofs.places_stay.Goals as goal
+
+pub returns : goal.returns
+returns c =
+    along Sound PlacesStay c.args.limits.now (keeps c.args.limits.now) (gives c.args.limits.now) c.args.opening.now c.args.steps.now
+    (subst Sound (sym c.requires.begins) (begun c.args.opening.now.moment)) c.requires.legal
