@@ -35,7 +35,7 @@ fn joined<R: AllocGlobal>(rt: &R, parts: &[&str]) -> Result<String, Fail> {
 }
 
 /// The words of a run.
-fn words_of(alloc: Global, words: &[&str]) -> Result<Items<Text>, Fail> {
+pub fn words_of(alloc: Global, words: &[&str]) -> Result<Items<Text>, Fail> {
     let mut all = Vec::new(alloc);
     for word in words {
         all.push(Text::from_str(alloc, word).ok().ok_or("memory")?)?;
