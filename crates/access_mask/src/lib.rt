@@ -6,6 +6,3 @@ mod mask;
 
 pub use granting::{granted, map_generic};
 pub use mask::AccessMask;
-
-#[cfg(test)]
-mod tests;

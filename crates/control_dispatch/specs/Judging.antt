@@ -2,6 +2,7 @@
 use Rattle.std.specs.Prelude.{ℕ, Bool, true, not, ◌&&◌, ◌||◌, ◌==◌, nat_le, nat_lt, List, [], ◌∷◌, Option, None, Some, find, is_none, option_map, bit_and, if◌then◌else◌}
 use Rattle.scm_model.specs.Refused.{first_refusal}
 use Rattle.scm_model.specs.declared.flat.Status.{Status}
+use Rattle.scm_model.specs.declared.codes.TheConstants.{ERROR_ACCESS_DENIED, ERROR_DEPENDENT_SERVICES_RUNNING, ERROR_INVALID_HANDLE, ERROR_INVALID_PARAMETER, ERROR_INVALID_SERVICE_CONTROL, ERROR_SERVICE_CANNOT_ACCEPT_CTRL, ERROR_SERVICE_NOT_ACTIVE, FIRST_USER_CONTROL, LAST_USER_CONTROL, SERVICE_ACCEPT_NETBINDCHANGE, SERVICE_ACCEPT_PARAMCHANGE, SERVICE_ACCEPT_PAUSE_CONTINUE, SERVICE_ACCEPT_STOP, SERVICE_CONTROL_CONTINUE, SERVICE_CONTROL_INTERROGATE, SERVICE_CONTROL_NETBINDADD, SERVICE_CONTROL_NETBINDDISABLE, SERVICE_CONTROL_PARAMCHANGE, SERVICE_CONTROL_PAUSE, SERVICE_CONTROL_STOP, SERVICE_INTERROGATE, SERVICE_PAUSE_CONTINUE, SERVICE_START_PENDING, SERVICE_STOP, SERVICE_STOPPED, SERVICE_STOP_PENDING, SERVICE_USER_DEFINED_CONTROL}
 use Rattle.control_dispatch.specs.declared.judging.Control.{Control}
 
 abbrev pub needing : ℕ → ℕ → Control
@@ -10,12 +11,12 @@ needing right accept = record { right = right; accept = accept }
 -- the controls that there are, from a code to a code: the right that sending one needs, and the bit by which a service accepts it, or 0
 abbrev pub controls : List (ℕ × ℕ × Control)
 controls =
-    (1, 1, needing 0x20 1)
-    ∷ (2, 3, needing 0x40 2)
-    ∷ (4, 4, needing 0x80 0)
-    ∷ (6, 6, needing 0x40 8)
-    ∷ (7, 10, needing 0x40 0x10)
-    ∷ (128, 255, needing 0x100 0)
+    (SERVICE_CONTROL_STOP, SERVICE_CONTROL_STOP, needing SERVICE_STOP SERVICE_ACCEPT_STOP)
+    ∷ (SERVICE_CONTROL_PAUSE, SERVICE_CONTROL_CONTINUE, needing SERVICE_PAUSE_CONTINUE SERVICE_ACCEPT_PAUSE_CONTINUE)
+    ∷ (SERVICE_CONTROL_INTERROGATE, SERVICE_CONTROL_INTERROGATE, needing SERVICE_INTERROGATE 0)
+    ∷ (SERVICE_CONTROL_PARAMCHANGE, SERVICE_CONTROL_PARAMCHANGE, needing SERVICE_PAUSE_CONTINUE SERVICE_ACCEPT_PARAMCHANGE)
+    ∷ (SERVICE_CONTROL_NETBINDADD, SERVICE_CONTROL_NETBINDDISABLE, needing SERVICE_PAUSE_CONTINUE SERVICE_ACCEPT_NETBINDCHANGE)
+    ∷ (FIRST_USER_CONTROL, LAST_USER_CONTROL, needing SERVICE_USER_DEFINED_CONTROL 0)
     ∷ []
 
 abbrev pub is_within : ℕ → ℕ × ℕ × Control → Bool
@@ -41,12 +42,12 @@ does_not_accept status (Some control) = lacks status.accepted control.accept
 -- need this one and aren't stopped, the controls that wait, and how many may
 abbrev pub judge : Option ℕ → ℕ → Status → ℕ → ℕ → ℕ → ℕ
 judge granted code status active waiting limit = first_refusal (
-    (is_none granted, 6)
-    ∷ (is_none (control_of code), 87)
-    ∷ (lacks_right granted (control_of code), 5)
-    ∷ (status.state == 1, 1062)
-    ∷ (status.state == 2 || status.state == 3, 1061)
-    ∷ (does_not_accept status (control_of code), 1052)
-    ∷ (code == 1 && nat_lt 0 active, 1051)
-    ∷ (nat_le limit waiting, 1061)
+    (is_none granted, ERROR_INVALID_HANDLE)
+    ∷ (is_none (control_of code), ERROR_INVALID_PARAMETER)
+    ∷ (lacks_right granted (control_of code), ERROR_ACCESS_DENIED)
+    ∷ (status.state == SERVICE_STOPPED, ERROR_SERVICE_NOT_ACTIVE)
+    ∷ (status.state == SERVICE_START_PENDING || status.state == SERVICE_STOP_PENDING, ERROR_SERVICE_CANNOT_ACCEPT_CTRL)
+    ∷ (does_not_accept status (control_of code), ERROR_INVALID_SERVICE_CONTROL)
+    ∷ (code == SERVICE_CONTROL_STOP && nat_lt 0 active, ERROR_DEPENDENT_SERVICES_RUNNING)
+    ∷ (nat_le limit waiting, ERROR_SERVICE_CANNOT_ACCEPT_CTRL)
     ∷ [])

@@ -2,6 +2,16 @@ ghost use Rattle.std.specs.Prelude.{◌≡◌};
 ghost use Rattle.control_dispatch.specs.Judging.{control_of, judge, lacks};
 
 use scm_model::Status;
+use scm_model::codes::{
+    ERROR_ACCESS_DENIED, ERROR_DEPENDENT_SERVICES_RUNNING, ERROR_INVALID_HANDLE,
+    ERROR_INVALID_PARAMETER, ERROR_INVALID_SERVICE_CONTROL, ERROR_SERVICE_CANNOT_ACCEPT_CTRL,
+    ERROR_SERVICE_NOT_ACTIVE, FIRST_USER_CONTROL, LAST_USER_CONTROL, SERVICE_ACCEPT_NETBINDCHANGE,
+    SERVICE_ACCEPT_PARAMCHANGE, SERVICE_ACCEPT_PAUSE_CONTINUE, SERVICE_ACCEPT_STOP,
+    SERVICE_CONTROL_CONTINUE, SERVICE_CONTROL_INTERROGATE, SERVICE_CONTROL_NETBINDADD,
+    SERVICE_CONTROL_NETBINDDISABLE, SERVICE_CONTROL_PARAMCHANGE, SERVICE_CONTROL_PAUSE,
+    SERVICE_CONTROL_STOP, SERVICE_INTERROGATE, SERVICE_PAUSE_CONTINUE, SERVICE_START_PENDING,
+    SERVICE_STOP, SERVICE_STOP_PENDING, SERVICE_STOPPED, SERVICE_USER_DEFINED_CONTROL,
+};
 
 /// What sending a control needs.
 #[derive(Clone, Copy, Debug, PartialEq, Eq)]
@@ -12,25 +22,21 @@ struct Control {
     accept: u32,
 }
 
-const STOP: u32 = 1;
-
-const STOPPED: u32 = 1;
-
-const START_PENDING: u32 = 2;
-
-const STOP_PENDING: u32 = 3;
-
 /// What a control needs; none where there is no such control.
 fn control_of(code: u32) -> Option<Control>
     ensures { result ≡ control_of code }
 {
     let (right, accept) = match code {
-        STOP => (0x20, 1),
-        2 | 3 => (0x40, 2),
-        4 => (0x80, 0),
-        6 => (0x40, 8),
-        7..=10 => (0x40, 0x10),
-        128..=255 => (0x100, 0),
+        SERVICE_CONTROL_STOP => (SERVICE_STOP, SERVICE_ACCEPT_STOP),
+        SERVICE_CONTROL_PAUSE | SERVICE_CONTROL_CONTINUE => {
+            (SERVICE_PAUSE_CONTINUE, SERVICE_ACCEPT_PAUSE_CONTINUE)
+        }
+        SERVICE_CONTROL_INTERROGATE => (SERVICE_INTERROGATE, 0),
+        SERVICE_CONTROL_PARAMCHANGE => (SERVICE_PAUSE_CONTINUE, SERVICE_ACCEPT_PARAMCHANGE),
+        SERVICE_CONTROL_NETBINDADD..=SERVICE_CONTROL_NETBINDDISABLE => {
+            (SERVICE_PAUSE_CONTINUE, SERVICE_ACCEPT_NETBINDCHANGE)
+        }
+        FIRST_USER_CONTROL..=LAST_USER_CONTROL => (SERVICE_USER_DEFINED_CONTROL, 0),
         _ => return None,
     };
     Some(Control { right, accept })
@@ -58,28 +64,28 @@ pub fn judge(
     ensures { result ≡ judge granted code status.now active waiting limit }
 {
     let Some(granted) = granted else {
-        return 6;
+        return ERROR_INVALID_HANDLE;
     };
     let Some(control) = control_of(code) else {
-        return 87;
+        return ERROR_INVALID_PARAMETER;
     };
     if lacks(granted, control.right) {
-        return 5;
+        return ERROR_ACCESS_DENIED;
     }
-    if status.state == STOPPED {
-        return 1062;
+    if status.state == SERVICE_STOPPED {
+        return ERROR_SERVICE_NOT_ACTIVE;
     }
-    if status.state == START_PENDING || status.state == STOP_PENDING {
-        return 1061;
+    if status.state == SERVICE_START_PENDING || status.state == SERVICE_STOP_PENDING {
+        return ERROR_SERVICE_CANNOT_ACCEPT_CTRL;
     }
     if lacks(status.accepted, control.accept) {
-        return 1052;
+        return ERROR_INVALID_SERVICE_CONTROL;
     }
-    if code == STOP && 0 < active {
-        return 1051;
+    if code == SERVICE_CONTROL_STOP && 0 < active {
+        return ERROR_DEPENDENT_SERVICES_RUNNING;
     }
     if limit <= waiting {
-        return 1061;
+        return ERROR_SERVICE_CANNOT_ACCEPT_CTRL;
     }
     0
 }

@@ -6,6 +6,3 @@ mod waiting;
 
 pub use judging::judge;
 pub use waiting::Controls;
-
-#[cfg(test)]
-mod tests;

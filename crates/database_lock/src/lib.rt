@@ -5,13 +5,8 @@ ghost use Rattle.std.specs.Prelude.{◌≡◌, None};
 ghost use Rattle.database_lock.specs.Locking.{is_held_by, lock_answer, locked, unlock_answer, unlocked};
 
 use scm_model::LockRow;
+use scm_model::codes::{ERROR_INVALID_SERVICE_LOCK, ERROR_SERVICE_DATABASE_LOCKED};
 use std::marker::Model;
-
-/// The code `ERROR_SERVICE_DATABASE_LOCKED`.
-pub const DATABASE_LOCKED: u32 = 1055;
-
-/// The code `ERROR_INVALID_SERVICE_LOCK`.
-pub const INVALID_LOCK: u32 = 1071;
 
 /// The lock, which at most one handle holds. Contracts see the row of its holder. No call takes memory.
 #[derive(Debug, Drop)]
@@ -46,13 +41,13 @@ impl DatabaseLock {
         DatabaseLock { row: None }
     }
 
-    /// Takes the lock for a handle, from a moment on; `DATABASE_LOCKED` where it is held, by the same handle too.
+    /// Takes the lock for a handle, from a moment on; `ERROR_SERVICE_DATABASE_LOCKED` where it is held, by the same handle too.
     pub fn lock(&mut self, handle: u64, moment: u64) -> Result<(), u32>
         ensures answer { result ≡ lock_answer self.old }
         ensures row { self.new ≡ locked self.old handle moment }
     {
         if self.row.is_some() {
-            return Err(DATABASE_LOCKED);
+            return Err(ERROR_SERVICE_DATABASE_LOCKED);
         }
         self.row = Some(LockRow {
             handle,
@@ -61,13 +56,13 @@ impl DatabaseLock {
         Ok(())
     }
 
-    /// Frees the lock; `INVALID_LOCK` where this handle doesn't hold it.
+    /// Frees the lock; `ERROR_INVALID_SERVICE_LOCK` where this handle doesn't hold it.
     pub fn unlock(&mut self, handle: u64) -> Result<(), u32>
         ensures answer { result ≡ unlock_answer self.old handle }
         ensures row { self.new ≡ unlocked self.old handle }
     {
         if !is_held_by(handle, &self.row) {
-            return Err(INVALID_LOCK);
+            return Err(ERROR_INVALID_SERVICE_LOCK);
         }
         self.row = None;
         Ok(())
@@ -80,6 +75,3 @@ impl DatabaseLock {
         self.row
     }
 }
-
-#[cfg(test)]
-mod tests;

@@ -1,5 +1,4 @@
 pub mod Needs
-pub mod Walks
 pub mod Order
 pub mod Indexed
 pub mod Naming

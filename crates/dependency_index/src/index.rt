@@ -3,17 +3,16 @@ ghost use Rattle.std.specs.List.{IsDistinct};
 ghost use Rattle.dependency_index.specs.Dependents.{dependents_in};
 ghost use Rattle.dependency_index.specs.Indexed.{Indexed, empty, reserved, row_with, spare_of, with_needs, without_service};
 ghost use Rattle.dependency_index.specs.Naming.{active_in, naming_in, row_of};
-ghost use Rattle.dependency_index.specs.Needs.{has, needs_of, numbers_of, with_row};
-ghost use Rattle.dependency_index.specs.Order.{is_cyclic, order_in};
-ghost use Rattle.dependency_index.specs.Walks.{IsAcyclic};
+ghost use Rattle.scm_model.specs.Needs.{has, needs_of, numbers_of, with_row};
+ghost use Rattle.scm_model.specs.Order.{is_cyclic, order_in};
+ghost use Rattle.scm_model.specs.Walks.{IsAcyclic};
 
 use super::graph::{Graph, NewRow, is_listed};
 use super::naming::{StateLook, active, row_of};
-use super::rows::NeedRow;
 use super::steps::Steps;
 use super::visit::StateOf;
 use super::{dependents, order};
-use scm_model::{Need, copy_needs};
+use scm_model::{Need, NeedRow, copy_needs};
 use scm_text::{Buffer, Items, OutOfMemory, WText};
 use std::alloc::Global;
 use std::marker::Model;
@@ -38,7 +37,7 @@ impl Model for DependencyIndex {
     ghost use Rattle.std.specs.Prelude.{◌<◌, IsSome, eqb, vec_len, vec_capacity};
     ghost use Rattle.std.specs.List.{IsDistinct};
     ghost use Rattle.dependency_index.specs.Indexed.{Indexed};
-    ghost use Rattle.dependency_index.specs.Needs.{numbers_of};
+    ghost use Rattle.scm_model.specs.Needs.{numbers_of};
 
     ghost Value = { Indexed };
 

@@ -14,9 +14,5 @@ pub use dependents::{dependents_follow_their_rule, dependents_need_it_by_name};
 pub use index::DependencyIndex;
 pub use naming::{StateLook, is_named};
 pub use order::{cycles_are_told, order_follows_its_rule};
-pub use rows::NeedRow;
 pub use steps::Steps;
 pub use visit::StateOf;
-
-#[cfg(test)]
-mod tests;

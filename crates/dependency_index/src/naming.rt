@@ -1,9 +1,9 @@
 ghost use Rattle.std.specs.Prelude.{ℕ, ◌≡◌, ◌+◌, ◌-◌, ◌^◌, ◌==◌, Bool, true, false, length, min, option_copied, if◌then◌else◌};
 ghost use Rattle.dependency_index.specs.Naming.{active, active_in, is_active, is_named, names, naming, naming_in, row_of};
 
-use super::rows::NeedRow;
 use super::steps::Steps;
-use scm_model::Need;
+use scm_model::codes::SERVICE_STOPPED;
+use scm_model::{Need, NeedRow};
 use scm_text::{WText, same};
 use std::sync::ledger::Ledger;
 
@@ -15,8 +15,6 @@ pub trait StateLook {
         ensures state { result ≡ state_of self.now service }
         ensures steps { steps.new ≡ steps.old + 1 };
 }
-
-const STOPPED: u32 = 1;
 
 /// Whether a need names the service of this name.
 pub fn is_named(name: &WText, need: &Need) -> bool
@@ -51,7 +49,7 @@ fn is_active<S: StateLook, L: Ledger>(
     ensures looks { steps.new ≡ steps.old + (if names name.now row.now then 1 else 0) }
 {
     if names(name, row) {
-        states.state_of(row.number, steps) != STOPPED
+        states.state_of(row.number, steps) != SERVICE_STOPPED
     } else {
         false
     }

@@ -8,6 +8,7 @@ use Rattle.scm_model.specs.declared.flat.Config.{Config}
 use Rattle.scm_model.specs.declared.flat.Action.{Action}
 use Rattle.scm_model.specs.declared.flat.Need.{Need}
 use Rattle.scm_model.specs.declared.flat.Need.TheVariants as needs
+use Rattle.scm_model.specs.declared.codes.TheConstants.{ERROR_INVALID_NAME, ERROR_INVALID_PARAMETER, ERROR_INVALID_SERVICE_ACCOUNT, SERVICE_AUTO_START, SERVICE_DISABLED, SERVICE_ERROR_CRITICAL, SERVICE_WIN32_OWN_PROCESS, SERVICE_WIN32_SHARE_PROCESS}
 use Rattle.service_record.specs.Words.{has_word}
 
 abbrev pub is_longer : ℕ → List ℕ → Bool
@@ -23,10 +24,10 @@ has_bad_names config = is_bad_name config.name || is_longer 256 config.display
 -- the type, the start or the error control is none that a service has; a delayed start is an automatic one
 abbrev pub has_bad_numbers : Config → Bool
 has_bad_numbers config =
-    not (config.kind == 0x10 || config.kind == 0x20)
-    || not (nat_le 2 config.start && nat_le config.start 4)
-    || nat_lt 3 config.error
-    || (config.delayed && not (config.start == 2))
+    not (config.kind == SERVICE_WIN32_OWN_PROCESS || config.kind == SERVICE_WIN32_SHARE_PROCESS)
+    || not (nat_le SERVICE_AUTO_START config.start && nat_le config.start SERVICE_DISABLED)
+    || nat_lt SERVICE_ERROR_CRITICAL config.error
+    || (config.delayed && not (config.start == SERVICE_AUTO_START))
 
 -- a command line that can't be run
 abbrev pub is_bad_line : List ℕ → Bool
@@ -57,9 +58,9 @@ is_bad_account (Some account) = not (length account == 0) && not (same_text acco
 -- what a new service's configuration is refused with, or 0
 unfoldable pub check_new : Config → Option (List ℕ) → ℕ
 check_new config account = first_refusal (
-    (has_bad_names config, 123)
-    ∷ (has_bad_numbers config || has_bad_texts config || has_bad_lists config, 87)
-    ∷ (is_bad_account account, 1057)
+    (has_bad_names config, ERROR_INVALID_NAME)
+    ∷ (has_bad_numbers config || has_bad_texts config || has_bad_lists config, ERROR_INVALID_PARAMETER)
+    ∷ (is_bad_account account, ERROR_INVALID_SERVICE_ACCOUNT)
     ∷ [])
 
 -- the same of a configuration that replaces another

@@ -3,6 +3,9 @@ ghost use Rattle.std.specs.List.{list_any};
 ghost use Rattle.service_record.specs.Checks.{check_change, check_new, has_bad_lists, has_bad_names, has_bad_numbers, has_bad_texts, is_bad_account, is_bad_name, is_longer, name_of_need};
 
 use super::lines::is_bad_line;
+use scm_model::codes::{
+    ERROR_INVALID_NAME, ERROR_INVALID_PARAMETER, ERROR_INVALID_SERVICE_ACCOUNT,
+};
 use scm_model::{Action, Config, Need};
 use scm_text::{WText, same_units};
 
@@ -119,13 +122,13 @@ pub fn check_new(config: &Config, account: Option<&WText>) -> u32
     ensures { result ≡ check_new config.now (option_copied account.entry) }
 {
     if has_bad_names(config) {
-        return 123;
+        return ERROR_INVALID_NAME;
     }
     if has_bad_numbers(config) || has_bad_texts(config) || has_bad_lists(config) {
-        return 87;
+        return ERROR_INVALID_PARAMETER;
     }
     if is_bad_account(account) {
-        return 1057;
+        return ERROR_INVALID_SERVICE_ACCOUNT;
     }
     0
 }

@@ -10,6 +10,3 @@ pub use checking::{check_change, check_new, has_bad_lists, is_bad_account, is_ba
 pub use lines::{is_bad_line, is_broken};
 pub use reading::{RecordFault, read_record};
 pub use writing::record_bytes;
-
-#[cfg(test)]
-mod tests;

@@ -10,7 +10,7 @@ use Rattle.scm_model.specs.declared.flat.Due.{Due}
 use Rattle.scm_model.specs.declared.flat.Service.{Service}
 use Rattle.start_plan.specs.Entered.{started, started_if, with_entered}
 use Rattle.start_plan.specs.Moves.{cause_of, entering_at, has, is_pending, move_by, move_of}
-use Rattle.start_plan.specs.Ready.{state_in, state_of}
+use Rattle.scm_model.specs.Ready.{state_in, state_of}
 use Rattle.start_plan.specs.Settle.{moved, dropped, words_for, code_in, settle_entries, settle_plan, settle_all, settled, tidied, stays, is_due_still}
 use Rattle.start_plan.specs.declared.field.Entering.{Entering}
 use Rattle.start_plan.specs.declared.field.Entering.TheVariants as entering

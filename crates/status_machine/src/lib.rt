@@ -5,50 +5,53 @@ ghost use Rattle.std.specs.Prelude.{◌≡◌, ◌==◌, ◌&&◌, nat_le, bit_a
 ghost use Rattle.status_machine.specs.Moves.{is_move, is_well_formed, take_end, take_report};
 
 use scm_model::Status;
-
-const STOPPED: u32 = 1;
-
-const START_PENDING: u32 = 2;
-
-const STOP_PENDING: u32 = 3;
-
-const RUNNING: u32 = 4;
-
-const CONTINUE_PENDING: u32 = 5;
-
-const PAUSE_PENDING: u32 = 6;
-
-const PAUSED: u32 = 7;
-
-/// The controls that there are, from `SERVICE_ACCEPT_STOP` to `SERVICE_ACCEPT_TRIGGEREVENT`.
-const ACCEPTED: u32 = 0x7FF;
-
-/// The code `ERROR_INVALID_DATA`.
-const INVALID_DATA: u32 = 13;
+use scm_model::codes::{
+    ERROR_INVALID_DATA, SERVICE_ACCEPT_ANY, SERVICE_CONTINUE_PENDING, SERVICE_PAUSE_PENDING,
+    SERVICE_PAUSED, SERVICE_RUNNING, SERVICE_START_PENDING, SERVICE_STOP_PENDING, SERVICE_STOPPED,
+};
 
 /// Whether a state may be reported after another.
 fn is_move(from: u32, to: u32) -> bool
     ensures { result ≡ is_move from to }
 {
     match from {
-        START_PENDING => matches!(to, START_PENDING | RUNNING | STOP_PENDING | STOPPED),
-        RUNNING => matches!(
+        SERVICE_START_PENDING => matches!(
             to,
-            RUNNING | PAUSE_PENDING | PAUSED | STOP_PENDING | STOPPED
+            SERVICE_START_PENDING | SERVICE_RUNNING | SERVICE_STOP_PENDING | SERVICE_STOPPED
         ),
-        PAUSE_PENDING => matches!(
+        SERVICE_RUNNING => matches!(
             to,
-            PAUSE_PENDING | PAUSED | RUNNING | STOP_PENDING | STOPPED
+            SERVICE_RUNNING
+                | SERVICE_PAUSE_PENDING
+                | SERVICE_PAUSED
+                | SERVICE_STOP_PENDING
+                | SERVICE_STOPPED
         ),
-        PAUSED => matches!(
+        SERVICE_PAUSE_PENDING => matches!(
             to,
-            PAUSED | CONTINUE_PENDING | RUNNING | STOP_PENDING | STOPPED
+            SERVICE_PAUSE_PENDING
+                | SERVICE_PAUSED
+                | SERVICE_RUNNING
+                | SERVICE_STOP_PENDING
+                | SERVICE_STOPPED
         ),
-        CONTINUE_PENDING => matches!(
+        SERVICE_PAUSED => matches!(
             to,
-            CONTINUE_PENDING | RUNNING | PAUSED | STOP_PENDING | STOPPED
+            SERVICE_PAUSED
+                | SERVICE_CONTINUE_PENDING
+                | SERVICE_RUNNING
+                | SERVICE_STOP_PENDING
+                | SERVICE_STOPPED
         ),
-        STOP_PENDING => matches!(to, STOP_PENDING | STOPPED),
+        SERVICE_CONTINUE_PENDING => matches!(
+            to,
+            SERVICE_CONTINUE_PENDING
+                | SERVICE_RUNNING
+                | SERVICE_PAUSED
+                | SERVICE_STOP_PENDING
+                | SERVICE_STOPPED
+        ),
+        SERVICE_STOP_PENDING => matches!(to, SERVICE_STOP_PENDING | SERVICE_STOPPED),
         _ => false,
     }
 }
@@ -57,9 +60,9 @@ fn is_well_formed(now: &Status, report: &Status) -> bool
     ensures { result ≡ is_well_formed now.now report.now }
 {
     report.kind == now.kind
-        && 1 <= report.state
-        && report.state <= 7
-        && report.accepted & ACCEPTED == report.accepted
+        && SERVICE_STOPPED <= report.state
+        && report.state <= SERVICE_PAUSED
+        && report.accepted & SERVICE_ACCEPT_ANY == report.accepted
 }
 
 /// The status after a report, which takes the place of the status. `ERROR_INVALID_DATA` (13) is for a report whose type isn't the
@@ -71,7 +74,7 @@ pub fn take_report(now: &Status, report: &Status) -> Result<Status, u32>
     if is_well_formed(now, report) && is_move(now.state, report.state) {
         Ok(*report)
     } else {
-        Err(INVALID_DATA)
+        Err(ERROR_INVALID_DATA)
     }
 }
 
@@ -81,7 +84,7 @@ pub fn take_end(now: &Status, code: u32) -> Status
 {
     Status {
         kind: now.kind,
-        state: STOPPED,
+        state: SERVICE_STOPPED,
         accepted: 0,
         win32: code,
         specific: 0,
@@ -89,6 +92,3 @@ pub fn take_end(now: &Status, code: u32) -> Status
         hint: 0,
     }
 }
-
-#[cfg(test)]
-mod tests;
