@@ -1,32 +1,33 @@
--- Change: a service gets another configuration.
-use Rattle.std.specs.Prelude.{ℕ, Bool, false, ◌||◌, ◌&&◌, ◌==◌, List, [], ◌∷◌, length, Option, None, Some, is_none, is_some, unwrap_or, option_map, option_and_then, if◌then◌else◌}
+-- RChangeServiceConfigW: a service gets another configuration.
+use Rattle.std.specs.Prelude.{ℕ, Bool, false, ◌||◌, ◌&&◌, ◌==◌, ◌++◌, List, [], ◌∷◌, length, Option, None, Some, is_none, is_some, unwrap_or, option_map, option_and_then, if◌then◌else◌}
 use Rattle.std.specs.Cmp.Lexicographic.{pointwise}
 use Rattle.scm_model.specs.declared.flat.Flat.{Flat}
 use Rattle.scm_model.specs.declared.flat.Config.{Config}
-use Rattle.scm_model.specs.declared.flat.Need.{Need}
-use Rattle.scm_model.specs.declared.flat.Need.TheVariants as needs
 use Rattle.scm_model.specs.declared.flat.Service.{Service}
 use Rattle.scm_model.specs.declared.calls.ChangeService.{ChangeService}
-use Rattle.scm_model.specs.declared.calls.Reply.{Reply}
 use Rattle.scm_model.specs.declared.calls.Reply.TheVariants as reply
 use Rattle.scm_model.specs.declared.steps.Change.{Change}
 use Rattle.scm_model.specs.declared.steps.Change.TheVariants.{Changed}
 use Rattle.scm_model.specs.declared.steps.Kept.{Kept}
 use Rattle.scm_model.specs.Rows.{opened, service_of, is_shown_by_another}
 use Rattle.scm_model.specs.Changes.{with_config}
-use Rattle.scm_model.specs.Refused.{first_refusal}
+use Rattle.scm_model.specs.Refused.{first_refusal, Refusals, outcome}
+use Rattle.scm_model.specs.Outcomes.{Done}
+use Rattle.scm_model.specs.declared.codes.TheConstants.{ERROR_ACCESS_DENIED, ERROR_CIRCULAR_DEPENDENCY, ERROR_DUPLICATE_SERVICE_NAME, ERROR_INVALID_HANDLE, ERROR_INVALID_NAME, ERROR_INVALID_PARAMETER, ERROR_INVALID_SERVICE_ACCOUNT, ERROR_SERVICE_MARKED_FOR_DELETE, SERVICE_AUTO_START, SERVICE_CHANGE_CONFIG, SERVICE_NO_CHANGE}
 use Rattle.service_record.specs.Checks.{check_change}
+use Rattle.service_record.specs.Spelling.{spelling}
 use Rattle.scm_rules.specs.Rights.{lacks}
 use Rattle.scm_rules.specs.Query.{service_in}
-use Rattle.scm_rules.specs.Delete.{is_marked, is_failed}
+use Rattle.scm_rules.specs.Delete.{is_marked, keeping_refusals}
 use Rattle.scm_rules.specs.Create.{display_of, next_tag, told_tag}
 use Rattle.scm_rules.specs.Needs.{are_unreadable, makes_cycle, needs_or}
+use Rattle.scm_model.specs.declared.calls.Request.TheVariants as request
 
 -- ## The new configuration
 
 -- a number that is asked for; 0xFFFFFFFF leaves the old one
 abbrev pub number_or : ℕ → ℕ → ℕ
-number_or old asked = if asked == 0xFFFFFFFF then old else asked
+number_or old asked = if asked == SERVICE_NO_CHANGE then old else asked
 
 -- a display name that is asked for; an empty one is the name
 abbrev pub display_or : Config → Option (List ℕ) → List ℕ
@@ -49,7 +50,7 @@ config_with tag old change = record old {
   group = unwrap_or change.group old.group;
   tag = tag;
   needs = needs_or old.needs change.needs;
-  delayed = old.delayed && number_or old.start change.start == 2;
+  delayed = old.delayed && number_or old.start change.start == SERVICE_AUTO_START;
 }
 
 abbrev pub config_from : Flat → ChangeService → Config → Config
@@ -85,18 +86,32 @@ abbrev pub loops : Flat → ChangeService → Option Service → Bool
 loops f change None = false
 loops f change (Some row) = makes_cycle f row.number (new_config f change row)
 
-abbrev pub change_refusals : Flat → ℕ → ChangeService → Kept → List (Bool × ℕ)
-change_refusals f caller change append =
-    (is_none (opened f caller change.handle), 6)
-    ∷ (lacks (opened f caller change.handle) 2, 5)
-    ∷ (is_marked (changed_service f caller change), 1072)
-    ∷ (checked f change (changed_service f caller change) == 123, 123)
-    ∷ (checked f change (changed_service f caller change) == 87 || tags_no_group change (changed_service f caller change) || are_unreadable change.needs, 87)
-    ∷ (checked f change (changed_service f caller change) == 1057, 1057)
-    ∷ (takes_name f change (changed_service f caller change), 1078)
-    ∷ (loops f change (changed_service f caller change), 1059)
-    ∷ (is_failed append, 1013)
+-- for the caller's rights
+abbrev pub changing_refusals : Flat → ℕ → ChangeService → Refusals
+changing_refusals f caller change =
+    (is_none (opened f caller change.handle), ERROR_INVALID_HANDLE)
+    ∷ (lacks (opened f caller change.handle) SERVICE_CHANGE_CONFIG, ERROR_ACCESS_DENIED)
     ∷ []
+
+-- for what is asked of a service
+abbrev pub asked_refusals : Flat → ChangeService → Option Service → Refusals
+asked_refusals f change service =
+    (checked f change service == ERROR_INVALID_NAME, ERROR_INVALID_NAME)
+    ∷ (checked f change service == ERROR_INVALID_PARAMETER || tags_no_group change service || are_unreadable change.needs, ERROR_INVALID_PARAMETER)
+    ∷ (checked f change service == ERROR_INVALID_SERVICE_ACCOUNT, ERROR_INVALID_SERVICE_ACCOUNT)
+    ∷ []
+
+-- for the other services
+abbrev pub clash_refusals : Flat → ChangeService → Option Service → Refusals
+clash_refusals f change service = (takes_name f change service, ERROR_DUPLICATE_SERVICE_NAME) ∷ (loops f change service, ERROR_CIRCULAR_DEPENDENCY) ∷ []
+
+-- for the service, where the caller may change it
+abbrev pub row_refusals : Flat → ChangeService → Option Service → Refusals
+row_refusals f change service = (is_marked service, ERROR_SERVICE_MARKED_FOR_DELETE) ∷ asked_refusals f change service ++ clash_refusals f change service
+
+abbrev pub change_refusals : Flat → ℕ → ChangeService → Kept → Refusals
+change_refusals f caller change append =
+    changing_refusals f caller change ++ row_refusals f change (changed_service f caller change) ++ keeping_refusals append
 
 abbrev pub change_verdict : Flat → ℕ → ChangeService → Kept → ℕ
 change_verdict f caller change append = first_refusal (change_refusals f caller change append)
@@ -118,34 +133,24 @@ abbrev pub asked_config : Flat → ℕ → ChangeService → Option Config
 asked_config f caller change = option_map (new_config f change) (changed_service f caller change)
 
 -- the tag is told where one was asked for
-abbrev pub change_done : Flat → ℕ → ChangeService → Reply × Flat
-change_done f caller change = (
-  reply.Tag (told_tag (tag_in (asked_config f caller change)) change.tag) 0,
-  with_new_config f (service_in (opened f caller change.handle)) (asked_config f caller change),
-)
+abbrev pub change_done : Flat → ℕ → ChangeService → Done
+change_done f caller change = record {
+  reply = reply.Tag (told_tag (tag_in (asked_config f caller change)) change.tag) 0;
+  flat = with_new_config f (service_in (opened f caller change.handle)) (asked_config f caller change);
+}
 
--- whether two texts have the same units
-abbrev pub is_equal : List ℕ → List ℕ → Bool
-is_equal = pointwise ◌==◌
+abbrev pub change_outcome : Flat → ℕ → ChangeService → Kept → Done
+change_outcome f caller change append = outcome (change_verdict f caller change append) (request.Change change) f (change_done f caller change)
 
--- whether two needs are of the same kind and have the same units
-abbrev pub is_equal_need : Need → Need → Bool
-is_equal_need (needs.Service a) (needs.Service b) = is_equal a b
-is_equal_need (needs.Service a) (needs.Group b) = false
-is_equal_need (needs.Group a) (needs.Service b) = false
-is_equal_need (needs.Group a) (needs.Group b) = is_equal a b
+-- ## What is kept
 
--- whether a new configuration has all that a change can ask for as the old one has it
-abbrev pub is_as_before : Config → Config → Bool
-is_as_before old new =
-    is_equal old.display new.display
-    && old.kind == new.kind && old.start == new.start && old.error == new.error
-    && is_equal old.path new.path && is_equal old.group new.group && old.tag == new.tag
-    && pointwise is_equal_need old.needs new.needs
+-- whether two configurations are kept as the same bytes
+abbrev pub is_kept_alike : Config → Config → Bool
+is_kept_alike old new = pointwise ◌==◌ (spelling old) (spelling new)
 
 -- a change that changes nothing isn't kept
 abbrev pub changed_from : Config → Config → Option Change
-changed_from old new = if is_as_before old new then None else Some (Changed new)
+changed_from old new = if is_kept_alike old new then None else Some (Changed new)
 
 abbrev pub changed_row : Flat → ChangeService → Service → Option Change
 changed_row f change row = changed_from row.config (new_config f change row)

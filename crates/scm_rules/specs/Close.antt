@@ -1,12 +1,14 @@
--- Close: a handle of the manager or of a service leaves.
-use Rattle.std.specs.Prelude.{ℕ, List, Bool, false, not, [], ◌∷◌, Option, None, Some}
+-- RCloseServiceHandle: a handle of the manager or of a service leaves.
+use Rattle.std.specs.Prelude.{ℕ, Bool, false, not, [], ◌∷◌, Option, None, Some}
 use Rattle.scm_model.specs.declared.flat.Flat.{Flat}
 use Rattle.scm_model.specs.declared.flat.HandleRow.{HandleRow}
-use Rattle.scm_model.specs.declared.calls.Reply.{Reply}
 use Rattle.scm_model.specs.declared.calls.Reply.TheVariants as reply
 use Rattle.scm_model.specs.Rows.{handle_of, is_closable}
 use Rattle.scm_model.specs.Changes.{without_handle}
-use Rattle.scm_model.specs.Refused.{first_refusal}
+use Rattle.scm_model.specs.Refused.{first_refusal, outcome, Refusals}
+use Rattle.scm_model.specs.Outcomes.{Done}
+use Rattle.scm_model.specs.declared.codes.TheConstants.{ERROR_INVALID_HANDLE}
+use Rattle.scm_model.specs.declared.calls.Request.TheVariants as request
 
 -- whether a handle that is there can be closed
 abbrev pub closes : Option HandleRow → Bool
@@ -14,11 +16,14 @@ closes None = false
 closes (Some row) = is_closable row.kind
 
 -- what it is refused with, in this order
-abbrev pub close_refusals : Flat → ℕ → ℕ → List (Bool × ℕ)
-close_refusals f caller handle = (not (closes (handle_of f caller handle)), 6) ∷ []
+abbrev pub close_refusals : Flat → ℕ → ℕ → Refusals
+close_refusals f caller handle = (not (closes (handle_of f caller handle)), ERROR_INVALID_HANDLE) ∷ []
 
 abbrev pub close_verdict : Flat → ℕ → ℕ → ℕ
 close_verdict f caller handle = first_refusal (close_refusals f caller handle)
 
-abbrev pub close_done : Flat → ℕ → Reply × Flat
-close_done f handle = (reply.Handle 0 0, without_handle f handle)
+abbrev pub close_done : Flat → ℕ → Done
+close_done f handle = record { reply = reply.Handle 0 0; flat = without_handle f handle }
+
+abbrev pub close_outcome : Flat → ℕ → ℕ → Done
+close_outcome f caller handle = outcome (close_verdict f caller handle) (request.Close handle) f (close_done f handle)

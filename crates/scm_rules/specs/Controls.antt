@@ -1,4 +1,4 @@
--- Control: a control that waits for a service's process.
+-- RControlService: a control that waits for a service's process.
 use Rattle.std.specs.Prelude.{ℕ, Bool, not, ◌&&◌, ◌||◌, ◌==◌, ◌++◌, ◌-◌, ◌^◌, min, nat_lt, List, [], ◌∷◌, Option, None, Some, drop, filter, length, map, option_map, if◌then◌else◌}
 use Rattle.std.specs.List.{list_any}
 use Rattle.scm_model.specs.declared.flat.Flat.{Flat}
@@ -9,10 +9,11 @@ use Rattle.scm_model.specs.declared.flat.Service.{Service}
 use Rattle.scm_model.specs.declared.flat.Status.{Status}
 use Rattle.scm_model.specs.declared.calls.Reply.{Reply}
 use Rattle.scm_model.specs.declared.calls.Reply.TheVariants as reply
-use Rattle.scm_model.specs.declared.steps.Answer.{Answer}
 use Rattle.scm_model.specs.declared.steps.Answer.TheVariants as answer
 use Rattle.scm_model.specs.Rows.{opened, service_of}
-use Rattle.scm_model.specs.Refused.{zero_status}
+use Rattle.scm_model.specs.Refused.{zero_status, answered}
+use Rattle.scm_model.specs.Outcomes.{Done, Told}
+use Rattle.scm_model.specs.declared.codes.TheConstants.{ERROR_INVALID_SERVICE_CONTROL, ERROR_SERVICE_CANNOT_ACCEPT_CTRL, ERROR_SERVICE_NOT_ACTIVE, SERVICE_STOPPED}
 use Rattle.control_dispatch.specs.Judging.{judge}
 use Rattle.dependency_index.specs.Naming.{is_named}
 use Rattle.scm_rules.specs.Launches.{process_of}
@@ -57,8 +58,8 @@ abbrev pub with_control_taken : Flat → ℕ → Flat
 with_control_taken f process = record f { processes = map (relieved_if process) f.processes }
 
 -- the control that waits first is taken in hand
-abbrev pub control_taken : Flat → ℕ → Answer × Flat
-control_taken f process = (answer.Control (first_control (controls_of f process)), with_control_taken f process)
+abbrev pub control_taken : Flat → ℕ → Told
+control_taken f process = record { answer = answer.Control (first_control (controls_of f process)); flat = with_control_taken f process }
 
 -- ## The call
 
@@ -72,7 +73,7 @@ granted_in handle = option_map (λ (of : Opened). of.granted) handle
 
 -- whether a service names the one of this name as a need and isn't STOPPED
 abbrev pub is_active_by : List ℕ → Service → Bool
-is_active_by name row = list_any (is_named name) row.config.needs && not (row.status.state == 1)
+is_active_by name row = list_any (is_named name) row.config.needs && not (row.status.state == SERVICE_STOPPED)
 
 -- how many do so with a service, in 32 bits
 abbrev pub active_among : List Service → Option Service → ℕ
@@ -90,7 +91,7 @@ control_verdict l f caller handle control =
 
 -- whether the service's status is told with a code that refuses
 abbrev pub tells_status : ℕ → Bool
-tells_status code = code == 1052 || code == 1061 || code == 1062
+tells_status code = code == ERROR_INVALID_SERVICE_CONTROL || code == ERROR_SERVICE_CANNOT_ACCEPT_CTRL || code == ERROR_SERVICE_NOT_ACTIVE
 
 abbrev pub status_told : ℕ → Option Service → Status
 status_told code service = if tells_status code then status_in service else zero_status
@@ -99,8 +100,13 @@ abbrev pub control_told : Flat → ℕ → ℕ → ℕ → Reply
 control_told f caller handle code = reply.State (status_told code (controlled_service f caller handle)) code
 
 -- the control waits, and the service's status is as it was
-abbrev pub control_done : Limits → Flat → ℕ → ℕ → ℕ → Reply × Flat
-control_done l f caller handle control = (
-  reply.State (status_in (controlled_service f caller handle)) 0,
-  with_control l f (process_in (controlled_service f caller handle)) control,
-)
+abbrev pub control_done : Limits → Flat → ℕ → ℕ → ℕ → Done
+control_done l f caller handle control = record {
+  reply = reply.State (status_in (controlled_service f caller handle)) 0;
+  flat = with_control l f (process_in (controlled_service f caller handle)) control;
+}
+
+abbrev pub control_outcome : Limits → Flat → ℕ → ℕ → ℕ → Done
+control_outcome l f caller handle control =
+    let code = control_verdict l f caller handle control in
+    answered code (control_told f caller handle code) f (control_done l f caller handle control)

@@ -15,9 +15,13 @@ pub mod Start
 pub mod Verdicts
 pub mod Launches
 pub mod Reports
+pub mod Ends
 pub mod Controls
 pub mod Steps
 pub mod Opening
-pub mod Texts
 pub mod Runs
 pub mod Valid
+pub mod Owed
+pub mod Room
+pub mod Histories
+pub mod Named

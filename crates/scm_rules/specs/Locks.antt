@@ -1,5 +1,5 @@
--- Lock, Unlock and QueryLock: the lock of the database.
-use Rattle.std.specs.Prelude.{ℕ, Bool, false, not, ◌+◌, ◌-◌, ◌*◌, ◌/◌, ◌==◌, nat_le, nat_lt, codes, length, min, List, [], ◌∷◌, Option, None, Some, is_none, is_some, if◌then◌else◌}
+-- RLockServiceDatabase, RUnlockServiceDatabase, RQueryServiceLockStatusW: the lock of the database.
+use Rattle.std.specs.Prelude.{◌^◌, ◌-◌, ℕ, Bool, false, not, ◌+◌, ◌*◌, ◌/◌, ◌==◌, nat_le, nat_lt, codes, length, min, List, [], ◌∷◌, Option, None, Some, is_none, is_some, if◌then◌else◌}
 use Rattle.scm_model.specs.declared.flat.Flat.{Flat}
 use Rattle.scm_model.specs.declared.flat.HandleRow.{HandleRow}
 use Rattle.scm_model.specs.declared.flat.HandleKind.TheVariants as kinds
@@ -11,18 +11,21 @@ use Rattle.scm_model.specs.declared.calls.Reply.{Reply}
 use Rattle.scm_model.specs.declared.calls.Reply.TheVariants as reply
 use Rattle.scm_model.specs.Rows.{handle_of, held_by, is_lock, manager_mask, owner_at, principal_of}
 use Rattle.scm_model.specs.Changes.{with_handle, without_handle}
-use Rattle.scm_model.specs.Refused.{answered, first_refusal}
+use Rattle.scm_model.specs.Refused.{answered, first_refusal, outcome, Refusals}
+use Rattle.scm_model.specs.Outcomes.{Done}
+use Rattle.scm_model.specs.declared.codes.TheConstants.{ERROR_ACCESS_DENIED, ERROR_INSUFFICIENT_BUFFER, ERROR_INVALID_HANDLE, ERROR_INVALID_SERVICE_LOCK, ERROR_NOT_ENOUGH_QUOTA, ERROR_SERVICE_DATABASE_LOCKED, SC_MANAGER_LOCK, SC_MANAGER_QUERY_LOCK_STATUS}
 use Rattle.database_lock.specs.Locking.{locked, unlocked}
 use Rattle.scm_rules.specs.Rights.{manager_lacks}
+use Rattle.scm_model.specs.declared.calls.Request.TheVariants as request
 
 -- ## Lock
 
-abbrev pub lock_refusals : Limits → Flat → ℕ → ℕ → List (Bool × ℕ)
+abbrev pub lock_refusals : Limits → Flat → ℕ → ℕ → Refusals
 lock_refusals l f caller handle =
-    (is_none (manager_mask f caller handle), 6)
-    ∷ (manager_lacks (manager_mask f caller handle) 8, 5)
-    ∷ (is_some f.lock, 1055)
-    ∷ (nat_le l.handles (held_by f caller), 1816)
+    (is_none (manager_mask f caller handle), ERROR_INVALID_HANDLE)
+    ∷ (manager_lacks (manager_mask f caller handle) SC_MANAGER_LOCK, ERROR_ACCESS_DENIED)
+    ∷ (is_some f.lock, ERROR_SERVICE_DATABASE_LOCKED)
+    ∷ (nat_le l.handles (held_by f caller), ERROR_NOT_ENOUGH_QUOTA)
     ∷ []
 
 abbrev pub lock_verdict : Limits → Flat → ℕ → ℕ → ℕ
@@ -33,8 +36,11 @@ abbrev pub with_lock : Flat → ℕ → Flat
 with_lock f handle = record f { lock = locked f.lock handle f.moment }
 
 -- a new handle holds it
-abbrev pub lock_done : Flat → ℕ → Reply × Flat
-lock_done f caller = (reply.Handle f.next.handle 0, with_handle (with_lock f f.next.handle) caller kinds.Lock 0)
+abbrev pub lock_done : Flat → ℕ → Done
+lock_done f caller = record { reply = reply.Handle f.next.handle 0; flat = with_handle (with_lock f f.next.handle) caller kinds.Lock 0 }
+
+abbrev pub lock_outcome : Limits → Flat → ℕ → ℕ → Done
+lock_outcome l f caller handle = outcome (lock_verdict l f caller handle) (request.Lock handle) f (lock_done f caller)
 
 -- ## Unlock
 
@@ -43,8 +49,8 @@ abbrev pub locks : Option HandleRow → Bool
 locks None = false
 locks (Some row) = is_lock row.kind
 
-abbrev pub unlock_refusals : Flat → ℕ → ℕ → List (Bool × ℕ)
-unlock_refusals f caller handle = (not (locks (handle_of f caller handle)), 1071) ∷ []
+abbrev pub unlock_refusals : Flat → ℕ → ℕ → Refusals
+unlock_refusals f caller handle = (not (locks (handle_of f caller handle)), ERROR_INVALID_SERVICE_LOCK) ∷ []
 
 abbrev pub unlock_verdict : Flat → ℕ → ℕ → ℕ
 unlock_verdict f caller handle = first_refusal (unlock_refusals f caller handle)
@@ -54,8 +60,11 @@ abbrev pub without_lock : Flat → ℕ → Flat
 without_lock f handle = record f { lock = unlocked f.lock handle }
 
 -- the handle leaves with it
-abbrev pub unlock_done : Flat → ℕ → Reply × Flat
-unlock_done f handle = (reply.Handle 0 0, without_handle (without_lock f handle) handle)
+abbrev pub unlock_done : Flat → ℕ → Done
+unlock_done f handle = record { reply = reply.Handle 0 0; flat = without_handle (without_lock f handle) handle }
+
+abbrev pub unlock_outcome : Flat → ℕ → ℕ → Done
+unlock_outcome f caller handle = outcome (unlock_verdict f caller handle) (request.Unlock handle) f (unlock_done f handle)
 
 -- ## QueryLock
 
@@ -78,17 +87,17 @@ is_held (Some held) = 1
 -- for how many whole seconds it is held, as far as numbers go
 abbrev pub seconds_at : ℕ → Option LockRow → ℕ
 seconds_at moment None = 0
-seconds_at moment (Some held) = min 0xFFFFFFFF ((moment - held.since) / 1000)
+seconds_at moment (Some held) = min (2 ^ 32 - 1) ((moment - held.since) / 1000)
 
 -- 12 bytes and the owner, with two bytes a unit and two for its zero
 abbrev pub lock_size : List ℕ → ℕ
 lock_size owner = 12 + 2 * (length owner + 1)
 
-abbrev pub query_lock_refusals : Flat → ℕ → ℕ → ℕ → List (Bool × ℕ)
+abbrev pub query_lock_refusals : Flat → ℕ → ℕ → ℕ → Refusals
 query_lock_refusals f caller handle size =
-    (is_none (manager_mask f caller handle), 6)
-    ∷ (manager_lacks (manager_mask f caller handle) 0x10, 5)
-    ∷ (nat_lt size (lock_size (lock_owner f)), 122)
+    (is_none (manager_mask f caller handle), ERROR_INVALID_HANDLE)
+    ∷ (manager_lacks (manager_mask f caller handle) SC_MANAGER_QUERY_LOCK_STATUS, ERROR_ACCESS_DENIED)
+    ∷ (nat_lt size (lock_size (lock_owner f)), ERROR_INSUFFICIENT_BUFFER)
     ∷ []
 
 abbrev pub query_lock_verdict : Flat → ℕ → ℕ → ℕ → ℕ
@@ -96,13 +105,16 @@ query_lock_verdict f caller handle size = first_refusal (query_lock_refusals f c
 
 -- where the size is too small, it is told how much is needed
 abbrev pub query_lock_told : Flat → ℕ → Reply
-query_lock_told f code = reply.LockState 0 None 0 (if code == 122 then lock_size (lock_owner f) else 0) code
+query_lock_told f code = reply.LockState 0 None 0 (if code == ERROR_INSUFFICIENT_BUFFER then lock_size (lock_owner f) else 0) code
 
-abbrev pub query_lock_done : Flat → Reply × Flat
-query_lock_done f = (reply.LockState (is_held f.lock) (Some (lock_owner f)) (seconds_at f.moment f.lock) (lock_size (lock_owner f)) 0, f)
+abbrev pub query_lock_done : Flat → Done
+query_lock_done f = record {
+  reply = reply.LockState (is_held f.lock) (Some (lock_owner f)) (seconds_at f.moment f.lock) (lock_size (lock_owner f)) 0;
+  flat = f;
+}
 
 -- what the call is answered
 abbrev pub query_lock_reply : Flat → ℕ → ℕ → ℕ → Reply
 query_lock_reply f caller handle size =
     let code = query_lock_verdict f caller handle size in
-    (answered code (query_lock_told f code) f (query_lock_done f)).0
+    (answered code (query_lock_told f code) f (query_lock_done f)).reply

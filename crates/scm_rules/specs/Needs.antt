@@ -6,10 +6,10 @@ use Rattle.scm_model.specs.declared.flat.Flat.{Flat}
 use Rattle.scm_model.specs.declared.flat.Need.{Need}
 use Rattle.scm_model.specs.declared.flat.Need.TheVariants as needs
 use Rattle.scm_model.specs.declared.flat.Service.{Service}
-use Rattle.dependency_index.specs.declared.rows.NeedRow.{NeedRow}
-use Rattle.dependency_index.specs.Needs.{with_row}
-use Rattle.dependency_index.specs.Order.{is_cyclic, order_in}
-use Rattle.start_plan.specs.Ready.{state_of}
+use Rattle.scm_model.specs.declared.flat.NeedRow.{NeedRow}
+use Rattle.scm_model.specs.Needs.{with_row}
+use Rattle.scm_model.specs.Order.{is_cyclic, order_in}
+use Rattle.scm_model.specs.Ready.{state_of}
 
 -- ## Needs as a call gives them
 

@@ -1,16 +1,18 @@
--- OpenService: a handle of a service, which may be marked.
-use Rattle.std.specs.Prelude.{ℕ, Bool, false, nat_le, List, [], ◌∷◌, Option, None, Some, is_none, unwrap_or}
+-- ROpenServiceW: a handle of a service, which may be marked.
+use Rattle.std.specs.Prelude.{ℕ, false, nat_le, List, [], ◌∷◌, Option, None, Some, is_none, unwrap_or}
 use Rattle.scm_model.specs.declared.flat.Flat.{Flat}
 use Rattle.scm_model.specs.declared.flat.Service.{Service}
 use Rattle.scm_model.specs.declared.flat.Limits.{Limits}
 use Rattle.scm_model.specs.declared.flat.HandleKind.TheVariants as kinds
-use Rattle.scm_model.specs.declared.calls.Reply.{Reply}
 use Rattle.scm_model.specs.declared.calls.Reply.TheVariants as reply
 use Rattle.scm_model.specs.Rows.{held_by, manager_mask, named, principal_of}
 use Rattle.scm_model.specs.Changes.{with_handle}
-use Rattle.scm_model.specs.Refused.{first_refusal}
+use Rattle.scm_model.specs.Refused.{first_refusal, outcome, Refusals}
+use Rattle.scm_model.specs.Outcomes.{Done}
+use Rattle.scm_model.specs.declared.codes.TheConstants.{ERROR_ACCESS_DENIED, ERROR_INVALID_HANDLE, ERROR_INVALID_NAME, ERROR_NOT_ENOUGH_QUOTA, ERROR_SERVICE_DOES_NOT_EXIST}
 use Rattle.access_mask.specs.Granted.{granted}
 use Rattle.service_record.specs.Checks.{is_bad_name}
+use Rattle.scm_model.specs.declared.calls.Request.TheVariants as request
 
 -- the rights that a caller is granted on a service
 abbrev pub service_granted : Flat → ℕ → ℕ → Option ℕ
@@ -22,20 +24,24 @@ number_in None = 0
 number_in (Some row) = row.number
 
 -- what it is refused with, in this order
-abbrev pub open_service_refusals : Limits → Flat → ℕ → ℕ → List ℕ → ℕ → List (Bool × ℕ)
+abbrev pub open_service_refusals : Limits → Flat → ℕ → ℕ → List ℕ → ℕ → Refusals
 open_service_refusals l f caller handle name access =
-    (is_none (manager_mask f caller handle), 6)
-    ∷ (is_bad_name name, 123)
-    ∷ (is_none (named f name), 1060)
-    ∷ (is_none (service_granted f caller access), 5)
-    ∷ (nat_le l.handles (held_by f caller), 1816)
+    (is_none (manager_mask f caller handle), ERROR_INVALID_HANDLE)
+    ∷ (is_bad_name name, ERROR_INVALID_NAME)
+    ∷ (is_none (named f name), ERROR_SERVICE_DOES_NOT_EXIST)
+    ∷ (is_none (service_granted f caller access), ERROR_ACCESS_DENIED)
+    ∷ (nat_le l.handles (held_by f caller), ERROR_NOT_ENOUGH_QUOTA)
     ∷ []
 
 abbrev pub open_service_verdict : Limits → Flat → ℕ → ℕ → List ℕ → ℕ → ℕ
 open_service_verdict l f caller handle name access = first_refusal (open_service_refusals l f caller handle name access)
 
-abbrev pub open_service_done : Flat → ℕ → List ℕ → ℕ → Reply × Flat
-open_service_done f caller name access = (
-  reply.Handle f.next.handle 0,
-  with_handle f caller (kinds.Service (number_in (named f name))) (unwrap_or (service_granted f caller access) 0),
-)
+abbrev pub open_service_done : Flat → ℕ → List ℕ → ℕ → Done
+open_service_done f caller name access = record {
+  reply = reply.Handle f.next.handle 0;
+  flat = with_handle f caller (kinds.Service (number_in (named f name))) (unwrap_or (service_granted f caller access) 0);
+}
+
+abbrev pub open_service_outcome : Limits → Flat → ℕ → ℕ → List ℕ → ℕ → Done
+open_service_outcome l f caller handle name access =
+    outcome (open_service_verdict l f caller handle name access) (request.OpenService handle name access) f (open_service_done f caller name access)

@@ -1,8 +1,16 @@
--- The state that a manager begins in.
-use Rattle.std.specs.Prelude.{ℕ, List, [], None}
+-- The states that a manager begins in.
+use Rattle.std.specs.Prelude.{ℕ, ◌≡◌, ◌≤◌, ◌+◌, false, List, [], ◌∷◌, None, All, AllPairs, length}
+use Rattle.scm_text.specs.Fold.{same_text}
 use Rattle.scm_model.specs.declared.flat.Config.{Config}
 use Rattle.scm_model.specs.declared.flat.Flat.{Flat}
 use Rattle.scm_model.specs.declared.flat.Limits.{Limits}
+use Rattle.scm_model.specs.declared.flat.Service.{Service}
+use Rattle.scm_model.specs.Changes.{new_service}
+use Rattle.scm_model.specs.Needs.{needs_of}
+use Rattle.scm_model.specs.Walks.{IsAcyclic}
+use Rattle.service_record.specs.Checks.{check_new}
+use Rattle.scm_rules.specs.Create.{new_status}
+use Rattle.scm_rules.specs.Needs.{need_rows}
 
 -- no service, no caller, and every number still to be given
 abbrev pub empty_at : ℕ → Flat
@@ -21,6 +29,31 @@ empty_at moment = record {
   reboots = 0;
 }
 
--- there are no groups and no configurations to begin with yet
+-- a service that never ran for each configuration, in order, with numbers from this one on
+abbrev pub services_from : ℕ → List Config → List Service
+services_from number [] = []
+services_from number (config ∷ configs) = new_service number config (new_status config.kind) ∷ services_from (number + 1) configs
+
+-- the services are numbered from 1; no group's services start by themselves yet
 abbrev pub opening : Limits → List (List ℕ) → List Config → ℕ → Flat
-opening l groups configs moment = empty_at moment
+opening l groups configs moment = record (empty_at moment) {
+  services = services_from 1 configs;
+  next = record (empty_at moment).next { service = length configs + 1 };
+}
+
+-- configurations that a manager can begin with: as many as there may be, no two with a name or a display name in common, each accepted,
+-- with needs that have no cycle
+pub record CanOpen (l : Limits) (configs : List Config) : Type 0 where
+  pub few : length configs ≤ l.services
+  pub names : AllPairs (λ (a b : Config). same_text a.name b.name ≡ false) configs
+  pub displays : AllPairs (λ (a b : Config). same_text a.display b.display ≡ false) configs
+  pub checked : All (λ (config : Config). check_new config None ≡ 0) configs
+  pub acyclic : IsAcyclic (needs_of (need_rows (services_from 1 configs)))
+
+-- a state that a manager begins in
+pub record IsOpening (l : Limits) (f : Flat) : Type 0 where
+  pub groups : List (List ℕ)
+  pub configs : List Config
+  pub moment : ℕ
+  pub can : CanOpen l configs
+  pub is : f ≡ opening l groups configs moment

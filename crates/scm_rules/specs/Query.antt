@@ -1,14 +1,16 @@
--- QueryStatus: the status of a service.
-use Rattle.std.specs.Prelude.{ℕ, List, Bool, [], ◌∷◌, Option, None, Some, is_none}
+-- RQueryServiceStatus: the status of a service.
+use Rattle.std.specs.Prelude.{ℕ, [], ◌∷◌, Option, None, Some, is_none}
 use Rattle.scm_model.specs.declared.flat.Flat.{Flat}
 use Rattle.scm_model.specs.declared.flat.Status.{Status}
 use Rattle.scm_model.specs.declared.flat.Service.{Service}
 use Rattle.scm_model.specs.declared.flat.Opened.{Opened}
-use Rattle.scm_model.specs.declared.calls.Reply.{Reply}
 use Rattle.scm_model.specs.declared.calls.Reply.TheVariants as reply
 use Rattle.scm_model.specs.Rows.{opened, service_of}
-use Rattle.scm_model.specs.Refused.{first_refusal, zero_status}
+use Rattle.scm_model.specs.Refused.{first_refusal, zero_status, outcome, Refusals}
+use Rattle.scm_model.specs.Outcomes.{Done}
+use Rattle.scm_model.specs.declared.codes.TheConstants.{ERROR_ACCESS_DENIED, ERROR_INVALID_HANDLE, SERVICE_QUERY_STATUS}
 use Rattle.scm_rules.specs.Rights.{lacks}
+use Rattle.scm_model.specs.declared.calls.Request.TheVariants as request
 
 -- the status of a service that is there
 abbrev pub status_in : Option Service → Status
@@ -21,14 +23,17 @@ service_in None = 0
 service_in (Some handle) = handle.service
 
 -- what it is refused with, in this order
-abbrev pub query_refusals : Flat → ℕ → ℕ → List (Bool × ℕ)
+abbrev pub query_refusals : Flat → ℕ → ℕ → Refusals
 query_refusals f caller handle =
-    (is_none (opened f caller handle), 6)
-    ∷ (lacks (opened f caller handle) 4, 5)
+    (is_none (opened f caller handle), ERROR_INVALID_HANDLE)
+    ∷ (lacks (opened f caller handle) SERVICE_QUERY_STATUS, ERROR_ACCESS_DENIED)
     ∷ []
 
 abbrev pub query_verdict : Flat → ℕ → ℕ → ℕ
 query_verdict f caller handle = first_refusal (query_refusals f caller handle)
 
-abbrev pub query_done : Flat → ℕ → ℕ → Reply × Flat
-query_done f caller handle = (reply.State (status_in (service_of f (service_in (opened f caller handle)))) 0, f)
+abbrev pub query_done : Flat → ℕ → ℕ → Done
+query_done f caller handle = record { reply = reply.State (status_in (service_of f (service_in (opened f caller handle)))) 0; flat = f }
+
+abbrev pub query_outcome : Flat → ℕ → ℕ → Done
+query_outcome f caller handle = outcome (query_verdict f caller handle) (request.QueryStatus handle) f (query_done f caller handle)

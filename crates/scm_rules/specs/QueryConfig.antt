@@ -1,5 +1,5 @@
--- QueryConfig: what a service is configured as.
-use Rattle.std.specs.Prelude.{ℕ, Bool, ◌+◌, ◌*◌, ◌++◌, ◌==◌, nat_lt, codes, length, min, List, [], ◌∷◌, Option, None, Some, is_none, if◌then◌else◌}
+-- RQueryServiceConfigW: what a service is configured as.
+use Rattle.std.specs.Prelude.{◌^◌, ◌-◌, ℕ, ◌+◌, ◌*◌, ◌++◌, ◌==◌, nat_lt, codes, length, min, List, [], ◌∷◌, Option, None, Some, is_none, if◌then◌else◌}
 use Rattle.std.specs.List.{flat_map}
 use Rattle.scm_model.specs.declared.flat.Flat.{Flat}
 use Rattle.scm_model.specs.declared.flat.Config.{Config}
@@ -10,7 +10,9 @@ use Rattle.scm_model.specs.declared.calls.Shown.{Shown}
 use Rattle.scm_model.specs.declared.calls.Reply.{Reply}
 use Rattle.scm_model.specs.declared.calls.Reply.TheVariants as reply
 use Rattle.scm_model.specs.Rows.{opened, service_of}
-use Rattle.scm_model.specs.Refused.{answered, first_refusal}
+use Rattle.scm_model.specs.Refused.{answered, first_refusal, Refusals}
+use Rattle.scm_model.specs.Outcomes.{Done}
+use Rattle.scm_model.specs.declared.codes.TheConstants.{ERROR_ACCESS_DENIED, ERROR_INSUFFICIENT_BUFFER, ERROR_INVALID_HANDLE, SERVICE_QUERY_CONFIG}
 use Rattle.scm_rules.specs.Rights.{lacks}
 use Rattle.scm_rules.specs.Query.{service_in}
 
@@ -46,7 +48,7 @@ text_size text = 2 * (length text + 1)
 
 -- 36 bytes, and the five texts, as far as numbers go
 abbrev pub shown_size : Shown → ℕ
-shown_size s = min 0xFFFFFFFF (36 + text_size s.path + text_size s.group + text_size s.needs + text_size s.account + text_size s.display)
+shown_size s = min (2 ^ 32 - 1) (36 + text_size s.path + text_size s.group + text_size s.needs + text_size s.account + text_size s.display)
 
 -- what is shown of a service that is there
 abbrev pub shown_in : Option Service → Option Shown
@@ -63,11 +65,11 @@ shown_by f caller handle = shown_in (service_of f (service_in (opened f caller h
 
 -- ## Refusals and effect
 
-abbrev pub query_config_refusals : Flat → ℕ → ℕ → ℕ → List (Bool × ℕ)
+abbrev pub query_config_refusals : Flat → ℕ → ℕ → ℕ → Refusals
 query_config_refusals f caller handle size =
-    (is_none (opened f caller handle), 6)
-    ∷ (lacks (opened f caller handle) 1, 5)
-    ∷ (nat_lt size (size_in (shown_by f caller handle)), 122)
+    (is_none (opened f caller handle), ERROR_INVALID_HANDLE)
+    ∷ (lacks (opened f caller handle) SERVICE_QUERY_CONFIG, ERROR_ACCESS_DENIED)
+    ∷ (nat_lt size (size_in (shown_by f caller handle)), ERROR_INSUFFICIENT_BUFFER)
     ∷ []
 
 abbrev pub query_config_verdict : Flat → ℕ → ℕ → ℕ → ℕ
@@ -75,12 +77,12 @@ query_config_verdict f caller handle size = first_refusal (query_config_refusals
 
 -- where the size is too small, it is told how much is needed
 abbrev pub query_config_told : Flat → ℕ → ℕ → ℕ → Reply
-query_config_told f caller handle code = reply.Shown None (if code == 122 then size_in (shown_by f caller handle) else 0) code
+query_config_told f caller handle code = reply.Shown None (if code == ERROR_INSUFFICIENT_BUFFER then size_in (shown_by f caller handle) else 0) code
 
-abbrev pub query_config_done : Flat → ℕ → ℕ → Reply × Flat
-query_config_done f caller handle = (reply.Shown (shown_by f caller handle) (size_in (shown_by f caller handle)) 0, f)
+abbrev pub query_config_done : Flat → ℕ → ℕ → Done
+query_config_done f caller handle = record { reply = reply.Shown (shown_by f caller handle) (size_in (shown_by f caller handle)) 0; flat = f }
 
 -- what the call is answered
 abbrev pub query_config_reply : Flat → ℕ → ℕ → ℕ → Reply
 query_config_reply f caller handle size =
-    (answered (query_config_verdict f caller handle size) (query_config_told f caller handle (query_config_verdict f caller handle size)) f (query_config_done f caller handle)).0
+    (answered (query_config_verdict f caller handle size) (query_config_told f caller handle (query_config_verdict f caller handle size)) f (query_config_done f caller handle)).reply

@@ -1,18 +1,20 @@
--- What a process tells of its service, and its end.
-use Rattle.std.specs.Prelude.{ℕ, Bool, false, not, ◌&&◌, ◌==◌, List, [], ◌∷◌, Option, None, Some, Result, Ok, Err, find, is_none, map, if◌then◌else◌}
+-- RSetServiceStatus, and what a process tells of its service.
+use Rattle.std.specs.Prelude.{ℕ, Bool, false, not, ◌&&◌, ◌==◌, [], ◌∷◌, Option, None, Some, Result, Ok, Err, find, is_none, map, if◌then◌else◌}
 use Rattle.scm_model.specs.declared.flat.Flat.{Flat}
 use Rattle.scm_model.specs.declared.flat.Service.{Service}
 use Rattle.scm_model.specs.declared.flat.Status.{Status}
-use Rattle.scm_model.specs.declared.calls.Reply.{Reply}
 use Rattle.scm_model.specs.declared.calls.Reply.TheVariants as reply
 use Rattle.scm_model.specs.declared.steps.Answer.{Answer}
 use Rattle.scm_model.specs.declared.steps.Answer.TheVariants as answer
 use Rattle.scm_model.specs.Rows.{opened, service_of}
-use Rattle.scm_model.specs.Refused.{first_refusal}
+use Rattle.scm_model.specs.Refused.{first_refusal, outcome, Refusals}
+use Rattle.scm_model.specs.Outcomes.{Done, Told}
+use Rattle.scm_model.specs.declared.codes.TheConstants.{ERROR_ACCESS_DENIED, ERROR_INVALID_DATA, ERROR_INVALID_HANDLE, SERVICE_SET_STATUS, SERVICE_STOPPED}
 use Rattle.status_machine.specs.Moves.{take_report, takes}
-use Rattle.scm_rules.specs.Launches.{is_running, process_of, with_fallen, without_process}
+use Rattle.scm_rules.specs.Launches.{is_running, process_of}
 use Rattle.scm_rules.specs.Query.{service_in}
 use Rattle.scm_rules.specs.Rights.{lacks}
+use Rattle.scm_model.specs.declared.calls.Request.TheVariants as request
 
 -- ## Reports
 
@@ -22,7 +24,7 @@ current_of f process = find (λ (row : Service). row.process == process) f.servi
 
 -- a service that is STOPPED has no process any more
 abbrev pub process_in_state : ℕ → ℕ → ℕ
-process_in_state state process = if state == 1 then 0 else process
+process_in_state state process = if state == SERVICE_STOPPED then 0 else process
 
 -- a report that is taken replaces the status
 abbrev pub moved_by : Service → Result Status ℕ → Service
@@ -46,8 +48,8 @@ abbrev pub report_told : Option Service → Status → Answer
 report_told None report = answer.Stale
 report_told (Some row) report = report_answer (take_report row.status report)
 
-abbrev pub reported : Flat → ℕ → Status → Answer × Flat
-reported f process report = (report_told (current_of f process) report, with_report f process report)
+abbrev pub reported : Flat → ℕ → Status → Told
+reported f process report = record { answer = report_told (current_of f process) report; flat = with_report f process report }
 
 -- ## A report by a call
 
@@ -65,26 +67,19 @@ abbrev pub may_report : Flat → Option Service → Status → Bool
 may_report f None report = false
 may_report f (Some row) report = is_running (process_of f row.process) && takes row.status report
 
-abbrev pub set_status_refusals : Flat → ℕ → ℕ → Status → List (Bool × ℕ)
+abbrev pub set_status_refusals : Flat → ℕ → ℕ → Status → Refusals
 set_status_refusals f caller handle report =
-    (is_none (opened f caller handle), 6)
-    ∷ (lacks (opened f caller handle) 0x8000, 5)
-    ∷ (not (may_report f (reporting_service f caller handle) report), 13)
+    (is_none (opened f caller handle), ERROR_INVALID_HANDLE)
+    ∷ (lacks (opened f caller handle) SERVICE_SET_STATUS, ERROR_ACCESS_DENIED)
+    ∷ (not (may_report f (reporting_service f caller handle) report), ERROR_INVALID_DATA)
     ∷ []
 
 abbrev pub set_status_verdict : Flat → ℕ → ℕ → Status → ℕ
 set_status_verdict f caller handle report = first_refusal (set_status_refusals f caller handle report)
 
-abbrev pub set_status_done : Flat → ℕ → ℕ → Status → Reply × Flat
-set_status_done f caller handle report = (reply.Code 0, with_report f (process_in (reporting_service f caller handle)) report)
+abbrev pub set_status_done : Flat → ℕ → ℕ → Status → Done
+set_status_done f caller handle report = record { reply = reply.Code 0; flat = with_report f (process_in (reporting_service f caller handle)) report }
 
--- ## Ends
-
--- an end of a process that is not its service's current one is stale
-abbrev pub end_told : Option Service → Answer
-end_told None = answer.Stale
-end_told (Some row) = answer.Done
-
--- the process leaves, and a service falls whose current one it is: its process ended without a word (1067)
-abbrev pub process_ended : Flat → ℕ → Answer × Flat
-process_ended f process = (end_told (current_of f process), without_process (with_fallen f process 1067) process)
+abbrev pub set_status_outcome : Flat → ℕ → ℕ → Status → Done
+set_status_outcome f caller handle report =
+    outcome (set_status_verdict f caller handle report) (request.SetStatus handle report) f (set_status_done f caller handle report)

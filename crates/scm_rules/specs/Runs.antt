@@ -1,27 +1,23 @@
 -- Runs: entries one after another.
-use Rattle.std.specs.Prelude.{ℕ, IsTrue, List, [], ◌∷◌}
+use Rattle.std.specs.Prelude.{IsTrue, List, [], ◌∷◌}
 use Rattle.scm_model.specs.declared.flat.Flat.{Flat}
 use Rattle.scm_model.specs.declared.flat.Limits.{Limits}
-use Rattle.scm_model.specs.declared.steps.Step.{Step}
 use Rattle.scm_model.specs.declared.steps.Answer.{Answer}
+use Rattle.scm_model.specs.Entries.{Entry}
 use Rattle.scm_rules.specs.Steps.{step_of, may}
-
--- a moment and a step
-abbrev pub Entry : Type 0
-Entry = ℕ × Step
 
 -- the state that a run ends in
 abbrev pub state_of : Limits → Flat → List Entry → Flat
 state_of l f [] = f
-state_of l f (e ∷ es) = state_of l (step_of l f e.0 e.1).1 es
+state_of l f (e ∷ es) = state_of l (step_of l f e.0 e.1).flat es
 
 -- each entry may be made in the state before it
 abbrev pub IsLegal : Limits → Flat → List Entry → Type 0
 IsLegal l f [] = Unit {0}
-IsLegal l f (e ∷ es) = IsTrue (may l f e.0 e.1) × IsLegal l (step_of l f e.0 e.1).1 es
+IsLegal l f (e ∷ es) = IsTrue (may l f e.0 e.1) × IsLegal l (step_of l f e.0 e.1).flat es
 
 -- a fact of each step of a run: of the state before, the entry, its answer and the state after
 abbrev pub EachStep : (Flat → Entry → Answer → Flat → Type 0) → Limits → Flat → List Entry → Type 0
 EachStep P l f [] = Unit {0}
 EachStep P l f (e ∷ es) =
-    P f e (step_of l f e.0 e.1).0 (step_of l f e.0 e.1).1 × EachStep P l (step_of l f e.0 e.1).1 es
+    P f e (step_of l f e.0 e.1).answer (step_of l f e.0 e.1).flat × EachStep P l (step_of l f e.0 e.1).flat es

@@ -1,4 +1,4 @@
--- Start: a plan to start a service after what it needs.
+-- RStartServiceW: a plan to start a service after what it needs.
 use Rattle.std.specs.Prelude.{ℕ, Bool, true, false, not, ◌||◌, ◌&&◌, ◌==◌, ◌+◌, ◌-◌, ◌^◌, ◌++◌, nat_le, min, List, [], ◌∷◌, Option, None, Some, filter, is_none, is_some, unwrap_or, if◌then◌else◌}
 use Rattle.std.specs.List.{list_any}
 use Rattle.std.specs.Char.Utf16.{has_unpaired_surrogate}
@@ -10,16 +10,18 @@ use Rattle.scm_model.specs.declared.flat.Need.{Need}
 use Rattle.scm_model.specs.declared.flat.Need.TheVariants as needs
 use Rattle.scm_model.specs.declared.flat.Plan.{Plan}
 use Rattle.scm_model.specs.declared.flat.Service.{Service}
-use Rattle.scm_model.specs.declared.calls.Reply.{Reply}
 use Rattle.scm_model.specs.declared.calls.Reply.TheVariants as reply
 use Rattle.scm_model.specs.Rows.{named, opened, service_of}
-use Rattle.scm_model.specs.Refused.{first_refusal}
+use Rattle.scm_model.specs.Refused.{first_refusal, Refusals, outcome}
+use Rattle.scm_model.specs.Outcomes.{Done}
+use Rattle.scm_model.specs.declared.codes.TheConstants.{ERROR_ACCESS_DENIED, ERROR_INVALID_HANDLE, ERROR_INVALID_PARAMETER, ERROR_SERVICE_ALREADY_RUNNING, ERROR_SERVICE_DATABASE_LOCKED, ERROR_SERVICE_DEPENDENCY_DELETED, ERROR_SERVICE_DISABLED, ERROR_SERVICE_MARKED_FOR_DELETE, ERROR_SERVICE_REQUEST_TIMEOUT, SERVICE_DISABLED, SERVICE_START, SERVICE_STOPPED}
 use Rattle.start_plan.specs.Decided.{caller_of, code_of, decided_in, is_numbered, is_target, without_plan}
-use Rattle.start_plan.specs.Ready.{state_in}
+use Rattle.scm_model.specs.Ready.{state_in}
 use Rattle.scm_rules.specs.Delete.{is_marked}
 use Rattle.scm_rules.specs.Needs.{start_order}
 use Rattle.scm_rules.specs.Query.{service_in}
 use Rattle.scm_rules.specs.Rights.{lacks}
+use Rattle.scm_model.specs.declared.calls.Request.TheVariants as request
 
 -- ## Refusals
 
@@ -30,7 +32,7 @@ are_bad_words (Some words) = list_any has_unpaired_surrogate words
 
 abbrev pub is_disabled : Option Service → Bool
 is_disabled None = false
-is_disabled (Some row) = row.config.start == 4
+is_disabled (Some row) = row.config.start == SERVICE_DISABLED
 
 -- whether a service that is needed by name isn't there or is marked
 abbrev pub is_missing : Flat → Need → Bool
@@ -45,17 +47,26 @@ lacks_need f (Some row) = list_any (is_missing f) row.config.needs
 abbrev pub started_service : Flat → ℕ → ℕ → Option Service
 started_service f caller handle = service_of f (service_in (opened f caller handle))
 
-abbrev pub start_refusals : Flat → ℕ → ℕ → Option (List (List ℕ)) → List (Bool × ℕ)
-start_refusals f caller handle words =
-    (is_none (opened f caller handle), 6)
-    ∷ (are_bad_words words, 87)
-    ∷ (lacks (opened f caller handle) 0x10, 5)
-    ∷ (is_marked (started_service f caller handle), 1072)
-    ∷ (is_some f.lock, 1055)
-    ∷ (not (state_in (started_service f caller handle) == 1) || is_target f.plans (service_in (opened f caller handle)), 1056)
-    ∷ (is_disabled (started_service f caller handle), 1058)
-    ∷ (lacks_need f (started_service f caller handle), 1075)
+-- for the handle and the words
+abbrev pub starting_refusals : Flat → ℕ → ℕ → Option (List (List ℕ)) → Refusals
+starting_refusals f caller handle words =
+    (is_none (opened f caller handle), ERROR_INVALID_HANDLE)
+    ∷ (are_bad_words words, ERROR_INVALID_PARAMETER)
+    ∷ (lacks (opened f caller handle) SERVICE_START, ERROR_ACCESS_DENIED)
     ∷ []
+
+-- for how a service stands
+abbrev pub service_refusals : Flat → ℕ → Refusals
+service_refusals f service =
+    (is_marked (service_of f service), ERROR_SERVICE_MARKED_FOR_DELETE)
+    ∷ (is_some f.lock, ERROR_SERVICE_DATABASE_LOCKED)
+    ∷ (not (state_in (service_of f service) == SERVICE_STOPPED) || is_target f.plans service, ERROR_SERVICE_ALREADY_RUNNING)
+    ∷ (is_disabled (service_of f service), ERROR_SERVICE_DISABLED)
+    ∷ (lacks_need f (service_of f service), ERROR_SERVICE_DEPENDENCY_DELETED)
+    ∷ []
+
+abbrev pub start_refusals : Flat → ℕ → ℕ → Option (List (List ℕ)) → Refusals
+start_refusals f caller handle words = starting_refusals f caller handle words ++ service_refusals f (service_in (opened f caller handle))
 
 abbrev pub start_verdict : Flat → ℕ → ℕ → Option (List (List ℕ)) → ℕ
 start_verdict f caller handle words = first_refusal (start_refusals f caller handle words)
@@ -78,10 +89,13 @@ with_plan f plan = record f {
 }
 
 -- a plan begins that goes by the start order; it is not answered until it is decided
-abbrev pub start_done : Flat → ℕ → ℕ → Option (List (List ℕ)) → Reply × Flat
+abbrev pub start_done : Flat → ℕ → ℕ → Option (List (List ℕ)) → Done
 start_done f caller handle words =
     let target = service_in (opened f caller handle) in
-    (reply.Code 0, with_plan f (new_plan f caller target (start_order f target) (unwrap_or words [])))
+    record { reply = reply.Code 0; flat = with_plan f (new_plan f caller target (start_order f target) (unwrap_or words [])) }
+
+abbrev pub start_outcome : Flat → ℕ → ℕ → Option (List (List ℕ)) → Done
+start_outcome f caller handle words = outcome (start_verdict f caller handle words) (request.Start handle words) f (start_done f caller handle words)
 
 -- ## What ends a start
 
@@ -104,7 +118,7 @@ is_due moment due = nat_le due.moment moment
 
 -- a plan is given up whose deadline comes
 abbrev pub expired : List Plan → DueKind → List Plan
-expired plans (dues.Deadline plan) = decided_in (is_numbered plan) 1053 plans
+expired plans (dues.Deadline plan) = decided_in (is_numbered plan) ERROR_SERVICE_REQUEST_TIMEOUT plans
 expired plans kind = plans
 
 abbrev pub fired_by : ℕ → List Plan → Due → List Plan

@@ -14,12 +14,16 @@ use Rattle.scm_model.specs.declared.steps.Step.TheVariants.{Joined, Call, EndSta
 use Rattle.scm_model.specs.declared.steps.Answer.{Answer}
 use Rattle.scm_model.specs.declared.steps.Answer.TheVariants as answer
 use Rattle.scm_model.specs.Rows.{is_caller}
-use Rattle.scm_model.specs.Changes.{with_moment, with_caller, without_caller, without_handles_of, without_lock_of, purged}
+use Rattle.scm_model.specs.Changes.{with_moment, with_caller, without_caller, without_handles_of, without_lock_of, without_registrations_of}
+use Rattle.scm_model.specs.Purge.{purged}
+use Rattle.scm_model.specs.Outcomes.{Told}
+use Rattle.scm_model.specs.Ranges.{in_range}
 use Rattle.start_plan.specs.Decided.{code_of, without_plans_of}
 use Rattle.start_plan.specs.Settle.{settled}
 use Rattle.scm_rules.specs.Controls.{control_taken, controls_of, waits}
 use Rattle.scm_rules.specs.Launches.{first_wanted, is_running, is_taken, launch_failed, launch_taken, launched, process_of}
-use Rattle.scm_rules.specs.Reports.{process_ended, reported}
+use Rattle.scm_rules.specs.Reports.{reported}
+use Rattle.scm_rules.specs.Ends.{process_ended}
 use Rattle.scm_rules.specs.Start.{can_end, ended, is_due, ticked}
 use Rattle.scm_rules.specs.Verdicts.{call_of, change_of_call, tells_right, verdict}
 
@@ -27,9 +31,9 @@ use Rattle.scm_rules.specs.Verdicts.{call_of, change_of_call, tells_right, verdi
 abbrev pub without_plans : Flat → ℕ → Flat
 without_plans f caller = record f { plans = without_plans_of f.plans caller }
 
--- what a caller leaves when it goes: its handles and plans leave too, and a lock that one of its handles held is free
+-- what a caller leaves when it goes: its handles, registrations and plans leave too, and a lock that one of its handles held is free
 abbrev pub gone : Flat → ℕ → Flat
-gone f caller = without_caller (without_plans (without_handles_of (without_lock_of f caller) caller) caller) caller
+gone f caller = without_caller (without_plans (without_registrations_of (without_handles_of (without_lock_of f caller) caller) caller) caller) caller
 
 -- a start that isn't refused tells its plan, and every other call its reply
 abbrev pub tells_plan : Request → ℕ → Bool
@@ -44,21 +48,21 @@ abbrev pub at_moment : Flat → ℕ → Step → Flat
 at_moment f moment (NoMemory caller) = f
 at_moment f moment step = with_moment f moment
 
-abbrev pub effect_of : Limits → Flat → Step → Answer × Flat
-effect_of l f (Joined principal) = (answer.Caller f.next.caller, with_caller f principal)
+abbrev pub effect_of : Limits → Flat → Step → Told
+effect_of l f (Joined principal) = record { answer = answer.Caller f.next.caller; flat = with_caller f principal }
 effect_of l f (Call caller asked append) =
     let done = call_of l f caller asked append in
-    (answer_of (tells_plan asked (verdict l f caller asked append)) f.next.plan done.0, done.1)
-effect_of l f (EndStart caller plan) = (answer.Reply (reply.Code (unwrap_or (code_of f.plans plan) 0)), ended f plan)
-effect_of l f LaunchTaken = (answer.Launch (first_wanted f.wanted), launch_taken f)
-effect_of l f (Launched process pid) = (answer.Done, launched f process pid)
-effect_of l f (LaunchFailed process code) = (answer.Done, launch_failed f process code)
+    record { answer = answer_of (tells_plan asked (verdict l f caller asked append)) f.next.plan done.reply; flat = done.flat }
+effect_of l f (EndStart caller plan) = record { answer = answer.Reply (reply.Code (unwrap_or (code_of f.plans plan) 0)); flat = ended f plan }
+effect_of l f LaunchTaken = record { answer = answer.Launch (first_wanted f.wanted); flat = launch_taken f }
+effect_of l f (Launched process pid) = record { answer = answer.Done; flat = launched f process pid }
+effect_of l f (LaunchFailed process code) = record { answer = answer.Done; flat = launch_failed f process code }
 effect_of l f (Report process status) = reported f process status
 effect_of l f (Ended process) = process_ended f process
 effect_of l f (ControlTaken process) = control_taken f process
-effect_of l f Tick = (answer.Done, ticked f)
-effect_of l f (Gone caller) = (answer.Done, gone f caller)
-effect_of l f (NoMemory caller) = (answer.Done, f)
+effect_of l f Tick = record { answer = answer.Done; flat = ticked f }
+effect_of l f (Gone caller) = record { answer = answer.Done; flat = gone f caller }
+effect_of l f (NoMemory caller) = record { answer = answer.Done; flat = f }
 
 -- a start that is decided by now is answered its code, and its plan leaves
 abbrev pub answered_by : ℕ → Option ℕ → Answer
@@ -69,21 +73,34 @@ abbrev pub left_by : Flat → ℕ → Option ℕ → Flat
 left_by f plan None = f
 left_by f plan (Some code) = ended f plan
 
-abbrev pub finished : Flat → Answer → Answer × Flat
-finished f (answer.Begun plan) = (answered_by plan (code_of f.plans plan), left_by f plan (code_of f.plans plan))
-finished f told = (told, f)
+abbrev pub finished : Flat → Answer → Told
+finished f (answer.Begun plan) = record { answer = answered_by plan (code_of f.plans plan); flat = left_by f plan (code_of f.plans plan) }
+finished f told = record { answer = told; flat = f }
 
 -- what a step answers, and the state before marked services leave
-abbrev pub finished_step : Limits → Flat → ℕ → Step → Answer × Flat
+abbrev pub finished_step : Limits → Flat → ℕ → Step → Told
 finished_step l f moment step =
     let done = effect_of l (at_moment f moment step) step in
-    finished (settled l done.1) done.0
+    finished (settled l done.flat) done.answer
 
 -- what a step answers, and the state after it
-abbrev pub step_of : Limits → Flat → ℕ → Step → Answer × Flat
+abbrev pub step_of : Limits → Flat → ℕ → Step → Told
 step_of l f moment step =
     let done = finished_step l f moment step in
-    (done.0, purged done.1)
+    record { answer = done.answer; flat = purged done.flat }
+
+-- the states that a step passes: behind its effect, then settled, then without those who leave
+pub record Stages : Type 0 where
+  pub effect : Flat
+  pub settled : Flat
+  pub purged : Flat
+
+abbrev pub stages_of : Limits → Flat → ℕ → Step → Stages
+stages_of l f moment step = record {
+  effect = (effect_of l (at_moment f moment step) step).flat;
+  settled = (finished_step l f moment step).flat;
+  purged = (step_of l f moment step).flat;
+}
 
 -- whether a launch is wanted
 abbrev pub is_wanted : List Wanted → Bool
@@ -93,7 +110,7 @@ is_wanted (row ∷ rows) = true
 -- whether a step may come at a moment, whatever it tells of what was kept
 abbrev pub may_come : Limits → Flat → ℕ → Step → Bool
 may_come l f moment (Joined principal) = nat_lt (length f.callers) l.callers
-may_come l f moment (Call caller asked append) = is_caller f caller
+may_come l f moment (Call caller asked append) = is_caller f caller && in_range asked
 may_come l f moment (EndStart caller plan) = is_caller f caller && can_end f caller plan
 may_come l f moment LaunchTaken = is_wanted f.wanted
 may_come l f moment (Launched process pid) = is_taken (process_of f process)

@@ -19,10 +19,11 @@ use Rattle.scm_model.specs.declared.flat.DueKind.{DueKind}
 use Rattle.scm_model.specs.declared.flat.DueKind.TheVariants as dues
 use Rattle.scm_model.specs.declared.flat.Caller.{Caller}
 use Rattle.scm_model.specs.Rows.{is_caller, is_lock}
-use Rattle.scm_model.specs.Changes.{purged}
+use Rattle.scm_model.specs.Purge.{purged}
+use Rattle.scm_model.specs.declared.codes.TheConstants.{SERVICE_START_PENDING, SERVICE_STOPPED}
 use Rattle.database_lock.specs.Locking.{is_held_by}
-use Rattle.dependency_index.specs.Needs.{needs_of}
-use Rattle.dependency_index.specs.Walks.{IsAcyclic}
+use Rattle.scm_model.specs.Needs.{needs_of}
+use Rattle.scm_model.specs.Walks.{IsAcyclic}
 use Rattle.service_record.specs.Checks.{check_new}
 use Rattle.start_plan.specs.Settle.{is_due_still, settled, stays}
 use Rattle.start_plan.specs.Started.{TriedOnce}
@@ -63,7 +64,7 @@ HasListed processes row = (row.process == 0 || has_process processes row.process
 
 -- whether a service is START_PENDING by this process
 abbrev pub is_started_by : Process → Service → Bool
-is_started_by process row = row.number == process.service && row.process == process.number && row.status.state == 2
+is_started_by process row = row.number == process.service && row.process == process.number && row.status.state == SERVICE_START_PENDING
 
 -- until a service's process is launched, it is that service's current one, which is START_PENDING
 abbrev pub HasStarting : List Service → Process → Type 0
@@ -84,6 +85,27 @@ is_deadline_of plan kind = false
 abbrev pub HasDeadline : List Due → Plan → Type 0
 HasDeadline rows plan = is_none plan.code ≡ true → length (filter (λ (due : Due). is_deadline_of plan.number due.kind) rows) ≡ 1
 
+-- ## Commands, and what is due
+
+-- one word, of at most 2,048 units
+pub record IsShortWord (words : List (List ℕ)) : Type 0 where
+  pub one : length words ≡ 1
+  pub short : All (λ (word : List ℕ). length word ≤ 2048) words
+
+-- a command is launched by such a word
+abbrev pub HasShortWord : Wanted → Type 0
+HasShortWord row = row.command ≡ true → IsShortWord row.words
+
+-- whether a row that becomes due is of a service
+abbrev pub is_due_of : ℕ → DueKind → Bool
+is_due_of service (dues.Deadline plan) = false
+is_due_of service (dues.Start number) = number == service
+is_due_of service (dues.Command number) = number == service
+is_due_of service (dues.Reboot number) = number == service
+
+abbrev pub dues_of : ℕ → List Due → List Due
+dues_of service rows = filter (λ (due : Due). is_due_of service due.kind) rows
+
 -- ## States
 
 pub record IsValid (l : Limits) (f : Flat) : Type 0 where
@@ -101,7 +123,7 @@ pub record IsValid (l : Limits) (f : Flat) : Type 0 where
   pub displays : AllPairs (λ (a b : Service). same_text a.config.display b.config.display ≡ false) f.services
   pub configs : All (λ (row : Service). check_new row.config None ≡ 0) f.services
   pub kinds : All (λ (row : Service). row.status.kind ≡ row.config.kind) f.services
-  pub stopped : All (λ (row : Service). (row.status.state == 1) ≡ (row.process == 0)) f.services
+  pub stopped : All (λ (row : Service). (row.status.state == SERVICE_STOPPED) ≡ (row.process == 0)) f.services
   pub acyclic : IsAcyclic (needs_of (need_rows f.services))
   -- the launches that are wanted are those of the processes that are still to be launched, in order
   pub current : All (HasListed f.processes) f.services
@@ -118,6 +140,10 @@ pub record IsValid (l : Limits) (f : Flat) : Type 0 where
   pub locks : All (λ (row : HandleRow). is_lock row.kind ≡ is_held_by row.number f.lock) f.handles
   pub holder : IfSome f.lock (λ lock. IsTrue (list_any (λ (row : HandleRow). row.number == lock.handle) f.handles))
   pub masks : All (λ (row : HandleRow). HasPlainMask row.kind row.granted) f.handles
+  -- commands have their one word, registrations are of callers, and each service has one row at most that becomes due
+  pub commands : All HasShortWord f.wanted
+  pub registered : All (λ (row : Registration). IsTrue (is_caller f row.caller)) f.registrations
+  pub due_once : (service : ℕ) → length (dues_of service f.dues) ≤ 1
   -- no plan goes on by itself, and nobody is to leave
   pub settled : settled l f ≡ f
   pub purged : purged f ≡ f

@@ -11,6 +11,7 @@ use Rattle.scm_model.specs.declared.steps.Kept.TheVariants as appended
 use Rattle.scm_model.specs.declared.steps.Step.{Step}
 use Rattle.scm_model.specs.declared.steps.Step.TheVariants.{Call}
 use Rattle.scm_model.specs.Refused.{answered, refused}
+use Rattle.scm_model.specs.Outcomes.{Done}
 use Rattle.scm_rules.specs.Create.{create_verdict, create_done, create_change}
 use Rattle.scm_rules.specs.Controls.{control_verdict, control_told, control_done}
 use Rattle.scm_rules.specs.Delete.{delete_verdict, delete_done, delete_change}
@@ -54,7 +55,7 @@ told_refused f caller (request.KeyName handle name size) code = other_name_told 
 told_refused f caller asked code = refused asked code
 
 -- the reply and the state of a call that is not refused
-abbrev pub done_of : Limits → Flat → ℕ → Request → Reply × Flat
+abbrev pub done_of : Limits → Flat → ℕ → Request → Done
 done_of l f caller (request.Close handle) = close_done f handle
 done_of l f caller (request.Control handle control) = control_done l f caller handle control
 done_of l f caller (request.Delete handle) = delete_done f caller handle
@@ -73,7 +74,7 @@ done_of l f caller (request.DisplayName handle name size) = other_name_done f (d
 done_of l f caller (request.KeyName handle name size) = other_name_done f (name_by_display f name)
 
 -- the reply and the state of a call
-abbrev pub call_of : Limits → Flat → ℕ → Request → Kept → Reply × Flat
+abbrev pub call_of : Limits → Flat → ℕ → Request → Kept → Done
 call_of l f caller asked append =
     answered (verdict l f caller asked append) (told_refused f caller asked (verdict l f caller asked append)) f (done_of l f caller asked)
 
