@@ -1,5 +1,5 @@
 -- What an entry makes was not made before.
-use Rattle.std.proofs.Common.{ℕ, ◌≡◌, ◌∙◌, ◌<◌, ◌≤◌, ◌==◌, ◌&&◌, ◌||◌, ◌++◌, Bool, true, false, cond, IsTrue, List, [], ◌∷◌, Option, None, Some, filter, find, map, ap, sym, refl, subst, arith, eq-eqb, eqb-true}
+use Rattle.std.proofs.Common.{ℕ, ◌≡◌, ◌∙◌, ◌<◌, ◌≤◌, ◌==◌, ◌&&◌, ◌||◌, ◌++◌, Bool, true, false, cond, IsTrue, List, [], ◌∷◌, Option, None, Some, find, ap, sym, refl, subst, arith, eqb-true}
 use Rattle.std.specs.Prelude.{All, IfSome, is_some, option_map}
 use Rattle.std.proofs.lemmas.List.Elements.{All-head, All-tail}
 use Rattle.std.proofs.lemmas.Option.{IfSome_then}
@@ -8,32 +8,33 @@ use Rattle.scm_model.specs.declared.flat.Limits.{Limits}
 use Rattle.scm_model.specs.declared.flat.Phase.{Phase}
 use Rattle.scm_model.specs.declared.flat.Phase.TheVariants as phases
 use Rattle.scm_model.specs.declared.flat.Process.{Process}
-use Rattle.scm_model.specs.declared.flat.Wanted.{Wanted}
 use Rattle.scm_model.specs.declared.steps.Step.{Step}
 use Rattle.scm_model.specs.declared.steps.Step.TheVariants.{Joined, Call, LaunchTaken, Launched, LaunchFailed, Ended, ControlTaken}
 use Rattle.scm_model.specs.Changes.{with_moment}
 use Rattle.scm_rules.specs.Controls.{relieved_if}
 use Rattle.scm_rules.specs.Launches.{first_wanted, is_taken, is_taken_phase, launched_if, process_of, taken_if}
-use Rattle.scm_rules.specs.Runs.{Entry, IsLegal, state_of}
+use Rattle.scm_rules.specs.Runs.{IsLegal, state_of}
+use Rattle.scm_model.specs.Entries.{Entry}
 use Rattle.scm_rules.specs.Steps.{at_moment, effect_of, is_wanted, may, step_of}
 use Rattle.scm_rules.specs.Valid.{is_to_launch, is_wanted_phase}
 use Rattle.scm_laws.proofs.Along.{at_end}
-use Rattle.scm_laws.proofs.Calls.{came, keeps}
-use Rattle.scm_laws.proofs.Lists.{found_owns}
-use Rattle.scm_laws.proofs.Processes.{first_there, number_of, process_in}
+use Rattle.scm_laws.proofs.Calls.{keeps}
+use Rattle.scm_laws.proofs.Lists.{found_owns, is_some-find}
+use Rattle.scm_laws.proofs.Processes.{first_there, number_of, first_is_to_be}
 use Rattle.scm_laws.proofs.Sound.{Sound, controls_fewer}
 use Rattle.scm_laws.proofs.Wanted.{taken_is_listed}
 use Rattle.scm_history.specs.Anew.{MakesAnew}
-use Rattle.scm_history.specs.Entries.{caller_made, has_begun, has_made, has_taken, is_it, makes_caller, names_caller, plan_made, process_taken, takes_process}
+use Rattle.scm_rules.specs.Named.{caller_made, has_begun, has_made, has_taken, is_it, makes_caller, names_caller, plan_made, process_taken, takes_process}
 use Rattle.scm_history.specs.Processes.{apart_from_controls}
 use Rattle.scm_history.proofs.Callers.{rising}
 use Rattle.scm_history.proofs.Effects.{controls_apart, of_call}
-use Rattle.scm_history.proofs.Ends.{right}
-use Rattle.scm_history.proofs.Finds.{found_any, found_map}
-use Rattle.scm_history.proofs.Made.{front_legal, may_behind}
+use Rattle.scm_history.proofs.Finds.{found_map}
 use Rattle.scm_history.proofs.Numbers.{begun, joins_after, plan_rises}
 use Rattle.scm_history.proofs.Own.{given_it}
 use Rattle.scm_history.proofs.Processes.{after_effect, has, launches, left_not, listed_below, process_rises, takes, told_apart}
+use Rattle.std.proofs.lemmas.Bool.{and_parts}
+use Rattle.scm_laws.proofs.Histories.{made_front, may_behind}
+use Rattle.scm_rules.specs.Histories.{state}
 
 -- what would make it smaller than it is isn't so
 not_yet : (b : Bool) (number next : ℕ) → (b ≡ true → number < next) → next ≤ number → b ≡ false
@@ -44,12 +45,12 @@ not_yet false number next below up = refl
 
 callers_rise : (l : Limits) (f : Flat) (es : List Entry) → f.next.caller ≤ (state_of l f es).next.caller
 callers_rise l f [] = omega arith
-callers_rise l f (e ∷ es) = (let first = rising l f e.0 e.1 in let rest = callers_rise l (step_of l f e.0 e.1).1 es in omega (arith, first, rest))
+callers_rise l f (e ∷ es) = (let first = rising l f e.0 e.1 in let rest = callers_rise l (step_of l f e.0 e.1).flat es in omega (arith, first, rest))
 
 made_below : (l : Limits) (f : Flat) (number : ℕ) (es : List Entry) → has_made l f number es ≡ true → number < (state_of l f es).next.caller
 made_below l f number [] made = absurd cc
 made_below l f number (e ∷ es) made =
-    let after = (step_of l f e.0 e.1).1 in
+    let after = (step_of l f e.0 e.1).flat in
     elim (makes_caller f number e.1) as (λ b. makes_caller f number e.1 ≡ b → (b || has_made l after number es) ≡ true → number < (state_of l after es).next.caller) [
       | true ↦ λ h g. (let low = given_it f.next.caller after.next.caller number (caller_made f e.1) (joins_after l f e.0 e.1) h in let up = callers_rise l after es in omega (arith, low, up))
       | false ↦ λ h g. made_below l after number es g
@@ -64,15 +65,15 @@ caller_anew l f front step = tt
 
 plans_rise : (l : Limits) (f : Flat) (es : List Entry) → f.next.plan ≤ (state_of l f es).next.plan
 plans_rise l f [] = omega arith
-plans_rise l f (e ∷ es) = (let first = plan_rises l f e.0 e.1 in let rest = plans_rise l (step_of l f e.0 e.1).1 es in omega (arith, first, rest))
+plans_rise l f (e ∷ es) = (let first = plan_rises l f e.0 e.1 in let rest = plans_rise l (step_of l f e.0 e.1).flat es in omega (arith, first, rest))
 
 began_below : (l : Limits) (f : Flat) (caller number : ℕ) (es : List Entry) → has_begun l f caller number es ≡ true → number < (state_of l f es).next.plan
 began_below l f caller number [] began = absurd cc
 began_below l f caller number (e ∷ es) began =
-    let after = (step_of l f e.0 e.1).1 in
-    let told = plan_made (step_of l f e.0 e.1).0 in
+    let after = (step_of l f e.0 e.1).flat in
+    let told = plan_made (step_of l f e.0 e.1).answer in
     elim (names_caller caller e.1 && is_it number told) as (λ b. (names_caller caller e.1 && is_it number told) ≡ b → (b || has_begun l after caller number es) ≡ true → number < (state_of l after es).next.plan) [
-      | true ↦ λ h g. (let low = given_it f.next.plan after.next.plan number told (begun l f e.0 e.1) (right (names_caller caller e.1) (is_it number told) h) in let up = plans_rise l after es in omega (arith, low, up))
+      | true ↦ λ h g. (let low = given_it f.next.plan after.next.plan number told (begun l f e.0 e.1) (and_parts (names_caller caller e.1) (is_it number told) h).1 in let up = plans_rise l after es in omega (arith, low, up))
       | false ↦ λ h g. began_below l after caller number es g
     ] refl began
 
@@ -99,7 +100,7 @@ wanted_apart : (row : Option Process) → is_wanted_in (option_map apart_from_co
 wanted_apart None = refl
 wanted_apart (Some row) = refl
 
-past_effect : (l : Limits) (f : Flat) (moment : ℕ) (step : Step) (number : ℕ) → is_wanted_in (process_of f number) ≡ false → is_wanted_in (process_of (effect_of l (at_moment f moment step) step).1 number) ≡ false
+past_effect : (l : Limits) (f : Flat) (moment : ℕ) (step : Step) (number : ℕ) → is_wanted_in (process_of f number) ≡ false → is_wanted_in (process_of (effect_of l (at_moment f moment step) step).flat number) ≡ false
 past_effect l f moment (Call caller asked append) number past = told_apart is_wanted_in wanted_apart number f.processes _ (of_call l (with_moment f moment) caller asked append).processes ∙ past
 past_effect l f moment LaunchTaken number past =
     let one = first_wanted f.wanted in
@@ -113,7 +114,7 @@ past_effect l f moment (ControlTaken process) number past =
     told_apart is_wanted_in wanted_apart number f.processes _ (controls_apart (relieved_if process) (controls_fewer process) f.processes) ∙ past
 past_effect l f moment step number past = past
 
-past_step : (l : Limits) (f : Flat) (moment : ℕ) (step : Step) (number : ℕ) → IsPast number f → IsPast number (step_of l f moment step).1
+past_step : (l : Limits) (f : Flat) (moment : ℕ) (step : Step) (number : ℕ) → IsPast number f → IsPast number (step_of l f moment step).flat
 past_step l f moment step number is = record {
   low = (let low = is.low in let up = process_rises l f moment step in omega (arith, low, up));
   past = ap is_wanted_in (after_effect l f moment step number is.low) ∙ past_effect l f moment step number is.past;
@@ -121,7 +122,7 @@ past_step l f moment step number is = record {
 
 past_along : (l : Limits) (f : Flat) (number : ℕ) (es : List Entry) → IsPast number f → IsPast number (state_of l f es)
 past_along l f number [] is = is
-past_along l f number (e ∷ es) is = past_along l (step_of l f e.0 e.1).1 number es (past_step l f e.0 e.1 number is)
+past_along l f number (e ∷ es) is = past_along l (step_of l f e.0 e.1).flat number es (past_step l f e.0 e.1 number is)
 
 in_hand : (phase : Phase) → is_taken_phase phase ≡ true → is_wanted_phase phase ≡ false
 in_hand phases.Wanted h = absurd cc
@@ -133,42 +134,28 @@ taken_not_wanted None h = absurd cc
 taken_not_wanted (Some row) h = in_hand row.phase h
 
 -- the launch that is wanted first is of a process that is listed
-first_listed : (f : Flat) → Sound f → is_wanted f.wanted ≡ true → is_some (process_of f (first_wanted f.wanted)) ≡ true
-first_listed f s wanted = found_any (has (first_wanted f.wanted)) f.processes ∙ first_there f.wanted f.processes s.processes.wanted wanted
+pub first_listed : (f : Flat) → Sound f → is_wanted f.wanted ≡ true → is_some (process_of f (first_wanted f.wanted)) ≡ true
+first_listed f s wanted = is_some-find (has (first_wanted f.wanted)) f.processes ∙ first_there f.wanted f.processes s.processes.wanted wanted
 
-past_now : (l : Limits) (f : Flat) (moment : ℕ) (step : Step) (number : ℕ) → Sound f → IsTrue (may l f moment step) → takes_process f number step ≡ true → IsPast number (step_of l f moment step).1
+past_now : (l : Limits) (f : Flat) (moment : ℕ) (step : Step) (number : ℕ) → Sound f → IsTrue (may l f moment step) → takes_process f number step ≡ true → IsPast number (step_of l f moment step).flat
 past_now l f moment LaunchTaken number s ok takes =
     let first = first_wanted f.wanted in
-    subst (λ n. IsPast n (step_of l f moment LaunchTaken).1) (sym (eqb-true number first takes)) (record {
-      low = (let low = listed_below f first s (first_listed f s (came _ _ ok)) in let up = process_rises l f moment LaunchTaken in omega (arith, low, up));
-      past = taken_not_wanted _ (taken_is_listed l f moment s (came _ _ ok));
+    subst (λ n. IsPast n (step_of l f moment LaunchTaken).flat) (sym (eqb-true number first takes)) (record {
+      low = (let low = listed_below f first s (first_listed f s (and_parts _ _ ok).0) in let up = process_rises l f moment LaunchTaken in omega (arith, low, up));
+      past = taken_not_wanted _ (taken_is_listed l f moment s (and_parts _ _ ok).0);
     })
 past_now l f moment step number s ok takes = absurd cc
 
 taken_past : (l : Limits) (f : Flat) (number : ℕ) (es : List Entry) → Sound f → IsLegal l f es → has_taken l f number es ≡ true → IsPast number (state_of l f es)
 taken_past l f number [] s legal taken = absurd cc
 taken_past l f number (e ∷ es) s legal taken =
-    let after = (step_of l f e.0 e.1).1 in
+    let after = (step_of l f e.0 e.1).flat in
     elim (takes_process f number e.1) as (λ b. takes_process f number e.1 ≡ b → (b || has_taken l after number es) ≡ true → IsPast number (state_of l after es)) [
       | true ↦ λ h g. past_along l after number es (past_now l f e.0 e.1 number s legal.0 h)
       | false ↦ λ h g. taken_past l after number es (keeps l f e s legal.0) legal.1 g
     ] refl taken
 
 -- ## The launch that is wanted first
-
-is_to_be : (number : ℕ) (numbers : List ℕ) (rows : List Process) → number ∷ numbers ≡ map number_of (filter is_to_launch rows) → is_some (find (λ (row : Process). is_to_launch row && row.number == number) rows) ≡ true
-is_to_be number numbers [] e = absurd cc
-is_to_be number numbers (row ∷ rows) e =
-    elim (is_to_launch row) as (λ b. number ∷ numbers ≡ map number_of (cond b (row ∷ filter is_to_launch rows) (filter is_to_launch rows))
-    → is_some (cond (b && row.number == number) (Some row) (find (λ (row : Process). is_to_launch row && row.number == number) rows)) ≡ true) [
-      | true ↦ λ g. (let same : number ≡ row.number = cc in rw (eq-eqb row.number number (sym same)) refl)
-      | false ↦ λ g. is_to_be number numbers rows g
-    ] e
-
-first_is_to_be : (wanted : List Wanted) (rows : List Process) → map process_in wanted ≡ map number_of (filter is_to_launch rows) → is_wanted wanted ≡ true
-    → is_some (find (λ (row : Process). is_to_launch row && row.number == first_wanted wanted) rows) ≡ true
-first_is_to_be [] rows e is = absurd cc
-first_is_to_be (row ∷ wanted) rows e is = is_to_be row.process (map process_in wanted) rows e
 
 found_wanted : (number : ℕ) (rows : List Process) → All (λ (row : Process). (row.number == number) ≡ true → is_to_launch row ≡ true) rows → is_some (find (has number) rows) ≡ true → is_wanted_in (find (has number) rows) ≡ true
 found_wanted number [] owns there = absurd cc
@@ -189,7 +176,7 @@ process_anew l f front moment LaunchTaken s sound legal ok =
     (let g = state_of l f front in
     let first = first_wanted g.wanted in
     elim (has_taken l f first front) as (λ b. has_taken l f first front ≡ b → b ≡ false) [
-      | true ↦ λ h. absurd (let past = (taken_past l f first front s legal h).past in let now = wanted_first g sound (came _ _ ok) in cc)
+      | true ↦ λ h. absurd (let past = (taken_past l f first front s legal h).past in let now = wanted_first g sound (and_parts _ _ ok).0 in cc)
       | false ↦ λ h. refl
     ] refl)
 process_anew l f front moment step s sound legal ok = tt
@@ -197,13 +184,14 @@ process_anew l f front moment step s sound legal ok = tt
 -- ## Histories
 
 pub makes_anew : (l : Limits) (f : Flat) (es : List Entry) → Sound f → IsLegal l f es → (front : List Entry) (e : Entry) (rest : List Entry) → es ≡ front ++ e ∷ rest → MakesAnew l f front e
+unfolding state
 makes_anew l f es s legal front e rest split =
     let whole = subst (IsLegal l f) split legal in
-    let before = front_legal l f front (e ∷ rest) whole in
+    let before = made_front l f front (e ∷ rest) whole in
     let g = state_of l f front in
     record {
       joined = caller_anew l f front e.1;
       taken = process_anew l f front e.0 e.1 s (at_end Sound l (keeps l) f front s before) before (may_behind l f front e rest whole);
-      begun = IfSome_then (plan_made (step_of l g e.0 e.1).0) (begun l g e.0 e.1)
+      begun = IfSome_then (plan_made (step_of l g e.0 e.1).answer) (begun l g e.0 e.1)
           (λ number given caller. not_yet (has_begun l f caller number front) number g.next.plan (began_below l f caller number front) (let is = given.is_next in omega (arith, is)));
     }

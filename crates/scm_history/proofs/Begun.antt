@@ -2,7 +2,6 @@
 use Rattle.std.proofs.Common.{ℕ, ◌≡◌, ◌==◌, ◌&&◌, ◌||◌, Bool, true, false, not, cond, IsTrue, List, [], ◌∷◌, Option, None, Some, find, map, ap, sym, refl, subst, eq-eqb, eqb-true}
 use Rattle.std.specs.Prelude.{option_map}
 use Rattle.std.specs.List.{AllByRecursion}
-use Rattle.scm_model.specs.declared.flat.Config.{Config}
 use Rattle.scm_model.specs.declared.flat.Due.{Due}
 use Rattle.scm_model.specs.declared.flat.DueKind.{DueKind}
 use Rattle.scm_model.specs.declared.flat.DueKind.TheVariants as dues
@@ -21,16 +20,20 @@ use Rattle.scm_model.specs.Changes.{with_moment}
 use Rattle.start_plan.specs.Decided.{aims_at, caller_of, code_of, decided_if, decided_in, is_callers, is_numbered, without_plan}
 use Rattle.start_plan.specs.Settle.{settle_all, settled, stays}
 use Rattle.start_plan.proofs.Keeps.{Keeps, all_filter, keeps_all}
-use Rattle.scm_rules.specs.Change.{asked_config, with_new_config}
+use Rattle.scm_rules.specs.Change.{asked_config}
 use Rattle.scm_rules.specs.Launches.{service_of_process}
-use Rattle.scm_rules.specs.Runs.{Entry, state_of}
+use Rattle.scm_rules.specs.Runs.{state_of}
+use Rattle.scm_model.specs.Entries.{Entry}
 use Rattle.scm_rules.specs.Start.{expired, fired, fired_by, is_caller_of, is_due, start_done, start_verdict}
+use Rattle.scm_model.specs.Refused.{answered}
 use Rattle.scm_rules.specs.Steps.{answer_of, answered_by, at_moment, effect_of, finished, left_by, may, step_of}
 use Rattle.scm_rules.specs.Verdicts.{call_of, done_of, told_refused, verdict}
-use Rattle.scm_laws.proofs.Calls.{by_verdict, came}
+use Rattle.scm_laws.proofs.Calls.{by_verdict}
 use Rattle.scm_laws.proofs.Plans.{all_more}
-use Rattle.scm_history.specs.Entries.{has_begun, is_it, names_caller, plan_made}
+use Rattle.scm_rules.specs.Named.{has_begun, is_it, names_caller, plan_made}
 use Rattle.scm_history.specs.Made.{AnswersItsOwn}
+use Rattle.std.proofs.lemmas.Bool.{and_parts}
+use Rattle.scm_laws.proofs.Going.{plans_configured}
 
 -- a plan has another number or another caller
 abbrev IsOther : ℕ → ℕ → Plan → Type 0
@@ -82,55 +85,47 @@ left : (number caller : ℕ) (g : Flat) (plan : ℕ) (code : Option ℕ) → Are
 left number caller g plan None all = all
 left number caller g plan (Some code) all = all_filter (IsOther number caller) (λ (row : Plan). not (is_numbered plan row)) g.plans all
 
-finishes : (number caller : ℕ) (g : Flat) (told : Answer) → AreOther number caller g.plans → AreOther number caller (finished g told).1.plans
+finishes : (number caller : ℕ) (g : Flat) (told : Answer) → AreOther number caller g.plans → AreOther number caller (finished g told).flat.plans
 finishes number caller g (answer.Begun plan) all = left number caller g plan (code_of g.plans plan) all
 finishes number caller g told all = all
 
 -- ## Calls
 
-both_true : (a b : Bool) → (a && b) ≡ true → (a ≡ true) × (b ≡ true)
-both_true true b h = (refl, h)
-both_true false b h = absurd cc
-
 -- a start that its call answers leaves
-answered : (number caller next : ℕ) (g : Flat) (code : Option ℕ) → next ≡ number → is_it number (plan_made (answered_by next code)) ≡ false → AreOther number caller (left_by g next code).plans
-answered number caller next g None same told = absurd (let t = eq-eqb number next (sym same) in cc)
-answered number caller next g (Some code) same told = subst (λ n. AreOther number caller (without_plan g.plans n)) (sym same) (ended number caller g.plans)
+left_answered : (number caller next : ℕ) (g : Flat) (code : Option ℕ) → next ≡ number → is_it number (plan_made (answered_by next code)) ≡ false → AreOther number caller (left_by g next code).plans
+left_answered number caller next g None same told = absurd (let t = eq-eqb number next (sym same) in cc)
+left_answered number caller next g (Some code) same told = subst (λ n. AreOther number caller (without_plan g.plans n)) (sym same) (ended number caller g.plans)
 
 -- what a call comes to where another plan begins, none, or one whose start it answers
 called : (l : Limits) (number caller next by : ℕ) (begins : Bool) (told : Reply) (h : Flat) → (begins ≡ false → AreOther number caller h.plans) → ((next == number && by == caller) ≡ false → AreOther number caller h.plans)
-    → (caller == by && is_it number (plan_made (finished (settled l h) (answer_of begins next told)).0)) ≡ false → AreOther number caller (finished (settled l h) (answer_of begins next told)).1.plans
+    → (caller == by && is_it number (plan_made (finished (settled l h) (answer_of begins next told)).answer)) ≡ false → AreOther number caller (finished (settled l h) (answer_of begins next told)).flat.plans
 called l number caller next by false told h none other not_told = settles l h number caller (none refl)
 called l number caller next by true told h none other not_told =
     let g = settled l h in
     let code = code_of g.plans next in
     elim (next == number && by == caller) as (λ b. (next == number && by == caller) ≡ b → AreOther number caller (left_by g next code).plans) [
-      | true ↦ λ e. (let both = both_true (next == number) (by == caller) e in
+      | true ↦ λ e. (let both = and_parts (next == number) (by == caller) e in
           let mine : (caller == by) ≡ true = eq-eqb caller by (sym (eqb-true by caller both.1)) in
-          answered number caller next g code (eqb-true next number both.0)
+          left_answered number caller next g code (eqb-true next number both.0)
           (subst (λ b. (b && is_it number (plan_made (answered_by next code))) ≡ false) mine not_told))
       | false ↦ λ e. left number caller g next code (settles l h number caller (other e))
     ] refl
 
-plans_configured : (f : Flat) (number : ℕ) (config : Option Config) → (with_new_config f number config).plans ≡ f.plans
-plans_configured f number None = refl
-plans_configured f number (Some config) = refl
-
-change_done : (number caller : ℕ) (l : Limits) (g : Flat) (by : ℕ) (asked : Request) (append : Kept) → (done_of l g by asked).1.plans ≡ g.plans → AreOther number caller g.plans → AreOther number caller (settled l (call_of l g by asked append).1).plans
+change_done : (number caller : ℕ) (l : Limits) (g : Flat) (by : ℕ) (asked : Request) (append : Kept) → (done_of l g by asked).flat.plans ≡ g.plans → AreOther number caller g.plans → AreOther number caller (settled l (call_of l g by asked append).flat).plans
 change_done number caller l g by asked append same all =
-    settles l (call_of l g by asked append).1 number caller
-    (by_verdict (λ r. AreOther number caller r.1.plans) (verdict l g by asked append) (told_refused g by asked (verdict l g by asked append)) g (done_of l g by asked) (λ e. subst (AreOther number caller) (sym same) all) (λ e. all))
+    settles l (call_of l g by asked append).flat number caller
+    (by_verdict (λ r. AreOther number caller r.flat.plans) (verdict l g by asked append) (told_refused g by asked (verdict l g by asked append)) g (done_of l g by asked) (λ e. subst (AreOther number caller) (sym same) all) (λ e. all))
 
 of_call : (number caller : ℕ) (l : Limits) (f : Flat) (moment by : ℕ) (asked : Request) (append : Kept) → AreOther number caller f.plans
-    → (caller == by && is_it number (plan_made (step_of l f moment (Call by asked append)).0)) ≡ false → AreOther number caller (step_of l f moment (Call by asked append)).1.plans
+    → (caller == by && is_it number (plan_made (step_of l f moment (Call by asked append)).answer)) ≡ false → AreOther number caller (step_of l f moment (Call by asked append)).flat.plans
 of_call number caller l f moment by (request.Start handle words) append all not_told =
     let g = with_moment f moment in
     let code = start_verdict g by handle words in
     let told = told_refused g by (request.Start handle words) code in
     let done = start_done g by handle words in
-    called l number caller f.next.plan by (code == 0) (cond (code == 0) done (told, g)).0 (cond (code == 0) done (told, g)).1
-    (elim (code == 0) as (λ b. b ≡ false → AreOther number caller (cond b done (told, g)).1.plans) [ true ↦ λ e. absurd cc | false ↦ λ e. all ])
-    (elim (code == 0) as (λ b. (f.next.plan == number && by == caller) ≡ false → AreOther number caller (cond b done (told, g)).1.plans)
+    called l number caller f.next.plan by (code == 0) (answered code told g done).reply (answered code told g done).flat
+    (elim (code == 0) as (λ b. b ≡ false → AreOther number caller (cond b done (record { reply = told; flat = g })).flat.plans) [ true ↦ λ e. absurd cc | false ↦ λ e. all ])
+    (elim (code == 0) as (λ b. (f.next.plan == number && by == caller) ≡ false → AreOther number caller (cond b done (record { reply = told; flat = g })).flat.plans)
     [ true ↦ λ e. all_more (IsOther number caller) f.plans _ all e | false ↦ λ e. all ]) not_told
 of_call number caller l f moment by (request.Change change) append all not_told =
     let g = with_moment f moment in
@@ -139,26 +134,26 @@ of_call number caller l f moment by asked append all not_told = change_done numb
 
 -- ## Steps
 
-of_step : (number caller : ℕ) (l : Limits) (f : Flat) (moment : ℕ) (step : Step) → AreOther number caller f.plans → (names_caller caller step && is_it number (plan_made (step_of l f moment step).0)) ≡ false
-    → AreOther number caller (step_of l f moment step).1.plans
+of_step : (number caller : ℕ) (l : Limits) (f : Flat) (moment : ℕ) (step : Step) → AreOther number caller f.plans → (names_caller caller step && is_it number (plan_made (step_of l f moment step).answer)) ≡ false
+    → AreOther number caller (step_of l f moment step).flat.plans
 of_step number caller l f moment (Call by asked append) all not_told = of_call number caller l f moment by asked append all not_told
 of_step number caller l f moment (EndStart by plan) all not_told =
-    settles l (effect_of l (with_moment f moment) (EndStart by plan)).1 number caller (all_filter (IsOther number caller) (λ (row : Plan). not (is_numbered plan row)) f.plans all)
+    settles l (effect_of l (with_moment f moment) (EndStart by plan)).flat number caller (all_filter (IsOther number caller) (λ (row : Plan). not (is_numbered plan row)) f.plans all)
 of_step number caller l f moment (Launched process pid) all not_told =
-    settles l (effect_of l (with_moment f moment) (Launched process pid)).1 number caller (decided number caller (aims_at (service_of_process f process)) 0 f.plans all)
+    settles l (effect_of l (with_moment f moment) (Launched process pid)).flat number caller (decided number caller (aims_at (service_of_process f process)) 0 f.plans all)
 of_step number caller l f moment (LaunchFailed process code) all not_told =
-    settles l (effect_of l (with_moment f moment) (LaunchFailed process code)).1 number caller (decided number caller (aims_at (service_of_process f process)) code f.plans all)
+    settles l (effect_of l (with_moment f moment) (LaunchFailed process code)).flat number caller (decided number caller (aims_at (service_of_process f process)) code f.plans all)
 of_step number caller l f moment (Report process status) all not_told =
     let done = effect_of l (with_moment f moment) (Report process status) in
-    finishes number caller (settled l done.1) done.0 (settles l done.1 number caller all)
+    finishes number caller (settled l done.flat) done.answer (settles l done.flat number caller all)
 of_step number caller l f moment (Ended process) all not_told =
     let done = effect_of l (with_moment f moment) (Ended process) in
-    finishes number caller (settled l done.1) done.0 (settles l done.1 number caller all)
+    finishes number caller (settled l done.flat) done.answer (settles l done.flat number caller all)
 of_step number caller l f moment Tick all not_told =
-    settles l (effect_of l (with_moment f moment) Tick).1 number caller (ticked number caller (with_moment f moment).moment f.plans f.dues all)
+    settles l (effect_of l (with_moment f moment) Tick).flat number caller (ticked number caller (with_moment f moment).moment f.plans f.dues all)
 of_step number caller l f moment (Gone by) all not_told =
-    settles l (effect_of l (with_moment f moment) (Gone by)).1 number caller (all_filter (IsOther number caller) (λ (row : Plan). not (is_callers by row)) f.plans all)
-of_step number caller l f moment step all not_told = settles l (effect_of l (at_moment f moment step) step).1 number caller all
+    settles l (effect_of l (with_moment f moment) (Gone by)).flat number caller (all_filter (IsOther number caller) (λ (row : Plan). not (is_callers by row)) f.plans all)
+of_step number caller l f moment step all not_told = settles l (effect_of l (at_moment f moment step) step).flat number caller all
 
 -- ## Histories
 
@@ -173,8 +168,8 @@ not_callers number caller (plan ∷ plans) all =
 began : (l : Limits) (f : Flat) (number caller : ℕ) (es : List Entry) → AreOther number caller f.plans → is_caller_of (caller_of (state_of l f es).plans number) caller ≡ true → has_begun l f caller number es ≡ true
 began l f number caller [] all there = absurd (let none = not_callers number caller f.plans all in cc)
 began l f number caller (e ∷ es) all there =
-    let after = (step_of l f e.0 e.1).1 in
-    elim (names_caller caller e.1 && is_it number (plan_made (step_of l f e.0 e.1).0)) as (λ b. (names_caller caller e.1 && is_it number (plan_made (step_of l f e.0 e.1).0)) ≡ b
+    let after = (step_of l f e.0 e.1).flat in
+    elim (names_caller caller e.1 && is_it number (plan_made (step_of l f e.0 e.1).answer)) as (λ b. (names_caller caller e.1 && is_it number (plan_made (step_of l f e.0 e.1).answer)) ≡ b
     → (b || has_begun l after caller number es) ≡ true) [
       | true ↦ λ h. refl
       | false ↦ λ h. began l after number caller es (of_step number caller l f e.0 e.1 all h) there
@@ -183,6 +178,6 @@ began l f number caller (e ∷ es) all there =
 pub answers_own : (l : Limits) (f : Flat) (front : List Entry) (moment : ℕ) (step : Step) → f.plans ≡ [] → IsTrue (may l (state_of l f front) moment step) → AnswersItsOwn l f front step
 answers_own l f front moment (EndStart caller plan) none ok =
     (let g = state_of l f front in
-    let both = both_true _ _ (came _ _ ok) in
-    began l f plan caller front (subst (AreOther plan caller) (sym none) tt) (came _ _ both.1))
+    let both = and_parts _ _ (and_parts _ _ ok).0 in
+    began l f plan caller front (subst (AreOther plan caller) (sym none) tt) (and_parts _ _ both.1).0)
 answers_own l f front moment step none ok = tt

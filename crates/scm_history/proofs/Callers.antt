@@ -1,5 +1,5 @@
 -- A caller is in the state from its Joined until its Gone.
-use Rattle.std.proofs.Common.{ℕ, ◌≡◌, ◌∙◌, ◌<◌, ◌≤◌, ◌==◌, ◌++◌, Bool, true, false, not, cond, IsTrue, List, [], ◌∷◌, filter, ap, sym, refl, subst, arith, eq-eqb, eqb-true, ne_eqb}
+use Rattle.std.proofs.Common.{ℕ, ◌≡◌, ◌∙◌, ◌<◌, ◌≤◌, ◌==◌, ◌++◌, Bool, true, false, not, IsTrue, List, [], ◌∷◌, filter, ap, sym, refl, subst, arith, eq-eqb, eqb-true, ne_eqb}
 use Rattle.std.specs.Prelude.{IfSome, is_some}
 use Rattle.scm_model.specs.declared.flat.Caller.{Caller}
 use Rattle.scm_model.specs.declared.flat.Flat.{Flat}
@@ -8,79 +8,75 @@ use Rattle.scm_model.specs.declared.steps.Step.{Step}
 use Rattle.scm_model.specs.declared.steps.Step.TheVariants.{Joined, Call, Gone}
 use Rattle.scm_model.specs.Rows.{is_caller}
 use Rattle.scm_model.specs.Changes.{with_moment}
-use Rattle.scm_rules.specs.Runs.{Entry, IsLegal, state_of}
+use Rattle.scm_rules.specs.Runs.{IsLegal, state_of}
+use Rattle.scm_model.specs.Entries.{Entry}
 use Rattle.scm_rules.specs.Steps.{at_moment, effect_of, may, step_of}
 use Rattle.scm_laws.proofs.Along.{Gives}
-use Rattle.scm_laws.proofs.Calls.{came, keeps}
+use Rattle.scm_laws.proofs.Calls.{keeps}
 use Rattle.scm_laws.proofs.Handled.{found_still, has_caller, still_found}
 use Rattle.scm_laws.proofs.Sound.{Sound}
-use Rattle.scm_history.specs.Callers.{CallersStay, takes_leave}
-use Rattle.scm_history.specs.Entries.{caller_made}
-use Rattle.scm_history.proofs.Effects.{framed, of_call}
-use Rattle.scm_history.proofs.Finds.{find_new, find_push, found_below, none_filter}
+use Rattle.scm_history.specs.Callers.{CallersStay, takes_leave, IsGoneForGood}
+use Rattle.scm_rules.specs.Named.{caller_made}
+use Rattle.scm_history.proofs.Effects.{of_call}
+use Rattle.scm_history.proofs.Finds.{find_push, found_below, none_filter}
+use Rattle.std.proofs.lemmas.Bool.{and_parts}
+use Rattle.scm_laws.proofs.Frames.{framed}
+use Rattle.scm_laws.proofs.Handles.{not_there}
+use Rattle.scm_laws.proofs.Lists.{find_new}
+use Rattle.scm_rules.specs.Histories.{state}
 
 abbrev has : ℕ → Caller → Bool
 has number row = row.number == number
 
 -- ## Effects
 
-joined : (l : Limits) (f : Flat) (moment : ℕ) (step : Step) → IfSome (caller_made f step) (λ number. IsTrue (is_caller (effect_of l (at_moment f moment step) step).1 number))
+joined : (l : Limits) (f : Flat) (moment : ℕ) (step : Step) → IfSome (caller_made f step) (λ number. IsTrue (is_caller (effect_of l (at_moment f moment step) step).flat number))
 joined l f moment (Joined principal) = find_new (has f.next.caller) f.callers (record { number = f.next.caller; principal = principal }) (eq-eqb f.next.caller f.next.caller refl)
 joined l f moment step = tt
 
-others : (l : Limits) (f : Flat) (moment : ℕ) (step : Step) (number : ℕ) → takes_leave number step ≡ false → is_caller f number ≡ true → is_caller (effect_of l (at_moment f moment step) step).1 number ≡ true
+others : (l : Limits) (f : Flat) (moment : ℕ) (step : Step) (number : ℕ) → takes_leave number step ≡ false → is_caller f number ≡ true → is_caller (effect_of l (at_moment f moment step) step).flat number ≡ true
 others l f moment (Joined principal) number other there = ap is_some (still_found f.callers (record { number = f.next.caller; principal = principal }) number there) ∙ there
 others l f moment (Call caller asked append) number other there = ap (λ rows. has_caller rows number) (of_call l (with_moment f moment) caller asked append).callers ∙ there
 others l f moment (Gone caller) number other there = ap is_some (found_still f.callers caller number (ap not other)) ∙ there
 others l f moment step number other there = there
 
--- a caller isn't among the others
-not_there : (callers : List Caller) (caller : ℕ) → has_caller (filter (λ (row : Caller). not (row.number == caller)) callers) caller ≡ false
-not_there [] caller = refl
-not_there (row ∷ callers) caller =
-    elim (row.number == caller) as (λ b. (row.number == caller) ≡ b
-    → has_caller (cond (not b) (row ∷ filter (λ (row : Caller). not (row.number == caller)) callers) (filter (λ (row : Caller). not (row.number == caller)) callers)) caller ≡ false) [
-      | true ↦ λ e. not_there callers caller
-      | false ↦ λ e. rw e (not_there callers caller)
-    ] refl
-
-left : (l : Limits) (f : Flat) (moment : ℕ) (step : Step) (number : ℕ) → takes_leave number step ≡ true → is_caller (effect_of l (at_moment f moment step) step).1 number ≡ false
+left : (l : Limits) (f : Flat) (moment : ℕ) (step : Step) (number : ℕ) → takes_leave number step ≡ true → is_caller (effect_of l (at_moment f moment step) step).flat number ≡ false
 left l f moment (Gone caller) number leaves =
     subst (λ n. has_caller (filter (λ (row : Caller). not (row.number == caller)) f.callers) n ≡ false) (sym (eqb-true number caller leaves)) (not_there f.callers caller)
 left l f moment step number leaves = absurd cc
 
-away : (l : Limits) (f : Flat) (moment : ℕ) (step : Step) (number : ℕ) → number < f.next.caller → is_caller f number ≡ false → is_caller (effect_of l (at_moment f moment step) step).1 number ≡ false
+away : (l : Limits) (f : Flat) (moment : ℕ) (step : Step) (number : ℕ) → number < f.next.caller → is_caller f number ≡ false → is_caller (effect_of l (at_moment f moment step) step).flat number ≡ false
 away l f moment (Joined principal) number low none =
     ap is_some (find_push (has number) f.callers (record { number = f.next.caller; principal = principal }) (ne_eqb f.next.caller number (λ e. absurd (omega (arith, e, low))))) ∙ none
 away l f moment (Call caller asked append) number low none = ap (λ rows. has_caller rows number) (of_call l (with_moment f moment) caller asked append).callers ∙ none
 away l f moment (Gone caller) number low none = none_filter (has number) (λ (row : Caller). not (row.number == caller)) f.callers none
 away l f moment step number low none = none
 
-rises : (l : Limits) (f : Flat) (moment : ℕ) (step : Step) → f.next.caller ≤ (effect_of l (at_moment f moment step) step).1.next.caller
+rises : (l : Limits) (f : Flat) (moment : ℕ) (step : Step) → f.next.caller ≤ (effect_of l (at_moment f moment step) step).flat.next.caller
 rises l f moment (Call caller asked append) = (let e = (of_call l (with_moment f moment) caller asked append).next_caller in omega (arith, e))
 rises l f moment step = omega arith
 
 -- ## Steps
 
 -- a step leaves the callers that its effect left
-pub callers_after : (l : Limits) (f : Flat) (moment : ℕ) (step : Step) → (step_of l f moment step).1.callers ≡ (effect_of l (at_moment f moment step) step).1.callers
+pub callers_after : (l : Limits) (f : Flat) (moment : ℕ) (step : Step) → (step_of l f moment step).flat.callers ≡ (effect_of l (at_moment f moment step) step).flat.callers
 callers_after l f moment step = ap (λ (x : Flat). x.callers) (framed l f moment step)
 
-pub caller_after : (l : Limits) (f : Flat) (moment : ℕ) (step : Step) (number : ℕ) → is_caller (step_of l f moment step).1 number ≡ is_caller (effect_of l (at_moment f moment step) step).1 number
+pub caller_after : (l : Limits) (f : Flat) (moment : ℕ) (step : Step) (number : ℕ) → is_caller (step_of l f moment step).flat number ≡ is_caller (effect_of l (at_moment f moment step) step).flat number
 caller_after l f moment step number = ap (λ rows. has_caller rows number) (callers_after l f moment step)
 
-pub next_after : (l : Limits) (f : Flat) (moment : ℕ) (step : Step) → (step_of l f moment step).1.next.caller ≡ (effect_of l (at_moment f moment step) step).1.next.caller
+pub next_after : (l : Limits) (f : Flat) (moment : ℕ) (step : Step) → (step_of l f moment step).flat.next.caller ≡ (effect_of l (at_moment f moment step) step).flat.next.caller
 next_after l f moment step = ap (λ (x : Flat). x.next.caller) (framed l f moment step)
 
 -- the next number never falls
-pub rising : (l : Limits) (f : Flat) (moment : ℕ) (step : Step) → f.next.caller ≤ (step_of l f moment step).1.next.caller
+pub rising : (l : Limits) (f : Flat) (moment : ℕ) (step : Step) → f.next.caller ≤ (step_of l f moment step).flat.next.caller
 rising l f moment step = (let e = next_after l f moment step in let up = rises l f moment step in omega (arith, e, up))
 
 -- who has left doesn't come back
-pub stays_out : (l : Limits) (f : Flat) (moment : ℕ) (step : Step) (number : ℕ) → number < f.next.caller → is_caller f number ≡ false → is_caller (step_of l f moment step).1 number ≡ false
+pub stays_out : (l : Limits) (f : Flat) (moment : ℕ) (step : Step) (number : ℕ) → number < f.next.caller → is_caller f number ≡ false → is_caller (step_of l f moment step).flat number ≡ false
 stays_out l f moment step number low none = caller_after l f moment step number ∙ away l f moment step number low none
 
-is_out : (l : Limits) (f : Flat) (moment : ℕ) (step : Step) (number : ℕ) → takes_leave number step ≡ true → is_caller (step_of l f moment step).1 number ≡ false
+pub is_out : (l : Limits) (f : Flat) (moment : ℕ) (step : Step) (number : ℕ) → takes_leave number step ≡ true → is_caller (step_of l f moment step).flat number ≡ false
 is_out l f moment step number leaves = caller_after l f moment step number ∙ left l f moment step number leaves
 
 pub gives : (l : Limits) → Gives Sound CallersStay l
@@ -96,23 +92,27 @@ gives l f e s ok = record {
 out_for_good : (l : Limits) (f : Flat) (es : List Entry) (number : ℕ) → number < f.next.caller → is_caller f number ≡ false → is_caller (state_of l f es) number ≡ false
 out_for_good l f [] number low none = none
 out_for_good l f (e ∷ es) number low none =
-    out_for_good l (step_of l f e.0 e.1).1 es number (let up = rising l f e.0 e.1 in omega (arith, up, low)) (stays_out l f e.0 e.1 number low none)
+    out_for_good l (step_of l f e.0 e.1).flat es number (let up = rising l f e.0 e.1 in omega (arith, up, low)) (stays_out l f e.0 e.1 number low none)
 
 -- who leaves has joined
-left_below : (l : Limits) (f : Flat) (moment : ℕ) (step : Step) (number : ℕ) → Sound f → IsTrue (may l f moment step) → takes_leave number step ≡ true → number < f.next.caller
+pub left_below : (l : Limits) (f : Flat) (moment : ℕ) (step : Step) (number : ℕ) → Sound f → IsTrue (may l f moment step) → takes_leave number step ≡ true → number < f.next.caller
 left_below l f moment (Gone caller) number s ok leaves =
-    subst (λ n. n < f.next.caller) (sym (eqb-true number caller leaves)) (found_below (λ (row : Caller). row.number) caller f.next.caller f.callers s.handles.callers.below (came _ _ ok))
+    subst (λ n. n < f.next.caller) (sym (eqb-true number caller leaves)) (found_below (λ (row : Caller). row.number) caller f.next.caller f.callers s.handles.callers.below (and_parts _ _ ok).0)
 left_below l f moment step number s ok leaves = absurd cc
 
 gone_behind : (l : Limits) (f : Flat) (number : ℕ) (front : List Entry) (e : Entry) (rest : List Entry) → Sound f → IsLegal l f (front ++ e ∷ rest) → takes_leave number e.1 ≡ true
     → is_caller (state_of l f (front ++ e ∷ rest)) number ≡ false
 gone_behind l f number [] e rest s legal leaves =
-    out_for_good l (step_of l f e.0 e.1).1 rest number
+    out_for_good l (step_of l f e.0 e.1).flat rest number
     (let low = left_below l f e.0 e.1 number s legal.0 leaves in let up = rising l f e.0 e.1 in omega (arith, up, low)) (is_out l f e.0 e.1 number leaves)
 gone_behind l f number (first ∷ front) e rest s legal leaves =
-    gone_behind l (step_of l f first.0 first.1).1 number front e rest (keeps l f first s legal.0) legal.1 leaves
+    gone_behind l (step_of l f first.0 first.1).flat number front e rest (keeps l f first s legal.0) legal.1 leaves
 
-pub gone_for_good : (l : Limits) (f : Flat) (es : List Entry) → Sound f → IsLegal l f es → (number : ℕ) (front : List Entry) (e : Entry) (rest : List Entry) → es ≡ front ++ e ∷ rest → takes_leave number e.1 ≡ true
+in_the_end : (l : Limits) (f : Flat) (es : List Entry) → Sound f → IsLegal l f es → (number : ℕ) (front : List Entry) (e : Entry) (rest : List Entry) → es ≡ front ++ e ∷ rest → takes_leave number e.1 ≡ true
     → is_caller (state_of l f es) number ≡ false
-gone_for_good l f es s legal number front e rest split leaves =
+in_the_end l f es s legal number front e rest split leaves =
     subst (λ all. is_caller (state_of l f all) number ≡ false) (sym split) (gone_behind l f number front e rest s (subst (IsLegal l f) split legal) leaves)
+
+pub gone_for_good : (l : Limits) (f : Flat) (es : List Entry) → Sound f → IsLegal l f es → IsGoneForGood l f es
+unfolding state
+gone_for_good l f es s legal number front e rest split leaves = in_the_end l f es s legal number front e rest split leaves

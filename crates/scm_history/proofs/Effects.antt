@@ -7,14 +7,10 @@ use Rattle.scm_model.specs.declared.flat.Process.{Process}
 use Rattle.scm_model.specs.declared.calls.Request.{Request}
 use Rattle.scm_model.specs.declared.calls.Request.TheVariants as request
 use Rattle.scm_model.specs.declared.steps.Kept.{Kept}
-use Rattle.scm_model.specs.declared.steps.Step.{Step}
-use Rattle.start_plan.specs.Settle.{settled}
 use Rattle.scm_rules.specs.Change.{asked_config, with_new_config}
 use Rattle.scm_rules.specs.Controls.{controlled_if}
-use Rattle.scm_rules.specs.Steps.{at_moment, effect_of, finished_step}
 use Rattle.scm_rules.specs.Verdicts.{call_of, done_of, told_refused, verdict}
 use Rattle.scm_laws.proofs.Calls.{by_verdict}
-use Rattle.scm_laws.proofs.Frames.{Frame, finished_frame, settled_frame}
 use Rattle.scm_laws.proofs.Lists.{map_same}
 use Rattle.scm_laws.proofs.Processes.{IsOfControls}
 use Rattle.scm_laws.proofs.Sound.{controls_more}
@@ -38,7 +34,7 @@ of_configured : (f : Flat) (number : ℕ) (config : Option Config) → Spares f 
 of_configured f number None = spared f
 of_configured f number (Some config) = record { callers = refl; processes = refl; next_caller = refl; next_process = refl }
 
-of_done : (l : Limits) (f : Flat) (caller : ℕ) (asked : Request) → Spares f (done_of l f caller asked).1
+of_done : (l : Limits) (f : Flat) (caller : ℕ) (asked : Request) → Spares f (done_of l f caller asked).flat
 of_done l f caller (request.Change change) = of_configured f _ (asked_config f caller change)
 of_done l f caller (request.Control handle control) = record {
   callers = refl;
@@ -49,13 +45,7 @@ of_done l f caller (request.Control handle control) = record {
 of_done l f caller asked = record { callers = refl; processes = refl; next_caller = refl; next_process = refl }
 
 -- so it is with each call
-pub of_call : (l : Limits) (f : Flat) (caller : ℕ) (asked : Request) (append : Kept) → Spares f (call_of l f caller asked append).1
+pub of_call : (l : Limits) (f : Flat) (caller : ℕ) (asked : Request) (append : Kept) → Spares f (call_of l f caller asked append).flat
 of_call l f caller asked append =
-    by_verdict (λ r. Spares f r.1) (verdict l f caller asked append) (told_refused f caller asked (verdict l f caller asked append)) f (done_of l f caller asked)
+    by_verdict (λ r. Spares f r.flat) (verdict l f caller asked append) (told_refused f caller asked (verdict l f caller asked append)) f (done_of l f caller asked)
     (λ e. of_done l f caller asked) (λ e. spared f)
-
--- what stands before services leave differs from the effect in its frame
-pub framed : (l : Limits) (f : Flat) (moment : ℕ) (step : Step) → Frame (effect_of l (at_moment f moment step) step).1 (finished_step l f moment step).1
-framed l f moment step =
-    let done = effect_of l (at_moment f moment step) step in
-    finished_frame done.1 (settled l done.1) done.0 (settled_frame l done.1)

@@ -1,18 +1,12 @@
 -- What is found in a list that is changed.
-use Rattle.std.proofs.Common.{ℕ, ◌≡◌, ◌∙◌, ◌<◌, ◌==◌, ◌||◌, Bool, true, false, cond, List, [], ◌∷◌, ◌++◌, Option, None, Some, filter, find, map, ap, refl, subst, eqb-true}
+use Rattle.std.proofs.Common.{ℕ, ◌≡◌, ◌∙◌, ◌<◌, ◌==◌, Bool, true, false, cond, List, [], ◌∷◌, ◌++◌, Option, None, Some, filter, find, map, ap, refl, subst, eqb-true}
 use Rattle.std.specs.Prelude.{All, is_some, option_map}
-use Rattle.std.specs.List.{list_any}
 use Rattle.std.proofs.lemmas.List.Elements.{All-head, All-tail}
 
 -- one more that doesn't pass isn't found
 pub find_push : {X : Type 0} (p : X → Bool) (xs : List X) (y : X) → p y ≡ false → find p (xs ++ y ∷ []) ≡ find p xs
 find_push p [] y other = rw other refl
 find_push p (x ∷ xs) y other = ap (λ r. cond (p x) (Some x) r) (find_push p xs y other)
-
--- one more that passes is found, unless one before it is
-pub find_new : {X : Type 0} (p : X → Bool) (xs : List X) (y : X) → p y ≡ true → is_some (find p (xs ++ y ∷ [])) ≡ true
-find_new p [] y passes = rw passes refl
-find_new p (x ∷ xs) y passes = elim (p x) as (λ b. is_some (cond b (Some x) (find p (xs ++ y ∷ []))) ≡ true) [ true ↦ refl | false ↦ find_new p xs y passes ]
 
 -- what isn't found isn't found in fewer
 pub none_filter : {X : Type 0} (p q : X → Bool) (xs : List X) → is_some (find p xs) ≡ false → is_some (find p (filter q xs)) ≡ false
@@ -51,11 +45,6 @@ found_kept p q (y ∷ ys) x e keeps =
       | true ↦ λ h g. (let same : y ≡ x = cc in subst (λ z. q z ≡ true → find p (cond (q y) (y ∷ filter q ys) (filter q ys)) ≡ Some x) same (λ k. rw (k, h) g) keeps)
       | false ↦ λ h g. elim (q y) as (λ b. find p (cond b (y ∷ filter q ys) (filter q ys)) ≡ Some x) [ true ↦ rw h (found_kept p q ys x g keeps) | false ↦ found_kept p q ys x g keeps ]
     ] refl e
-
--- one is found exactly where there is one
-pub found_any : {X : Type 0} (p : X → Bool) (xs : List X) → is_some (find p xs) ≡ list_any p xs
-found_any p [] = refl
-found_any p (x ∷ xs) = elim (p x) as (λ b. is_some (cond b (Some x) (find p xs)) ≡ (b || list_any p xs)) [ true ↦ refl | false ↦ found_any p xs ]
 
 -- who is found by its number has one below the next
 pub found_below : {X : Type 0} (number : X → ℕ) (n next : ℕ) (xs : List X) → All (λ x. number x < next) xs → is_some (find (λ x. number x == n) xs) ≡ true → n < next

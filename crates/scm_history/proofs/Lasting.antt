@@ -1,7 +1,6 @@
 -- Facts of plans that each step keeps.
 use Rattle.std.proofs.Common.{ℕ, ◌≡◌, ◌∙◌, ◌<◌, ◌==◌, Bool, true, false, cond, List, [], ◌∷◌, ◌++◌, Option, None, Some, find, map, filter, ap, sym, refl, subst, arith, ne_eqb}
 use Rattle.std.specs.Prelude.{IfSome, Result, Ok, Err, option_map}
-use Rattle.scm_model.specs.declared.flat.Config.{Config}
 use Rattle.scm_model.specs.declared.flat.Due.{Due}
 use Rattle.scm_model.specs.declared.flat.DueKind.{DueKind}
 use Rattle.scm_model.specs.declared.flat.DueKind.TheVariants as dues
@@ -22,14 +21,16 @@ use Rattle.scm_model.specs.Changes.{with_moment}
 use Rattle.start_plan.specs.Decided.{aims_at, code_of, decided_if, decided_in, is_numbered, without_plan, without_plans_of}
 use Rattle.start_plan.specs.Settle.{settle_all, settle_plan, settled, stays}
 use Rattle.start_plan.proofs.Keeps.{Keeps, keeps_all}
-use Rattle.scm_rules.specs.Change.{asked_config, with_new_config}
+use Rattle.scm_rules.specs.Change.{asked_config}
 use Rattle.scm_rules.specs.Launches.{service_of_process}
-use Rattle.scm_rules.specs.Reports.{current_of, end_told, report_answer, report_told}
+use Rattle.scm_rules.specs.Reports.{current_of, report_answer, report_told}
+use Rattle.scm_rules.specs.Ends.{end_told}
 use Rattle.scm_rules.specs.Start.{expired, fired, fired_by, is_due}
 use Rattle.scm_rules.specs.Steps.{answer_of, at_moment, effect_of, finished, left_by, step_of, tells_plan}
 use Rattle.scm_rules.specs.Verdicts.{call_of, done_of, told_refused, verdict}
 use Rattle.scm_laws.proofs.Calls.{by_verdict}
-use Rattle.scm_history.specs.Entries.{plan_made}
+use Rattle.scm_rules.specs.Named.{plan_made}
+use Rattle.scm_laws.proofs.Going.{plans_configured}
 
 -- a fact of plans that lasts where none with this number begins, and only plans of Over end and only callers of Left leave
 pub record Lasts (number : ℕ) (Over Left : ℕ → Type 0) (P : List Plan → Type 0) : Type 0 where
@@ -61,23 +62,19 @@ ticks number Over Left P lasts moment plans (due ∷ rows) p =
     ticks number Over Left P lasts moment (fired_by moment plans due) rows
     (elim (is_due moment due) as (λ b. P (cond b (expired plans due.kind) plans)) [ true ↦ expires number Over Left P lasts plans due.kind p | false ↦ p ])
 
-plans_configured : (f : Flat) (number : ℕ) (config : Option Config) → (with_new_config f number config).plans ≡ f.plans
-plans_configured f number None = refl
-plans_configured f number (Some config) = refl
-
-of_done : (number : ℕ) (Over Left : ℕ → Type 0) (P : List Plan → Type 0) → Lasts number Over Left P → (l : Limits) (f : Flat) (caller : ℕ) (asked : Request) → (f.next.plan == number) ≡ false → P f.plans → P (done_of l f caller asked).1.plans
+of_done : (number : ℕ) (Over Left : ℕ → Type 0) (P : List Plan → Type 0) → Lasts number Over Left P → (l : Limits) (f : Flat) (caller : ℕ) (asked : Request) → (f.next.plan == number) ≡ false → P f.plans → P (done_of l f caller asked).flat.plans
 of_done number Over Left P lasts l f caller (request.Change change) other p = subst P (sym (plans_configured f _ (asked_config f caller change))) p
 of_done number Over Left P lasts l f caller (request.Start handle words) other p = lasts.begins f.plans _ other p
 of_done number Over Left P lasts l f caller asked other p = p
 
 of_call : (number : ℕ) (Over Left : ℕ → Type 0) (P : List Plan → Type 0) → Lasts number Over Left P → (l : Limits) (f : Flat) (caller : ℕ) (asked : Request) (append : Kept) → (f.next.plan == number) ≡ false → P f.plans
-    → P (call_of l f caller asked append).1.plans
+    → P (call_of l f caller asked append).flat.plans
 of_call number Over Left P lasts l f caller asked append other p =
-    by_verdict (λ r. P r.1.plans) (verdict l f caller asked append) (told_refused f caller asked (verdict l f caller asked append)) f (done_of l f caller asked)
+    by_verdict (λ r. P r.flat.plans) (verdict l f caller asked append) (told_refused f caller asked (verdict l f caller asked append)) f (done_of l f caller asked)
     (λ e. of_done number Over Left P lasts l f caller asked other p) (λ e. p)
 
 of_effect : (number : ℕ) (Over Left : ℕ → Type 0) (P : List Plan → Type 0) → Lasts number Over Left P → (l : Limits) (f : Flat) (moment : ℕ) (step : Step) → (f.next.plan == number) ≡ false → Allows Over Left step → P f.plans
-    → P (effect_of l (at_moment f moment step) step).1.plans
+    → P (effect_of l (at_moment f moment step) step).flat.plans
 of_effect number Over Left P lasts l f moment (Call caller asked append) other allowed p = of_call number Over Left P lasts l (with_moment f moment) caller asked append other p
 of_effect number Over Left P lasts l f moment (EndStart caller plan) other allowed p = lasts.ends plan f.plans allowed p
 of_effect number Over Left P lasts l f moment (Launched process pid) other allowed p = decides number Over Left P lasts (aims_at (service_of_process f process)) 0 f.plans p
@@ -109,10 +106,10 @@ end_none P None = tt
 end_none P (Some row) = tt
 
 -- a plan that begins has the next number
-pub begins_next : (l : Limits) (f : Flat) (moment : ℕ) (step : Step) → IfSome (plan_made (effect_of l (at_moment f moment step) step).0) (λ number. number ≡ f.next.plan)
+pub begins_next : (l : Limits) (f : Flat) (moment : ℕ) (step : Step) → IfSome (plan_made (effect_of l (at_moment f moment step) step).answer) (λ number. number ≡ f.next.plan)
 begins_next l f moment (Call caller asked append) =
     let g = with_moment f moment in
-    answers_next (tells_plan asked (verdict l g caller asked append)) f.next.plan (call_of l g caller asked append).0
+    answers_next (tells_plan asked (verdict l g caller asked append)) f.next.plan (call_of l g caller asked append).reply
 begins_next l f moment (Report process status) = report_none (λ number. number ≡ f.next.plan) (current_of f process) status
 begins_next l f moment (Ended process) = end_none (λ number. number ≡ f.next.plan) (current_of f process)
 begins_next l f moment step = tt
@@ -121,7 +118,7 @@ left : (number : ℕ) (Over Left : ℕ → Type 0) (P : List Plan → Type 0) �
 left number Over Left P lasts g plan None ended p = p
 left number Over Left P lasts g plan (Some code) ended p = lasts.ends plan g.plans ended p
 
-finishes : (number : ℕ) (Over Left : ℕ → Type 0) (P : List Plan → Type 0) → Lasts number Over Left P → (g : Flat) (told : Answer) → IfSome (plan_made told) Over → P g.plans → P (finished g told).1.plans
+finishes : (number : ℕ) (Over Left : ℕ → Type 0) (P : List Plan → Type 0) → Lasts number Over Left P → (g : Flat) (told : Answer) → IfSome (plan_made told) Over → P g.plans → P (finished g told).flat.plans
 finishes number Over Left P lasts g (answer.Begun plan) ended p = left number Over Left P lasts g plan (code_of g.plans plan) ended p
 finishes number Over Left P lasts g told ended p = p
 
@@ -132,12 +129,12 @@ next_ended Over next (Some plan) is ended = subst Over (sym is) ended
 -- ## Steps
 
 pub of_step : (number : ℕ) (Over Left : ℕ → Type 0) (P : List Plan → Type 0) → Lasts number Over Left P → (l : Limits) (f : Flat) (moment : ℕ) (step : Step) → number < f.next.plan → Over f.next.plan → Allows Over Left step
-    → P f.plans → P (step_of l f moment step).1.plans
+    → P f.plans → P (step_of l f moment step).flat.plans
 of_step number Over Left P lasts l f moment step low last allowed p =
     let done = effect_of l (at_moment f moment step) step in
     let effect = of_effect number Over Left P lasts l f moment step (ne_eqb f.next.plan number (λ e. absurd (omega (arith, e, low)))) allowed p in
-    finishes number Over Left P lasts (settled l done.1) done.0 (next_ended Over f.next.plan (plan_made done.0) (begins_next l f moment step) last)
-    (lasts.tidies (settle_all l done.1 done.1.plans).1 (lasts.settles l done.1 done.1.plans effect))
+    finishes number Over Left P lasts (settled l done.flat) done.answer (next_ended Over f.next.plan (plan_made done.answer) (begins_next l f moment step) last)
+    (lasts.tidies (settle_all l done.flat done.flat.plans).1 (lasts.settles l done.flat done.flat.plans effect))
 
 -- ## What settling leaves of a plan
 

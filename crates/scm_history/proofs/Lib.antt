@@ -11,5 +11,9 @@ pub mod Made
 pub mod Ends
 pub mod Own
 pub mod Anew
-pub mod Whole
 pub mod Places
+pub mod Phases
+pub mod Beginnings
+pub mod Shapes
+pub mod Owned
+pub mod Kept

@@ -1,5 +1,5 @@
 -- Who an entry names was made by an entry before it.
-use Rattle.std.proofs.Common.{ℕ, ◌≡◌, ◌∙◌, ◌==◌, ◌||◌, ◌++◌, Bool, true, false, not, cond, IsTrue, List, [], ◌∷◌, Option, None, Some, find, map, ap, refl, subst, eqb-true}
+use Rattle.std.proofs.Common.{ℕ, ◌≡◌, ◌∙◌, ◌==◌, ◌||◌, ◌++◌, Bool, true, false, not, cond, IsTrue, List, [], ◌∷◌, Option, None, Some, find, map, ap, sym, refl, subst, eqb-true}
 use Rattle.std.specs.Prelude.{is_some, option_map}
 use Rattle.std.proofs.lemmas.Option.{IfSome_then}
 use Rattle.scm_model.specs.declared.flat.Caller.{Caller}
@@ -18,14 +18,15 @@ use Rattle.start_plan.proofs.Enterings.{all_units}
 use Rattle.start_plan.proofs.Keeps.{Keeps, keeps_all}
 use Rattle.scm_rules.specs.Controls.{relieved_if}
 use Rattle.scm_rules.specs.Launches.{first_wanted, is_running, is_running_phase, is_taken, is_taken_phase, launched_if, process_of, taken_if}
-use Rattle.scm_rules.specs.Runs.{Entry, IsLegal, state_of}
+use Rattle.scm_rules.specs.Opening.{IsOpening}
+use Rattle.scm_rules.specs.Runs.{IsLegal, state_of}
+use Rattle.scm_model.specs.Entries.{Entry}
 use Rattle.scm_rules.specs.Steps.{at_moment, effect_of, may, step_of}
 use Rattle.scm_rules.specs.Valid.{is_to_launch, is_wanted_phase}
-use Rattle.scm_laws.proofs.Calls.{came}
 use Rattle.scm_laws.proofs.Frames.{finished_keeps}
 use Rattle.scm_laws.proofs.Handled.{has_caller}
 use Rattle.scm_laws.proofs.Sound.{controls_fewer}
-use Rattle.scm_history.specs.Entries.{caller_named, has_made, has_taken, makes_caller, process_named, takes_process}
+use Rattle.scm_rules.specs.Named.{caller_named, has_made, has_taken, makes_caller, process_named, takes_process}
 use Rattle.scm_history.specs.Made.{StandsBehind}
 use Rattle.scm_history.specs.Names.{has_come_to}
 use Rattle.scm_history.specs.Processes.{apart_from_controls}
@@ -35,6 +36,8 @@ use Rattle.scm_history.proofs.Effects.{controls_apart, of_call}
 use Rattle.scm_history.proofs.Finds.{find_push, none_filter}
 use Rattle.scm_history.proofs.Names.{caller_there, process_there}
 use Rattle.scm_history.proofs.Processes.{has, launches, left_not, others_changed, takes, told_apart}
+use Rattle.std.proofs.lemmas.Bool.{and_parts}
+use Rattle.scm_laws.proofs.Histories.{made_front, may_behind}
 
 -- ## Callers
 
@@ -42,7 +45,7 @@ not_same : (a b : ℕ) → (a == b) ≡ false → (b == a) ≡ false
 not_same a b other = elim (b == a) as (λ c. (b == a) ≡ c → c ≡ false) [ true ↦ λ e. absurd (let t = eqb-true b a e in cc) | false ↦ λ e. refl ] refl
 
 -- an effect that makes another caller, or none
-not_made : (l : Limits) (f : Flat) (moment : ℕ) (step : Step) (number : ℕ) → makes_caller f number step ≡ false → is_caller f number ≡ false → is_caller (effect_of l (at_moment f moment step) step).1 number ≡ false
+not_made : (l : Limits) (f : Flat) (moment : ℕ) (step : Step) (number : ℕ) → makes_caller f number step ≡ false → is_caller f number ≡ false → is_caller (effect_of l (at_moment f moment step) step).flat number ≡ false
 not_made l f moment (Joined principal) number other none =
     ap is_some (find_push (λ (row : Caller). row.number == number) f.callers (record { number = f.next.caller; principal = principal }) (not_same number f.next.caller other)) ∙ none
 not_made l f moment (Call caller asked append) number other none = ap (λ rows. has_caller rows number) (of_call l (with_moment f moment) caller asked append).callers ∙ none
@@ -53,9 +56,9 @@ not_made l f moment step number other none = none
 made : (l : Limits) (f : Flat) (number : ℕ) (es : List Entry) → is_caller f number ≡ false → is_caller (state_of l f es) number ≡ true → has_made l f number es ≡ true
 made l f number [] none there = absurd cc
 made l f number (e ∷ es) none there =
-    elim (makes_caller f number e.1) as (λ b. makes_caller f number e.1 ≡ b → (b || has_made l (step_of l f e.0 e.1).1 number es) ≡ true) [
+    elim (makes_caller f number e.1) as (λ b. makes_caller f number e.1 ≡ b → (b || has_made l (step_of l f e.0 e.1).flat number es) ≡ true) [
       | true ↦ λ h. refl
-      | false ↦ λ h. made l (step_of l f e.0 e.1).1 number es (caller_after l f e.0 e.1 number ∙ not_made l f e.0 e.1 number h none) there
+      | false ↦ λ h. made l (step_of l f e.0 e.1).flat number es (caller_after l f e.0 e.1 number ∙ not_made l f e.0 e.1 number h none) there
     ] refl
 
 -- ## Processes
@@ -103,10 +106,10 @@ launched_not number process pid rows taken none =
 
 -- an effect that takes another process in hand, or none
 not_begun : (l : Limits) (f : Flat) (moment : ℕ) (step : Step) (number : ℕ) → IsTrue (may l f moment step) → takes_process f number step ≡ false → is_begun (process_of f number) ≡ false
-    → is_begun (process_of (effect_of l (at_moment f moment step) step).1 number) ≡ false
+    → is_begun (process_of (effect_of l (at_moment f moment step) step).flat number) ≡ false
 not_begun l f moment (Call caller asked append) number ok other none = told_apart is_begun begun_apart number f.processes _ (of_call l (with_moment f moment) caller asked append).processes ∙ none
 not_begun l f moment LaunchTaken number ok other none = ap is_begun (others_changed number (first_wanted f.wanted) (taken_if (first_wanted f.wanted)) f.processes (takes (first_wanted f.wanted)) other) ∙ none
-not_begun l f moment (Launched process pid) number ok other none = launched_not number process pid f.processes (came _ _ ok) none
+not_begun l f moment (Launched process pid) number ok other none = launched_not number process pid f.processes (and_parts _ _ ok).0 none
 not_begun l f moment (LaunchFailed process code) number ok other none = left_not is_begun refl number process f.processes none
 not_begun l f moment (Ended process) number ok other none = left_not is_begun refl number process f.processes none
 not_begun l f moment (ControlTaken process) number ok other none =
@@ -130,42 +133,39 @@ stays_not l number = record {
   drops = λ plan service rest code q. tt;
 }
 
-step_not : (l : Limits) (f : Flat) (moment : ℕ) (step : Step) (number : ℕ) → IsTrue (may l f moment step) → takes_process f number step ≡ false → is_begun (process_of f number) ≡ false → is_begun (process_of (step_of l f moment step).1 number) ≡ false
+step_not : (l : Limits) (f : Flat) (moment : ℕ) (step : Step) (number : ℕ) → IsTrue (may l f moment step) → takes_process f number step ≡ false → is_begun (process_of f number) ≡ false → is_begun (process_of (step_of l f moment step).flat number) ≡ false
 step_not l f moment step number ok other none =
     let done = effect_of l (at_moment f moment step) step in
-    finished_keeps (IsNotBegun number) (λ g plans h. h) (settled l done.1) done.0
-    (keeps_all l (IsNotBegun number) (λ plan. Unit {0}) (stays_not l number) done.1 done.1.plans (not_begun l f moment step number ok other none) (all_units done.1.plans)).flat
+    finished_keeps (IsNotBegun number) (λ g plans h. h) (settled l done.flat) done.answer
+    (keeps_all l (IsNotBegun number) (λ plan. Unit {0}) (stays_not l number) done.flat done.flat.plans (not_begun l f moment step number ok other none) (all_units done.flat.plans)).flat
 
 -- who is no more to be launched in the end and wasn't listed so in the beginning was taken in hand
 taken : (l : Limits) (f : Flat) (number : ℕ) (es : List Entry) → IsLegal l f es → is_begun (process_of f number) ≡ false → is_begun (process_of (state_of l f es) number) ≡ true → has_taken l f number es ≡ true
 taken l f number [] legal none there = absurd cc
 taken l f number (e ∷ es) legal none there =
-    elim (takes_process f number e.1) as (λ b. takes_process f number e.1 ≡ b → (b || has_taken l (step_of l f e.0 e.1).1 number es) ≡ true) [
+    elim (takes_process f number e.1) as (λ b. takes_process f number e.1 ≡ b → (b || has_taken l (step_of l f e.0 e.1).flat number es) ≡ true) [
       | true ↦ λ h. refl
-      | false ↦ λ h. taken l (step_of l f e.0 e.1).1 number es legal.1 (step_not l f e.0 e.1 number legal.0 h none) there
+      | false ↦ λ h. taken l (step_of l f e.0 e.1).flat number es legal.1 (step_not l f e.0 e.1 number legal.0 h none) there
     ] refl
 
 -- ## Histories
-
-pub front_legal : (l : Limits) (f : Flat) (front rest : List Entry) → IsLegal l f (front ++ rest) → IsLegal l f front
-front_legal l f [] rest legal = tt
-front_legal l f (e ∷ front) rest legal = (legal.0, front_legal l (step_of l f e.0 e.1).1 front rest legal.1)
-
--- an entry may be made in the state that the front ends in
-pub may_behind : (l : Limits) (f : Flat) (front : List Entry) (e : Entry) (rest : List Entry) → IsLegal l f (front ++ e ∷ rest) → IsTrue (may l (state_of l f front) e.0 e.1)
-may_behind l f [] e rest legal = legal.0
-may_behind l f (first ∷ front) e rest legal = may_behind l (step_of l f first.0 first.1).1 front e rest legal.1
 
 -- nobody has joined, and no process is listed
 pub record IsEmpty (f : Flat) : Type 0 where
   pub callers : f.callers ≡ []
   pub processes : f.processes ≡ []
 
+pub opened_empty : (l : Limits) (f : Flat) → IsOpening l f → IsEmpty f
+opened_empty l f o = subst IsEmpty (sym o.is) (record { callers = refl; processes = refl })
+
+pub opened_planless : (l : Limits) (f : Flat) → IsOpening l f → f.plans ≡ []
+opened_planless l f o = ap (λ (g : Flat). g.plans) o.is
+
 pub stands_behind : (l : Limits) (f : Flat) (es : List Entry) → IsEmpty f → f.plans ≡ [] → IsLegal l f es → (front : List Entry) (e : Entry) (rest : List Entry) → es ≡ front ++ e ∷ rest → StandsBehind l f front e
 stands_behind l f es empty none legal front e rest split =
     let whole = subst (IsLegal l f) split legal in
     let ok = may_behind l f front e rest whole in
-    let before = front_legal l f front (e ∷ rest) whole in
+    let before = made_front l f front (e ∷ rest) whole in
     record {
       caller = IfSome_then (caller_named e.1) (caller_there l (state_of l f front) e.0 e.1 ok) (λ number there. made l f number front (ap (λ rows. has_caller rows number) empty.callers) there);
       process = IfSome_then (process_named e.1) (process_there l (state_of l f front) e.0 e.1 ok)

@@ -3,6 +3,7 @@ use Rattle.std.proofs.Common.{ℕ, ◌≡◌, ◌∙◌, ◌<◌, ◌≤◌, ◌
 use Rattle.std.specs.Prelude.{IfSome, is_some}
 use Rattle.scm_model.specs.declared.flat.Config.{Config}
 use Rattle.scm_model.specs.declared.flat.Flat.{Flat}
+use Rattle.scm_model.specs.Outcomes.{Done}
 use Rattle.scm_model.specs.declared.flat.Limits.{Limits}
 use Rattle.scm_model.specs.declared.flat.Plan.{Plan}
 use Rattle.scm_model.specs.declared.calls.Request.{Request}
@@ -23,13 +24,13 @@ use Rattle.scm_rules.specs.Verdicts.{call_of, done_of, told_refused, verdict}
 use Rattle.scm_laws.proofs.Along.{Gives}
 use Rattle.scm_laws.proofs.Calls.{by_verdict}
 use Rattle.scm_laws.proofs.Sound.{Sound}
-use Rattle.scm_history.specs.Entries.{caller_made, plan_made}
+use Rattle.scm_rules.specs.Named.{caller_made, plan_made}
 use Rattle.scm_history.specs.Numbers.{AreMadeOnce, IsGiven}
 use Rattle.scm_history.proofs.Callers.{next_after, rising, stays_out}
-use Rattle.scm_history.proofs.Effects.{framed}
 use Rattle.scm_history.proofs.Finds.{find_push, is_some-map, none_filter}
 use Rattle.scm_history.proofs.Lasting.{Allows, Lasts, coded_sides, end_none, of_step, report_none, settled_sides, sides}
 use Rattle.scm_history.proofs.Processes.{after_effect, none_effect, process_rises}
+use Rattle.scm_laws.proofs.Frames.{framed}
 
 -- ## Plans
 
@@ -52,7 +53,7 @@ all_allowed (Gone caller) = tt
 all_allowed step = tt
 
 -- a number that was given and has no plan has none later
-pub stays_none : (l : Limits) (f : Flat) (moment : ℕ) (step : Step) (number : ℕ) → number < f.next.plan → is_some (plan_of f.plans number) ≡ false → is_some (plan_of (step_of l f moment step).1.plans number) ≡ false
+pub stays_none : (l : Limits) (f : Flat) (moment : ℕ) (step : Step) (number : ℕ) → number < f.next.plan → is_some (plan_of f.plans number) ≡ false → is_some (plan_of (step_of l f moment step).flat.plans number) ≡ false
 stays_none l f moment step number low none = of_step number (λ plan. Unit {0}) (λ gone. Unit {0}) (IsNone number) (none_last number) l f moment step low tt (all_allowed step) none
 
 -- ## The next plan
@@ -61,39 +62,40 @@ plan_configured : (f : Flat) (number : ℕ) (config : Option Config) → f.next.
 plan_configured f number None = omega arith
 plan_configured f number (Some config) = omega arith
 
-plan_done : (l : Limits) (f : Flat) (caller : ℕ) (asked : Request) → f.next.plan ≤ (done_of l f caller asked).1.next.plan
+plan_done : (l : Limits) (f : Flat) (caller : ℕ) (asked : Request) → f.next.plan ≤ (done_of l f caller asked).flat.next.plan
 plan_done l f caller (request.Change change) = plan_configured f _ (asked_config f caller change)
 plan_done l f caller asked = omega arith
 
-plan_call : (l : Limits) (f : Flat) (caller : ℕ) (asked : Request) (append : Kept) → f.next.plan ≤ (call_of l f caller asked append).1.next.plan
+plan_call : (l : Limits) (f : Flat) (caller : ℕ) (asked : Request) (append : Kept) → f.next.plan ≤ (call_of l f caller asked append).flat.next.plan
 plan_call l f caller asked append =
-    by_verdict (λ r. f.next.plan ≤ r.1.next.plan) (verdict l f caller asked append) (told_refused f caller asked (verdict l f caller asked append)) f (done_of l f caller asked)
+    by_verdict (λ r. f.next.plan ≤ r.flat.next.plan) (verdict l f caller asked append) (told_refused f caller asked (verdict l f caller asked append)) f (done_of l f caller asked)
     (λ e. plan_done l f caller asked) (λ e. omega arith)
 
-plan_effect : (l : Limits) (f : Flat) (moment : ℕ) (step : Step) → f.next.plan ≤ (effect_of l (at_moment f moment step) step).1.next.plan
+plan_effect : (l : Limits) (f : Flat) (moment : ℕ) (step : Step) → f.next.plan ≤ (effect_of l (at_moment f moment step) step).flat.next.plan
 plan_effect l f moment (Call caller asked append) = plan_call l (with_moment f moment) caller asked append
 plan_effect l f moment step = omega arith
 
-plan_after : (l : Limits) (f : Flat) (moment : ℕ) (step : Step) → (step_of l f moment step).1.next.plan ≡ (effect_of l (at_moment f moment step) step).1.next.plan
+plan_after : (l : Limits) (f : Flat) (moment : ℕ) (step : Step) → (step_of l f moment step).flat.next.plan ≡ (effect_of l (at_moment f moment step) step).flat.next.plan
 plan_after l f moment step = ap (λ (x : Flat). x.next.plan) (framed l f moment step)
 
-pub plan_rises : (l : Limits) (f : Flat) (moment : ℕ) (step : Step) → f.next.plan ≤ (step_of l f moment step).1.next.plan
+pub plan_rises : (l : Limits) (f : Flat) (moment : ℕ) (step : Step) → f.next.plan ≤ (step_of l f moment step).flat.next.plan
 plan_rises l f moment step = (let same = plan_after l f moment step in let up = plan_effect l f moment step in omega (arith, same, up))
 
 -- ## The plan that begins
 
 begun_call : (l : Limits) (f : Flat) (moment caller : ℕ) (asked : Request) (append : Kept)
-    → IfSome (plan_made (effect_of l (with_moment f moment) (Call caller asked append)).0) (IsGiven f.next.plan (effect_of l (with_moment f moment) (Call caller asked append)).1.next.plan)
+    → IfSome (plan_made (effect_of l (with_moment f moment) (Call caller asked append)).answer) (IsGiven f.next.plan (effect_of l (with_moment f moment) (Call caller asked append)).flat.next.plan)
 begun_call l f moment caller (request.Start handle words) append =
     let g = with_moment f moment in
-    elim (start_verdict g caller handle words == 0) as (λ b. IfSome (plan_made (cond b (answer.Begun f.next.plan) (answer.Reply (cond b (start_done g caller handle words) (told_refused g caller (request.Start handle words) (start_verdict g caller handle words), g)).0)))
-    (IsGiven f.next.plan (cond b (start_done g caller handle words) (told_refused g caller (request.Start handle words) (start_verdict g caller handle words), g)).1.next.plan)) [
+    let done = start_done g caller handle words in
+    let refusal : Done = record { reply = told_refused g caller (request.Start handle words) (start_verdict g caller handle words); flat = g } in
+    elim (start_verdict g caller handle words == 0) as (λ b. IfSome (plan_made (cond b (answer.Begun f.next.plan) (answer.Reply (cond b done refusal).reply))) (IsGiven f.next.plan (cond b done refusal).flat.next.plan)) [
       | true ↦ record { is_next = refl; below = omega arith }
       | false ↦ tt
     ]
 begun_call l f moment caller asked append = tt
 
-begun_effect : (l : Limits) (f : Flat) (moment : ℕ) (step : Step) → IfSome (plan_made (effect_of l (at_moment f moment step) step).0) (IsGiven f.next.plan (effect_of l (at_moment f moment step) step).1.next.plan)
+begun_effect : (l : Limits) (f : Flat) (moment : ℕ) (step : Step) → IfSome (plan_made (effect_of l (at_moment f moment step) step).answer) (IsGiven f.next.plan (effect_of l (at_moment f moment step) step).flat.next.plan)
 begun_effect l f moment (Call caller asked append) = begun_call l f moment caller asked append
 begun_effect l f moment (Report process status) = report_none (IsGiven f.next.plan f.next.plan) (current_of f process) status
 begun_effect l f moment (Ended process) = end_none (IsGiven f.next.plan f.next.plan) (current_of f process)
@@ -104,23 +106,23 @@ answered : (P : ℕ → Type 0) (plan : ℕ) (code : Option ℕ) → P plan → 
 answered P plan None p = p
 answered P plan (Some code) p = tt
 
-finishes : (P : ℕ → Type 0) (g : Flat) (told : Answer) → IfSome (plan_made told) P → IfSome (plan_made (finished g told).0) P
+finishes : (P : ℕ → Type 0) (g : Flat) (told : Answer) → IfSome (plan_made told) P → IfSome (plan_made (finished g told).answer) P
 finishes P g (answer.Begun plan) p = answered P plan (code_of g.plans plan) p
 finishes P g told p = p
 
-pub begun : (l : Limits) (f : Flat) (moment : ℕ) (step : Step) → IfSome (plan_made (step_of l f moment step).0) (IsGiven f.next.plan (step_of l f moment step).1.next.plan)
+pub begun : (l : Limits) (f : Flat) (moment : ℕ) (step : Step) → IfSome (plan_made (step_of l f moment step).answer) (IsGiven f.next.plan (step_of l f moment step).flat.next.plan)
 begun l f moment step =
     let done = effect_of l (at_moment f moment step) step in
-    subst (λ later. IfSome (plan_made (step_of l f moment step).0) (IsGiven f.next.plan later)) (sym (plan_after l f moment step))
-    (finishes (IsGiven f.next.plan done.1.next.plan) (settled l done.1) done.0 (begun_effect l f moment step))
+    subst (λ later. IfSome (plan_made (step_of l f moment step).answer) (IsGiven f.next.plan later)) (sym (plan_after l f moment step))
+    (finishes (IsGiven f.next.plan done.flat.next.plan) (settled l done.flat) done.answer (begun_effect l f moment step))
 
 -- ## The caller that joins
 
-joins : (l : Limits) (f : Flat) (moment : ℕ) (step : Step) → IfSome (caller_made f step) (IsGiven f.next.caller (effect_of l (at_moment f moment step) step).1.next.caller)
+joins : (l : Limits) (f : Flat) (moment : ℕ) (step : Step) → IfSome (caller_made f step) (IsGiven f.next.caller (effect_of l (at_moment f moment step) step).flat.next.caller)
 joins l f moment (Joined principal) = record { is_next = refl; below = omega arith }
 joins l f moment step = tt
 
-pub joins_after : (l : Limits) (f : Flat) (moment : ℕ) (step : Step) → IfSome (caller_made f step) (IsGiven f.next.caller (step_of l f moment step).1.next.caller)
+pub joins_after : (l : Limits) (f : Flat) (moment : ℕ) (step : Step) → IfSome (caller_made f step) (IsGiven f.next.caller (step_of l f moment step).flat.next.caller)
 joins_after l f moment step = subst (λ later. IfSome (caller_made f step) (IsGiven f.next.caller later)) (sym (next_after l f moment step)) (joins l f moment step)
 
 -- who is there and wasn't has a number that wasn't given

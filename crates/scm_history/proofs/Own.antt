@@ -9,12 +9,13 @@ use Rattle.scm_model.specs.declared.steps.Step.{Step}
 use Rattle.scm_model.specs.declared.steps.Step.TheVariants.{Joined, Call}
 use Rattle.scm_model.specs.Rows.{is_caller}
 use Rattle.scm_model.specs.Changes.{with_moment}
-use Rattle.scm_rules.specs.Runs.{Entry, IsLegal}
+use Rattle.scm_rules.specs.Runs.{IsLegal}
+use Rattle.scm_model.specs.Entries.{Entry}
 use Rattle.scm_rules.specs.Steps.{at_moment, effect_of, step_of}
 use Rattle.scm_laws.proofs.Calls.{keeps}
 use Rattle.scm_laws.proofs.Handled.{has_caller}
 use Rattle.scm_laws.proofs.Sound.{Sound}
-use Rattle.scm_history.specs.Entries.{caller_named, is_it, makes_caller, names_caller, of_caller}
+use Rattle.scm_rules.specs.Named.{caller_named, is_it, makes_caller, names_caller, of_caller}
 use Rattle.scm_history.specs.Numbers.{IsGiven}
 use Rattle.scm_history.specs.Own.{BeginsWithJoined, all_named, is_joined}
 use Rattle.scm_history.proofs.Callers.{next_after, rising, stays_out}
@@ -33,8 +34,8 @@ makes_not f caller step low = refl
 pub all_later : (l : Limits) (f : Flat) (caller : ℕ) (es : List Entry) → caller < f.next.caller → of_caller l f caller es ≡ all_named caller es
 all_later l f caller [] low = refl
 all_later l f caller (e ∷ es) low =
-    let rest = all_later l (step_of l f e.0 e.1).1 caller es (let up = rising l f e.0 e.1 in omega (arith, up, low)) in
-    let own = of_caller l (step_of l f e.0 e.1).1 caller es in
+    let rest = all_later l (step_of l f e.0 e.1).flat caller es (let up = rising l f e.0 e.1 in omega (arith, up, low)) in
+    let own = of_caller l (step_of l f e.0 e.1).flat caller es in
     elim (names_caller caller e.1) as (λ b. cond (b || makes_caller f caller e.1) (e ∷ own) own ≡ cond b (e ∷ all_named caller es) (all_named caller es)) [
       | true ↦ ap (λ later. e ∷ later) rest
       | false ↦ subst (λ b. cond b (e ∷ own) own ≡ all_named caller es) (sym (makes_not f caller e.1 low)) rest
@@ -55,7 +56,7 @@ makes_joined f caller (Joined principal) makes = refl
 makes_joined f caller step makes = absurd cc
 
 -- another number is given, or none
-above_effect : (l : Limits) (f : Flat) (moment : ℕ) (step : Step) (caller : ℕ) → f.next.caller ≤ caller → makes_caller f caller step ≡ false → (effect_of l (at_moment f moment step) step).1.next.caller ≤ caller
+above_effect : (l : Limits) (f : Flat) (moment : ℕ) (step : Step) (caller : ℕ) → f.next.caller ≤ caller → makes_caller f caller step ≡ false → (effect_of l (at_moment f moment step) step).flat.next.caller ≤ caller
 above_effect l f moment (Joined principal) caller up other =
     let apart : caller ≢ f.next.caller = λ e. absurd (let same = eq-eqb caller f.next.caller e in cc) in
     omega (arith, up, apart)
@@ -65,7 +66,7 @@ above_effect l f moment step caller up other = up
 pub begins : (l : Limits) (f : Flat) (es : List Entry) → Sound f → IsLegal l f es → (caller : ℕ) → f.next.caller ≤ caller → BeginsWithJoined caller es (of_caller l f caller es)
 begins l f [] s legal caller up = refl
 begins l f (e ∷ es) s legal caller up =
-    let after = (step_of l f e.0 e.1).1 in
+    let after = (step_of l f e.0 e.1).flat in
     let own = of_caller l after caller es in
     let other : names_caller caller e.1 ≡ false = not_it f.next.caller caller (caller_named e.1) up
     (IfSome_then (caller_named e.1) (caller_there l f e.0 e.1 legal.0) (λ number there. found_below (λ (row : Caller). row.number) number f.next.caller f.callers s.handles.callers.below there)) in
@@ -95,7 +96,7 @@ none_named : (l : Limits) (f : Flat) (caller : ℕ) (es : List Entry) → IsLega
 none_named l f caller [] legal low out = refl
 none_named l f caller (e ∷ es) legal low out =
     subst (λ (b : Bool). cond b (e ∷ all_named caller es) (all_named caller es) ≡ []) (sym (named_is f caller (caller_named e.1) out (caller_there l f e.0 e.1 legal.0)))
-    (none_named l (step_of l f e.0 e.1).1 caller es legal.1 (let up = rising l f e.0 e.1 in omega (arith, up, low)) (stays_out l f e.0 e.1 caller low out))
+    (none_named l (step_of l f e.0 e.1).flat caller es legal.1 (let up = rising l f e.0 e.1 in omega (arith, up, low)) (stays_out l f e.0 e.1 caller low out))
 
 -- the entries of whoever isn't there in the beginning
 pub begins_at : (l : Limits) (f : Flat) (es : List Entry) → Sound f → IsEmpty f → IsLegal l f es → (caller : ℕ) → BeginsWithJoined caller es (of_caller l f caller es)

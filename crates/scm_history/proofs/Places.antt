@@ -20,11 +20,12 @@ use Rattle.scm_laws.proofs.Effects.{same_process}
 use Rattle.scm_laws.proofs.Frames.{finished_keeps}
 use Rattle.scm_laws.proofs.Lists.{map_same}
 use Rattle.scm_laws.proofs.Sound.{Sound, controls_fewer}
-use Rattle.scm_history.specs.Entries.{names_process, takes_process}
+use Rattle.scm_rules.specs.Named.{names_process, takes_process}
 use Rattle.scm_history.specs.Places.{PlacesStay, numbers_of, those_not_meant, those_that_stay}
 use Rattle.scm_history.specs.Processes.{apart_from_controls}
 use Rattle.scm_history.proofs.Effects.{controls_apart, of_call}
 use Rattle.scm_history.proofs.Processes.{IsOf, launches, takes}
+use Rattle.std.proofs.lemmas.Bool.{or_left}
 
 -- ## Lists
 
@@ -96,10 +97,6 @@ record HavePlaces (f : Flat) (step : Step) (rows : List Process) : Type 0 where
   places : numbers_of rows ≡ numbers_of (those_that_stay step f.processes)
   others : those_not_meant f step rows ≡ those_not_meant f step f.processes
 
-or_first : (a b : Bool) → a ≡ true → (a || b) ≡ true
-or_first true b e = refl
-or_first false b e = absurd cc
-
 -- only controls have changed
 apart_places : (f : Flat) (step : Step) (rows : List Process) → numbers_of f.processes ≡ numbers_of (those_that_stay step f.processes) → map apart_from_controls rows ≡ map apart_from_controls f.processes → HavePlaces f step rows
 apart_places f step rows stay same = record {
@@ -118,20 +115,20 @@ one_places f step one change is meant stay = record {
 all_stay : (rows : List Process) → numbers_of rows ≡ numbers_of (filter (λ (row : Process). true) rows)
 all_stay rows = ap numbers_of (sym (all_pass rows))
 
-of_effect : (l : Limits) (f : Flat) (moment : ℕ) (step : Step) → HavePlaces f step (effect_of l (at_moment f moment step) step).1.processes
+of_effect : (l : Limits) (f : Flat) (moment : ℕ) (step : Step) → HavePlaces f step (effect_of l (at_moment f moment step) step).flat.processes
 of_effect l f moment (Call caller asked append) =
     apart_places f (Call caller asked append) _ (all_stay f.processes) (of_call l (with_moment f moment) caller asked append).processes
 of_effect l f moment LaunchTaken =
     one_places f LaunchTaken (first_wanted f.wanted) (taken_if (first_wanted f.wanted)) (takes (first_wanted f.wanted)) (λ n e. e) (all_stay f.processes)
 of_effect l f moment (Launched process pid) =
-    one_places f (Launched process pid) process (launched_if process pid) (launches process pid) (λ n e. or_first _ _ e) (all_stay f.processes)
+    one_places f (Launched process pid) process (launched_if process pid) (launches process pid) (λ n e. or_left _ _ e) (all_stay f.processes)
 of_effect l f moment (LaunchFailed process code) = record {
   places = refl;
-  others = others_left (λ n. names_process n (LaunchFailed process code) || takes_process f n (LaunchFailed process code)) process (λ n e. or_first _ _ e) f.processes;
+  others = others_left (λ n. names_process n (LaunchFailed process code) || takes_process f n (LaunchFailed process code)) process (λ n e. or_left _ _ e) f.processes;
 }
 of_effect l f moment (Ended process) = record {
   places = refl;
-  others = others_left (λ n. names_process n (Ended process) || takes_process f n (Ended process)) process (λ n e. or_first _ _ e) f.processes;
+  others = others_left (λ n. names_process n (Ended process) || takes_process f n (Ended process)) process (λ n e. or_left _ _ e) f.processes;
 }
 of_effect l f moment (ControlTaken process) =
     apart_places f (ControlTaken process) _ (all_stay f.processes) (controls_apart (relieved_if process) (controls_fewer process) f.processes)
@@ -174,11 +171,11 @@ settled_grown l g bound up =
     let all = (keeps_all l (Grown bound g.processes) (λ plan. Unit {0}) (grows l bound g.processes) g g.plans (none_new bound g up) (all_units g.plans)).flat in
     record { new = all.new; listed = all.listed; given = all.given; up = all.up }
 
-step_grown : (l : Limits) (f : Flat) (moment : ℕ) (step : Step) → Grown f.next.process (effect_of l (at_moment f moment step) step).1.processes (step_of l f moment step).1
+step_grown : (l : Limits) (f : Flat) (moment : ℕ) (step : Step) → Grown f.next.process (effect_of l (at_moment f moment step) step).flat.processes (step_of l f moment step).flat
 step_grown l f moment step =
     let done = effect_of l (at_moment f moment step) step in
-    let before = finished_keeps (Grown f.next.process done.1.processes) (λ g plans h. record { new = h.new; listed = h.listed; given = h.given; up = h.up }) (settled l done.1) done.0
-    (settled_grown l done.1 f.next.process (let e = same_process l f moment step in omega (arith, e))) in
+    let before = finished_keeps (Grown f.next.process done.flat.processes) (λ g plans h. record { new = h.new; listed = h.listed; given = h.given; up = h.up }) (settled l done.flat) done.answer
+    (settled_grown l done.flat f.next.process (let e = same_process l f moment step in omega (arith, e))) in
     record { new = before.new; listed = before.listed; given = before.given; up = before.up }
 
 pub gives : (l : Limits) → Gives Sound PlacesStay l
@@ -186,7 +183,7 @@ gives l f e s ok =
     let grown = step_grown l f e.0 e.1 in
     let have = of_effect l f e.0 e.1 in
     record {
-      old = (effect_of l (at_moment f e.0 e.1) e.1).1.processes;
+      old = (effect_of l (at_moment f e.0 e.1) e.1).flat.processes;
       new = grown.new;
       listed = grown.listed;
       places = have.places;

@@ -26,7 +26,7 @@ plan_below f number s there =
 
 -- ## It lasts
 
-abbrev IsThere : ℕ → ℕ → ℕ → List Plan → Type 0
+abbrev pub IsThere : ℕ → ℕ → ℕ → List Plan → Type 0
 IsThere number caller target plans = sides_of plans number ≡ Some (caller, target)
 
 first_same : (plan : Plan) (caller target : ℕ) → sides plan ≡ (caller, target) → plan.caller ≡ caller
@@ -36,7 +36,7 @@ not_both : (a b : Bool) → b ≡ false → not (a && b) ≡ true
 not_both true b e = ap not e
 not_both false b e = refl
 
-lasts : (number caller target : ℕ) → (caller == 0) ≡ false → Lasts number (λ plan. (number == plan) ≡ false) (λ gone. (caller == gone) ≡ false) (IsThere number caller target)
+pub lasts : (number caller target : ℕ) → (caller == 0) ≡ false → Lasts number (λ plan. (number == plan) ≡ false) (λ gone. (caller == gone) ≡ false) (IsThere number caller target)
 lasts number caller target somebody = record {
   codes = λ test code plans there. coded_sides test code plans number ∙ there;
   tidies = λ plans there. told_filter sides (is_numbered number) stays (caller, target)
@@ -60,11 +60,11 @@ both_of : (found : Option Plan) (caller target : ℕ) → option_map (λ (plan :
 both_of None caller target a b = absurd cc
 both_of (Some plan) caller target a b = (let x : plan.caller ≡ caller = cc in let y : plan.target ≡ target = cc in ap (λ c. Some (c, plan.target)) x ∙ ap (λ t. Some (caller, t)) y)
 
-caller_in : (found : Option Plan) (caller target : ℕ) → option_map sides found ≡ Some (caller, target) → option_map (λ (plan : Plan). plan.caller) found ≡ Some caller
+pub caller_in : (found : Option Plan) (caller target : ℕ) → option_map sides found ≡ Some (caller, target) → option_map (λ (plan : Plan). plan.caller) found ≡ Some caller
 caller_in None caller target e = absurd cc
 caller_in (Some plan) caller target e = (let same : sides plan ≡ (caller, target) = cc in ap (λ (pair : ℕ × ℕ). Some pair.0) same)
 
-target_in : (found : Option Plan) (caller target : ℕ) → option_map sides found ≡ Some (caller, target) → option_map (λ (plan : Plan). plan.target) found ≡ Some target
+pub target_in : (found : Option Plan) (caller target : ℕ) → option_map sides found ≡ Some (caller, target) → option_map (λ (plan : Plan). plan.target) found ≡ Some target
 target_in None caller target e = absurd cc
 target_in (Some plan) caller target e = (let same : sides plan ≡ (caller, target) = cc in ap (λ (pair : ℕ × ℕ). Some pair.1) same)
 

@@ -21,7 +21,7 @@ use Rattle.scm_laws.proofs.Effects.{same_process}
 use Rattle.scm_laws.proofs.Frames.{finished_keeps}
 use Rattle.scm_laws.proofs.Lists.{find_filter}
 use Rattle.scm_laws.proofs.Sound.{Sound, controls_fewer}
-use Rattle.scm_history.specs.Entries.{names_process, takes_process}
+use Rattle.scm_rules.specs.Named.{names_process, takes_process}
 use Rattle.scm_history.specs.Processes.{OthersStay, apart_from_controls}
 use Rattle.scm_history.proofs.Effects.{controls_apart, of_call}
 use Rattle.scm_history.proofs.Finds.{find_map, find_push, found_below, found_map, none_filter}
@@ -81,7 +81,7 @@ told_apart test same number befores afters e = sym (same (find (has number) afte
 
 -- ## A process that leaves
 
-none_left : (number : ℕ) (rows : List Process) → find (has number) (filter (λ (row : Process). not (row.number == number)) rows) ≡ None
+pub none_left : (number : ℕ) (rows : List Process) → find (has number) (filter (λ (row : Process). not (row.number == number)) rows) ≡ None
 none_left number [] = refl
 none_left number (row ∷ rows) =
     elim (row.number == number) as (λ b. (row.number == number) ≡ b
@@ -106,7 +106,7 @@ others_left number process rows other =
     ap (option_map apart_from_controls) (find_filter (has number) (λ (row : Process). not (row.number == process)) (λ row same. ap not (apart number process row other same)) rows)
 
 of_effect : (l : Limits) (f : Flat) (moment : ℕ) (step : Step) (number : ℕ) → names_process number step ≡ false → takes_process f number step ≡ false
-    → option_map apart_from_controls (process_of (effect_of l (at_moment f moment step) step).1 number) ≡ option_map apart_from_controls (process_of f number)
+    → option_map apart_from_controls (process_of (effect_of l (at_moment f moment step) step).flat number) ≡ option_map apart_from_controls (process_of f number)
 of_effect l f moment (Call caller asked append) number named taken = found_apart number f.processes _ (of_call l (with_moment f moment) caller asked append).processes
 of_effect l f moment LaunchTaken number named taken =
     ap (option_map apart_from_controls) (others_changed number (first_wanted f.wanted) (taken_if (first_wanted f.wanted)) f.processes (takes (first_wanted f.wanted)) taken)
@@ -118,7 +118,7 @@ of_effect l f moment (ControlTaken process) number named taken = found_apart num
 of_effect l f moment step number named taken = refl
 
 -- an effect lists nobody
-pub none_effect : (l : Limits) (f : Flat) (moment : ℕ) (step : Step) (number : ℕ) → is_some (process_of f number) ≡ false → is_some (process_of (effect_of l (at_moment f moment step) step).1 number) ≡ false
+pub none_effect : (l : Limits) (f : Flat) (moment : ℕ) (step : Step) (number : ℕ) → is_some (process_of f number) ≡ false → is_some (process_of (effect_of l (at_moment f moment step) step).flat number) ≡ false
 none_effect l f moment (Call caller asked append) number none = told_apart is_some (is_some-map apart_from_controls) number f.processes _ (of_call l (with_moment f moment) caller asked append).processes ∙ none
 none_effect l f moment LaunchTaken number none = none_changed number (first_wanted f.wanted) (taken_if (first_wanted f.wanted)) f.processes (takes (first_wanted f.wanted)) ∙ none
 none_effect l f moment (Launched process pid) number none = none_changed number process (launched_if process pid) f.processes (launches process pid) ∙ none
@@ -149,15 +149,15 @@ settled_as l g bound number low up =
     (keeps_all l (IsAs bound number (process_of g number)) (λ plan. Unit {0}) (stays_as l bound number (process_of g number) low) g g.plans (record { up = up; same = refl }) (all_units g.plans)).flat.same
 
 -- answering changes no process
-finished_as : (g : Flat) (told : Answer) (number : ℕ) → process_of (finished g told).1 number ≡ process_of g number
+finished_as : (g : Flat) (told : Answer) (number : ℕ) → process_of (finished g told).flat number ≡ process_of g number
 finished_as g told number = finished_keeps (λ h. process_of h number ≡ process_of g number) (λ h plans e. e) g told refl
 
 -- a step leaves of a number that was given what its effect left
 pub after_effect : (l : Limits) (f : Flat) (moment : ℕ) (step : Step) (number : ℕ) → number < f.next.process
-    → process_of (step_of l f moment step).1 number ≡ process_of (effect_of l (at_moment f moment step) step).1 number
+    → process_of (step_of l f moment step).flat number ≡ process_of (effect_of l (at_moment f moment step) step).flat number
 after_effect l f moment step number low =
     let done = effect_of l (at_moment f moment step) step in
-    finished_as (settled l done.1) done.0 number ∙ settled_as l done.1 f.next.process number low (let e = same_process l f moment step in omega (arith, e))
+    finished_as (settled l done.flat) done.answer number ∙ settled_as l done.flat f.next.process number low (let e = same_process l f moment step in omega (arith, e))
 
 -- ## Steps
 
@@ -180,8 +180,8 @@ up l bound = record {
 }
 
 -- it never falls
-pub process_rises : (l : Limits) (f : Flat) (moment : ℕ) (step : Step) → f.next.process ≤ (step_of l f moment step).1.next.process
+pub process_rises : (l : Limits) (f : Flat) (moment : ℕ) (step : Step) → f.next.process ≤ (step_of l f moment step).flat.next.process
 process_rises l f moment step =
     let done = effect_of l (at_moment f moment step) step in
-    finished_keeps (λ g. f.next.process ≤ g.next.process) (λ g plans h. h) (settled l done.1) done.0
-    (keeps_all l (λ g. f.next.process ≤ g.next.process) (λ plan. Unit {0}) (up l f.next.process) done.1 done.1.plans (let e = same_process l f moment step in omega (arith, e)) (all_units done.1.plans)).flat
+    finished_keeps (λ g. f.next.process ≤ g.next.process) (λ g plans h. h) (settled l done.flat) done.answer
+    (keeps_all l (λ g. f.next.process ≤ g.next.process) (λ plan. Unit {0}) (up l f.next.process) done.flat done.flat.plans (let e = same_process l f moment step in omega (arith, e)) (all_units done.flat.plans)).flat

@@ -6,8 +6,9 @@ use Rattle.scm_model.specs.declared.steps.Answer.{Answer}
 use Rattle.scm_model.specs.declared.steps.Step.{Step}
 use Rattle.scm_model.specs.declared.steps.Step.TheVariants.{Gone}
 use Rattle.scm_model.specs.Rows.{is_caller}
-use Rattle.scm_rules.specs.Runs.{Entry, state_of}
-use Rattle.scm_history.specs.Entries.{caller_made}
+use Rattle.scm_rules.specs.Histories.{state}
+use Rattle.scm_model.specs.Entries.{Entry}
+use Rattle.scm_rules.specs.Named.{caller_made}
 
 -- whether a step is the going of a caller
 abbrev pub takes_leave : ℕ → Step → Bool
@@ -24,4 +25,5 @@ pub record CallersStay (before : Flat) (e : Entry) (told : Answer) (after : Flat
 -- behind its Gone, and all that follows, a caller isn't in the state
 abbrev pub IsGoneForGood : Limits → Flat → List Entry → Type 0
 IsGoneForGood l f es =
-    (number : ℕ) (front : List Entry) (e : Entry) (rest : List Entry) → es ≡ front ++ e ∷ rest → IsTrue (takes_leave number e.1) → is_caller (state_of l f es) number ≡ false
+    (number : ℕ) (front : List Entry) (e : Entry) (rest : List Entry) → es ≡ front ++ e ∷ rest → IsTrue (takes_leave number e.1)
+    → is_caller (state l f es) number ≡ false

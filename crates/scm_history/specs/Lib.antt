@@ -1,4 +1,3 @@
-pub mod Entries
 pub mod Names
 pub mod Processes
 pub mod Numbers
@@ -7,5 +6,9 @@ pub mod Anew
 pub mod Own
 pub mod Callers
 pub mod Plans
-pub mod Whole
 pub mod Places
+pub mod Phases
+pub mod Begun
+pub mod Shapes
+pub mod Owned
+pub mod Kept

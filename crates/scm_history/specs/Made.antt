@@ -4,8 +4,8 @@ use Rattle.scm_model.specs.declared.flat.Flat.{Flat}
 use Rattle.scm_model.specs.declared.flat.Limits.{Limits}
 use Rattle.scm_model.specs.declared.steps.Step.{Step}
 use Rattle.scm_model.specs.declared.steps.Step.TheVariants.{EndStart}
-use Rattle.scm_rules.specs.Runs.{Entry}
-use Rattle.scm_history.specs.Entries.{caller_named, process_named, has_begun, has_made, has_taken}
+use Rattle.scm_model.specs.Entries.{Entry}
+use Rattle.scm_rules.specs.Named.{caller_named, process_named, has_begun, has_made, has_taken}
 
 -- a start is answered that a Call of the same caller began
 abbrev pub AnswersItsOwn : Limits → Flat → List Entry → Step → Type 0

@@ -7,8 +7,8 @@ use Rattle.scm_model.specs.declared.steps.Step.{Step}
 use Rattle.scm_model.specs.declared.steps.Step.TheVariants.{Launched, LaunchFailed}
 use Rattle.scm_model.specs.Rows.{is_caller}
 use Rattle.scm_rules.specs.Launches.{is_running, is_taken, process_of}
-use Rattle.scm_rules.specs.Runs.{Entry}
-use Rattle.scm_history.specs.Entries.{caller_named, process_named}
+use Rattle.scm_model.specs.Entries.{Entry}
+use Rattle.scm_rules.specs.Named.{caller_named, process_named}
 
 -- whether a process is listed and has come as far as a step of it wants: the outcome of its launch that it is in hand, any other that it
 -- was launched

@@ -5,8 +5,8 @@ use Rattle.scm_model.specs.declared.steps.Answer.{Answer}
 use Rattle.scm_model.specs.Rows.{is_caller}
 use Rattle.start_plan.specs.Decided.{plan_of}
 use Rattle.scm_rules.specs.Launches.{process_of}
-use Rattle.scm_rules.specs.Runs.{Entry}
-use Rattle.scm_history.specs.Entries.{caller_made, plan_made}
+use Rattle.scm_model.specs.Entries.{Entry}
+use Rattle.scm_rules.specs.Named.{caller_made, plan_made}
 
 -- a number is the next one, which is below the next one afterwards
 pub record IsGiven (next later : ℕ) (number : ℕ) : Type 0 where
@@ -22,5 +22,7 @@ pub record AreMadeOnce (before : Flat) (e : Entry) (told : Answer) (after : Flat
   pub joined : IfSome (caller_made before e.1) (IsGiven before.next.caller after.next.caller)
   pub begun : IfSome (plan_made told) (IsGiven before.next.plan after.next.plan)
   pub new_caller : (number : ℕ) → is_caller before number ≡ false → IsTrue (is_caller after number) → before.next.caller ≤ number
-  pub new_process : (number : ℕ) → is_some (process_of before number) ≡ false → IsTrue (is_some (process_of after number)) → before.next.process ≤ number
-  pub new_plan : (number : ℕ) → is_some (plan_of before.plans number) ≡ false → IsTrue (is_some (plan_of after.plans number)) → before.next.plan ≤ number
+  pub new_process : (number : ℕ) → is_some (process_of before number) ≡ false → IsTrue (is_some (process_of after number))
+      → before.next.process ≤ number
+  pub new_plan : (number : ℕ) → is_some (plan_of before.plans number) ≡ false → IsTrue (is_some (plan_of after.plans number))
+      → before.next.plan ≤ number

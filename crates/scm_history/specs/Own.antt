@@ -4,8 +4,8 @@ use Rattle.scm_model.specs.declared.flat.Flat.{Flat}
 use Rattle.scm_model.specs.declared.flat.Limits.{Limits}
 use Rattle.scm_model.specs.declared.steps.Step.{Step}
 use Rattle.scm_model.specs.declared.steps.Step.TheVariants.{Joined}
-use Rattle.scm_rules.specs.Runs.{Entry}
-use Rattle.scm_history.specs.Entries.{names_caller, of_caller}
+use Rattle.scm_model.specs.Entries.{Entry}
+use Rattle.scm_rules.specs.Named.{names_caller, of_caller}
 
 abbrev pub is_joined : Step → Bool
 is_joined (Joined principal) = true

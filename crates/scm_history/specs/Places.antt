@@ -5,8 +5,8 @@ use Rattle.scm_model.specs.declared.flat.Process.{Process}
 use Rattle.scm_model.specs.declared.steps.Answer.{Answer}
 use Rattle.scm_model.specs.declared.steps.Step.{Step}
 use Rattle.scm_model.specs.declared.steps.Step.TheVariants.{LaunchFailed, Ended}
-use Rattle.scm_rules.specs.Runs.{Entry}
-use Rattle.scm_history.specs.Entries.{names_process, takes_process}
+use Rattle.scm_model.specs.Entries.{Entry}
+use Rattle.scm_rules.specs.Named.{names_process, takes_process}
 use Rattle.scm_history.specs.Processes.{apart_from_controls}
 
 -- whether a process leaves with a step: its launch failed, or it ended

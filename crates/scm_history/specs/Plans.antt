@@ -6,7 +6,7 @@ use Rattle.scm_model.specs.declared.steps.Answer.{Answer}
 use Rattle.scm_model.specs.declared.steps.Step.{Step}
 use Rattle.scm_model.specs.declared.steps.Step.TheVariants.{EndStart}
 use Rattle.start_plan.specs.Decided.{caller_of, plan_of}
-use Rattle.scm_rules.specs.Runs.{Entry}
+use Rattle.scm_model.specs.Entries.{Entry}
 use Rattle.scm_history.specs.Callers.{takes_leave}
 
 -- whether a step answers the start of a plan
@@ -25,10 +25,12 @@ pub record IsPlanOf (f : Flat) (number caller target : ℕ) : Type 0 where
 -- a plan of a caller stays with its caller and its target, unless this is its EndStart or its caller's Gone
 abbrev pub PlansAreTheirCallers : Flat → Entry → Answer → Flat → Type 0
 PlansAreTheirCallers before e told after =
-    (number caller target : ℕ) → IsPlanOf before number caller target → (caller == 0) ≡ false → ends_plan number e.1 ≡ false → takes_leave caller e.1 ≡ false
+    (number caller target : ℕ) → IsPlanOf before number caller target → (caller == 0) ≡ false
+    → ends_plan number e.1 ≡ false → takes_leave caller e.1 ≡ false
     → IsPlanOf after number caller target
 
 -- behind the EndStart of a plan no entry is its EndStart again
 abbrev pub EachEndsOnce : List Entry → Type 0
 EachEndsOnce es =
-    (number : ℕ) (front : List Entry) (e : Entry) (rest : List Entry) → es ≡ front ++ e ∷ rest → IsTrue (ends_plan number e.1) → All (λ (later : Entry). ends_plan number later.1 ≡ false) rest
+    (number : ℕ) (front : List Entry) (e : Entry) (rest : List Entry) → es ≡ front ++ e ∷ rest → IsTrue (ends_plan number e.1)
+    → All (λ (later : Entry). ends_plan number later.1 ≡ false) rest

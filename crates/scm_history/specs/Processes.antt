@@ -4,8 +4,8 @@ use Rattle.scm_model.specs.declared.flat.Flat.{Flat}
 use Rattle.scm_model.specs.declared.steps.Answer.{Answer}
 use Rattle.scm_model.specs.declared.flat.Process.{Process}
 use Rattle.scm_rules.specs.Launches.{process_of}
-use Rattle.scm_rules.specs.Runs.{Entry}
-use Rattle.scm_history.specs.Entries.{names_process, takes_process}
+use Rattle.scm_model.specs.Entries.{Entry}
+use Rattle.scm_rules.specs.Named.{names_process, takes_process}
 
 -- all of a process but the controls that wait for it
 abbrev pub apart_from_controls : Process → Process
@@ -13,7 +13,8 @@ apart_from_controls row = record row { controls = [] }
 
 -- a process that is listed is listed as it was, apart from its controls, and a number that was given and isn't listed isn't listed again
 pub record Stays (before after : Flat) (number : ℕ) : Type 0 where
-  pub listed : IsTrue (is_some (process_of before number)) → option_map apart_from_controls (process_of after number) ≡ option_map apart_from_controls (process_of before number)
+  pub listed : IsTrue (is_some (process_of before number))
+      → option_map apart_from_controls (process_of after number) ≡ option_map apart_from_controls (process_of before number)
   pub unlisted : is_some (process_of before number) ≡ false → number < before.next.process → is_some (process_of after number) ≡ false
 
 -- so it is with each process that an entry neither names nor takes in hand

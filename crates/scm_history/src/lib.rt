@@ -1,99 +1,146 @@
 //! Which numbers the entries of a history name and make.
 #![tactic(auto)]
 
-ghost use Rattle.std.specs.Prelude.{◌≡◌, []};
 ghost use Rattle.scm_history.specs.Anew.{EachMakesAnew};
+ghost use Rattle.scm_history.specs.Begun.{LawOfBegun};
 ghost use Rattle.scm_history.specs.Callers.{CallersStay, IsGoneForGood};
+ghost use Rattle.scm_history.specs.Kept.{LawOfKept};
 ghost use Rattle.scm_history.specs.Made.{EachStandsBehind};
 ghost use Rattle.scm_history.specs.Names.{NamesWhoIsThere};
 ghost use Rattle.scm_history.specs.Numbers.{AreMadeOnce};
 ghost use Rattle.scm_history.specs.Own.{EachBeginsWithJoined};
+ghost use Rattle.scm_history.specs.Owned.{LastsOnce, LawOfOwn};
+ghost use Rattle.scm_history.specs.Phases.{LawOfPhases};
 ghost use Rattle.scm_history.specs.Places.{PlacesStay};
 ghost use Rattle.scm_history.specs.Plans.{EachEndsOnce, PlansAreTheirCallers};
 ghost use Rattle.scm_history.specs.Processes.{OthersStay};
-ghost use Rattle.scm_history.specs.Whole.{IsWhole};
-ghost use Rattle.scm_rules.specs.Opening.{opening as opening_at};
-ghost use Rattle.scm_rules.specs.Runs.{EachStep, IsLegal, state_of};
+ghost use Rattle.scm_history.specs.Shapes.{LawOfShapes};
+ghost use Rattle.scm_laws.specs.Histories.{EachEntry};
+ghost use Rattle.scm_rules.specs.Histories.{Legal};
+ghost use Rattle.scm_rules.specs.Opening.{IsOpening};
+ghost use Rattle.scm_rules.specs.Runs.{EachStep, IsLegal};
 
 use scm_model::{Flat, Limits, Step};
 use scm_text::Items;
 
-/// An entry names only a caller that is in the state before it, and a process that is listed there: in hand where the entry tells the
-/// outcome of its launch, launched where it is a report or its end.
+/// An entry names only a caller that is in the state before it, and a process that is listed there:
+/// in hand where the entry tells the outcome of its launch, launched where it is a report or its
+/// end.
 pub fn names_who_is_there(limits: &Limits, steps: &Items<(u64, Step)>, opening: &Flat)
-    requires begins { opening.now ≡ opening_at limits.now [] [] opening.now.moment }
+    requires begins { IsOpening limits.now opening.now }
     requires legal { IsLegal limits.now opening.now steps.now }
     ensures { EachStep NamesWhoIsThere limits.now opening.now steps.now }
 {}
 
-/// A process that an entry neither names nor takes in hand stays as it is: listed with the same service, phase and system's number, or
-/// not listed. Controls may come to wait for it, and be taken.
+/// A process that an entry neither names nor takes in hand stays as it is: listed with the same
+/// service, phase and system's number, or not listed. Controls may come to wait for it, and be
+/// taken.
 pub fn others_stay(limits: &Limits, steps: &Items<(u64, Step)>, opening: &Flat)
-    requires begins { opening.now ≡ opening_at limits.now [] [] opening.now.moment }
+    requires begins { IsOpening limits.now opening.now }
     requires legal { IsLegal limits.now opening.now steps.now }
     ensures { EachStep OthersStay limits.now opening.now steps.now }
 {}
 
-/// Processes keep their places in the list: behind an entry stand those that were listed, in their order, without one whose launch failed
-/// or that ended, and then those that are new. Whom the entry neither names nor takes in hand stands there as it was, apart from its
-/// controls.
+/// Processes keep their places in the list: behind an entry stand those that were listed, in their
+/// order, without one whose launch failed or that ended, and then those that are new. Whom the
+/// entry neither names nor takes in hand stands there as it was, apart from its controls.
 pub fn places_stay(limits: &Limits, steps: &Items<(u64, Step)>, opening: &Flat)
-    requires begins { opening.now ≡ opening_at limits.now [] [] opening.now.moment }
+    requires begins { IsOpening limits.now opening.now }
     requires legal { IsLegal limits.now opening.now steps.now }
     ensures { EachStep PlacesStay limits.now opening.now steps.now }
 {}
 
-/// No number of a caller, a process or a plan is given twice: the next ones never fall, and whoever is new has one that was not given
-/// before.
+/// No number of a caller, a process or a plan is given twice: the next ones never fall, and whoever
+/// is new has one that was not given before.
 pub fn numbers_are_made_once(limits: &Limits, steps: &Items<(u64, Step)>, opening: &Flat)
-    requires begins { opening.now ≡ opening_at limits.now [] [] opening.now.moment }
+    requires begins { IsOpening limits.now opening.now }
     requires legal { IsLegal limits.now opening.now steps.now }
     ensures { EachStep AreMadeOnce limits.now opening.now steps.now }
 {}
 
-/// Every state that a run ends in is whole: valid, with one short word for each command, registrations of callers alone, and at most one
-/// row that becomes due for each service.
-pub fn states_are_whole(limits: &Limits, steps: &Items<(u64, Step)>, opening: &Flat)
-    requires begins { opening.now ≡ opening_at limits.now [] [] opening.now.moment }
-    requires legal { IsLegal limits.now opening.now steps.now }
-    ensures { IsWhole limits.now (state_of limits.now opening.now steps.now) }
-{}
-
-/// Each entry that names a caller stands behind the Joined that made it, each that names a process behind a LaunchTaken that took it
-/// in hand, and each EndStart behind a Call of the same caller that began its plan.
+/// Each entry that names a caller stands behind the Joined that made it, each that names a process
+/// behind a LaunchTaken that took it in hand, and each EndStart behind a Call of the same caller
+/// that began its plan.
 pub fn who_is_not_made_is_not_named(limits: &Limits, steps: &Items<(u64, Step)>, opening: &Flat)
-    requires begins { opening.now ≡ opening_at limits.now [] [] opening.now.moment }
+    requires begins { IsOpening limits.now opening.now }
     requires legal { IsLegal limits.now opening.now steps.now }
     ensures { EachStandsBehind limits.now opening.now steps.now }
 {}
 
-/// A Joined makes a caller that none before it made, a LaunchTaken takes a process in hand that none before it took, and a Call whose start
-/// waits begins a plan that none before it began.
+/// A Joined makes a caller that none before it made, a LaunchTaken takes a process in hand that
+/// none before it took, and a Call whose start waits begins a plan that none before it began.
 pub fn nobody_is_made_twice(limits: &Limits, steps: &Items<(u64, Step)>, opening: &Flat)
-    requires begins { opening.now ≡ opening_at limits.now [] [] opening.now.moment }
+    requires begins { IsOpening limits.now opening.now }
     requires legal { IsLegal limits.now opening.now steps.now }
     ensures { EachMakesAnew limits.now opening.now steps.now }
 {}
 
-/// The entries of a caller are its Joined and then all that name it, in order; no entry names a caller that didn't join.
+/// The entries of a caller are its Joined and then all that name it, in order; no entry names a
+/// caller that didn't join.
 pub fn its_joined_comes_first(limits: &Limits, steps: &Items<(u64, Step)>, opening: &Flat)
-    requires begins { opening.now ≡ opening_at limits.now [] [] opening.now.moment }
+    requires begins { IsOpening limits.now opening.now }
     requires legal { IsLegal limits.now opening.now steps.now }
     ensures { EachBeginsWithJoined limits.now opening.now steps.now }
 {}
 
 /// A caller is in the state from its Joined until its Gone, and then never again.
 pub fn callers_stay(limits: &Limits, steps: &Items<(u64, Step)>, opening: &Flat)
-    requires begins { opening.now ≡ opening_at limits.now [] [] opening.now.moment }
+    requires begins { IsOpening limits.now opening.now }
     requires legal { IsLegal limits.now opening.now steps.now }
     ensures each_step { EachStep CallersStay limits.now opening.now steps.now }
     ensures for_good { IsGoneForGood limits.now opening.now steps.now }
 {}
 
-/// A caller's plan stays, with its caller and its target, until its EndStart, which comes once, or its caller's Gone.
+/// A caller's plan stays, with its caller and its target, until its EndStart, which comes once, or
+/// its caller's Gone.
 pub fn plans_are_their_callers(limits: &Limits, steps: &Items<(u64, Step)>, opening: &Flat)
-    requires begins { opening.now ≡ opening_at limits.now [] [] opening.now.moment }
+    requires begins { IsOpening limits.now opening.now }
     requires legal { IsLegal limits.now opening.now steps.now }
     ensures each_step { EachStep PlansAreTheirCallers limits.now opening.now steps.now }
     ensures once { EachEndsOnce steps.now }
+{}
+
+/// Behind a LaunchTaken its process is in hand, behind a Launched it runs and has that number of
+/// the system, behind a Report it runs as it did, and behind a LaunchFailed or an Ended it isn't
+/// listed.
+pub fn entries_leave_processes_so(limits: &Limits, steps: &Items<(u64, Step)>, opening: &Flat)
+    requires begins { IsOpening limits.now opening.now }
+    requires legal { Legal limits.now opening.now steps.now }
+    ensures { EachEntry LawOfPhases limits.now opening.now steps.now }
+{}
+
+/// Behind a Start that waits its plan is there, of the caller that asked and aimed at the service
+/// of its handle; no other step begins a plan.
+pub fn a_plan_is_who_began_its(limits: &Limits, steps: &Items<(u64, Step)>, opening: &Flat)
+    requires begins { IsOpening limits.now opening.now }
+    requires legal { Legal limits.now opening.now steps.now }
+    ensures { EachEntry LawOfBegun limits.now opening.now steps.now }
+{}
+
+/// Each answer has the shape of its step: a call is told a reply of its request's form, or, where
+/// it is a start, its plan; a report and an end are stale exactly where no service has the process.
+pub fn answers_have_shapes(limits: &Limits, steps: &Items<(u64, Step)>, opening: &Flat)
+    requires begins { IsOpening limits.now opening.now }
+    requires legal { Legal limits.now opening.now steps.now }
+    ensures { EachEntry LawOfShapes limits.now opening.now steps.now }
+{}
+
+/// The law of own entries: one entry more of a history is one more of a caller's or a process's,
+/// with what it was told, where it makes or names it, and else changes nothing. From any state.
+pub fn law_of_own_entries(limits: &Limits, first: &Flat)
+    ensures { LawOfOwn limits.now first.now }
+{}
+
+/// Behind a caller's Gone no entry is that caller's, and behind a process's LaunchFailed or Ended
+/// none is that process's.
+pub fn own_entries_end(limits: &Limits, steps: &Items<(u64, Step)>, opening: &Flat)
+    requires begins { IsOpening limits.now opening.now }
+    requires legal { Legal limits.now opening.now steps.now }
+    ensures { LastsOnce limits.now opening.now steps.now }
+{}
+
+/// The law of kept changes: one entry more of a history adds the change that it would make where it
+/// tells that it was kept, and else none. From any state.
+pub fn law_of_kept_changes(limits: &Limits, first: &Flat)
+    ensures { LawOfKept limits.now first.now }
 {}

@@ -1,5 +1,5 @@
 -- Each step keeps what is true of every state.
-use Rattle.std.proofs.Common.{ℕ, ◌≡◌, ◌<◌, ◌==◌, ◌||◌, ◌&&◌, Bool, true, false, not, cond, IsTrue, List, [], ◌∷◌, Option, None, Some, find, map, refl, subst, eq-eqb, eqb-true}
+use Rattle.std.proofs.Common.{ℕ, ◌≡◌, ◌<◌, ◌==◌, ◌||◌, Bool, true, false, not, cond, IsTrue, List, [], ◌∷◌, Option, None, Some, find, map, refl, subst, eq-eqb, eqb-true}
 use Rattle.std.specs.Prelude.{All, is_none, option_map, unwrap_or}
 use Rattle.std.proofs.lemmas.List.Elements.{All-weaker}
 use Rattle.scm_text.specs.Fold.{same_text}
@@ -22,6 +22,7 @@ use Rattle.scm_model.specs.declared.steps.Step.TheVariants.{Joined, Call, EndSta
 use Rattle.scm_model.specs.Refused.{answered, first_refusal}
 use Rattle.scm_model.specs.Rows.{handle_of, is_caller, manager_mask, opened, principal_of}
 use Rattle.scm_model.specs.Changes.{configured_if, with_moment, with_service}
+use Rattle.scm_model.specs.Outcomes.{Done}
 use Rattle.service_record.specs.Checks.{check_new, has_bad_names, has_bad_numbers, has_bad_texts, has_bad_lists, is_bad_account}
 use Rattle.scm_rules.specs.Change.{change_done, change_refusals, change_verdict, changed_service, checked, loops, new_config, tags_no_group, takes_name, with_new_config}
 use Rattle.scm_rules.specs.Close.{close_refusals}
@@ -31,7 +32,7 @@ use Rattle.scm_rules.specs.Needs.{are_unreadable, makes_cycle, start_order}
 use Rattle.scm_rules.specs.Reports.{may_report, process_in, reporting_service, set_status_refusals, set_status_verdict}
 use Rattle.scm_rules.specs.Start.{start_done, start_refusals, start_verdict, started_service}
 use Rattle.start_plan.specs.Decided.{code_of, is_target}
-use Rattle.start_plan.specs.Ready.{state_in}
+use Rattle.scm_model.specs.Ready.{state_in}
 use Rattle.start_plan.specs.Settle.{settled}
 use Rattle.scm_rules.specs.Query.{service_in}
 use Rattle.scm_rules.specs.Create.{config_of, create_refusals, create_verdict, new_status, tags_nothing}
@@ -49,6 +50,7 @@ use Rattle.scm_laws.proofs.Needed.{rows_added, rows_configured, tested}
 use Rattle.scm_laws.proofs.Ordered.{order_below}
 use Rattle.scm_laws.proofs.Settling.{settles}
 use Rattle.scm_laws.proofs.Sound.{Sound, moved, joined, left, handed, taken, given_back, closed, added, marked, cleared, planned, over, due, in_hand, running, not_running, reported, no_more, control_waits, control_sent}
+use Rattle.std.proofs.lemmas.Bool.{or_parts, not-false, and_parts}
 
 -- ## A verdict of 0
 
@@ -72,27 +74,15 @@ all_pass (row ∷ rows) codes e =
     let here = passed row.0 row.1 (first_refusal rows) codes.0 e in
     (here.0, all_pass rows codes.1 here.1)
 
-pub neither : (a b : Bool) → (a || b) ≡ false → (a ≡ false) × (b ≡ false)
-neither true b e = absurd (cc)
-neither false b e = (refl, e)
-
-pub came : (a b : Bool) → (a && b) ≡ true → a ≡ true
-came true b e = refl
-came false b e = absurd (cc)
-
-positive : (b : Bool) → not b ≡ false → b ≡ true
-positive true e = refl
-positive false e = absurd (cc)
-
 checked_by : (a b c : Bool) → (cond a 123 (cond b 87 (cond c 1057 0)) == 123) ≡ false → (cond a 123 (cond b 87 (cond c 1057 0)) == 87) ≡ false → ◌≡◌ {A = ℕ} (cond a 123 (cond b 87 0)) 0
 checked_by true b c x y = absurd (cc)
 checked_by false true c x y = absurd (cc)
 checked_by false false c x y = refl
 
 -- what holds of a call's effect at code 0, and of a refusal, holds of what the call comes to
-pub by_verdict : (G : Reply × Flat → Type 0) (code : ℕ) (told : Reply) (f : Flat) (done : Reply × Flat) → (code ≡ 0 → G done) → ((code == 0) ≡ false → G (told, f)) → G (answered code told f done)
+pub by_verdict : (G : Done → Type 0) (code : ℕ) (told : Reply) (f : Flat) (done : Done) → (code ≡ 0 → G done) → ((code == 0) ≡ false → G (record { reply = told; flat = f })) → G (answered code told f done)
 by_verdict G code told f done passes refuses =
-    elim (code == 0) as (λ b. (code == 0) ≡ b → G (cond b done (told, f))) [ true ↦ λ e. passes (eqb-true code 0 e) | false ↦ refuses ] refl
+    elim (code == 0) as (λ b. (code == 0) ≡ b → G (cond b done (record { reply = told; flat = f }))) [ true ↦ λ e. passes (eqb-true code 0 e) | false ↦ refuses ] refl
 
 -- what is refused for no account but its own is not refused without one
 checked_alone : (config : Config) (account : Option (List ℕ)) → (check_new config account == 123) ≡ false → (check_new config account == 87) ≡ false → check_new config None ≡ 0
@@ -114,10 +104,10 @@ create_passed l f caller new append e =
       names = none_found (λ (row : Service). same_text row.config.name new.name) f.services p.1.1.1.1.1.1.0;
       displays = All-weaker (λ (row : Service). (same_text row.config.name (config_of f new).display || same_text row.config.display (config_of f new).display) ≡ false)
           (λ (row : Service). same_text row.config.display (config_of f new).display ≡ false)
-          (λ row h. (neither (same_text row.config.name (config_of f new).display) (same_text row.config.display (config_of f new).display) h).1) f.services
+          (λ row h. (or_parts (same_text row.config.name (config_of f new).display) (same_text row.config.display (config_of f new).display) h).1) f.services
           (none_any (λ (row : Service). same_text row.config.name (config_of f new).display || same_text row.config.display (config_of f new).display) f.services p.1.1.1.1.1.1.1.0);
-      config = checked_alone (config_of f new) new.account p.1.1.0 (neither _ _ (neither (check_new (config_of f new) new.account == 87 || tags_nothing new) (are_unreadable new.needs) p.1.1.1.0).0).0;
-      given = (neither (manager_lacks (manager_mask f caller new.handle) 2) (is_none (service_granted f caller new.access)) p.1.0).1;
+      config = checked_alone (config_of f new) new.account p.1.1.0 (or_parts _ _ (or_parts (check_new (config_of f new) new.account == 87 || tags_nothing new) (are_unreadable new.needs) p.1.1.1.0).0).0;
+      given = (or_parts (manager_lacks (manager_mask f caller new.handle) 2) (is_none (service_granted f caller new.access)) p.1.0).1;
       free = p.1.1.1.1.1.1.1.1.0;
     }
 
@@ -131,12 +121,12 @@ changed f number caller change (Some row) s e x y free loop =
     configured f number row config change.display s e refl refl free (checked_alone config change.account x y)
     (tested (map (configured_if number config) f.services) _ (rows_configured number config row f.services e) (subst (λ n. makes_cycle f n config ≡ false) is loop))
 
-change_done_sound : (f : Flat) (caller : ℕ) (change : ChangeService) (append : Kept) → Sound f → change_verdict f caller change append ≡ 0 → Sound (change_done f caller change).1
+change_done_sound : (f : Flat) (caller : ℕ) (change : ChangeService) (append : Kept) → Sound f → change_verdict f caller change append ≡ 0 → Sound (change_done f caller change).flat
 change_done_sound f caller change append s e =
     let p = all_pass (change_refusals f caller change append) (refl, (refl, (refl, (refl, (refl, (refl, (refl, (refl, (refl, tt))))))))) e in
     let found = changed_service f caller change in
     changed f (service_in (opened f caller change.handle)) caller change found s refl p.1.1.1.0
-    (neither _ _ (neither (checked f change found == 87 || tags_no_group change found) (are_unreadable change.needs) p.1.1.1.1.0).0).0 p.1.1.1.1.1.1.0 p.1.1.1.1.1.1.1.0
+    (or_parts _ _ (or_parts (checked f change found == 87 || tags_no_group change found) (are_unreadable change.needs) p.1.1.1.1.0).0).0 p.1.1.1.1.1.1.0 p.1.1.1.1.1.1.1.0
 
 -- a service that is STOPPED is there
 target_below : (f : Flat) (target : ℕ) (found : Option Service) → Sound f → find (λ (row : Service). row.number == target) f.services ≡ found → (state_in found == 1) ≡ true → target < f.next.service
@@ -146,31 +136,31 @@ target_below f target (Some row) s e stopped =
     subst (λ n. n < f.next.service) is (found_has (λ (r : Service). r.number < f.next.service) (λ (r : Service). r.number == target) row f.services s.services.numbered.below e)
 
 -- a Start with verdict 0
-started : (f : Flat) (caller handle : ℕ) (words : Option (List (List ℕ))) → Sound f → is_caller f caller ≡ true → start_verdict f caller handle words ≡ 0 → Sound (start_done f caller handle words).1
+started : (f : Flat) (caller handle : ℕ) (words : Option (List (List ℕ))) → Sound f → is_caller f caller ≡ true → start_verdict f caller handle words ≡ 0 → Sound (start_done f caller handle words).flat
 started f caller handle words s there e =
     let p = all_pass (start_refusals f caller handle words) (refl, (refl, (refl, (refl, (refl, (refl, (refl, (refl, tt)))))))) e in
     let target = service_in (opened f caller handle) in
-    let stopped = neither (not (state_in (started_service f caller handle) == 1)) (is_target f.plans target) p.1.1.1.1.1.0 in
-    let below = target_below f target (started_service f caller handle) s refl (positive _ stopped.0) in
+    let stopped = or_parts (not (state_in (started_service f caller handle) == 1)) (is_target f.plans target) p.1.1.1.1.1.0 in
+    let below = target_below f target (started_service f caller handle) s refl (not-false _ stopped.0) in
     planned f caller target (start_order f target) (unwrap_or words []) s there (order_below f f.next.service target s.services.numbered.below below)
 
 -- who may report has a process that runs
 reports_running : (f : Flat) (report : Status) (found : Option Service) → may_report f found report ≡ true → is_running (process_of f (process_in found)) ≡ true
 reports_running f report None may = absurd (cc)
-reports_running f report (Some row) may = came _ _ may
+reports_running f report (Some row) may = (and_parts _ _ may).0
 
 -- a SetStatus with verdict 0
 set_status_runs : (f : Flat) (caller handle : ℕ) (report : Status) → set_status_verdict f caller handle report ≡ 0 → is_running (process_of f (process_in (reporting_service f caller handle))) ≡ true
 set_status_runs f caller handle report e =
     let p = all_pass (set_status_refusals f caller handle report) (refl, (refl, (refl, tt))) e in
-    reports_running f report (reporting_service f caller handle) (positive _ p.1.1.0)
+    reports_running f report (reporting_service f caller handle) (not-false _ p.1.1.0)
 
 -- ## Calls
 
-pub of_done : (l : Limits) (f : Flat) (caller : ℕ) (asked : Request) (append : Kept) → Sound f → is_caller f caller ≡ true → verdict l f caller asked append ≡ 0 → Sound (done_of l f caller asked).1
+pub of_done : (l : Limits) (f : Flat) (caller : ℕ) (asked : Request) (append : Kept) → Sound f → is_caller f caller ≡ true → verdict l f caller asked append ≡ 0 → Sound (done_of l f caller asked).flat
 of_done l f caller (request.Close handle) append s there e =
     let p = all_pass (close_refusals f caller handle) (refl, tt) e in
-    closed f handle s (not_unlocked f.lock f.handles caller handle (handle_of f caller handle) refl (positive _ p.0) s.handles.lock)
+    closed f handle s (not_unlocked f.lock f.handles caller handle (handle_of f caller handle) refl (not-false _ p.0) s.handles.lock)
 of_done l f caller (request.Control handle control) append s there e = control_waits l f _ control s
 of_done l f caller (request.Delete handle) append s there e = marked f _ s
 of_done l f caller (request.Lock handle) append s there e =
@@ -194,21 +184,21 @@ of_done l f caller (request.OpenService handle name access) append s there e =
 -- the others only read
 of_done l f caller asked append s there e = s
 
-of_call : (l : Limits) (f : Flat) (caller : ℕ) (asked : Request) (append : Kept) → Sound f → is_caller f caller ≡ true → Sound (call_of l f caller asked append).1
+of_call : (l : Limits) (f : Flat) (caller : ℕ) (asked : Request) (append : Kept) → Sound f → is_caller f caller ≡ true → Sound (call_of l f caller asked append).flat
 of_call l f caller asked append s there =
-    by_verdict (λ r. Sound r.1) (verdict l f caller asked append) _ f (done_of l f caller asked) (of_done l f caller asked append s there) (λ e. s)
+    by_verdict (λ r. Sound r.flat) (verdict l f caller asked append) _ f (done_of l f caller asked) (of_done l f caller asked append s there) (λ e. s)
 
 -- ## Steps
 
-pub of_effect : (l : Limits) (f : Flat) (moment : ℕ) (step : Step) → Sound f → IsTrue (may l f moment step) → Sound (effect_of l (at_moment f moment step) step).1
+pub of_effect : (l : Limits) (f : Flat) (moment : ℕ) (step : Step) → Sound f → IsTrue (may l f moment step) → Sound (effect_of l (at_moment f moment step) step).flat
 of_effect l f moment (Joined principal) s ok = joined (with_moment f moment) principal (moved f moment s)
 of_effect l f moment (Call caller asked append) s ok =
-    of_call l (with_moment f moment) caller asked append (moved f moment s) (came _ _ ok)
+    of_call l (with_moment f moment) caller asked append (moved f moment s) (and_parts _ _ (and_parts _ _ ok).0).0
 of_effect l f moment (EndStart caller plan) s ok = over (with_moment f moment) plan (moved f moment s)
-of_effect l f moment LaunchTaken s ok = in_hand (with_moment f moment) (came _ _ ok) (moved f moment s)
+of_effect l f moment LaunchTaken s ok = in_hand (with_moment f moment) (and_parts _ _ ok).0 (moved f moment s)
 of_effect l f moment (Launched process pid) s ok = running (with_moment f moment) process pid (moved f moment s)
 of_effect l f moment (LaunchFailed process code) s ok = not_running (with_moment f moment) process code (moved f moment s)
-of_effect l f moment (Report process status) s ok = reported (with_moment f moment) process status (came _ _ ok) (moved f moment s)
+of_effect l f moment (Report process status) s ok = reported (with_moment f moment) process status (and_parts _ _ ok).0 (moved f moment s)
 of_effect l f moment (Ended process) s ok = no_more (with_moment f moment) process (moved f moment s)
 of_effect l f moment (ControlTaken process) s ok = control_sent (with_moment f moment) process (moved f moment s)
 of_effect l f moment Tick s ok = due (with_moment f moment) (moved f moment s)
@@ -220,14 +210,14 @@ left_by_code g plan None s = s
 left_by_code g plan (Some code) s = over g plan s
 
 -- what is answered leaves
-pub finishes : (g : Flat) (told : Answer) → Sound g → Sound (finished g told).1
+pub finishes : (g : Flat) (told : Answer) → Sound g → Sound (finished g told).flat
 finishes g (answer.Begun plan) s = left_by_code g plan (code_of g.plans plan) s
 finishes g told s = s
 
-pub before_sound : (l : Limits) (f : Flat) (moment : ℕ) (step : Step) → Sound f → IsTrue (may l f moment step) → Sound (finished_step l f moment step).1
+pub before_sound : (l : Limits) (f : Flat) (moment : ℕ) (step : Step) → Sound f → IsTrue (may l f moment step) → Sound (finished_step l f moment step).flat
 before_sound l f moment step s ok =
     let done = effect_of l (at_moment f moment step) step in
-    finishes (settled l done.1) done.0 (settles l done.1 (of_effect l f moment step s ok))
+    finishes (settled l done.flat) done.answer (settles l done.flat (of_effect l f moment step s ok))
 
 pub keeps : (l : Limits) → Keeps Sound l
-keeps l f e s ok = cleared (finished_step l f e.0 e.1).1 (before_sound l f e.0 e.1 s ok)
+keeps l f e s ok = cleared (finished_step l f e.0 e.1).flat (before_sound l f e.0 e.1 s ok)

@@ -14,7 +14,7 @@ use Rattle.service_record.specs.Checks.{check_new}
 use Rattle.scm_rules.specs.Change.{display_or}
 use Rattle.scm_rules.specs.Valid.{HasListed, is_started_by}
 use Rattle.scm_laws.proofs.Lists.{found_only, found_passes, none_any, pairs_map}
-use Rattle.scm_laws.proofs.Needed.{HasNoCycle}
+use Rattle.scm_laws.proofs.Needed.{HasNoCycle, replaced}
 use Rattle.scm_laws.proofs.Numbers.{numbered_map}
 use Rattle.scm_laws.proofs.Processes.{beside, starts_kept}
 use Rattle.scm_laws.proofs.Rows.{AreServices, HasKind, IsChecked, IsStoppedWithout}
@@ -38,10 +38,6 @@ name row = row.config.name
 
 abbrev display : Service → List ℕ
 display row = row.config.display
-
--- a row with another configuration
-abbrev pub replaced : Config → Service → Service
-replaced config row = record row { config = config; status = record row.status { kind = config.kind } }
 
 abbrev AreOther : (Service → List ℕ) → Service → Service → Type 0
 AreOther text a b = same_text (text a) (text b) ≡ false

@@ -14,10 +14,11 @@ use Rattle.start_plan.specs.Settle.{settled}
 use Rattle.scm_rules.specs.Change.{asked_config, with_new_config}
 use Rattle.scm_rules.specs.Steps.{at_moment, effect_of, may}
 use Rattle.scm_rules.specs.Verdicts.{call_of, done_of, told_refused, verdict}
-use Rattle.scm_laws.proofs.Calls.{by_verdict, came, of_done, of_effect}
+use Rattle.scm_laws.proofs.Calls.{by_verdict, of_done, of_effect}
 use Rattle.scm_laws.proofs.Plans.{ArePlans}
 use Rattle.scm_laws.proofs.Settling.{AreSettled, all_grown}
 use Rattle.scm_laws.proofs.Sound.{Sound, moved}
+use Rattle.std.proofs.lemmas.Bool.{and_parts}
 
 -- ## Numbers of processes
 
@@ -25,17 +26,17 @@ process_configured : (f : Flat) (number : ℕ) (config : Option Config) → (wit
 process_configured f number None = refl
 process_configured f number (Some config) = refl
 
-process_done : (l : Limits) (f : Flat) (caller : ℕ) (asked : Request) → (done_of l f caller asked).1.next.process ≡ f.next.process
+process_done : (l : Limits) (f : Flat) (caller : ℕ) (asked : Request) → (done_of l f caller asked).flat.next.process ≡ f.next.process
 process_done l f caller (request.Change change) = process_configured f _ (asked_config f caller change)
 process_done l f caller asked = refl
 
-process_call : (l : Limits) (f : Flat) (caller : ℕ) (asked : Request) (append : Kept) → (call_of l f caller asked append).1.next.process ≡ f.next.process
+process_call : (l : Limits) (f : Flat) (caller : ℕ) (asked : Request) (append : Kept) → (call_of l f caller asked append).flat.next.process ≡ f.next.process
 process_call l f caller asked append =
-    by_verdict (λ r. r.1.next.process ≡ f.next.process) (verdict l f caller asked append) (told_refused f caller asked (verdict l f caller asked append)) f (done_of l f caller asked)
+    by_verdict (λ r. r.flat.next.process ≡ f.next.process) (verdict l f caller asked append) (told_refused f caller asked (verdict l f caller asked append)) f (done_of l f caller asked)
     (λ e. process_done l f caller asked) (λ e. refl)
 
 -- an effect gives no number of a process
-pub same_process : (l : Limits) (f : Flat) (moment : ℕ) (step : Step) → (effect_of l (at_moment f moment step) step).1.next.process ≡ f.next.process
+pub same_process : (l : Limits) (f : Flat) (moment : ℕ) (step : Step) → (effect_of l (at_moment f moment step) step).flat.next.process ≡ f.next.process
 same_process l f moment (Call caller asked append) = process_call l (with_moment f moment) caller asked append
 same_process l f moment step = refl
 
@@ -49,26 +50,26 @@ old_configured : (f : Flat) (bound number : ℕ) (config : Option Config) → Ar
 old_configured f bound number None old = old
 old_configured f bound number (Some config) old = old
 
-old_done : (l : Limits) (f : Flat) (caller : ℕ) (asked : Request) (append : Kept) → Sound f → IsTrue (is_caller f caller) → verdict l f caller asked append ≡ 0 → AreOld f.next.service (done_of l f caller asked).1
+old_done : (l : Limits) (f : Flat) (caller : ℕ) (asked : Request) (append : Kept) → Sound f → IsTrue (is_caller f caller) → verdict l f caller asked append ≡ 0 → AreOld f.next.service (done_of l f caller asked).flat
 old_done l f caller (request.Start handle words) append s there e = (of_done l f caller (request.Start handle words) append s there e).plans
 old_done l f caller (request.Change change) append s there e = old_configured f f.next.service _ (asked_config f caller change) s.plans
 old_done l f caller asked append s there e = s.plans
 
-old_call : (l : Limits) (f : Flat) (caller : ℕ) (asked : Request) (append : Kept) → Sound f → IsTrue (is_caller f caller) → AreOld f.next.service (call_of l f caller asked append).1
+old_call : (l : Limits) (f : Flat) (caller : ℕ) (asked : Request) (append : Kept) → Sound f → IsTrue (is_caller f caller) → AreOld f.next.service (call_of l f caller asked append).flat
 old_call l f caller asked append s there =
-    by_verdict (λ r. AreOld f.next.service r.1) (verdict l f caller asked append) (told_refused f caller asked (verdict l f caller asked append)) f (done_of l f caller asked)
+    by_verdict (λ r. AreOld f.next.service r.flat) (verdict l f caller asked append) (told_refused f caller asked (verdict l f caller asked append)) f (done_of l f caller asked)
     (old_done l f caller asked append s there) (λ e. s.plans)
 
-pub old_plans : (l : Limits) (f : Flat) (moment : ℕ) (step : Step) → Sound f → IsTrue (may l f moment step) → AreOld f.next.service (effect_of l (at_moment f moment step) step).1
-old_plans l f moment (Call caller asked append) s ok = old_call l (with_moment f moment) caller asked append (moved f moment s) (came _ _ ok)
+pub old_plans : (l : Limits) (f : Flat) (moment : ℕ) (step : Step) → Sound f → IsTrue (may l f moment step) → AreOld f.next.service (effect_of l (at_moment f moment step) step).flat
+old_plans l f moment (Call caller asked append) s ok = old_call l (with_moment f moment) caller asked append (moved f moment s) (and_parts _ _ (and_parts _ _ ok).0).0
 old_plans l f moment step s ok = (of_effect l f moment step s ok).plans
 
 -- ## Services
 
 -- settling enters services that stood before the step, with new processes
 pub step_settled : (l : Limits) (f : Flat) (moment : ℕ) (step : Step) → Sound f → IsTrue (may l f moment step)
-    → AreSettled f.next.process f.next.service (effect_of l (at_moment f moment step) step).1.services (settled l (effect_of l (at_moment f moment step) step).1).services
+    → AreSettled f.next.process f.next.service (effect_of l (at_moment f moment step) step).flat.services (settled l (effect_of l (at_moment f moment step) step).flat).services
 step_settled l f moment step s ok =
-    let g = (effect_of l (at_moment f moment step) step).1 in
+    let g = (effect_of l (at_moment f moment step) step).flat in
     subst (λ n. AreSettled n f.next.service g.services (settled l g).services) (same_process l f moment step)
     (all_grown l g f.next.service (of_effect l f moment step s ok) (old_plans l f moment step s ok)).flat.rows

@@ -10,8 +10,9 @@ use Rattle.start_plan.specs.Entered.{with_entered}
 use Rattle.start_plan.specs.Settle.{settled}
 use Rattle.start_plan.proofs.Enterings.{all_units}
 use Rattle.start_plan.proofs.Keeps.{Keeps, keeps_all}
-use Rattle.scm_rules.specs.Steps.{finished, left_by}
+use Rattle.scm_rules.specs.Steps.{finished, left_by, at_moment, effect_of, finished_step}
 use Rattle.scm_laws.proofs.Settling.{Beside}
+use Rattle.scm_model.specs.declared.steps.Step.{Step}
 
 -- only services, processes, wanted launches, plans and due rows have changed
 abbrev pub Frame : Flat → Flat → Type 0
@@ -33,15 +34,21 @@ left_frame : (f g : Flat) (plan : ℕ) (code : Option ℕ) → Frame f g → Fra
 left_frame f g plan None frame = frame
 left_frame f g plan (Some code) frame = ap (λ (h : Flat). record h { plans = without_plan g.plans plan }) frame
 
-pub finished_frame : (f g : Flat) (told : Answer) → Frame f g → Frame f (finished g told).1
+pub finished_frame : (f g : Flat) (told : Answer) → Frame f g → Frame f (finished g told).flat
 finished_frame f g (answer.Begun plan) frame = left_frame f g plan (code_of g.plans plan) frame
 finished_frame f g told frame = frame
+
+-- what stands before services leave differs from the effect in its frame
+pub framed : (l : Limits) (f : Flat) (moment : ℕ) (step : Step) → Frame (effect_of l (at_moment f moment step) step).flat (finished_step l f moment step).flat
+framed l f moment step =
+    let done = effect_of l (at_moment f moment step) step in
+    finished_frame done.flat (settled l done.flat) done.answer (settled_frame l done.flat)
 
 -- a fact that speaks of no plan stands when a start is answered
 left_keeps : (P : Flat → Type 0) → ((g : Flat) (plans : List Plan) → P g → P (record g { plans = plans })) → (g : Flat) (plan : ℕ) (code : Option ℕ) → P g → P (left_by g plan code)
 left_keeps P any g plan None p = p
 left_keeps P any g plan (Some code) p = any g (without_plan g.plans plan) p
 
-pub finished_keeps : (P : Flat → Type 0) → ((g : Flat) (plans : List Plan) → P g → P (record g { plans = plans })) → (g : Flat) (told : Answer) → P g → P (finished g told).1
+pub finished_keeps : (P : Flat → Type 0) → ((g : Flat) (plans : List Plan) → P g → P (record g { plans = plans })) → (g : Flat) (told : Answer) → P g → P (finished g told).flat
 finished_keeps P any g (answer.Begun plan) p = left_keeps P any g plan (code_of g.plans plan) p
 finished_keeps P any g told p = p

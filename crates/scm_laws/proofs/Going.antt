@@ -30,8 +30,8 @@ use Rattle.scm_rules.specs.Verdicts.{call_of, done_of, told_refused, verdict}
 use Rattle.scm_laws.specs.Plans.{GoesOn, LawOfPlans, WentOn}
 use Rattle.scm_laws.proofs.Along.{Gives}
 use Rattle.scm_laws.proofs.Calls.{by_verdict, keeps}
-use Rattle.scm_laws.proofs.Plans.{IsPlan, all_more, all_weaker}
-use Rattle.scm_laws.proofs.Sound.{Sound, moved, tried_once}
+use Rattle.scm_laws.proofs.Plans.{IsPlan, all_more, all_weaker, tried_once}
+use Rattle.scm_laws.proofs.Sound.{Sound, moved}
 
 -- the plan with the same number before, if there was one, goes on in this one
 abbrev Went : List Plan → Plan → Type 0
@@ -92,24 +92,24 @@ ticked befores moment plans (due ∷ rows) all =
 
 -- ## Effects
 
-plans_configured : (f : Flat) (number : ℕ) (config : Option Config) → (with_new_config f number config).plans ≡ f.plans
+pub plans_configured : (f : Flat) (number : ℕ) (config : Option Config) → (with_new_config f number config).plans ≡ f.plans
 plans_configured f number None = refl
 plans_configured f number (Some config) = refl
 
-of_done : (l : Limits) (f : Flat) (caller : ℕ) (asked : Request) → Sound f → AllWent f.plans (done_of l f caller asked).1.plans
+of_done : (l : Limits) (f : Flat) (caller : ℕ) (asked : Request) → Sound f → AllWent f.plans (done_of l f caller asked).flat.plans
 of_done l f caller (request.Change change) s = subst (AllWent f.plans) (sym (plans_configured f _ (asked_config f caller change))) (all_same f.plans s.plans.rising)
 of_done l f caller (request.Start handle words) s =
     all_more (Went f.plans) f.plans _ (all_same f.plans s.plans.rising)
     (went_above f.plans _ (all_weaker (IsPlan f.next.plan f.next.service f.callers) (λ (plan : Plan). plan.number < f.next.plan) (λ plan is. is.below) f.plans s.plans.each))
 of_done l f caller asked s = all_same f.plans s.plans.rising
 
-of_call : (l : Limits) (f : Flat) (moment caller : ℕ) (asked : Request) (append : Kept) → Sound (with_moment f moment) → AllWent f.plans (call_of l (with_moment f moment) caller asked append).1.plans
+of_call : (l : Limits) (f : Flat) (moment caller : ℕ) (asked : Request) (append : Kept) → Sound (with_moment f moment) → AllWent f.plans (call_of l (with_moment f moment) caller asked append).flat.plans
 of_call l f moment caller asked append s =
     let g = with_moment f moment in
-    by_verdict (λ r. AllWent f.plans r.1.plans) (verdict l g caller asked append) (told_refused g caller asked (verdict l g caller asked append)) g (done_of l g caller asked)
+    by_verdict (λ r. AllWent f.plans r.flat.plans) (verdict l g caller asked append) (told_refused g caller asked (verdict l g caller asked append)) g (done_of l g caller asked)
     (λ e. of_done l g caller asked s) (λ e. all_same f.plans s.plans.rising)
 
-of_effect : (l : Limits) (f : Flat) (moment : ℕ) (step : Step) → Sound f → AllWent f.plans (effect_of l (at_moment f moment step) step).1.plans
+of_effect : (l : Limits) (f : Flat) (moment : ℕ) (step : Step) → Sound f → AllWent f.plans (effect_of l (at_moment f moment step) step).flat.plans
 of_effect l f moment (Call caller asked append) s = of_call l f moment caller asked append (moved f moment s)
 of_effect l f moment (EndStart caller plan) s = all_filter (Went f.plans) (λ (row : Plan). not (is_numbered plan row)) f.plans (all_same f.plans s.plans.rising)
 of_effect l f moment (Launched process pid) s = decided f.plans (aims_at (service_of_process f process)) 0 f.plans (all_same f.plans s.plans.rising)
@@ -154,22 +154,22 @@ left : (befores : List Plan) (g : Flat) (plan : ℕ) (code : Option ℕ) → All
 left befores g plan None all = all
 left befores g plan (Some code) all = all_filter (Went befores) (λ (row : Plan). not (is_numbered plan row)) g.plans all
 
-finishes : (befores : List Plan) (g : Flat) (told : Answer) → AllWent befores g.plans → AllWent befores (finished g told).1.plans
+finishes : (befores : List Plan) (g : Flat) (told : Answer) → AllWent befores g.plans → AllWent befores (finished g told).flat.plans
 finishes befores g (answer.Begun plan) all = left befores g plan (code_of g.plans plan) all
 finishes befores g told all = all
 
-of_step : (l : Limits) (f : Flat) (moment : ℕ) (step : Step) → Sound f → AllWent f.plans (step_of l f moment step).1.plans
+of_step : (l : Limits) (f : Flat) (moment : ℕ) (step : Step) → Sound f → AllWent f.plans (step_of l f moment step).flat.plans
 of_step l f moment step s =
     let done = effect_of l (at_moment f moment step) step in
-    finishes f.plans (settled l done.1) done.0 (settles l f.plans done.1 (of_effect l f moment step s))
+    finishes f.plans (settled l done.flat) done.answer (settles l f.plans done.flat (of_effect l f moment step s))
 
 pub gives : (l : Limits) → Gives Sound (LawOfPlans l) l
 gives l f e s ok =
-    let after = (step_of l f e.0 e.1).1 in
+    let after = (step_of l f e.0 e.1).flat in
     let sound = keeps l f e s ok in
     record {
       acyclic = sound.services.acyclic;
-      tried = tried_once after after.plans sound.plans.each;
+      tried = tried_once after.next.plan after.next.service after.callers after.plans sound.plans;
       same = All-weaker (Went f.plans) (WentOn f.plans) (λ plan went. All-from_recursion (λ (before : Plan). before.number ≡ plan.number → GoesOn before plan) f.plans went) after.plans
           (All-from_recursion (Went f.plans) after.plans (of_step l f e.0 e.1 s));
     }

@@ -1,7 +1,7 @@
 -- The law of handles.
 use Rattle.std.proofs.Common.{ℕ, ◌≡◌, ◌≢◌, ◌≤◌, ◌==◌, ◌||◌, Bool, true, false, not, cond, IsTrue, List, [], ◌∷◌, Option, None, Some, filter, find, ap, sym, refl, subst, arith, eq-eqb, eqb-true, ne_eqb, inl, inr}
 use Rattle.std.specs.Prelude.{All, Contains, is_some}
-use Rattle.std.proofs.lemmas.List.Elements.{All-from_recursion, All-nil, All-push, All-filter, All-weaker, All-contains_itself, filter_passes}
+use Rattle.std.proofs.lemmas.List.Elements.{All-from_recursion, All-nil, All-push, All-filter, All-weaker, All-contains_itself, filter_passes, All-head, All-tail}
 use Rattle.std.proofs.lemmas.Option.{IfSome_then}
 use Rattle.scm_model.specs.declared.flat.Caller.{Caller}
 use Rattle.scm_model.specs.declared.flat.Config.{Config}
@@ -17,19 +17,19 @@ use Rattle.scm_model.specs.declared.steps.Step.{Step}
 use Rattle.scm_model.specs.declared.steps.Step.TheVariants.{Call, Gone}
 use Rattle.scm_model.specs.Rows.{is_caller}
 use Rattle.scm_model.specs.Changes.{with_moment}
-use Rattle.start_plan.specs.Settle.{settled}
 use Rattle.scm_rules.specs.Change.{asked_config, with_new_config}
 use Rattle.scm_rules.specs.Steps.{at_moment, effect_of, finished_step, may, step_of}
 use Rattle.scm_rules.specs.Valid.{AreNumbered}
 use Rattle.scm_rules.specs.Verdicts.{call_of, done_of, verdict}
 use Rattle.scm_laws.specs.Handles.{HoldsNothing, LawOfHandles, LeavesNothing, StoodOrIsNew}
 use Rattle.scm_laws.proofs.Along.{Gives}
-use Rattle.scm_laws.proofs.Calls.{by_verdict, came, keeps}
-use Rattle.scm_laws.proofs.Frames.{Frame, finished_frame, settled_frame}
+use Rattle.scm_laws.proofs.Calls.{by_verdict, keeps}
+use Rattle.scm_laws.proofs.Frames.{Frame, framed}
 use Rattle.scm_laws.proofs.Handled.{has_caller}
-use Rattle.scm_laws.proofs.Lists.{any_both, found_has, found_passes}
+use Rattle.scm_laws.proofs.Lists.{any_both}
 use Rattle.scm_laws.proofs.Plans.{IsKnown, IsPlan}
 use Rattle.scm_laws.proofs.Sound.{Sound}
+use Rattle.std.proofs.lemmas.Bool.{and_parts}
 
 -- ## Each number is given once
 
@@ -47,7 +47,7 @@ configured : (f : Flat) (number : ℕ) (config : Option Config) → Once f (with
 configured f number None = same f
 configured f number (Some config) = record { rows = all_stood f; rising = omega arith }
 
-of_done : (l : Limits) (f : Flat) (caller : ℕ) (asked : Request) → Once f (done_of l f caller asked).1
+of_done : (l : Limits) (f : Flat) (caller : ℕ) (asked : Request) → Once f (done_of l f caller asked).flat
 of_done l f caller (request.Close handle) = record { rows = All-filter _ (StoodOrIsNew f) f.handles (all_stood f); rising = omega arith }
 of_done l f caller (request.Control handle control) = record { rows = all_stood f; rising = omega arith }
 of_done l f caller (request.Delete handle) = record { rows = all_stood f; rising = omega arith }
@@ -61,12 +61,12 @@ of_done l f caller (request.OpenService handle name access) = record { rows = Al
 of_done l f caller (request.Start handle words) = record { rows = all_stood f; rising = omega arith }
 of_done l f caller asked = same f
 
-of_call : (l : Limits) (f : Flat) (moment caller : ℕ) (asked : Request) (append : Kept) → Once (with_moment f moment) (call_of l (with_moment f moment) caller asked append).1
+of_call : (l : Limits) (f : Flat) (moment caller : ℕ) (asked : Request) (append : Kept) → Once (with_moment f moment) (call_of l (with_moment f moment) caller asked append).flat
 of_call l f moment caller asked append =
-    by_verdict (λ r. Once (with_moment f moment) r.1) (verdict l (with_moment f moment) caller asked append) _ (with_moment f moment) (done_of l (with_moment f moment) caller asked)
+    by_verdict (λ r. Once (with_moment f moment) r.flat) (verdict l (with_moment f moment) caller asked append) _ (with_moment f moment) (done_of l (with_moment f moment) caller asked)
     (λ e. of_done l (with_moment f moment) caller asked) (λ e. same (with_moment f moment))
 
-of_effect : (l : Limits) (f : Flat) (moment : ℕ) (step : Step) → Once f (effect_of l (at_moment f moment step) step).1
+of_effect : (l : Limits) (f : Flat) (moment : ℕ) (step : Step) → Once f (effect_of l (at_moment f moment step) step).flat
 of_effect l f moment (Call caller asked append) =
     let once = of_call l f moment caller asked append in
     record { rows = once.rows; rising = once.rising }
@@ -80,16 +80,10 @@ once_still f g h frame once = record {
   rising = (let e : h.next.handle ≡ g.next.handle = ap (λ (x : Flat). x.next.handle) frame in let up = once.rising in omega (arith, e, up));
 }
 
--- what stands before services leave differs from the effect in its frame
-framed : (l : Limits) (f : Flat) (moment : ℕ) (step : Step) → Frame (effect_of l (at_moment f moment step) step).1 (finished_step l f moment step).1
-framed l f moment step =
-    let done = effect_of l (at_moment f moment step) step in
-    finished_frame done.1 (settled l done.1) done.0 (settled_frame l done.1)
-
-of_step : (l : Limits) (f : Flat) (moment : ℕ) (step : Step) → Once f (step_of l f moment step).1
+of_step : (l : Limits) (f : Flat) (moment : ℕ) (step : Step) → Once f (step_of l f moment step).flat
 of_step l f moment step =
     let done = effect_of l (at_moment f moment step) step in
-    let once = once_still f done.1 (finished_step l f moment step).1 (framed l f moment step) (of_effect l f moment step) in
+    let once = once_still f done.flat (finished_step l f moment step).flat (framed l f moment step) (of_effect l f moment step) in
     record { rows = once.rows; rising = once.rising }
 
 -- ## Who is gone has nothing
@@ -103,7 +97,7 @@ none_of : {A : Type 0} (P : A → Type 0) (rows : List A) → rows ≡ [] → Al
 none_of P rows e = subst (λ rs. All P rs) (sym e) (All-nil P)
 
 -- a caller isn't among the others
-not_there : (callers : List Caller) (caller : ℕ) → has_caller (filter (λ (row : Caller). not (row.number == caller)) callers) caller ≡ false
+pub not_there : (callers : List Caller) (caller : ℕ) → has_caller (filter (λ (row : Caller). not (row.number == caller)) callers) caller ≡ false
 not_there [] caller = refl
 not_there (row ∷ callers) caller =
     elim (row.number == caller) as (λ b. (row.number == caller) ≡ b
@@ -112,13 +106,15 @@ not_there (row ∷ callers) caller =
       | false ↦ λ e. rw e (not_there callers caller)
     ] refl
 
--- nobody has the number 0
-not_nobody : (callers : List Caller) (next caller : ℕ) (found : Option Caller) → AreNumbered (λ (row : Caller). row.number) next callers → find (λ (row : Caller). row.number == caller) callers ≡ found → is_some found ≡ true → (caller == 0) ≡ false
-not_nobody callers next caller None numbered e there = absurd cc
-not_nobody callers next caller (Some row) numbered e there =
-    let is = eqb-true row.number caller (found_passes (λ (r : Caller). r.number == caller) row callers e) in
-    let first = found_has (λ (r : Caller). 1 ≤ r.number) (λ (r : Caller). r.number == caller) row callers numbered.positive e in
-    ne_eqb caller 0 (λ zero. absurd (omega (arith, is, first, zero)))
+-- who has joined has a number
+pub not_nobody : (caller : ℕ) (rows : List Caller) → All (λ (row : Caller). 1 ≤ row.number) rows
+    → is_some (find (λ (row : Caller). row.number == caller) rows) ≡ true → (caller == 0) ≡ false
+not_nobody caller [] positive there = absurd (cc)
+not_nobody caller (row ∷ rows) positive there =
+    elim (row.number == caller) as (λ b. (row.number == caller) ≡ b → is_some (cond b (Some row) (find (λ (row : Caller). row.number == caller) rows)) ≡ true → (caller == 0) ≡ false) [
+      | true ↦ λ e h. ne_eqb caller 0 (λ zero. absurd (let same = eqb-true row.number caller e in let up = All-head (λ (row : Caller). 1 ≤ row.number) row rows positive in omega (arith, same, up, zero)))
+      | false ↦ λ e h. not_nobody caller rows (All-tail (λ (row : Caller). 1 ≤ row.number) row rows positive) h
+    ] refl there
 
 neither_known : (a b : Bool) → a ≡ false → b ≡ false → (a || b) ≡ true → ⊥
 neither_known a b x y h = absurd cc
@@ -128,12 +124,12 @@ no_plan : (next service caller : ℕ) (before after : List Caller) (plans : List
     → after ≡ filter (λ (row : Caller). not (row.number == caller)) before → All (IsKnown after) plans → All (λ (row : Plan). row.caller ≢ caller) plans
 no_plan next service caller before after plans numbered there e known =
     All-weaker (IsKnown after) (λ (row : Plan). row.caller ≢ caller)
-    (λ row h same. neither_known (caller == 0) (has_caller after caller) (not_nobody before next caller _ numbered refl there) (rw e (not_there before caller))
+    (λ row h same. neither_known (caller == 0) (has_caller after caller) (not_nobody caller before numbered.positive there) (rw e (not_there before caller))
     (subst (λ n. (n == 0 || has_caller after n) ≡ true) same h)) plans known
 
-holds_nothing : (l : Limits) (f : Flat) (moment caller : ℕ) → Sound f → is_caller f caller ≡ true → Sound (step_of l f moment (Gone caller)).1 → HoldsNothing caller (step_of l f moment (Gone caller)).1
+holds_nothing : (l : Limits) (f : Flat) (moment caller : ℕ) → Sound f → is_caller f caller ≡ true → Sound (step_of l f moment (Gone caller)).flat → HoldsNothing caller (step_of l f moment (Gone caller)).flat
 holds_nothing l f moment caller before there s =
-    let after = (step_of l f moment (Gone caller)).1 in
+    let after = (step_of l f moment (Gone caller)).flat in
     let frame = framed l f moment (Gone caller) in
     let handles : after.handles ≡ filter (λ (row : HandleRow). not (row.caller == caller)) f.handles = ap (λ (x : Flat). x.handles) frame in
     let passes : All (λ (row : HandleRow). not (row.caller == caller) ≡ true) after.handles =
@@ -148,8 +144,8 @@ holds_nothing l f moment caller before there s =
           (λ held. any_both (λ (row : HandleRow). row.number == held.handle) (λ (row : HandleRow). not (row.caller == caller)) after.handles passes);
     }
 
-leaves_nothing : (l : Limits) (f : Flat) (moment : ℕ) (step : Step) → Sound f → IsTrue (may l f moment step) → Sound (step_of l f moment step).1 → LeavesNothing step (step_of l f moment step).1
-leaves_nothing l f moment (Gone caller) before ok s = holds_nothing l f moment caller before (came _ _ ok) s
+leaves_nothing : (l : Limits) (f : Flat) (moment : ℕ) (step : Step) → Sound f → IsTrue (may l f moment step) → Sound (step_of l f moment step).flat → LeavesNothing step (step_of l f moment step).flat
+leaves_nothing l f moment (Gone caller) before ok s = holds_nothing l f moment caller before (and_parts _ _ ok).0 s
 leaves_nothing l f moment step before ok s = tt
 
 pub gives : (l : Limits) → Gives Sound (LawOfHandles l) l

@@ -21,7 +21,8 @@ use Rattle.scm_model.specs.declared.steps.Kept.{Kept}
 use Rattle.scm_model.specs.declared.steps.Step.{Step}
 use Rattle.scm_model.specs.declared.steps.Step.TheVariants.{Call, LaunchFailed, Report, Ended}
 use Rattle.scm_model.specs.Rows.{opened}
-use Rattle.scm_model.specs.Changes.{configured_if, leaves, marked_if, with_moment}
+use Rattle.scm_model.specs.Changes.{configured_if, marked_if, with_moment}
+use Rattle.scm_model.specs.Purge.{leaves}
 use Rattle.start_plan.specs.Entered.{started, starting}
 use Rattle.start_plan.specs.Settle.{settled}
 use Rattle.status_machine.specs.Moves.{take_end}
@@ -35,8 +36,8 @@ use Rattle.scm_rules.specs.Steps.{at_moment, effect_of, may, step_of}
 use Rattle.scm_rules.specs.Verdicts.{call_of, done_of, told_refused, verdict}
 use Rattle.scm_laws.specs.Leaving.{IsFresh, IsSameService, LawOfLeaving, before_leaving, created, marks, numbers, reports}
 use Rattle.scm_laws.proofs.Along.{Gives}
-use Rattle.scm_laws.proofs.Calls.{by_verdict, came}
-use Rattle.scm_laws.proofs.Configured.{HasText, name, name_kept, names_found, number_kept, replaced}
+use Rattle.scm_laws.proofs.Calls.{by_verdict}
+use Rattle.scm_laws.proofs.Configured.{HasText, name, name_kept, names_found, number_kept}
 use Rattle.scm_laws.proofs.Effects.{step_settled}
 use Rattle.scm_laws.proofs.Frames.{finished_keeps}
 use Rattle.scm_laws.proofs.Lists.{found_has, found_passes, map_same, passes_not}
@@ -44,6 +45,8 @@ use Rattle.scm_laws.proofs.Processes.{running_first}
 use Rattle.scm_laws.proofs.Rows.{fallen_or, kind_taken, reported_or}
 use Rattle.scm_laws.proofs.Settling.{AreSettled, IsSettled}
 use Rattle.scm_laws.proofs.Sound.{Sound}
+use Rattle.std.proofs.lemmas.Bool.{and_parts}
+use Rattle.scm_laws.proofs.Needed.{replaced}
 
 -- what the law says of the services before some of them leave
 record Stood (f : Flat) (step : Step) (told : Answer) (after : List Service) : Type 0 where
@@ -160,7 +163,7 @@ stood_reported f step told process report none unmarked other =
 
 -- ## Calls
 
-stood_marked : (f : Flat) (moment caller handle : ℕ) (append : Kept) → Stood f (Call caller (request.Delete handle) append) (answer.Reply (reply.Code 0)) (delete_done (with_moment f moment) caller handle).1.services
+stood_marked : (f : Flat) (moment caller handle : ℕ) (append : Kept) → Stood f (Call caller (request.Delete handle) append) (answer.Reply (reply.Code 0)) (delete_done (with_moment f moment) caller handle).flat.services
 stood_marked f moment caller handle append =
     stood_mapped f _ _ (marked_if (service_in (opened f caller handle))) (λ row. refl) refl (λ k d lt. record { row = refl; state = λ same quiet. refl; config = λ other. (refl, refl); name = refl })
 
@@ -172,35 +175,35 @@ not_added : (f : Flat) (caller : ℕ) (new : NewService) (append : Kept) (tag : 
 not_added f caller new append tag handle code e = stood_same f _ _ (ap (λ b. cond b (f.next.service ∷ []) []) e) (λ number. refl)
 
 stood_call : (l : Limits) (f : Flat) (moment caller : ℕ) (asked : Request) (append : Kept) → Sound f
-    → Stood f (Call caller asked append) (step_of l f moment (Call caller asked append)).0 (call_of l (with_moment f moment) caller asked append).1.services
+    → Stood f (Call caller asked append) (step_of l f moment (Call caller asked append)).answer (call_of l (with_moment f moment) caller asked append).flat.services
 stood_call l f moment caller (request.Delete handle) append s =
     let g = with_moment f moment in
     let asked = request.Delete handle in
     let code = verdict l g caller asked append in
-    by_verdict (λ r. Stood f (Call caller asked append) (answer.Reply r.0) r.1.services) code (told_refused g caller asked code) g (done_of l g caller asked)
+    by_verdict (λ r. Stood f (Call caller asked append) (answer.Reply r.reply) r.flat.services) code (told_refused g caller asked code) g (done_of l g caller asked)
     (λ e. stood_marked f moment caller handle append) (not_marked f caller handle append code)
 stood_call l f moment caller (request.Change change) append s =
     let g = with_moment f moment in
     let asked = request.Change change in
     let code = verdict l g caller asked append in
-    by_verdict (λ r. Stood f (Call caller asked append) (answer.Reply r.0) r.1.services) code (told_refused g caller asked code) g (done_of l g caller asked)
+    by_verdict (λ r. Stood f (Call caller asked append) (answer.Reply r.reply) r.flat.services) code (told_refused g caller asked code) g (done_of l g caller asked)
     (λ e. stood_change f moment caller change append (changed_service f caller change) s refl) (λ e. stood_same f _ _ refl (λ number. refl))
 stood_call l f moment caller (request.Create new) append s =
     let g = with_moment f moment in
     let asked = request.Create new in
     let code = verdict l g caller asked append in
-    by_verdict (λ r. Stood f (Call caller asked append) (answer.Reply r.0) r.1.services) code (told_refused g caller asked code) g (done_of l g caller asked)
+    by_verdict (λ r. Stood f (Call caller asked append) (answer.Reply r.reply) r.flat.services) code (told_refused g caller asked code) g (done_of l g caller asked)
     (λ e. stood_added f _ _ _ refl (λ number. refl) (record { state = refl; process = refl; marked = refl }) (omega arith)) (not_added f caller new append new.tag 0 code)
 stood_call l f moment caller (request.SetStatus handle status) append s =
     let g = with_moment f moment in
     let asked = request.SetStatus handle status in
     let code = verdict l g caller asked append in
-    by_verdict (λ r. Stood f (Call caller asked append) (answer.Reply r.0) r.1.services) code (told_refused g caller asked code) g (done_of l g caller asked)
+    by_verdict (λ r. Stood f (Call caller asked append) (answer.Reply r.reply) r.flat.services) code (told_refused g caller asked code) g (done_of l g caller asked)
     (λ e. stood_reported f _ _ (process_in (reporting_service f caller handle)) status refl (λ number. refl) (λ row quiet. quiet)) (λ e. stood_same f _ _ refl (λ number. refl))
 stood_call l f moment caller asked append s =
     let g = with_moment f moment in
     let code = verdict l g caller asked append in
-    by_verdict (λ r. Stood f (Call caller asked append) (step_of l f moment (Call caller asked append)).0 r.1.services) code (told_refused g caller asked code) g (done_of l g caller asked)
+    by_verdict (λ r. Stood f (Call caller asked append) (step_of l f moment (Call caller asked append)).answer r.flat.services) code (told_refused g caller asked code) g (done_of l g caller asked)
     (λ e. stood_same f _ _ refl (λ number. refl)) (λ e. stood_same f _ _ refl (λ number. refl))
 
 -- ## A launch that failed
@@ -224,15 +227,15 @@ in_hand_first f process (Some row) s e taken =
 
 -- ## Effects
 
-stood_effect : (l : Limits) (f : Flat) (moment : ℕ) (step : Step) → Sound f → IsTrue (may l f moment step) → Stood f step (step_of l f moment step).0 (effect_of l (at_moment f moment step) step).1.services
+stood_effect : (l : Limits) (f : Flat) (moment : ℕ) (step : Step) → Sound f → IsTrue (may l f moment step) → Stood f step (step_of l f moment step).answer (effect_of l (at_moment f moment step) step).flat.services
 stood_effect l f moment (Call caller asked append) s ok = stood_call l f moment caller asked append s
 stood_effect l f moment (LaunchFailed process code) s ok =
     stood_mapped f _ _ (fallen_if process code) (λ row. fallen_or (λ new. new.number ≡ row.number) process code row (λ e. refl) refl) refl
-    (λ k d lt. fallen_row f _ _ process code _ (λ number. refl) (in_hand_first f process (process_of f process) s refl (came _ _ (came _ _ ok))))
+    (λ k d lt. fallen_row f _ _ process code _ (λ number. refl) (in_hand_first f process (process_of f process) s refl (and_parts _ _ (and_parts _ _ ok).0).0))
 stood_effect l f moment (Report process status) s ok = stood_reported f _ _ process status refl (λ number. refl) (λ row quiet. quiet)
 stood_effect l f moment (Ended process) s ok =
     stood_mapped f _ _ (fallen_if process 1067) (λ row. fallen_or (λ new. new.number ≡ row.number) process 1067 row (λ e. refl) refl) refl
-    (λ k d lt. fallen_row f _ _ process 1067 _ (λ number. refl) (running_first f.next.process process f.processes (process_of f process) s.processes.numbered refl (came _ _ ok)))
+    (λ k d lt. fallen_row f _ _ process 1067 _ (λ number. refl) (running_first f.next.process process f.processes (process_of f process) s.processes.numbered refl (and_parts _ _ ok).0))
 stood_effect l f moment step s ok = stood_same f _ _ refl (λ number. refl)
 
 -- ## Settling
@@ -317,12 +320,12 @@ settled_stood f step told next mids news small stood each =
 
 -- ## Steps
 
-stood_step : (l : Limits) (f : Flat) (moment : ℕ) (step : Step) → Sound f → IsTrue (may l f moment step) → Stood f step (step_of l f moment step).0 (before_leaving l f (moment, step)).services
+stood_step : (l : Limits) (f : Flat) (moment : ℕ) (step : Step) → Sound f → IsTrue (may l f moment step) → Stood f step (step_of l f moment step).answer (before_leaving l f (moment, step)).services
 stood_step l f moment step s ok =
     let done = effect_of l (at_moment f moment step) step in
-    let told = (step_of l f moment step).0 in
-    finished_keeps (λ (g : Flat). Stood f step told g.services) (λ g plans stood. stood) (settled l done.1) done.0
-    (settled_stood f step told f.next.process done.1.services (settled l done.1).services s.services.current (stood_effect l f moment step s ok) (step_settled l f moment step s ok))
+    let told = (step_of l f moment step).answer in
+    finished_keeps (λ (g : Flat). Stood f step told g.services) (λ g plans stood. stood) (settled l done.flat) done.answer
+    (settled_stood f step told f.next.process done.flat.services (settled l done.flat).services s.services.current (stood_effect l f moment step s ok) (step_settled l f moment step s ok))
 
 pub gives : (l : Limits) → Gives Sound (LawOfLeaving l) l
 gives l f e s ok =

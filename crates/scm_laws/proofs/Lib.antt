@@ -1,4 +1,5 @@
 pub mod Along
+pub mod Histories
 pub mod Lists
 pub mod Masks
 pub mod Locked
@@ -6,6 +7,7 @@ pub mod Numbers
 pub mod Needed
 pub mod Rows
 pub mod Processes
+pub mod Opened
 pub mod Handled
 pub mod Plans
 pub mod Deadlines
@@ -15,6 +17,7 @@ pub mod Configured
 pub mod Ordered
 pub mod Calls
 pub mod Frames
+pub mod Plain
 pub mod Wanted
 pub mod Effects
 pub mod Leaving

@@ -1,10 +1,11 @@
 -- What finds, filters and maps do to lists of rows.
-use Rattle.std.proofs.Common.{ℕ, zero, suc, ◌≡◌, ◌∙◌, ◌<◌, ◌==◌, ◌||◌, ◌&&◌, Bool, true, false, not, cond, List, [], ◌∷◌, ◌++◌, Some, filter, find, length, map, get_or, ap, sym, refl, subst, arith, eqb-true, ne_eqb}
+use Rattle.std.proofs.Common.{ℕ, zero, suc, ◌≡◌, ◌∙◌, ◌<◌, ◌==◌, ◌||◌, ◌&&◌, Bool, true, false, not, cond, List, [], ◌∷◌, ◌++◌, Some, filter, find, length, map, get_or, ap, sym, refl, subst, arith, eqb-true, ne_eqb, ◌≤◌}
 use Rattle.std.specs.Prelude.{All, AllPairs, is_some, unwrap_or}
 use Rattle.std.specs.List.{list_any}
 use Rattle.std.proofs.lemmas.List.{get_or-map, length-map}
 use Rattle.std.proofs.lemmas.List.Elements.{All-nil, All-cons, All-head, All-tail}
 use Rattle.std.proofs.lemmas.List.Folds.{list_any_none}
+use Rattle.std.proofs.lemmas.Bool.{and_right}
 
 pub find_more : {X : Type 0} (p : X → Bool) (xs ys : List X) → is_some (find p xs) ≡ true → find p (xs ++ ys) ≡ find p xs
 find_more p [] ys e = absurd (cc)
@@ -41,7 +42,7 @@ pairs_map Q R S f keeps xs each all i j d below within =
     subst (λ a. S a (get_or (map f xs) j d)) (sym (get_or-map f xs i d d shorter))
     (subst (λ b. S (f (get_or xs i d)) b) (sym (get_or-map f xs j d d short)) (keeps _ _ (each i d shorter) (each j d short) (all i j d below short)))
 
-same_some : {X : Type 0} (x y : X) → Some x ≡ Some y → x ≡ y
+pub same_some : {X : Type 0} (x y : X) → Some x ≡ Some y → x ≡ y
 same_some x y e = ap (λ o. unwrap_or o x) e
 
 pub found_passes : {X : Type 0} (p : X → Bool) (x : X) (xs : List X) → find p xs ≡ Some x → p x ≡ true
@@ -58,7 +59,7 @@ found_has P p x (y ∷ ys) each e =
     [ true ↦ λ g. subst P (same_some y x g) (All-head P y ys each) | false ↦ λ g. found_has P p x ys (All-tail P y ys each) g ] e
 
 -- one is found exactly where there is one
-is_some-find : {X : Type 0} (p : X → Bool) (xs : List X) → is_some (find p xs) ≡ list_any p xs
+pub is_some-find : {X : Type 0} (p : X → Bool) (xs : List X) → is_some (find p xs) ≡ list_any p xs
 is_some-find p [] = refl
 is_some-find p (x ∷ xs) = elim (p x) as (λ b. is_some (cond b (Some x) (find p xs)) ≡ (b || list_any p xs)) [ true ↦ refl | false ↦ is_some-find p xs ]
 
@@ -77,11 +78,6 @@ found_only number n x (y ∷ ys) rising e =
           (found_only number n x ys (λ i j d lt within. rising (suc i) (suc j) d (omega arith) (omega arith)) g)
     ] refl e
 
--- a test fails where its second part does
-and_false : (a b : Bool) → b ≡ false → (a && b) ≡ false
-and_false true b e = e
-and_false false b e = refl
-
 -- where numbers rise, who has the number of one that is found with a property has the property
 pub found_owns : {X : Type 0} (q : X → Bool) (number : X → ℕ) (n : ℕ) (xs : List X) → AllPairs (λ a b. number a < number b) xs → is_some (find (λ x. q x && number x == n) xs) ≡ true → All (λ x. (number x == n) ≡ true → q x ≡ true) xs
 found_owns q number n [] rising e = All-nil (λ x. (number x == n) ≡ true → q x ≡ true)
@@ -99,7 +95,7 @@ found_owns q number n (y ∷ ys) rising e =
       ] refl
       | false ↦ λ own g. All-cons (λ x. (number x == n) ≡ true → q x ≡ true) y ys
           (λ same. absurd (
-          let none = list_any_none (λ x. q x && number x == n) ys (λ k d lt. and_false _ _ (later same k d lt)) in
+          let none = list_any_none (λ x. q x && number x == n) ys (λ k d lt. and_right _ _ (later same k d lt)) in
           let found = is_some-find (λ x. q x && number x == n) ys in
           cc)) (rest g)
     ] refl e
@@ -148,3 +144,25 @@ pub any_at : {X : Type 0} (p : X → Bool) (xs : List X) (k : ℕ) (d : X) → k
 any_at p [] k d lt h = absurd (omega arith)
 any_at p (x ∷ xs) zero d lt h = rw h refl
 any_at p (x ∷ xs) (suc k) d lt h = elim (p x) as (λ b. (b || list_any p xs) ≡ true) [ true ↦ refl | false ↦ any_at p xs k d (omega arith) h ]
+
+-- one more that passes is found, unless one before it is
+pub find_new : {X : Type 0} (p : X → Bool) (xs : List X) (y : X) → p y ≡ true → is_some (find p (xs ++ y ∷ [])) ≡ true
+find_new p [] y passes = rw passes refl
+find_new p (x ∷ xs) y passes = elim (p x) as (λ b. is_some (cond b (Some x) (find p (xs ++ y ∷ []))) ≡ true) [ true ↦ refl | false ↦ find_new p xs y passes ]
+
+-- a filter leaves no more
+pub filter_short : {X : Type 0} (p : X → Bool) (xs : List X) → length (filter p xs) ≤ length xs
+filter_short p [] = omega arith
+filter_short p (x ∷ xs) =
+    let rest = filter_short p xs in
+    elim (p x) as (λ b. length (cond b (x ∷ filter p xs) (filter p xs)) ≤ suc (length xs)) [ true ↦ omega arith | false ↦ omega arith ]
+
+-- a filter that drops nobody
+pub filter_full : {X : Type 0} (p : X → Bool) (xs : List X) → length (filter p xs) ≡ length xs → filter p xs ≡ xs
+filter_full p [] e = refl
+filter_full p (x ∷ xs) e =
+    let short = filter_short p xs in
+    elim (p x) as (λ b. length (cond b (x ∷ filter p xs) (filter p xs)) ≡ suc (length xs) → cond b (x ∷ filter p xs) (filter p xs) ≡ x ∷ xs) [
+      | true ↦ λ h. ap (λ ys. x ∷ ys) (filter_full p xs (omega arith))
+      | false ↦ λ h. absurd (omega arith)
+    ] e

@@ -14,6 +14,7 @@ use Rattle.scm_model.specs.Changes.{free_of}
 use Rattle.database_lock.specs.Locking.{is_held_by, locked, unlocked}
 use Rattle.scm_rules.specs.Close.{closes}
 use Rattle.scm_laws.proofs.Lists.{any_filter, found_has, found_owns, found_passes, none_found}
+use Rattle.std.proofs.lemmas.Bool.{and_parts}
 
 -- a handle is the lock's exactly where it holds the lock
 abbrev pub Matches : Option LockRow → HandleRow → Type 0
@@ -84,16 +85,12 @@ not_the_lock : (kind : HandleKind) → is_closable kind ≡ true → is_lock kin
 not_the_lock kinds.Lock e = absurd (cc)
 not_the_lock kind e = refl
 
-second : (a b : Bool) → (a && b) ≡ true → b ≡ true
-second true b e = e
-second false b e = absurd (cc)
-
 holds_nothing : (held : Option LockRow) (rows : List HandleRow) (caller number : ℕ) (found : Option HandleRow) → find (λ (row : HandleRow). row.caller == caller && row.number == number) rows ≡ found
     → closes found ≡ true → Locked held rows → is_held_by number held ≡ false
 holds_nothing held rows caller number None e closable old = absurd (cc)
 holds_nothing held rows caller number (Some row) e closable old =
     let test = λ (r : HandleRow). r.caller == caller && r.number == number in
-    let same = eqb-true row.number number (second (row.caller == caller) (row.number == number) (found_passes test row rows e)) in
+    let same = eqb-true row.number number (and_parts (row.caller == caller) (row.number == number) (found_passes test row rows e)).1 in
     subst (λ n. is_held_by n held ≡ false) same (sym (found_has (Matches held) test row rows old.locks e) ∙ not_the_lock row.kind closable)
 
 -- the lock stays as it is where such a handle leaves

@@ -6,7 +6,8 @@ use Rattle.std.proofs.lemmas.Nat.Bits.{bit_at_and, bit_at_or, and_pow, bit_at-lt
 use Rattle.std.specs.Int.{bit_at}
 use Rattle.scm_model.specs.declared.flat.Principal.{Principal}
 use Rattle.scm_model.specs.declared.flat.Principal.TheVariants.{Admin, User}
-use Rattle.access_mask.specs.Granted.{chosen, connected, granted, granted_of, has, is_allowed, map_generic, mapped, maximum_allowed, rights_of, without}
+use Rattle.scm_model.specs.declared.codes.TheConstants.{MAXIMUM_ALLOWED}
+use Rattle.access_mask.specs.Granted.{chosen, connected, granted, granted_of, has, is_allowed, map_generic, mapped, rights_of, without}
 
 or_within : (r a b : ℕ) → bit_and r a ≡ a → bit_and r b ≡ b → bit_and r (bit_or a b) ≡ bit_or a b
 or_within r a b ha hb = same_from_bits _ _ (λ i.
@@ -19,7 +20,7 @@ or_within r a b ha hb = same_from_bits _ _ (λ i.
     omega arith)
 
 -- a mask without that bit stays as it is
-no_maximum : (mask : ℕ) → mask < 2 ^ 32 → has mask maximum_allowed ≡ false → without mask maximum_allowed ≡ mask
+no_maximum : (mask : ℕ) → mask < 2 ^ 32 → has mask MAXIMUM_ALLOWED ≡ false → without mask MAXIMUM_ALLOWED ≡ mask
 no_maximum mask small lacks =
     let parts = and-not 32 0x02000000 mask (omega arith) small in
     let bit = and_pow mask 25 in
@@ -48,9 +49,9 @@ mask_small false desired = parts_small 0x2008D 0x20002 0x20170 0xF01FF desired (
 
 chosen_within : (mask rights : ℕ) → mask < 2 ^ 32 → bit_and rights rights ≡ rights → is_allowed mask rights ≡ true → bit_and rights (chosen mask rights) ≡ chosen mask rights
 chosen_within mask rights small own allowed =
-    elim (has mask maximum_allowed) as (λ b. has mask maximum_allowed ≡ b → bit_and rights (cond b rights mask) ≡ cond b rights mask) [
+    elim (has mask MAXIMUM_ALLOWED) as (λ b. has mask MAXIMUM_ALLOWED ≡ b → bit_and rights (cond b rights mask) ≡ cond b rights mask) [
       | true ↦ λ e. own
-      | false ↦ λ e. subst (λ m. bit_and rights m ≡ m) (no_maximum mask small e) (eqb-true (bit_and rights (without mask maximum_allowed)) (without mask maximum_allowed) allowed)
+      | false ↦ λ e. subst (λ m. bit_and rights m ≡ m) (no_maximum mask small e) (eqb-true (bit_and rights (without mask MAXIMUM_ALLOWED)) (without mask MAXIMUM_ALLOWED) allowed)
     ] refl
 
 connected_within : (manager : Bool) (mask rights : ℕ) → bit_and rights mask ≡ mask → (manager ≡ true → bit_and rights 1 ≡ 1) → bit_and rights (connected manager mask) ≡ connected manager mask

@@ -8,10 +8,10 @@ use Rattle.scm_model.specs.declared.flat.Config.{Config}
 use Rattle.scm_model.specs.declared.flat.Need.{Need}
 use Rattle.scm_model.specs.declared.flat.Service.{Service}
 use Rattle.scm_model.specs.Changes.{configured_if}
-use Rattle.dependency_index.specs.declared.rows.NeedRow.{NeedRow}
-use Rattle.dependency_index.specs.Needs.{has, instead, is_met, met_by, met_by_all, needs_in, needs_of, numbers_of, with_row}
-use Rattle.dependency_index.specs.Order.{is_cyclic}
-use Rattle.dependency_index.specs.Walks.{IsAcyclic, IsWalk, Needs}
+use Rattle.scm_model.specs.declared.flat.NeedRow.{NeedRow}
+use Rattle.scm_model.specs.Needs.{has, instead, is_met, met_by, met_by_all, needs_in, needs_of, numbers_of, with_row}
+use Rattle.scm_model.specs.Order.{is_cyclic}
+use Rattle.scm_model.specs.Walks.{IsAcyclic, IsWalk, Needs}
 use Rattle.dependency_index.proofs.Cycles.{ends_acyclic}
 use Rattle.dependency_index.proofs.Lists.{or_right}
 use Rattle.dependency_index.proofs.Once.{push_is}
@@ -34,7 +34,7 @@ number_free n (row ∷ rows) below =
 pub rows_added : (rows : List Service) (new : Service) → All (λ (row : Service). row.number < new.number) rows → need_rows (rows ++ new ∷ []) ≡ with_row (need_rows rows) (need_row new)
 rows_added rows new below = map-append need_row rows (new ∷ []) ∙ push_is (need_rows rows) (need_row new) (number_free new.number rows below)
 
-abbrev replaced : Config → Service → Service
+abbrev pub replaced : Config → Service → Service
 replaced config row = record row { config = config; status = record row.status { kind = config.kind } }
 
 instead_is : (number : ℕ) (config : Config) (row : Service) → instead (need_row_of number config) (need_row row) ≡ need_row (configured_if number config row)

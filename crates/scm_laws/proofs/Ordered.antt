@@ -5,10 +5,10 @@ use Rattle.std.proofs.lemmas.List.Elements.{All-head, All-tail}
 use Rattle.scm_model.specs.declared.flat.Flat.{Flat}
 use Rattle.scm_model.specs.declared.flat.Need.{Need}
 use Rattle.scm_model.specs.declared.flat.Service.{Service}
-use Rattle.dependency_index.specs.declared.rows.NeedRow.{NeedRow}
-use Rattle.dependency_index.specs.Needs.{has, is_met, met_by, met_by_all, needs_of, numbers_of}
-use Rattle.dependency_index.specs.Order.{explore, is_running, noted, try_all}
-use Rattle.start_plan.specs.Ready.{state_of}
+use Rattle.scm_model.specs.declared.flat.NeedRow.{NeedRow}
+use Rattle.scm_model.specs.Needs.{has, is_met, met_by, met_by_all, needs_of, numbers_of}
+use Rattle.scm_model.specs.Order.{explore, is_running, noted, try_all}
+use Rattle.scm_model.specs.Ready.{state_of}
 use Rattle.scm_rules.specs.Needs.{need_rows, start_order}
 use Rattle.scm_laws.proofs.Plans.{AreBelow}
 

@@ -11,6 +11,7 @@ use Rattle.scm_model.specs.declared.flat.Plan.{Plan}
 use Rattle.start_plan.specs.Decided.{decided_if, decided_in, is_callers, is_numbered, without_plans_of}
 use Rattle.start_plan.specs.Planned.{IsRising, numbers_of}
 use Rattle.start_plan.specs.Settle.{stays}
+use Rattle.start_plan.specs.Started.{TriedOnce}
 use Rattle.start_plan.proofs.Keeps.{all_filter}
 use Rattle.start_plan.proofs.Rising.{rising_decided, rising_filter}
 use Rattle.scm_rules.specs.Start.{expired, fired, fired_by, is_due}
@@ -37,12 +38,16 @@ pub record ArePlans (next service : ℕ) (callers : List Caller) (plans : List P
   pub each : AllByRecursion (IsPlan next service callers) plans
   pub rising : IsRising (numbers_of plans)
 
-pub no_plans : ArePlans 1 1 [] []
-no_plans = record { first = omega arith; each = tt; rising = tt }
+pub no_plans : (next : ℕ) → ArePlans 1 next [] []
+no_plans next = record { first = omega arith; each = tt; rising = tt }
 
 pub all_weaker : (P Q : Plan → Type 0) → ((plan : Plan) → P plan → Q plan) → (plans : List Plan) → AllByRecursion P plans → AllByRecursion Q plans
 all_weaker P Q weaker [] all = tt
 all_weaker P Q weaker (plan ∷ plans) all = (weaker plan all.0, all_weaker P Q weaker plans all.1)
+
+-- no plan has tried a service twice
+pub tried_once : (next service : ℕ) (callers : List Caller) (plans : List Plan) → ArePlans next service callers plans → TriedOnce plans
+tried_once next service callers plans s = all_weaker (IsPlan next service callers) (λ (plan : Plan). IsDistinct eqb plan.tried) (λ plan is. is.once) plans s.each
 
 -- ## Numbers
 

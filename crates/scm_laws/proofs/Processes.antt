@@ -12,7 +12,7 @@ use Rattle.scm_model.specs.declared.flat.Process.{Process}
 use Rattle.scm_model.specs.declared.flat.Service.{Service}
 use Rattle.scm_model.specs.declared.flat.Status.{Status}
 use Rattle.scm_model.specs.declared.flat.Wanted.{Wanted}
-use Rattle.scm_model.specs.Changes.{leaves}
+use Rattle.scm_model.specs.Purge.{leaves}
 use Rattle.start_plan.specs.Entered.{started, started_if, wanted_process, wanted_row}
 use Rattle.start_plan.proofs.Rows.{started_or}
 use Rattle.dependency_index.proofs.Lists.{or_right}
@@ -24,6 +24,7 @@ use Rattle.scm_rules.specs.Valid.{AreNumbered, HasListed, HasStarting, has_proce
 use Rattle.scm_laws.proofs.Lists.{any_filter, found_has, found_only, found_owns, found_passes}
 use Rattle.scm_laws.proofs.Numbers.{numbered_filter, numbered_map, numbered_none, numbered_push}
 use Rattle.scm_laws.proofs.Rows.{fallen_or, reported_or}
+use Rattle.std.proofs.lemmas.Bool.{not-true, and_parts}
 
 abbrev pub number_of : Process → ℕ
 number_of row = row.number
@@ -38,8 +39,8 @@ pub record AreProcesses (next : ℕ) (processes : List Process) (launching : Lis
   pub listed : All (HasListed processes) services
   pub starting : All (HasStarting services) processes
 
-pub no_processes : AreProcesses 1 [] [] []
-no_processes = record { numbered = numbered_none number_of 1; wanted = refl; listed = All-nil (HasListed []); starting = All-nil (HasStarting []) }
+pub no_processes : (services : List Service) → All (HasListed []) services → AreProcesses 1 [] [] services
+no_processes services listed = record { numbered = numbered_none number_of 1; wanted = refl; listed = listed; starting = All-nil (HasStarting services) }
 
 -- ## A process taken in hand, launched, or gone
 
@@ -127,7 +128,7 @@ is_to_be number numbers (row ∷ rows) e =
       | false ↦ λ g. is_to_be number numbers rows g
     ] e
 
-first_is_to_be : (wanted : List Wanted) (processes : List Process) → map process_in wanted ≡ map number_of (filter is_to_launch processes) → is_wanted wanted ≡ true
+pub first_is_to_be : (wanted : List Wanted) (processes : List Process) → map process_in wanted ≡ map number_of (filter is_to_launch processes) → is_wanted wanted ≡ true
     → is_some (find (λ (row : Process). is_to_launch row && row.number == first_wanted wanted) processes) ≡ true
 first_is_to_be [] processes e is = absurd cc
 first_is_to_be (row ∷ rows) processes e is = is_to_be row.process (map process_in rows) processes e
@@ -234,10 +235,6 @@ fallen_still number code process row other is =
     fallen_or (λ new. is_started_by process new ≡ true) number code row
     (λ e. absurd (let same = eqb-true row.process process.number (is_by process row is).process_same in let t = eq-eqb process.number number (sym same ∙ eqb-true row.process number e) in cc)) is
 
-not_true : (b : Bool) → not b ≡ true → b ≡ false
-not_true true h = absurd cc
-not_true false h = refl
-
 -- ## A process gone
 
 -- the same where the process leaves
@@ -287,7 +284,7 @@ failed next number code processes wanted services s = record {
       (λ k d lt. still_listed number code processes (get_or services k d) (s.listed k d lt));
   starting = (let p = λ (row : Process). not (row.number == number) in
       λ k d lt. start_kept (get_or (filter p processes) k d) (fallen_if number code) services
-      (λ row. fallen_still number code (get_or (filter p processes) k d) row (not_true _ (filter_passes p processes k d lt)))
+      (λ row. fallen_still number code (get_or (filter p processes) k d) row (not-true _ (filter_passes p processes k d lt)))
       (All-filter p (HasStarting services) processes s.starting k d lt));
 }
 
@@ -388,13 +385,9 @@ newly_started service next [] h = h
 newly_started service next (row ∷ rows) h =
     elim (row.number == service && row.status.state == 1) as (λ b. (row.number == service && row.status.state == 1) ≡ b → (b || list_any (λ (row : Service). row.number == service && row.status.state == 1) rows) ≡ true
     → (is_started_by (wanted_process next service) (cond b (started next row) row) || list_any (is_started_by (wanted_process next service)) (map (started_if service next) rows)) ≡ true) [
-      | true ↦ λ e g. rw (first_true (row.number == service) (row.status.state == 1) e, eq-eqb next next refl) refl
+      | true ↦ λ e g. rw ((and_parts (row.number == service) (row.status.state == 1) e).0, eq-eqb next next refl) refl
       | false ↦ λ e g. or_right (is_started_by (wanted_process next service) row) (list_any (is_started_by (wanted_process next service)) (map (started_if service next) rows)) (newly_started service next rows g)
     ] refl h
-  where
-    first_true : (a b : Bool) → (a && b) ≡ true → a ≡ true
-    first_true true b h = refl
-    first_true false b h = absurd cc
 
 or_last : (a b c : Bool) → c ≡ true → (a || b || c) ≡ true
 or_last true b c h = refl

@@ -10,12 +10,12 @@ use Rattle.scm_model.specs.declared.flat.Plan.{Plan}
 use Rattle.scm_model.specs.declared.flat.Service.{Service}
 use Rattle.scm_model.specs.declared.steps.Answer.{Answer}
 use Rattle.scm_model.specs.declared.steps.Answer.TheVariants as answer
-use Rattle.scm_model.specs.Changes.{leaves, purged}
+use Rattle.scm_model.specs.Purge.{leaves, purged}
 use Rattle.scm_model.specs.Rows.{service_of}
 use Rattle.start_plan.specs.Decided.{code_of, is_numbered}
 use Rattle.start_plan.specs.Entered.{wanted_process}
 use Rattle.start_plan.specs.Moves.{entering_at, has, is_full, is_pending, move_by, move_of}
-use Rattle.start_plan.specs.Ready.{is_ready}
+use Rattle.scm_model.specs.Ready.{is_ready}
 use Rattle.start_plan.specs.Settle.{code_in, dropped, is_due_still, moved, settle_all, settle_entries, settle_plan, settled, stays, tidied}
 use Rattle.start_plan.specs.declared.settling.Move.{Move}
 use Rattle.start_plan.specs.declared.settling.Move.TheVariants as moves
@@ -26,9 +26,10 @@ use Rattle.scm_rules.specs.Steps.{finished, left_by}
 use Rattle.scm_laws.proofs.Deadlines.{AreStill}
 use Rattle.scm_laws.proofs.Plans.{all_weaker}
 use Rattle.scm_laws.proofs.Starts.{all_fulfilled}
+use Rattle.scm_laws.proofs.Lists.{filter_full}
 
 -- a plan that is decided, has no entry left, or waits
-abbrev RestsAt : Limits → Flat → Plan → List ℕ → Type 0
+abbrev pub RestsAt : Limits → Flat → Plan → List ℕ → Type 0
 RestsAt l f plan [] = Unit {0}
 RestsAt l f plan (x ∷ xs) = move_of l f plan.tried x ≡ moves.Waits
 
@@ -37,7 +38,7 @@ Rests l f plan = (is_some plan.code ≡ true) ⊎ RestsAt l f plan plan.entries
 
 -- ## What settling doesn't change rests
 
-entries_still : (l : Limits) (f : Flat) (plan : Plan) (entries : List ℕ) → (is_some plan.code ≡ true) ⊎ RestsAt l f plan entries → settle_entries l f plan entries ≡ (f, plan)
+pub entries_still : (l : Limits) (f : Flat) (plan : Plan) (entries : List ℕ) → (is_some plan.code ≡ true) ⊎ RestsAt l f plan entries → settle_entries l f plan entries ≡ (f, plan)
 entries_still l f plan [] rests = refl
 entries_still l f plan (x ∷ xs) (inl decided) = rw decided refl
 entries_still l f plan (x ∷ xs) (inr waits) =
@@ -46,7 +47,7 @@ entries_still l f plan (x ∷ xs) (inr waits) =
       | false ↦ rw waits refl
     ]
 
-all_still : (l : Limits) (f : Flat) (plans : List Plan) → AllByRecursion (Rests l f) plans → settle_all l f plans ≡ (f, plans)
+pub all_still : (l : Limits) (f : Flat) (plans : List Plan) → AllByRecursion (Rests l f) plans → settle_all l f plans ≡ (f, plans)
 all_still l f [] rests = refl
 all_still l f (plan ∷ plans) rests = rw (entries_still l f plan plan.entries rests.0, all_still l f plans rests.1) refl
 
@@ -109,24 +110,9 @@ all_rest l f (plan ∷ plans) same few =
     let still : first.0 ≡ f = ap (λ (r : Flat × Plan). r.0) (entries_still l f plan plan.entries rests) in
     (rests, all_rest l f plans (subst (λ (g : Flat). (settle_all l g plans).1 ≡ plans) still parts.1) (subst (λ (g : Flat). length (settle_all l g plans).0.processes ≤ length f.processes) still few))
 
-same_length : (l : Limits) (f : Flat) (plans : List Plan) → length (settle_all l f plans).1 ≡ length plans
+pub same_length : (l : Limits) (f : Flat) (plans : List Plan) → length (settle_all l f plans).1 ≡ length plans
 same_length l f [] = refl
 same_length l f (plan ∷ plans) = ap suc (same_length l (settle_plan l f plan).0 plans)
-
-filter_short : {X : Type 0} (p : X → Bool) (xs : List X) → length (filter p xs) ≤ length xs
-filter_short p [] = omega arith
-filter_short p (x ∷ xs) =
-    let rest = filter_short p xs in
-    elim (p x) as (λ b. length (cond b (x ∷ filter p xs) (filter p xs)) ≤ suc (length xs)) [ true ↦ omega arith | false ↦ omega arith ]
-
-filter_full : {X : Type 0} (p : X → Bool) (xs : List X) → length (filter p xs) ≡ length xs → filter p xs ≡ xs
-filter_full p [] e = refl
-filter_full p (x ∷ xs) e =
-    let short = filter_short p xs in
-    elim (p x) as (λ b. length (cond b (x ∷ filter p xs) (filter p xs)) ≡ suc (length xs) → cond b (x ∷ filter p xs) (filter p xs) ≡ x ∷ xs) [
-      | true ↦ λ h. ap (λ ys. x ∷ ys) (filter_full p xs (omega arith))
-      | false ↦ λ h. absurd (omega arith)
-    ] e
 
 -- the plans of a settled state rest
 pub settled_rest : (l : Limits) (f : Flat) → AllByRecursion (Rests l (settled l f)) (settled l f).plans
@@ -155,7 +141,7 @@ left_rest l g plan (Some code) rests =
     let fewer = filter (λ (row : Plan). not (is_numbered plan row)) g.plans in
     all_weaker (Rests l g) (Rests l (record g { plans = fewer })) (one_beside l g fewer) fewer (all_filter (Rests l g) (λ (row : Plan). not (is_numbered plan row)) g.plans rests)
 
-pub finished_rest : (l : Limits) (g : Flat) (told : Answer) → AllByRecursion (Rests l g) g.plans → AllByRecursion (Rests l (finished g told).1) (finished g told).1.plans
+pub finished_rest : (l : Limits) (g : Flat) (told : Answer) → AllByRecursion (Rests l g) g.plans → AllByRecursion (Rests l (finished g told).flat) (finished g told).flat.plans
 finished_rest l g (answer.Begun plan) rests = left_rest l g plan (code_of g.plans plan) rests
 finished_rest l g told rests = rests
 

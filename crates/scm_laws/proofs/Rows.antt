@@ -1,7 +1,7 @@
 -- What is true of the services of every state, and what each change of them keeps.
-use Rattle.std.proofs.Common.{ℕ, ◌≡◌, ◌∙◌, ◌+◌, ◌<◌, ◌≤◌, ◌==◌, ◌&&◌, Bool, true, false, cond, List, [], ◌∷◌, ◌++◌, None, filter, map, get_or, ap, sym, refl, subst, arith, eqb-true, ne_eqb}
+use Rattle.std.proofs.Common.{ℕ, ◌≡◌, ◌∙◌, ◌+◌, ◌<◌, ◌≤◌, ◌==◌, Bool, true, false, cond, List, [], ◌∷◌, ◌++◌, None, filter, map, get_or, ap, sym, refl, subst, arith, eqb-true, ne_eqb}
 use Rattle.std.specs.Prelude.{All, AllPairs, Ok, Err}
-use Rattle.std.proofs.lemmas.List.Elements.{All-filter, All-push, All-map, All-nil}
+use Rattle.std.proofs.lemmas.List.Elements.{All-filter, All-push, All-map}
 use Rattle.std.proofs.lemmas.List.Kept.{AllPairs-filter}
 use Rattle.std.proofs.lemmas.List.Quantifiers.{all_pairs_push}
 use Rattle.scm_text.specs.Fold.{same_text}
@@ -9,8 +9,6 @@ use Rattle.scm_model.specs.declared.flat.Config.{Config}
 use Rattle.scm_model.specs.declared.flat.Service.{Service}
 use Rattle.scm_model.specs.declared.flat.Status.{Status}
 use Rattle.scm_model.specs.Changes.{marked_if}
-use Rattle.dependency_index.specs.Needs.{needs_of}
-use Rattle.dependency_index.specs.Walks.{IsWalk}
 use Rattle.service_record.specs.Checks.{check_new}
 use Rattle.start_plan.specs.Entered.{started_if}
 use Rattle.start_plan.proofs.Rows.{started_or, same_number}
@@ -21,7 +19,8 @@ use Rattle.scm_rules.specs.Reports.{moved_by, process_in_state, reported_if}
 use Rattle.scm_rules.specs.Valid.{AreNumbered}
 use Rattle.scm_laws.proofs.Lists.{pairs_map}
 use Rattle.scm_laws.proofs.Needed.{HasNoCycle, fewer, same_graph}
-use Rattle.scm_laws.proofs.Numbers.{numbered_filter, numbered_map, numbered_none, numbered_push}
+use Rattle.scm_laws.proofs.Numbers.{numbered_filter, numbered_map, numbered_push}
+use Rattle.std.proofs.lemmas.Bool.{and_parts}
 
 abbrev pub AreOtherNames : Service → Service → Type 0
 AreOtherNames a b = same_text a.config.name b.config.name ≡ false
@@ -51,24 +50,6 @@ pub record AreServices (next process : ℕ) (rows : List Service) : Type 0 where
   pub stopped : All IsStoppedWithout rows
   pub current : All (λ (row : Service). row.process < process) rows
   pub acyclic : HasNoCycle rows
-
-pub no_services : AreServices 1 1 []
-no_services = record {
-  numbered = numbered_none (λ (row : Service). row.number) 1;
-  first = omega arith;
-  first_process = omega arith;
-  names = λ i j d lt within. absurd (omega arith);
-  displays = λ i j d lt within. absurd (omega arith);
-  configs = All-nil IsChecked;
-  kinds = All-nil HasKind;
-  stopped = All-nil IsStoppedWithout;
-  current = All-nil (λ (row : Service). row.process < 1);
-  acyclic = λ from between w. no_walk from between w;
-}
-  where
-    no_walk : (from : ℕ) (between : List ℕ) → IsWalk (needs_of []) from between from → ⊥
-    no_walk from [] w = absurd cc
-    no_walk from (via ∷ between) w = absurd (let h = w.0 in cc)
 
 -- ## A change of each row
 
@@ -149,13 +130,9 @@ reported_or P process report row moves stays =
       | false ↦ λ e. stays
     ] refl
 
-first_true : (a b : Bool) → (a && b) ≡ true → a ≡ true
-first_true true b h = refl
-first_true false b h = absurd cc
-
 -- a report that is taken tells the type
 pub kind_taken : (now report : Status) → takes now report ≡ true → report.kind ≡ now.kind
-kind_taken now report taken = eqb-true report.kind now.kind (first_true _ _ (first_true _ _ (first_true _ _ (first_true _ _ taken))))
+kind_taken now report taken = eqb-true report.kind now.kind (and_parts _ _ (and_parts _ _ (and_parts _ _ (and_parts _ _ taken).0).0).0).0
 
 reports_mildly : (process : ℕ) (report : Status) → IsMild (reported_if process report)
 reports_mildly process report = record {

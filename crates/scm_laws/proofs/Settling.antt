@@ -1,5 +1,5 @@
 -- Settling keeps what is true of every state, and what it leaves of each service.
-use Rattle.std.proofs.Common.{ℕ, ◌≡◌, ◌⊎◌, ◌∙◌, ◌<◌, ◌≤◌, ◌==◌, ◌&&◌, ◌||◌, Bool, true, false, cond, List, [], ◌∷◌, Some, eq-eqb, filter, find, map, ap, sym, refl, subst, arith, eqb-true, inl, inr}
+use Rattle.std.proofs.Common.{ℕ, ◌≡◌, ◌⊎◌, ◌∙◌, ◌<◌, ◌≤◌, ◌==◌, ◌&&◌, ◌||◌, true, false, cond, List, [], ◌∷◌, Some, eq-eqb, filter, find, map, ap, sym, refl, subst, arith, eqb-true, inl, inr}
 use Rattle.std.specs.Prelude.{is_some}
 use Rattle.std.specs.List.{AllByRecursion, AllZip, list_any}
 use Rattle.std.proofs.lemmas.Cmp.{nat_eq_equiv}
@@ -21,6 +21,7 @@ use Rattle.scm_laws.proofs.Plans.{AreBelow, ArePlans, IsPlan}
 use Rattle.scm_laws.proofs.Processes.{AreProcesses, more}
 use Rattle.scm_laws.proofs.Rows.{AreServices, begun}
 use Rattle.scm_laws.proofs.Sound.{Sound}
+use Rattle.std.proofs.lemmas.Bool.{and_parts}
 
 -- ## Facts that last
 
@@ -77,10 +78,6 @@ IsSettled next bound before after = (after ≡ before) ⊎ IsEntered next bound 
 abbrev pub AreSettled : ℕ → ℕ → List Service → List Service → Type 0
 AreSettled next bound befores afters = AllZip (IsSettled next bound) befores afters
 
-both_true : (a b : Bool) → (a && b) ≡ true → a ≡ true
-both_true true b h = refl
-both_true false b h = absurd cc
-
 newly : (next bound n process : ℕ) (before after : Service) → n < bound → next ≤ process → (after.number == n) ≡ true → IsSettled next bound before after → IsEntered next bound before (started process after)
 newly next bound n process before after small up same (inl is) =
     record { entered = ap (started process) is; process = up; number = (let e = eqb-true after.number n same in let g : after.number ≡ before.number = ap (λ (r : Service). r.number) is in omega (arith, e, g, small)) }
@@ -89,7 +86,7 @@ newly next bound n process before after small up same (inr is) = record { entere
 one_settled : (next bound n process : ℕ) (before after : Service) → n < bound → next ≤ process → IsSettled next bound before after → IsSettled next bound before (started_if n process after)
 one_settled next bound n process before after small up was =
     elim (after.number == n && after.status.state == 1) as (λ b. (after.number == n && after.status.state == 1) ≡ b → IsSettled next bound before (cond b (started process after) after)) [
-      | true ↦ λ e. inr (newly next bound n process before after small up (both_true (after.number == n) (after.status.state == 1) e) was)
+      | true ↦ λ e. inr (newly next bound n process before after small up (and_parts (after.number == n) (after.status.state == 1) e).0 was)
       | false ↦ λ e. was
     ] refl
 

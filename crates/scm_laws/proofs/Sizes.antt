@@ -16,9 +16,10 @@ use Rattle.service_record.specs.Checks.{check_new, has_bad_lists, has_bad_names,
 use Rattle.service_record.specs.Words.{has_word}
 use Rattle.scm_rules.specs.QueryConfig.{shown_need, shown_needs}
 use Rattle.scm_laws.specs.Sizes.{IsToldWhole}
-use Rattle.scm_laws.proofs.Calls.{all_pass, neither}
+use Rattle.scm_laws.proofs.Calls.{all_pass}
 use Rattle.scm_laws.proofs.Lists.{none_any}
 use Rattle.scm_laws.proofs.Sound.{Sound}
+use Rattle.std.proofs.lemmas.Bool.{or_parts}
 
 shown_short : (need : Need) → is_longer 256 (name_of_need need) ≡ false → length (shown_need need) ≤ 258
 shown_short (needs.Service name) e = let short = ltb-false 256 (length name) e in let long = length-append name (codes "/") in omega arith
@@ -45,16 +46,16 @@ are_short : (config : Config) → check_new config None ≡ 0 → AreShort confi
 unfolding check_new
 are_short config e =
     let p = all_pass ((has_bad_names config, 123) ∷ (has_bad_numbers config || has_bad_texts config || has_bad_lists config, 87) ∷ (is_bad_account None, 1057) ∷ []) (refl, (refl, (refl, tt))) e in
-    let names = neither (is_bad_name config.name) (is_longer 256 config.display) p.0 in
-    let name = neither (length config.name == 0) (is_longer 256 config.name) (neither (length config.name == 0 || is_longer 256 config.name) _ names.0).0 in
-    let parts = neither (has_bad_numbers config || has_bad_texts config) (has_bad_lists config) p.1.0 in
-    let texts = neither (is_bad_line config.path || is_longer 256 config.group) (is_longer 2048 config.description)
-    (neither (is_bad_line config.path || is_longer 256 config.group || is_longer 2048 config.description) _ (neither (has_bad_numbers config) (has_bad_texts config) parts.0).1).0 in
-    let line = neither (is_bad_line config.path) (is_longer 256 config.group) texts.0 in
-    let path = neither (not (has_word config.path)) (is_longer 2048 config.path) (neither (not (has_word config.path) || is_longer 2048 config.path) _ line.0).0 in
-    let lists = neither (nat_lt 512 (length config.needs) || list_any (λ need. is_longer 256 (name_of_need need)) config.needs) (nat_lt 64 (length config.actions))
-    (neither _ (list_any (λ (action : Action). nat_lt 3 action.what) config.actions) (neither _ (nat_lt 64 (length config.triggers)) parts.1).0).0 in
-    let many = neither (nat_lt 512 (length config.needs)) (list_any (λ need. is_longer 256 (name_of_need need)) config.needs) lists.0 in
+    let names = or_parts (is_bad_name config.name) (is_longer 256 config.display) p.0 in
+    let name = or_parts (length config.name == 0) (is_longer 256 config.name) (or_parts (length config.name == 0 || is_longer 256 config.name) _ names.0).0 in
+    let parts = or_parts (has_bad_numbers config || has_bad_texts config) (has_bad_lists config) p.1.0 in
+    let texts = or_parts (is_bad_line config.path || is_longer 256 config.group) (is_longer 2048 config.description)
+    (or_parts (is_bad_line config.path || is_longer 256 config.group || is_longer 2048 config.description) _ (or_parts (has_bad_numbers config) (has_bad_texts config) parts.0).1).0 in
+    let line = or_parts (is_bad_line config.path) (is_longer 256 config.group) texts.0 in
+    let path = or_parts (not (has_word config.path)) (is_longer 2048 config.path) (or_parts (not (has_word config.path) || is_longer 2048 config.path) _ line.0).0 in
+    let lists = or_parts (nat_lt 512 (length config.needs) || list_any (λ need. is_longer 256 (name_of_need need)) config.needs) (nat_lt 64 (length config.actions))
+    (or_parts _ (list_any (λ (action : Action). nat_lt 3 action.what) config.actions) (or_parts _ (nat_lt 64 (length config.triggers)) parts.1).0).0 in
+    let many = or_parts (nat_lt 512 (length config.needs)) (list_any (λ need. is_longer 256 (name_of_need need)) config.needs) lists.0 in
     record {
       name = ltb-false 256 (length config.name) name.1;
       display = ltb-false 256 (length config.display) names.1;

@@ -1,15 +1,14 @@
 -- What is true of every state, before and after services leave, and that each change keeps it.
-use Rattle.std.proofs.Common.{ℕ, ◌≡◌, ◌<◌, ◌≤◌, ◌==◌, ◌&&◌, true, false, not, cond, List, [], ◌∷◌, ◌++◌, Option, None, drop, length, map, ap, refl, subst, arith, eqb}
+use Rattle.std.proofs.Common.{ℕ, ◌≡◌, ◌<◌, ◌≤◌, ◌==◌, ◌&&◌, true, false, not, cond, List, [], ◌∷◌, ◌++◌, Option, None, drop, length, map, ap, sym, refl, subst, arith, eqb, ◌+◌, filter}
 use Rattle.std.specs.Prelude.{All, is_some, nat_lt}
-use Rattle.std.proofs.lemmas.List.Elements.{All-filter, All-map, All-push, All-weaker, All-from_recursion}
-use Rattle.std.specs.List.{AllByRecursion, IsDistinct}
+use Rattle.std.proofs.lemmas.List.Elements.{All-filter, All-map, All-push}
+use Rattle.std.specs.List.{IsDistinct}
 use Rattle.scm_text.specs.Fold.{same_text}
 use Rattle.scm_model.specs.declared.flat.Config.{Config}
 use Rattle.scm_model.specs.declared.flat.Due.{Due}
 use Rattle.scm_model.specs.declared.flat.Flat.{Flat}
 use Rattle.scm_model.specs.declared.flat.HandleKind.{HandleKind}
 use Rattle.scm_model.specs.declared.flat.HandleKind.TheVariants as kinds
-use Rattle.scm_model.specs.declared.flat.HandleRow.{HandleRow}
 use Rattle.scm_model.specs.declared.flat.Limits.{Limits}
 use Rattle.scm_model.specs.declared.flat.LockRow.{LockRow}
 use Rattle.scm_model.specs.declared.flat.Plan.{Plan}
@@ -19,31 +18,32 @@ use Rattle.scm_model.specs.declared.flat.Registration.{Registration}
 use Rattle.scm_model.specs.declared.flat.Service.{Service}
 use Rattle.scm_model.specs.declared.flat.Status.{Status}
 use Rattle.scm_model.specs.Rows.{is_caller, is_lock, principal_of}
-use Rattle.scm_model.specs.Changes.{leaves, marked_if, purged, with_caller, with_handle, with_mark, with_moment, with_service, without_handle}
+use Rattle.scm_model.specs.Changes.{marked_if, with_caller, with_handle, with_mark, with_moment, with_service, without_handle}
+use Rattle.scm_model.specs.Purge.{leaves, purged}
 use Rattle.database_lock.specs.Locking.{unlocked}
 use Rattle.dependency_index.proofs.Lists.{or_right}
 use Rattle.service_record.specs.Checks.{check_new}
 use Rattle.start_plan.specs.Decided.{aims_at, is_callers, is_numbered}
-use Rattle.start_plan.specs.Settle.{settled, stays}
-use Rattle.start_plan.specs.Started.{TriedOnce}
 use Rattle.scm_rules.specs.Controls.{controlled_if, relieved_if, with_control, with_control_taken}
 use Rattle.scm_rules.specs.Launches.{is_running, launch_failed, launch_taken, launched, process_of, service_of_process}
 use Rattle.scm_rules.specs.Locks.{lock_done, unlock_done}
-use Rattle.scm_rules.specs.Opening.{empty_at}
-use Rattle.scm_rules.specs.Reports.{process_ended, with_report}
+use Rattle.scm_rules.specs.Opening.{CanOpen, IsOpening, opening, services_from}
+use Rattle.scm_rules.specs.Reports.{with_report}
+use Rattle.scm_rules.specs.Ends.{process_ended}
 use Rattle.scm_rules.specs.Start.{ended, is_due, new_plan, ticked, with_plan}
 use Rattle.scm_rules.specs.Steps.{gone, is_wanted}
-use Rattle.scm_rules.specs.Valid.{AreNumbered, HasDeadline, HasListed, HasPlainMask, IsValid}
+use Rattle.scm_rules.specs.Valid.{AreNumbered, HasListed}
 use Rattle.scm_laws.specs.Handles.{AreRights}
-use Rattle.scm_laws.proofs.Deadlines.{AreDeadlines, AreStill, no_deadlines, plan_more, plans_decided, plans_fewer, ticked as deadlines_ticked}
-use Rattle.scm_laws.proofs.Handled.{AreHandled, HasRightsIn, caller_joined, caller_left as handles_left, handle_given, handle_left, no_handles}
+use Rattle.scm_laws.proofs.Deadlines.{AreDeadlines, no_deadlines, plan_more, plans_decided, plans_fewer, ticked as deadlines_ticked}
+use Rattle.scm_laws.proofs.Handled.{AreHandled, caller_joined, caller_left as handles_left, handle_given, handle_left, no_handles}
 use Rattle.scm_laws.proofs.Lists.{filter_twice}
 use Rattle.scm_laws.proofs.Locked.{Locked, one_holds, one_more}
 use Rattle.scm_laws.proofs.Needed.{HasNoCycle}
-use Rattle.scm_laws.proofs.Numbers.{numbered_empty, numbered_filter, numbered_none, numbered_push}
-use Rattle.scm_laws.proofs.Plans.{AreBelow, ArePlans, IsKnown, IsPlan, all_weaker, caller_left as plans_left, caller_more, decided, fewer, more, no_plans, numbered, service_more, ticked as plans_ticked}
+use Rattle.scm_laws.proofs.Opened.{opened_listed, opened_services}
+use Rattle.scm_laws.proofs.Numbers.{numbered_filter, numbered_none, numbered_push}
+use Rattle.scm_laws.proofs.Plans.{AreBelow, ArePlans, IsPlan, all_weaker, caller_left as plans_left, caller_more, decided, fewer, more, no_plans, service_more, ticked as plans_ticked}
 use Rattle.scm_laws.proofs.Processes.{AreProcesses, IsOfControls, beside, controlled, failed, first_taken, no_processes, one_launched, reported as processes_reported, running_first, running_launched, starts_kept, starts_more, starts_stay}
-use Rattle.scm_laws.proofs.Rows.{AreServices, added as row_added, cleared as rows_cleared, fallen, marked as rows_marked, no_services, reported as rows_reported}
+use Rattle.scm_laws.proofs.Rows.{AreServices, added as row_added, cleared as rows_cleared, fallen, marked as rows_marked, reported as rows_reported}
 
 -- rows that become due have numbers
 pub record AreDues (next : ℕ) (rows : List Due) : Type 0 where
@@ -61,16 +61,19 @@ pub record Sound (f : Flat) : Type 0 where
 
 -- ## Changes
 
-pub begun : (moment : ℕ) → Sound (empty_at moment)
-begun moment = record {
-  services = no_services;
+opened : (l : Limits) (groups : List (List ℕ)) (configs : List Config) (moment : ℕ) → CanOpen l configs → Sound (opening l groups configs moment)
+opened l groups configs moment can = record {
+  services = opened_services l configs can;
   handles = no_handles;
-  processes = no_processes;
-  plans = no_plans;
+  processes = no_processes (services_from 1 configs) (opened_listed configs);
+  plans = no_plans (length configs + 1);
   dues = record { numbered = numbered_none (λ (row : Due). row.number) 1; first = omega arith };
   deadlines = no_deadlines;
   registrations = refl;
 }
+
+pub begun : (l : Limits) (f : Flat) → IsOpening l f → Sound f
+begun l f o = subst Sound (sym o.is) (opened l o.groups o.configs o.moment o.can)
 
 pub moved : (f : Flat) (moment : ℕ) → Sound f → Sound (with_moment f moment)
 moved f moment s = record { services = s.services; handles = s.handles; processes = s.processes; plans = s.plans; dues = s.dues; deadlines = s.deadlines; registrations = s.registrations }
@@ -96,7 +99,7 @@ left f caller s = record {
   plans = plans_left f.next.plan f.next.service f.callers caller f.plans s.plans;
   dues = s.dues;
   deadlines = plans_fewer f.next.plan (λ (plan : Plan). not (is_callers caller plan)) f.plans f.dues s.deadlines;
-  registrations = s.registrations;
+  registrations = ap (λ (rows : List Registration). filter (λ (row : Registration). not (row.caller == caller)) rows) s.registrations;
 }
 
 -- a handle more, and who then holds the lock
@@ -116,11 +119,11 @@ pub handed : (f : Flat) (caller : ℕ) (kind : HandleKind) (granted : ℕ) → S
     → Sound (with_handle f caller kind granted)
 handed f caller kind granted s there rights other = given f f.lock caller kind granted s there rights (one_more f.lock f.handles _ other s.handles.handles.below s.handles.lock)
 
-pub taken : (f : Flat) (caller : ℕ) → Sound f → is_caller f caller ≡ true → is_some f.lock ≡ false → Sound (lock_done f caller).1
+pub taken : (f : Flat) (caller : ℕ) → Sound f → is_caller f caller ≡ true → is_some f.lock ≡ false → Sound (lock_done f caller).flat
 taken f caller s there free = given f _ caller kinds.Lock 0 s there refl (one_holds f.lock f.handles _ f.moment free refl s.handles.handles.below s.handles.lock)
 
 -- a handle leaves, and the lock is free if it held it
-pub given_back : (f : Flat) (number : ℕ) → Sound f → Sound (unlock_done f number).1
+pub given_back : (f : Flat) (number : ℕ) → Sound f → Sound (unlock_done f number).flat
 given_back f number s = record {
   services = s.services;
   handles = handle_left f.next.caller f.callers f.next.handle f.handles f.lock number s.handles;
@@ -273,7 +276,7 @@ reported f number report runs s = record {
   registrations = s.registrations;
 }
 
-pub no_more : (f : Flat) (number : ℕ) → Sound f → Sound (process_ended f number).1
+pub no_more : (f : Flat) (number : ℕ) → Sound f → Sound (process_ended f number).flat
 no_more f number s = record {
   services = fallen f.next.service f.next.process number 1067 f.services s.services;
   handles = s.handles;
@@ -312,50 +315,8 @@ control_waits l f number code s = of_controls f (controlled_if l.controls number
 pub control_sent : (f : Flat) (number : ℕ) → Sound f → Sound (with_control_taken f number)
 control_sent f number s = of_controls f (relieved_if number) (controls_fewer number) s
 
--- ## What it says
+-- ## Services that leave
 
 pub purged_twice : (f : Flat) → purged (purged f) ≡ purged f
 purged_twice f =
     ap (λ (services : List Service). record f { services = services }) (filter_twice (λ (row : Service). not (leaves f.handles row)) f.services)
-
-pub tried_once : (f : Flat) (plans : List Plan) → AllByRecursion (IsPlan f.next.plan f.next.service f.callers) plans → TriedOnce plans
-tried_once f [] each = tt
-tried_once f (plan ∷ plans) each = (each.0.once, tried_once f plans each.1)
-
-plain : (principal : Principal) (kind : HandleKind) (granted : ℕ) → AreRights principal kind granted → HasPlainMask kind granted
-plain principal kinds.Lock granted none = none
-plain principal (kinds.Notify number) granted none = none
-plain principal kind granted rights = tt
-
--- a sound state that nobody is to leave, neither a service nor a plan nor a deadline, and that is settled, is valid
-pub is_valid : (l : Limits) (f : Flat) → Sound f → purged f ≡ f → AreStill f.plans f.dues → All (λ (plan : Plan). stays plan ≡ true) f.plans → settled l f ≡ f → IsValid l f
-is_valid l f s p still stay rest = record {
-  services = s.services.numbered;
-  handles = s.handles.handles;
-  processes = s.processes.numbered;
-  plans = numbered f.next.plan f.next.service f.callers f.plans s.plans;
-  registrations = numbered_empty (λ (row : Registration). row.number) f.next.registration f.registrations s.registrations;
-  dues = s.dues.numbered;
-  callers = s.handles.callers;
-  names = s.services.names;
-  displays = s.services.displays;
-  configs = s.services.configs;
-  kinds = s.services.kinds;
-  stopped = s.services.stopped;
-  current = s.processes.listed;
-  wanted = s.processes.wanted;
-  starting = s.processes.starting;
-  acyclic = s.services.acyclic;
-  tried = tried_once f f.plans s.plans.each;
-  known = All-weaker (IsPlan f.next.plan f.next.service f.callers) (IsKnown f.callers) (λ plan is. is.known) f.plans
-      (All-from_recursion (IsPlan f.next.plan f.next.service f.callers) f.plans s.plans.each);
-  deadlines = All-from_recursion (HasDeadline f.dues) f.plans s.deadlines.each;
-  due_still = still;
-  decided = stay;
-  held = s.handles.held;
-  locks = s.handles.lock.locks;
-  holder = s.handles.lock.holder;
-  masks = All-weaker (HasRightsIn f.callers) (λ (row : HandleRow). HasPlainMask row.kind row.granted) (λ row rights. plain _ row.kind row.granted rights) f.handles s.handles.rights;
-  settled = rest;
-  purged = p;
-}

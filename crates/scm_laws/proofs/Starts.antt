@@ -18,8 +18,9 @@ use Rattle.scm_model.specs.declared.calls.Request.TheVariants as request
 use Rattle.scm_model.specs.declared.steps.Kept.{Kept}
 use Rattle.scm_model.specs.declared.steps.Step.{Step}
 use Rattle.scm_model.specs.declared.steps.Step.TheVariants.{Call, LaunchFailed, Report, Ended}
-use Rattle.scm_model.specs.Changes.{configured_if, leaves, marked_if, purged, with_moment}
-use Rattle.start_plan.specs.Ready.{is_fulfilled, is_running, is_up}
+use Rattle.scm_model.specs.Changes.{configured_if, marked_if, with_moment}
+use Rattle.scm_model.specs.Purge.{leaves, purged}
+use Rattle.scm_model.specs.Ready.{is_fulfilled, is_running, is_up}
 use Rattle.start_plan.specs.Settle.{settled}
 use Rattle.start_plan.specs.Started.{IsOnce, IsStarted}
 use Rattle.start_plan.proofs.Enterings.{enters_the_ready}
@@ -37,6 +38,7 @@ use Rattle.scm_laws.proofs.Lists.{any_at}
 use Rattle.scm_laws.proofs.Rows.{fallen_or, reported_or}
 use Rattle.scm_laws.proofs.Settling.{IsEntered, IsSettled}
 use Rattle.scm_laws.proofs.Sound.{Sound}
+use Rattle.std.proofs.lemmas.Bool.{or_right}
 
 -- ## What effects leave of processes
 
@@ -44,14 +46,10 @@ use Rattle.scm_laws.proofs.Sound.{Sound}
 abbrev HasOld : List Service → Service → Type 0
 HasOld befores row = (row.process == 0 || list_any (λ (old : Service). old.number == row.number && old.process == row.process) befores) ≡ true
 
-or_last : (a b : Bool) → b ≡ true → (a || b) ≡ true
-or_last true b h = refl
-or_last false b h = h
-
 all_old : (rows : List Service) → All (HasOld rows) rows
 all_old rows k d lt =
     let row = get_or rows k d in
-    or_last (row.process == 0) _
+    or_right (row.process == 0) _
     (any_at (λ (old : Service). old.number == row.number && old.process == row.process) rows k d lt (rw (eq-eqb row.number row.number refl, eq-eqb row.process row.process refl) refl))
 
 old_change : (f : Flat) (number : ℕ) (config : Option Config) → All (HasOld f.services) (with_new_config f number config).services
@@ -72,20 +70,20 @@ old_fallen : (f : Flat) (process code : ℕ) → All (HasOld f.services) (map (f
 old_fallen f process code =
     All-map (HasOld f.services) (fallen_if process code) f.services (λ k d lt. fallen_or (HasOld f.services) process code (get_or f.services k d) (λ e. refl) (all_old f.services k d lt))
 
-old_done : (l : Limits) (f : Flat) (caller : ℕ) (asked : Request) → All (HasOld f.services) (done_of l f caller asked).1.services
+old_done : (l : Limits) (f : Flat) (caller : ℕ) (asked : Request) → All (HasOld f.services) (done_of l f caller asked).flat.services
 old_done l f caller (request.Delete handle) = All-map (HasOld f.services) (marked_if _) f.services (all_old f.services)
 old_done l f caller (request.SetStatus handle status) = old_reported f _ status
 old_done l f caller (request.Change change) = old_change f _ (asked_config f caller change)
 old_done l f caller (request.Create new) = All-push (HasOld f.services) f.services _ (all_old f.services) refl
 old_done l f caller asked = all_old f.services
 
-old_call : (l : Limits) (f : Flat) (caller : ℕ) (asked : Request) (append : Kept) → All (HasOld f.services) (call_of l f caller asked append).1.services
+old_call : (l : Limits) (f : Flat) (caller : ℕ) (asked : Request) (append : Kept) → All (HasOld f.services) (call_of l f caller asked append).flat.services
 old_call l f caller asked append =
-    by_verdict (λ r. All (HasOld f.services) r.1.services) (verdict l f caller asked append) (told_refused f caller asked (verdict l f caller asked append)) f (done_of l f caller asked)
+    by_verdict (λ r. All (HasOld f.services) r.flat.services) (verdict l f caller asked append) (told_refused f caller asked (verdict l f caller asked append)) f (done_of l f caller asked)
     (λ e. old_done l f caller asked) (λ e. all_old f.services)
 
 -- an effect gives nobody a process
-old_effect : (l : Limits) (f : Flat) (moment : ℕ) (step : Step) → All (HasOld f.services) (effect_of l (at_moment f moment step) step).1.services
+old_effect : (l : Limits) (f : Flat) (moment : ℕ) (step : Step) → All (HasOld f.services) (effect_of l (at_moment f moment step) step).flat.services
 old_effect l f moment (Call caller asked append) = old_call l (with_moment f moment) caller asked append
 old_effect l f moment (LaunchFailed process code) = old_fallen f process code
 old_effect l f moment (Report process status) = old_reported f process status
@@ -144,9 +142,9 @@ all_right befores f next bound (mid ∷ mids) (row ∷ rows) has small one other
     (all_right befores f next bound mids rows (All-tail (HasOld befores) mid mids has) (All-tail (λ (r : Service). r.process < next) mid mids small) one.1 other.1)
 
 settled_right : (l : Limits) (f : Flat) (moment : ℕ) (step : Step) → Sound f → IsTrue (may l f moment step)
-    → All (IsRight f.services f.next.process (settled l (effect_of l (at_moment f moment step) step).1)) (settled l (effect_of l (at_moment f moment step) step).1).services
+    → All (IsRight f.services f.next.process (settled l (effect_of l (at_moment f moment step) step).flat)) (settled l (effect_of l (at_moment f moment step) step).flat).services
 settled_right l f moment step s ok =
-    let g = (effect_of l (at_moment f moment step) step).1 in
+    let g = (effect_of l (at_moment f moment step) step).flat in
     let sound : Sound g = of_effect l f moment step s ok in
     all_right f.services (settled l g) f.next.process f.next.service g.services (settled l g).services (old_effect l f moment step)
     (subst (λ n. All (λ (row : Service). row.process < n) g.services) (same_process l f moment step) sound.services.current)
@@ -223,12 +221,12 @@ without_plans befores next g plans row is = record {
   old = is.old;
 }
 
-before_right : (l : Limits) (f : Flat) (moment : ℕ) (step : Step) → Sound f → IsTrue (may l f moment step) → All (IsRight f.services f.next.process (finished_step l f moment step).1) (finished_step l f moment step).1.services
+before_right : (l : Limits) (f : Flat) (moment : ℕ) (step : Step) → Sound f → IsTrue (may l f moment step) → All (IsRight f.services f.next.process (finished_step l f moment step).flat) (finished_step l f moment step).flat.services
 before_right l f moment step s ok =
     let done = effect_of l (at_moment f moment step) step in
     finished_keeps (λ (g : Flat). All (IsRight f.services f.next.process g) g.services)
     (λ g plans right. All-weaker (IsRight f.services f.next.process g) (IsRight f.services f.next.process (record g { plans = plans })) (without_plans f.services f.next.process g plans) g.services right)
-    (settled l done.1) done.0 (settled_right l f moment step s ok)
+    (settled l done.flat) done.answer (settled_right l f moment step s ok)
 
 after_right : (befores : List Service) (next : ℕ) (g : Flat) → All (IsRight befores next g) g.services → All (IsRight befores next (purged g)) (purged g).services
 after_right befores next g right =
@@ -237,5 +235,5 @@ after_right befores next g right =
 
 pub gives : (l : Limits) → Gives Sound (LawOfStarts l) l
 gives l f e s ok =
-    let right = after_right f.services f.next.process (finished_step l f e.0 e.1).1 (before_right l f e.0 e.1 s ok) in
+    let right = after_right f.services f.next.process (finished_step l f e.0 e.1).flat (before_right l f e.0 e.1 s ok) in
     record { started = λ k d lt. (right k d lt).new; others = λ k d lt. (right k d lt).old }

@@ -15,9 +15,9 @@ use Rattle.scm_laws.proofs.Lists.{find_more}
 use Rattle.scm_laws.proofs.Processes.{first_there, taken_found}
 use Rattle.scm_laws.proofs.Sound.{Sound}
 
-there_is : (found : Option Process) → is_taken found ≡ true → is_some found ≡ true
-there_is None taken = absurd cc
-there_is (Some row) taken = refl
+pub taken_listed : (found : Option Process) → is_taken found ≡ true → is_some found ≡ true
+taken_listed None taken = absurd cc
+taken_listed (Some row) taken = refl
 
 abbrev IsTaken : ℕ → Flat → Type 0
 IsTaken number f = is_taken (process_of f number) ≡ true
@@ -26,13 +26,13 @@ IsTaken number f = is_taken (process_of f number) ≡ true
 stays_taken : (l : Limits) (number : ℕ) → Keeps l (IsTaken number) (λ plan. Unit {0})
 stays_taken l number = record {
   enters = λ f plan service words entry taken.
-      ap is_taken (find_more (λ (row : Process). row.number == number) f.processes (wanted_process f.next.process service ∷ []) (there_is (process_of f number) taken)) ∙ taken;
+      ap is_taken (find_more (λ (row : Process). row.number == number) f.processes (wanted_process f.next.process service ∷ []) (taken_listed (process_of f number) taken)) ∙ taken;
   tries = λ f plan service entry q. tt;
   drops = λ plan service rest code q. tt;
 }
 
 -- after LaunchTaken the process that was wanted first is in hand
-pub taken_is_listed : (l : Limits) (f : Flat) (moment : ℕ) → Sound f → is_wanted f.wanted ≡ true → is_taken (process_of (step_of l f moment LaunchTaken).1 (first_wanted f.wanted)) ≡ true
+pub taken_is_listed : (l : Limits) (f : Flat) (moment : ℕ) → Sound f → is_wanted f.wanted ≡ true → is_taken (process_of (step_of l f moment LaunchTaken).flat (first_wanted f.wanted)) ≡ true
 taken_is_listed l f moment s wanted =
     let number = first_wanted f.wanted in
     let g = launch_taken (with_moment f moment) in

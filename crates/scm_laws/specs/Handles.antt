@@ -15,7 +15,7 @@ use Rattle.scm_model.specs.declared.steps.Step.{Step}
 use Rattle.scm_model.specs.declared.steps.Step.TheVariants.{Gone}
 use Rattle.scm_model.specs.Rows.{principal_of}
 use Rattle.access_mask.specs.Granted.{has, rights_of}
-use Rattle.scm_rules.specs.Runs.{Entry}
+use Rattle.scm_model.specs.Entries.{Entry}
 use Rattle.scm_rules.specs.Valid.{AreNumbered}
 
 -- a mask has only rights that the principal can have on what the handle is of; other handles have none

@@ -12,15 +12,16 @@ use Rattle.scm_model.specs.declared.steps.Answer.TheVariants as answer
 use Rattle.scm_model.specs.declared.steps.Step.{Step}
 use Rattle.scm_model.specs.declared.steps.Step.TheVariants.{Call, Report}
 use Rattle.scm_model.specs.Rows.{opened}
-use Rattle.scm_model.specs.Changes.{leaves}
+use Rattle.scm_model.specs.Purge.{leaves}
 use Rattle.scm_rules.specs.Query.{service_in}
 use Rattle.scm_rules.specs.Reports.{process_in, reporting_service}
 use Rattle.scm_rules.specs.Steps.{finished_step}
-use Rattle.scm_rules.specs.Runs.{Entry}
+use Rattle.scm_model.specs.Entries.{Entry}
+use Rattle.scm_model.specs.declared.codes.TheConstants.{SERVICE_STOPPED}
 
 -- the state that a step makes, before services leave
 abbrev pub before_leaving : Limits → Flat → Entry → Flat
-before_leaving l f e = (finished_step l f e.0 e.1).1
+before_leaving l f e = (finished_step l f e.0 e.1).flat
 
 abbrev pub numbers : List Service → List ℕ
 numbers rows = map (λ (row : Service). row.number) rows
@@ -90,7 +91,7 @@ pub record IsSameService (f : Flat) (step : Step) (told : Answer) (old new : Ser
 
 -- never run, and not marked
 pub record IsFresh (row : Service) : Type 0 where
-  pub state : row.status.state ≡ 1
+  pub state : row.status.state ≡ SERVICE_STOPPED
   pub process : row.process ≡ 0
   pub marked : row.marked ≡ false
 

@@ -3,3 +3,4 @@ pub mod Handles
 pub mod Sizes
 pub mod Starts
 pub mod Plans
+pub mod Histories

@@ -4,11 +4,11 @@ use Rattle.scm_model.specs.declared.flat.Flat.{Flat}
 use Rattle.scm_model.specs.declared.flat.Limits.{Limits}
 use Rattle.scm_model.specs.declared.flat.Plan.{Plan}
 use Rattle.scm_model.specs.declared.steps.Answer.{Answer}
-use Rattle.dependency_index.specs.Needs.{needs_of}
-use Rattle.dependency_index.specs.Walks.{IsAcyclic}
+use Rattle.scm_model.specs.Needs.{needs_of}
+use Rattle.scm_model.specs.Walks.{IsAcyclic}
 use Rattle.start_plan.specs.Started.{TriedOnce}
 use Rattle.scm_rules.specs.Needs.{need_rows}
-use Rattle.scm_rules.specs.Runs.{Entry}
+use Rattle.scm_model.specs.Entries.{Entry}
 
 -- a plan goes on: it has its caller and target, and tried what it tried before and then what it tried since
 pub record GoesOn (before after : Plan) : Type 0 where

@@ -5,15 +5,16 @@ use Rattle.scm_model.specs.declared.flat.Flat.{Flat}
 use Rattle.scm_model.specs.declared.flat.Limits.{Limits}
 use Rattle.scm_model.specs.declared.flat.Service.{Service}
 use Rattle.scm_model.specs.declared.steps.Answer.{Answer}
-use Rattle.start_plan.specs.Ready.{is_ready}
-use Rattle.scm_rules.specs.Runs.{Entry}
+use Rattle.scm_model.specs.Ready.{is_ready}
+use Rattle.scm_model.specs.Entries.{Entry}
+use Rattle.scm_model.specs.declared.codes.TheConstants.{SERVICE_DISABLED, SERVICE_START_PENDING}
 
 -- a service is START_PENDING: all that it needs is up, it is neither marked nor disabled, and the lock is free
 pub record IsStarting (f : Flat) (row : Service) : Type 0 where
-  pub pending : row.status.state ≡ 2
+  pub pending : row.status.state ≡ SERVICE_START_PENDING
   pub ready : is_ready f row ≡ true
   pub unmarked : row.marked ≡ false
-  pub enabled : (row.config.start == 4) ≡ false
+  pub enabled : (row.config.start == SERVICE_DISABLED) ≡ false
   pub free : f.lock ≡ None
 
 -- whether a service had its process before

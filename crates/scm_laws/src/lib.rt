@@ -1,61 +1,73 @@
 //! Laws of the service manager, over every run.
 #![tactic(auto)]
 
-ghost use Rattle.std.specs.Prelude.{◌≡◌, [], All};
+ghost use Rattle.std.specs.Prelude.{All};
 ghost use Rattle.scm_laws.specs.Handles.{LawOfHandles};
+ghost use Rattle.scm_laws.specs.Histories.{LawOfAnswers, LawOfStates};
 ghost use Rattle.scm_laws.specs.Leaving.{LawOfLeaving};
 ghost use Rattle.scm_laws.specs.Plans.{LawOfPlans};
 ghost use Rattle.scm_laws.specs.Sizes.{IsToldWhole};
 ghost use Rattle.scm_laws.specs.Starts.{LawOfStarts};
-ghost use Rattle.scm_rules.specs.Opening.{opening as opening_at};
-ghost use Rattle.scm_rules.specs.Runs.{EachStep, IsLegal, state_of};
+ghost use Rattle.scm_rules.specs.Histories.{state};
+ghost use Rattle.scm_rules.specs.Opening.{IsOpening};
+ghost use Rattle.scm_rules.specs.Runs.{EachStep, IsLegal};
 ghost use Rattle.scm_rules.specs.Valid.{IsValid};
 
 use scm_model::{Flat, Limits, Step};
 use scm_text::Items;
 
-/// Every state that a run ends in is valid, whatever the limits.
+/// The law of states: every state that a run ends in is valid, whatever the limits.
 pub fn law_of_states(limits: &Limits, steps: &Items<(u64, Step)>, opening: &Flat)
-    requires begins { opening.now ≡ opening_at limits.now [] [] opening.now.moment }
+    requires begins { IsOpening limits.now opening.now }
     requires legal { IsLegal limits.now opening.now steps.now }
-    ensures { IsValid limits.now (state_of limits.now opening.now steps.now) }
+    ensures { IsValid limits.now (state limits.now opening.now steps.now) }
 {}
 
-/// In every state that a run ends in, the sizes that are told of configurations and names are those of their texts: no text is so
-/// long that a `u32` would not hold its size.
+/// The law of sizes: in every state that a run ends in, the sizes that are told of configurations
+/// and names are those of their texts: no text is so long that a `u32` would not hold its size.
 pub fn law_of_sizes(limits: &Limits, steps: &Items<(u64, Step)>, opening: &Flat)
-    requires begins { opening.now ≡ opening_at limits.now [] [] opening.now.moment }
+    requires begins { IsOpening limits.now opening.now }
     requires legal { IsLegal limits.now opening.now steps.now }
-    ensures { All IsToldWhole (state_of limits.now opening.now steps.now).services }
+    ensures { All IsToldWhole (state limits.now opening.now steps.now).services }
 {}
 
-/// In each step a service gets a process that none had before only where all that it needs is up, it is neither marked nor disabled, and
-/// the lock is free: it is START_PENDING then. Every other process is one that its service had before.
+/// The law of starts: in each step a service gets a process that none had before only where all
+/// that it needs is up, it is neither marked nor disabled, and the lock is free: it is
+/// START_PENDING then. Every other process is one that its service had before.
 pub fn law_2(limits: &Limits, steps: &Items<(u64, Step)>, opening: &Flat)
-    requires begins { opening.now ≡ opening_at limits.now [] [] opening.now.moment }
+    requires begins { IsOpening limits.now opening.now }
     requires legal { IsLegal limits.now opening.now steps.now }
     ensures { EachStep (LawOfStarts limits.now) limits.now opening.now steps.now }
 {}
 
-/// In each step those services leave that are marked, STOPPED and named by no handle, and nobody else; none is left then.
+/// The law of leaving: in each step those services leave that are marked, STOPPED and named by no
+/// handle, and nobody else; none is left then.
 pub fn law_4(limits: &Limits, steps: &Items<(u64, Step)>, opening: &Flat)
-    requires begins { opening.now ≡ opening_at limits.now [] [] opening.now.moment }
+    requires begins { IsOpening limits.now opening.now }
     requires legal { IsLegal limits.now opening.now steps.now }
     ensures { EachStep (LawOfLeaving limits.now) limits.now opening.now steps.now }
 {}
 
-/// Each number of a handle is given once, each mask has only rights of its caller's principal, and a caller that is gone has nothing:
-/// where the lock is held then, a handle of another caller holds it.
+/// The law of handles: each number of a handle is given once, each mask has only rights of its
+/// caller's principal, and a caller that is gone has nothing: where the lock is held then, a handle
+/// of another caller holds it.
 pub fn law_5(limits: &Limits, steps: &Items<(u64, Step)>, opening: &Flat)
-    requires begins { opening.now ≡ opening_at limits.now [] [] opening.now.moment }
+    requires begins { IsOpening limits.now opening.now }
     requires legal { IsLegal limits.now opening.now steps.now }
     ensures { EachStep (LawOfHandles limits.now) limits.now opening.now steps.now }
 {}
 
-/// After each step the needs have no cycle, and no plan has tried a service twice; a plan has its caller and its target for good, and
-/// what it has tried stays tried.
+/// The law of plans: after each step the needs have no cycle, and no plan has tried a service
+/// twice; a plan has its caller and its target for good, and what it has tried stays tried.
 pub fn law_7(limits: &Limits, steps: &Items<(u64, Step)>, opening: &Flat)
-    requires begins { opening.now ≡ opening_at limits.now [] [] opening.now.moment }
+    requires begins { IsOpening limits.now opening.now }
     requires legal { IsLegal limits.now opening.now steps.now }
     ensures { EachStep (LawOfPlans limits.now) limits.now opening.now steps.now }
+{}
+
+/// The law of histories: the state that a history ends in and what its entries are told, in terms
+/// of the step, from any state: so neither need be opened.
+pub fn law_of_histories(limits: &Limits, first: &Flat)
+    ensures states { LawOfStates limits.now first.now }
+    ensures answers { LawOfAnswers limits.now first.now }
 {}

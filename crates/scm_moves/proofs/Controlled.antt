@@ -17,17 +17,18 @@ use Rattle.scm_model.specs.declared.steps.Answer.TheVariants as answer
 use Rattle.scm_model.specs.declared.steps.Kept.{Kept}
 use Rattle.scm_model.specs.declared.steps.Step.{Step}
 use Rattle.scm_model.specs.declared.steps.Step.TheVariants.{Call, ControlTaken, Ended, LaunchFailed}
-use Rattle.scm_model.specs.Changes.{purged, with_moment}
+use Rattle.scm_model.specs.Changes.{with_moment}
+use Rattle.scm_model.specs.Purge.{purged}
 use Rattle.scm_model.specs.Rows.{handle_of, opened, opened_at, opened_by, service_of}
 use Rattle.start_plan.specs.Settle.{settled}
 use Rattle.scm_rules.specs.Controls.{active_among, control_done, control_told, control_verdict, controlled_if, controlled_service, controls_in, controls_of, first_control, granted_in, waiting_for, waits, with_control, with_control_taken}
 use Rattle.scm_rules.specs.Launches.{process_of}
 use Rattle.scm_rules.specs.Query.{service_in, status_in}
 use Rattle.scm_rules.specs.Reports.{process_in}
-use Rattle.scm_rules.specs.Runs.{Entry}
+use Rattle.scm_model.specs.Entries.{Entry}
 use Rattle.scm_rules.specs.Steps.{may, step_of}
 use Rattle.scm_rules.specs.Valid.{HasListed, IsValid, has_process}
-use Rattle.scm_laws.proofs.Calls.{by_verdict, came}
+use Rattle.scm_laws.proofs.Calls.{by_verdict}
 use Rattle.scm_laws.proofs.Lists.{found_has}
 use Rattle.scm_moves.specs.Controls.{FirstIsTaken, IsControlled, IsNeededStill, LawOfControls, OfControls, OneMoreWaits, changes_controls, shown_at}
 use Rattle.scm_moves.proofs.Judged.{IsTaken, held, holds_up, is_taken}
@@ -35,6 +36,7 @@ use Rattle.scm_moves.proofs.Known.{Holds, IsBelow, IsOfOne, Known, holds}
 use Rattle.scm_moves.proofs.Needed.{needed_same}
 use Rattle.scm_moves.proofs.Still.{stays_put}
 use Rattle.scm_moves.proofs.Waiting.{controlled, controlled_others, ended_none, found, others_wait, relieved, waiting_settled}
+use Rattle.std.proofs.lemmas.Bool.{and_parts}
 
 -- ## Who gets a control
 
@@ -115,11 +117,11 @@ needed_still l f caller handle control is =
     (record { stop = is.stop; taken = is.taken; needed = needed_same f service ∙ is.needed })
 
 controlled_call : (l : Limits) (f : Flat) (moment caller handle control : ℕ) (append : Kept) → IsValid l f → Known f
-    → IsControlled l f caller handle control (step_of l f moment (Call caller (request.Control handle control) append)).0 (step_of l f moment (Call caller (request.Control handle control) append)).1
+    → IsControlled l f caller handle control (step_of l f moment (Call caller (request.Control handle control) append)).answer (step_of l f moment (Call caller (request.Control handle control) append)).flat
 controlled_call l f moment caller handle control append v known =
     let g = with_moment f moment in
     let code = control_verdict l f caller handle control in
-    by_verdict (λ r. IsControlled l f caller handle control (answer.Reply r.0) (purged (settled l r.1))) code (control_told f caller handle code) g (control_done l g caller handle control)
+    by_verdict (λ r. IsControlled l f caller handle control (answer.Reply r.reply) (purged (settled l r.flat))) code (control_told f caller handle code) g (control_done l g caller handle control)
     (λ e. record {
       code = 0;
       verdict = sym e;
@@ -146,16 +148,16 @@ first_left : (codes left : List ℕ) → nat_lt 0 (length codes) ≡ true → le
 first_left [] left some e = absurd cc
 first_left (code ∷ codes) left some e = ap (λ rest. code ∷ rest) (sym e)
 
-taken_first : (l : Limits) (f : Flat) (moment process : ℕ) → waits (controls_of f process) ≡ true → FirstIsTaken f process (step_of l f moment (ControlTaken process)).0 (step_of l f moment (ControlTaken process)).1
+taken_first : (l : Limits) (f : Flat) (moment process : ℕ) → waits (controls_of f process) ≡ true → FirstIsTaken f process (step_of l f moment (ControlTaken process)).answer (step_of l f moment (ControlTaken process)).flat
 taken_first l f moment process some = record {
   code = first_control (controls_of f process);
   answers = refl;
   first = first_left (controls_of f process) _ some (waiting_settled l (with_control_taken (with_moment f moment) process) process ∙ relieved process f.processes);
 }
 
-of_controls : (l : Limits) (f : Flat) (moment : ℕ) (step : Step) → IsValid l f → Known f → IsTrue (may l f moment step) → OfControls l f step (step_of l f moment step).0 (step_of l f moment step).1
+of_controls : (l : Limits) (f : Flat) (moment : ℕ) (step : Step) → IsValid l f → Known f → IsTrue (may l f moment step) → OfControls l f step (step_of l f moment step).answer (step_of l f moment step).flat
 of_controls l f moment (Call caller (request.Control handle control) append) v known ok = controlled_call l f moment caller handle control append v known
-of_controls l f moment (ControlTaken process) v known ok = taken_first l f moment process (came _ _ ok)
+of_controls l f moment (ControlTaken process) v known ok = taken_first l f moment process (and_parts _ _ ok).0
 of_controls l f moment step v known ok = tt
 
 -- ## Processes that are new
@@ -178,10 +180,10 @@ given_before l f number of (Some row) h e first same up =
     ]
 
 fresh_control : (l : Limits) (f : Flat) (moment caller handle control number : ℕ) (append : Kept) → IsValid l f → Known f → process_in (controlled_service f caller handle) ≡ number → f.next.process ≤ number
-    → controls_of (step_of l f moment (Call caller (request.Control handle control) append)).1 number ≡ []
+    → controls_of (step_of l f moment (Call caller (request.Control handle control) append)).flat number ≡ []
 fresh_control l f moment caller handle control number append v known same up =
     let is = controlled_call l f moment caller handle control append v known in
-    elim (is.code == 0) as (λ b. (is.code == 0) ≡ b → controls_of (step_of l f moment (Call caller (request.Control handle control) append)).1 number ≡ []) [
+    elim (is.code == 0) as (λ b. (is.code == 0) ≡ b → controls_of (step_of l f moment (Call caller (request.Control handle control) append)).flat number ≡ []) [
       | true ↦ λ e. absurd (given_before l f number (service_in (opened f caller handle)) (controlled_service f caller handle) (holds l f v known) refl (is.taken (eqb-true is.code 0 e)).there same up)
       | false ↦ λ e. is.refused e number ∙ unlisted f.next.process number f.processes v.processes.below up
     ] refl
@@ -190,28 +192,28 @@ none_taken : (code : ℕ) (codes left : List ℕ) → codes ≡ [] → codes ≡
 none_taken code codes left none some = absurd cc
 
 fresh_changed : (l : Limits) (f : Flat) (moment : ℕ) (step : Step) (number : ℕ) → IsValid l f → Known f → IsTrue (may l f moment step) → changes_controls f step number ≡ true → f.next.process ≤ number
-    → controls_of (step_of l f moment step).1 number ≡ []
+    → controls_of (step_of l f moment step).flat number ≡ []
 fresh_changed l f moment (Call caller (request.Control handle control) append) number v known ok changed up =
     fresh_control l f moment caller handle control number append v known (eqb-true (process_in (controlled_service f caller handle)) number changed) up
 fresh_changed l f moment (ControlTaken process) number v known ok changed up =
-    let first = taken_first l f moment process (came _ _ ok) in
+    let first = taken_first l f moment process (and_parts _ _ ok).0 in
     let is = eqb-true process number changed in
-    subst (λ n. controls_of (step_of l f moment (ControlTaken process)).1 n ≡ []) is
+    subst (λ n. controls_of (step_of l f moment (ControlTaken process)).flat n ≡ []) is
     (none_taken first.code (controls_of f process) _ (unlisted f.next.process process f.processes v.processes.below (omega (arith, is, up))) first.first)
 fresh_changed l f moment (LaunchFailed process code) number v known ok changed up = ended_none l f moment (LaunchFailed process code) number changed
 fresh_changed l f moment (Ended process) number v known ok changed up = ended_none l f moment (Ended process) number changed
 fresh_changed l f moment step number v known ok changed up = absurd cc
 
-fresh : (l : Limits) (f : Flat) (moment : ℕ) (step : Step) (number : ℕ) → IsValid l f → Known f → IsTrue (may l f moment step) → f.next.process ≤ number → controls_of (step_of l f moment step).1 number ≡ []
+fresh : (l : Limits) (f : Flat) (moment : ℕ) (step : Step) (number : ℕ) → IsValid l f → Known f → IsTrue (may l f moment step) → f.next.process ≤ number → controls_of (step_of l f moment step).flat number ≡ []
 fresh l f moment step number v known ok up =
-    elim (changes_controls f step number) as (λ b. changes_controls f step number ≡ b → controls_of (step_of l f moment step).1 number ≡ []) [
+    elim (changes_controls f step number) as (λ b. changes_controls f step number ≡ b → controls_of (step_of l f moment step).flat number ≡ []) [
       | true ↦ λ e. fresh_changed l f moment step number v known ok e up
       | false ↦ λ e. others_wait l f moment step number e ∙ unlisted f.next.process number f.processes v.processes.below up
     ] refl
 
 -- ## The law
 
-pub controls : (l : Limits) (f : Flat) (e : Entry) → IsValid l f → Known f → IsTrue (may l f e.0 e.1) → LawOfControls l f e (step_of l f e.0 e.1).0 (step_of l f e.0 e.1).1
+pub controls : (l : Limits) (f : Flat) (e : Entry) → IsValid l f → Known f → IsTrue (may l f e.0 e.1) → LawOfControls l f e (step_of l f e.0 e.1).answer (step_of l f e.0 e.1).flat
 controls l f e v known ok = record {
   controls = of_controls l f e.0 e.1 v known ok;
   ended = ended_none l f e.0 e.1;

@@ -1,9 +1,7 @@
 -- Rows that are found by their numbers.
 use Rattle.std.proofs.Common.{ℕ, ◌≡◌, ◌∙◌, ◌==◌, Bool, true, false, cond, List, [], ◌∷◌, ◌++◌, Some, find, map, ap, refl}
-use Rattle.std.specs.Prelude.{is_some, unwrap_or}
-
-pub same_some : {X : Type 0} (x y : X) → Some x ≡ Some y → x ≡ y
-same_some x y e = ap (λ o. unwrap_or o x) e
+use Rattle.std.specs.Prelude.{is_some}
+use Rattle.scm_laws.proofs.Lists.{same_some}
 
 -- a map that changes no number finds the same
 pub found_mapped : {X : Type 0} (number : X → ℕ) (g : X → X) (n : ℕ) → ((x : X) → number (g x) ≡ number x) → (xs : List X) → is_some (find (λ x. number x == n) (map g xs)) ≡ is_some (find (λ x. number x == n) xs)
@@ -17,10 +15,6 @@ pub found_more : {X : Type 0} (p : X → Bool) (xs ys : List X) → is_some (fin
 found_more p [] ys e = absurd cc
 found_more p (x ∷ xs) ys e =
     elim (p x) as (λ b. is_some (cond b (Some x) (find p xs)) ≡ true → is_some (cond b (Some x) (find p (xs ++ ys))) ≡ true) [ true ↦ λ h. refl | false ↦ λ h. found_more p xs ys h ] e
-
-pub found_last : {X : Type 0} (p : X → Bool) (xs : List X) (y : X) → p y ≡ true → is_some (find p (xs ++ y ∷ [])) ≡ true
-found_last p [] y e = rw e refl
-found_last p (x ∷ xs) y e = elim (p x) as (λ b. is_some (cond b (Some x) (find p (xs ++ y ∷ []))) ≡ true) [ true ↦ refl | false ↦ found_last p xs y e ]
 
 -- who is found by one test is found by another that it passes
 pub found_too : {X : Type 0} (p q : X → Bool) (x : X) (xs : List X) → find p xs ≡ Some x → q x ≡ true → is_some (find q xs) ≡ true

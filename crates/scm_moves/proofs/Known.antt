@@ -21,7 +21,8 @@ use Rattle.scm_model.specs.declared.steps.Answer.TheVariants as answer
 use Rattle.scm_model.specs.declared.steps.Kept.{Kept}
 use Rattle.scm_model.specs.declared.steps.Step.{Step}
 use Rattle.scm_model.specs.declared.steps.Step.TheVariants.{Call, LaunchFailed, Report, Ended, Gone}
-use Rattle.scm_model.specs.Changes.{configured_if, leaves, marked_if, with_moment}
+use Rattle.scm_model.specs.Changes.{configured_if, marked_if, with_moment}
+use Rattle.scm_model.specs.Purge.{leaves}
 use Rattle.scm_model.specs.Rows.{is_of, named}
 use Rattle.start_plan.specs.Decided.{code_of}
 use Rattle.start_plan.specs.Entered.{started, started_if}
@@ -38,9 +39,11 @@ use Rattle.scm_rules.specs.Steps.{at_moment, effect_of, finished, finished_step,
 use Rattle.scm_rules.specs.Valid.{HasListed, IsValid, has_process}
 use Rattle.scm_rules.specs.Verdicts.{call_of, done_of, told_refused, verdict}
 use Rattle.scm_laws.proofs.Calls.{all_pass, by_verdict}
-use Rattle.scm_laws.proofs.Lists.{any_at, find_filter, pairs_map}
-use Rattle.scm_moves.proofs.Found.{found_last, found_mapped, found_more, found_too}
-use Rattle.scm_moves.proofs.Own.{AreRising, configured_number, fallen_number, reported_number}
+use Rattle.scm_laws.proofs.Lists.{any_at, find_filter, pairs_map, find_new}
+use Rattle.scm_moves.proofs.Found.{found_mapped, found_more, found_too}
+use Rattle.scm_moves.proofs.Own.{AreRising, fallen_number, reported_number}
+use Rattle.std.proofs.lemmas.Bool.{and_parts}
+use Rattle.scm_laws.proofs.Configured.{number_kept}
 
 -- two services have no process in common
 abbrev pub AreApart : Service → Service → Type 0
@@ -157,7 +160,7 @@ reports_plainly process report = record {
 
 configures_plainly : (number : ℕ) (config : Config) → IsPlain (configured_if number config)
 configures_plainly number config = record {
-  number = configured_number number config;
+  number = number_kept number config;
   process = λ row. inl (elim (row.number == number) as (λ b. (cond b (record row { config = config; status = record row.status { kind = config.kind } }) row).process ≡ row.process) [ true ↦ refl | false ↦ refl ]);
 }
 
@@ -167,7 +170,7 @@ holds_change : (f : Flat) (number : ℕ) (config : Option Config) → Holds f �
 holds_change f number None h = h
 holds_change f number (Some config) h = record {
   own = own_mapped f.next.process (configured_if number config) f.services (configures_plainly number config) h.own;
-  opened = opened_mapped (configured_if number config) f.services f.handles (configured_number number config) h.opened;
+  opened = opened_mapped (configured_if number config) f.services f.handles (number_kept number config) h.opened;
 }
 
 one_more : (rows : List Service) (row : Service) (kind : HandleKind) → IsOfOne rows kind → IsOfOne (rows ++ row ∷ []) kind
@@ -179,7 +182,7 @@ opened_added : (rows : List Service) (handles : List HandleRow) (row : Service) 
 opened_added rows handles row handle e all =
     All-push (λ (h : HandleRow). IsOfOne (rows ++ row ∷ []) h.kind) handles handle
     (All-weaker (λ (h : HandleRow). IsOfOne rows h.kind) (λ (h : HandleRow). IsOfOne (rows ++ row ∷ []) h.kind) (λ h is. one_more rows row h.kind is) handles all)
-    (subst (λ (kind : HandleKind). IsOfOne (rows ++ row ∷ []) kind) (sym e) (found_last (λ (r : Service). r.number == row.number) rows row (eq-eqb row.number row.number refl)))
+    (subst (λ (kind : HandleKind). IsOfOne (rows ++ row ∷ []) kind) (sym e) (find_new (λ (r : Service). r.number == row.number) rows row (eq-eqb row.number row.number refl)))
 
 own_pushed : (next number : ℕ) (rows : List Service) (row : Service) → AreOwn next rows → All (λ (r : Service). r.number < number) rows → row.number ≡ number → row.process ≡ 0 → AreOwn next (rows ++ row ∷ [])
 own_pushed next number rows row own below is none = record {
@@ -193,7 +196,7 @@ named_one : (f : Flat) (name : List ℕ) (found : Option Service) → named f na
 named_one f name None e some = absurd cc
 named_one f name (Some row) e some = found_too _ (λ (r : Service). r.number == row.number) row f.services e (eq-eqb row.number row.number refl)
 
-holds_done : (l : Limits) (f : Flat) (caller : ℕ) (asked : Request) (append : Kept) → All (λ (row : Service). row.number < f.next.service) f.services → Holds f → verdict l f caller asked append ≡ 0 → Holds (done_of l f caller asked).1
+holds_done : (l : Limits) (f : Flat) (caller : ℕ) (asked : Request) (append : Kept) → All (λ (row : Service). row.number < f.next.service) f.services → Holds f → verdict l f caller asked append ≡ 0 → Holds (done_of l f caller asked).flat
 holds_done l f caller (request.Close handle) append below h e = record { own = h.own; opened = All-filter _ (λ (row : HandleRow). IsOfOne f.services row.kind) f.handles h.opened }
 holds_done l f caller (request.Unlock handle) append below h e = record { own = h.own; opened = All-filter _ (λ (row : HandleRow). IsOfOne f.services row.kind) f.handles h.opened }
 holds_done l f caller (request.Lock handle) append below h e = record { own = h.own; opened = All-push (λ (row : HandleRow). IsOfOne f.services row.kind) f.handles _ h.opened tt }
@@ -216,14 +219,14 @@ holds_done l f caller (request.SetStatus handle report) append below h e = recor
 holds_done l f caller (request.Change change) append below h e = holds_change f _ (asked_config f caller change) h
 holds_done l f caller asked append below h e = record { own = h.own; opened = h.opened }
 
-holds_call : (l : Limits) (f : Flat) (caller : ℕ) (asked : Request) (append : Kept) → All (λ (row : Service). row.number < f.next.service) f.services → Holds f → Holds (call_of l f caller asked append).1
+holds_call : (l : Limits) (f : Flat) (caller : ℕ) (asked : Request) (append : Kept) → All (λ (row : Service). row.number < f.next.service) f.services → Holds f → Holds (call_of l f caller asked append).flat
 holds_call l f caller asked append below h =
     let code = verdict l f caller asked append in
-    by_verdict (λ r. Holds r.1) code (told_refused f caller asked code) f (done_of l f caller asked) (holds_done l f caller asked append below h) (λ e. h)
+    by_verdict (λ r. Holds r.flat) code (told_refused f caller asked code) f (done_of l f caller asked) (holds_done l f caller asked append below h) (λ e. h)
 
 -- ## Effects
 
-holds_effect : (l : Limits) (f : Flat) (moment : ℕ) (step : Step) → All (λ (row : Service). row.number < f.next.service) f.services → Holds f → Holds (effect_of l (at_moment f moment step) step).1
+holds_effect : (l : Limits) (f : Flat) (moment : ℕ) (step : Step) → All (λ (row : Service). row.number < f.next.service) f.services → Holds f → Holds (effect_of l (at_moment f moment step) step).flat
 holds_effect l f moment (Call caller asked append) below h = holds_call l (with_moment f moment) caller asked append below (record { own = h.own; opened = h.opened })
 holds_effect l f moment (LaunchFailed process code) below h = record {
   own = own_mapped f.next.process (fallen_if process code) f.services (falls process code) h.own;
@@ -252,10 +255,6 @@ record ArePair (a b : Service) : Type 0 where
   rising : a.number < b.number
   apart : AreApart a b
 
-both_true : (a b : Bool) → (a && b) ≡ true → a ≡ true
-both_true true b h = refl
-both_true false b h = absurd cc
-
 first_started : (process : ℕ) (b : Service) → IsBelow process b → process ≡ b.process → process ≡ 0
 first_started process b (inl none) e = e ∙ none
 first_started process b (inr below) e = absurd (omega (arith, below, e))
@@ -269,8 +268,8 @@ pair_started n process a b p q pair =
     elim (a.number == n && a.status.state == 1) as (λ x. (a.number == n && a.status.state == 1) ≡ x → AreApart (cond x (started process a) a) (started_if n process b)) [
       | true ↦ λ e. elim (b.number == n && b.status.state == 1) as (λ y. (b.number == n && b.status.state == 1) ≡ y → AreApart (started process a) (cond y (started process b) b)) [
         | true ↦ λ h same. absurd (
-            let here = eqb-true a.number n (both_true (a.number == n) (a.status.state == 1) e) in
-            let there = eqb-true b.number n (both_true (b.number == n) (b.status.state == 1) h) in
+            let here = eqb-true a.number n (and_parts (a.number == n) (a.status.state == 1) e).0 in
+            let there = eqb-true b.number n (and_parts (b.number == n) (b.status.state == 1) h).0 in
             let up = pair.rising in
             omega (arith, here, there, up))
         | false ↦ λ h same. first_started process b q same
@@ -311,7 +310,7 @@ holds_left : (g : Flat) (plan : ℕ) (code : Option ℕ) → Holds g → Holds (
 holds_left g plan None h = h
 holds_left g plan (Some code) h = record { own = h.own; opened = h.opened }
 
-holds_finished : (g : Flat) (told : Answer) → Holds g → Holds (finished g told).1
+holds_finished : (g : Flat) (told : Answer) → Holds g → Holds (finished g told).flat
 holds_finished g (answer.Begun plan) h = holds_left g plan (code_of g.plans plan) h
 holds_finished g told h = h
 
@@ -331,11 +330,11 @@ stays_one handles rows kind there is = tt
 of_itself : (n : ℕ) (kind : HandleKind) → kind ≡ kinds.Service n → is_of n kind ≡ true
 of_itself n kind e = subst (λ (k : HandleKind). is_of n k ≡ true) (sym e) (eq-eqb n n refl)
 
-pub known : (l : Limits) (f : Flat) (moment : ℕ) (step : Step) → IsValid l f → Known f → Known (step_of l f moment step).1
+pub known : (l : Limits) (f : Flat) (moment : ℕ) (step : Step) → IsValid l f → Known f → Known (step_of l f moment step).flat
 known l f moment step v was =
     let done = effect_of l (at_moment f moment step) step in
-    let g = (finished_step l f moment step).1 in
-    let h : Holds g = holds_finished (settled l done.1) done.0 (holds_settled l done.1 (holds_effect l f moment step v.services.below (holds l f v was))) in
+    let g = (finished_step l f moment step).flat in
+    let h : Holds g = holds_finished (settled l done.flat) done.answer (holds_settled l done.flat (holds_effect l f moment step v.services.below (holds l f v was))) in
     record {
       apart = AllPairs-filter AreApart (λ (row : Service). not (leaves g.handles row)) g.services h.own.apart;
       opened = λ k d lt. stays_one g.handles g.services (get_or g.handles k d).kind

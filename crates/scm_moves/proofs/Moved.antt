@@ -9,7 +9,7 @@ use Rattle.scm_model.specs.declared.flat.Service.{Service}
 use Rattle.scm_model.specs.declared.steps.Answer.{Answer}
 use Rattle.scm_model.specs.declared.steps.Answer.TheVariants as answer
 use Rattle.scm_model.specs.declared.steps.Step.{Step}
-use Rattle.scm_model.specs.Changes.{leaves}
+use Rattle.scm_model.specs.Purge.{leaves}
 use Rattle.start_plan.specs.Decided.{code_of}
 use Rattle.start_plan.specs.Settle.{settled}
 use Rattle.scm_rules.specs.Steps.{at_moment, effect_of, finished, finished_step, left_by, may, step_of}
@@ -45,14 +45,14 @@ left_services : (g : Flat) (plan : ℕ) (code : Option ℕ) → (left_by g plan 
 left_services g plan None = refl
 left_services g plan (Some code) = refl
 
-pub finished_services : (g : Flat) (told : Answer) → (finished g told).1.services ≡ g.services
+pub finished_services : (g : Flat) (told : Answer) → (finished g told).flat.services ≡ g.services
 finished_services g (answer.Begun plan) = left_services g plan (code_of g.plans plan)
 finished_services g told = refl
 
-pub moved : (l : Limits) (f : Flat) (moment : ℕ) (step : Step) → IsValid l f → IsTrue (may l f moment step) → All (HasMoved f step) (step_of l f moment step).1.services
+pub moved : (l : Limits) (f : Flat) (moment : ℕ) (step : Step) → IsValid l f → IsTrue (may l f moment step) → All (HasMoved f step) (step_of l f moment step).flat.services
 moved l f moment step v ok =
     let done = effect_of l (at_moment f moment step) step in
-    let rows = subst (λ n. AllZip (IsSettled n) done.1.services (settled l done.1).services) (same_process l f moment step) (rows_settled l done.1) in
-    let is = all_moved f step done.1.services (settled l done.1).services (own_effect l f moment step v ok) rows in
-    All-filter (λ (row : Service). not (leaves (finished_step l f moment step).1.handles row)) (HasMoved f step) (finished_step l f moment step).1.services
-    (subst (λ services. All (HasMoved f step) services) (sym (finished_services (settled l done.1) done.0)) is)
+    let rows = subst (λ n. AllZip (IsSettled n) done.flat.services (settled l done.flat).services) (same_process l f moment step) (rows_settled l done.flat) in
+    let is = all_moved f step done.flat.services (settled l done.flat).services (own_effect l f moment step v ok) rows in
+    All-filter (λ (row : Service). not (leaves (finished_step l f moment step).flat.handles row)) (HasMoved f step) (finished_step l f moment step).flat.services
+    (subst (λ services. All (HasMoved f step) services) (sym (finished_services (settled l done.flat) done.answer)) is)

@@ -1,5 +1,5 @@
 -- How services move before plans are settled.
-use Rattle.std.proofs.Common.{ℕ, suc, ◌≡◌, ◌∙◌, ◌<◌, ◌≤◌, ◌==◌, Bool, true, false, not, cond, IsTrue, Result, Ok, Err, List, [], ◌∷◌, Option, None, Some, map, get_or, ap, sym, refl, subst, arith, inl, inr, eq-eqb, eqb-true}
+use Rattle.std.proofs.Common.{ℕ, suc, ◌≡◌, ◌∙◌, ◌<◌, ◌≤◌, ◌==◌, true, false, cond, IsTrue, Result, Ok, Err, List, [], ◌∷◌, Option, None, Some, map, get_or, ap, sym, refl, subst, arith, inl, inr, eq-eqb, eqb-true}
 use Rattle.std.specs.Prelude.{All, AllPairs}
 use Rattle.std.proofs.lemmas.List.{map-id}
 use Rattle.std.proofs.lemmas.List.Elements.{All-cons, All-map, All-nil, All-push, All-weaker}
@@ -23,9 +23,11 @@ use Rattle.scm_rules.specs.Steps.{at_moment, effect_of, may}
 use Rattle.scm_rules.specs.Valid.{IsValid}
 use Rattle.scm_rules.specs.Verdicts.{call_of, done_of, told_refused, verdict}
 use Rattle.scm_laws.specs.Leaving.{reports}
-use Rattle.scm_laws.proofs.Calls.{all_pass, by_verdict, came}
+use Rattle.scm_laws.proofs.Calls.{all_pass, by_verdict}
 use Rattle.scm_laws.proofs.Lists.{found_has, found_passes}
 use Rattle.scm_moves.specs.Moves.{MovesItself, code_of_end, report_in}
+use Rattle.std.proofs.lemmas.Bool.{not-false, and_parts}
+use Rattle.scm_laws.proofs.Configured.{number_kept}
 
 -- ## Rows
 
@@ -128,31 +130,23 @@ own_configured : (f : Flat) (step : Step) (number : ℕ) (config : Config) (row 
 own_configured f step number config row =
     elim (row.number == number) as (λ b. MovesItself f step row (cond b (record row { config = config; status = record row.status { kind = config.kind } }) row).status) [ true ↦ inl refl | false ↦ inl refl ]
 
-pub configured_number : (number : ℕ) (config : Config) (row : Service) → (configured_if number config row).number ≡ row.number
-configured_number number config row =
-    elim (row.number == number) as (λ b. (cond b (record row { config = config; status = record row.status { kind = config.kind } }) row).number ≡ row.number) [ true ↦ refl | false ↦ refl ]
-
 own_change : (f : Flat) (step : Step) (moment number : ℕ) (config : Option Config) → AreRising f.services → All (HasOwn f step) (with_new_config (with_moment f moment) number config).services
 own_change f step moment number None rising = own_same f step rising
 own_change f step moment number (Some config) rising =
-    own_mapped f step (configured_if number config) rising (configured_number number config) (λ k d lt. own_configured f step number config (get_or f.services k d))
+    own_mapped f step (configured_if number config) rising (number_kept number config) (λ k d lt. own_configured f step number config (get_or f.services k d))
 
 -- the service that may report has a process
 may_first : (l : Limits) (f : Flat) (found : Option Service) (report : Status) → IsValid l f → may_report f found report ≡ true → 1 ≤ process_in found
 may_first l f None report v e = absurd cc
-may_first l f (Some row) report v e = running_first l f row.process (process_of f row.process) v refl (came (is_running (process_of f row.process)) (takes row.status report) e)
-
-positive : (b : Bool) → not b ≡ false → b ≡ true
-positive true e = refl
-positive false e = absurd (cc)
+may_first l f (Some row) report v e = running_first l f row.process (process_of f row.process) v refl (and_parts (is_running (process_of f row.process)) (takes row.status report) e).0
 
 pub set_first : (l : Limits) (f : Flat) (moment caller handle : ℕ) (report : Status) → IsValid l f → set_status_verdict (with_moment f moment) caller handle report ≡ 0 → 1 ≤ process_in (reporting_service f caller handle)
 set_first l f moment caller handle report v e =
     let p = all_pass (set_status_refusals (with_moment f moment) caller handle report) (refl, (refl, (refl, tt))) e in
-    may_first l f (reporting_service f caller handle) report v (positive _ p.1.1.0)
+    may_first l f (reporting_service f caller handle) report v (not-false _ p.1.1.0)
 
 own_done : (l : Limits) (f : Flat) (moment caller : ℕ) (asked : Request) (append : Kept) → IsValid l f → verdict l (with_moment f moment) caller asked append ≡ 0
-    → All (HasOwn f (Call caller asked append)) (done_of l (with_moment f moment) caller asked).1.services
+    → All (HasOwn f (Call caller asked append)) (done_of l (with_moment f moment) caller asked).flat.services
 own_done l f moment caller (request.Delete handle) append v e = own_mapped f _ (marked_if _) v.services.rising (λ row. refl) (λ k d lt. inl refl)
 own_done l f moment caller (request.SetStatus handle report) append v e =
     own_reported f _ (process_in (reporting_service f caller handle)) report v.services.rising (set_first l f moment caller handle report v e) (λ row h. h) refl
@@ -162,11 +156,11 @@ own_done l f moment caller (request.Create new) append v e =
 own_done l f moment caller asked append v e = own_same f _ v.services.rising
 
 own_call : (l : Limits) (f : Flat) (moment caller : ℕ) (asked : Request) (append : Kept) → IsValid l f
-    → All (HasOwn f (Call caller asked append)) (call_of l (with_moment f moment) caller asked append).1.services
+    → All (HasOwn f (Call caller asked append)) (call_of l (with_moment f moment) caller asked append).flat.services
 own_call l f moment caller asked append v =
     let g = with_moment f moment in
     let code = verdict l g caller asked append in
-    by_verdict (λ r. All (HasOwn f (Call caller asked append)) r.1.services) code (told_refused g caller asked code) g (done_of l g caller asked)
+    by_verdict (λ r. All (HasOwn f (Call caller asked append)) r.flat.services) code (told_refused g caller asked code) g (done_of l g caller asked)
     (own_done l f moment caller asked append v) (λ e. own_same f _ v.services.rising)
 
 -- ## Effects
@@ -174,12 +168,12 @@ own_call l f moment caller asked append v =
 ends_with : (process code : ℕ) → cond (process == process) (Some code) None ≡ Some code
 ends_with process code = rw (eq-eqb process process refl) refl
 
-pub own_effect : (l : Limits) (f : Flat) (moment : ℕ) (step : Step) → IsValid l f → IsTrue (may l f moment step) → All (HasOwn f step) (effect_of l (at_moment f moment step) step).1.services
+pub own_effect : (l : Limits) (f : Flat) (moment : ℕ) (step : Step) → IsValid l f → IsTrue (may l f moment step) → All (HasOwn f step) (effect_of l (at_moment f moment step) step).flat.services
 own_effect l f moment (Call caller asked append) v ok = own_call l f moment caller asked append v
 own_effect l f moment (LaunchFailed process code) v ok =
-    own_fallen f _ process code v.services.rising (taken_first l f process (process_of f process) v refl (came _ _ (came _ _ ok))) (ends_with process code)
+    own_fallen f _ process code v.services.rising (taken_first l f process (process_of f process) v refl (and_parts _ _ (and_parts _ _ ok).0).0) (ends_with process code)
 own_effect l f moment (Ended process) v ok =
-    own_fallen f _ process 1067 v.services.rising (running_first l f process (process_of f process) v refl (came _ _ ok)) (ends_with process 1067)
+    own_fallen f _ process 1067 v.services.rising (running_first l f process (process_of f process) v refl (and_parts _ _ ok).0) (ends_with process 1067)
 own_effect l f moment (Report process report) v ok =
-    own_reported f _ process report v.services.rising (running_first l f process (process_of f process) v refl (came _ _ ok)) (λ row h. h) refl
+    own_reported f _ process report v.services.rising (running_first l f process (process_of f process) v refl (and_parts _ _ ok).0) (λ row h. h) refl
 own_effect l f moment step v ok = own_same f _ v.services.rising

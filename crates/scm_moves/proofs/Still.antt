@@ -1,5 +1,5 @@
 -- What is settled stays so where processes become no more, whatever their rows say.
-use Rattle.std.proofs.Common.{ℕ, ◌≡◌, ◌⊎◌, ◌∙◌, ◌≤◌, ◌==◌, ◌||◌, Bool, true, false, not, cond, List, [], ◌∷◌, Option, None, Some, length, ap, refl, subst, arith, inl, inr}
+use Rattle.std.proofs.Common.{ℕ, ◌≡◌, ◌∙◌, ◌≤◌, ◌==◌, ◌||◌, Bool, true, false, not, cond, List, [], ◌∷◌, Option, None, Some, length, ap, refl, subst, arith, inl, inr}
 use Rattle.std.specs.Prelude.{is_some, nat_le}
 use Rattle.std.specs.List.{AllByRecursion}
 use Rattle.std.proofs.lemmas.Bool.Decides.{nat_tests}
@@ -9,20 +9,15 @@ use Rattle.scm_model.specs.declared.flat.Plan.{Plan}
 use Rattle.scm_model.specs.declared.flat.Process.{Process}
 use Rattle.scm_model.specs.declared.flat.Service.{Service}
 use Rattle.scm_model.specs.declared.flat.Wanted.{Wanted}
-use Rattle.scm_model.specs.Changes.{purged}
+use Rattle.scm_model.specs.Purge.{purged}
 use Rattle.scm_model.specs.Rows.{service_of}
-use Rattle.start_plan.specs.Moves.{cause_at, entering_at, has, is_full, is_pending, move_by, move_of}
-use Rattle.start_plan.specs.Ready.{is_ready, state_in}
-use Rattle.start_plan.specs.Settle.{code_in, dropped, moved, settle_all, settle_entries, settled, tidied}
+use Rattle.start_plan.specs.Moves.{cause_at, entering_at, has, is_full, is_pending, move_by}
+use Rattle.scm_model.specs.Ready.{is_ready, state_in}
+use Rattle.start_plan.specs.Settle.{settled, tidied}
 use Rattle.start_plan.specs.declared.settling.Move.{Move}
 use Rattle.start_plan.specs.declared.settling.Move.TheVariants as moves
 use Rattle.scm_rules.specs.Valid.{IsValid}
-use Rattle.scm_laws.proofs.Rests.{Rests, settled_rest}
-
--- a plan that has no entry left, or waits
-abbrev RestsAt : Limits → Flat → Plan → List ℕ → Type 0
-RestsAt l f plan [] = Unit {0}
-RestsAt l f plan (x ∷ xs) = move_of l f plan.tried x ≡ moves.Waits
+use Rattle.scm_laws.proofs.Rests.{Rests, settled_rest, RestsAt, all_still}
 
 -- the state with other processes and other wanted launches, at another moment
 abbrev pub with_others : Flat → List Process → List Wanted → ℕ → Flat
@@ -75,19 +70,6 @@ all_rest l f processes wanted moment [] few rests = tt
 all_rest l f processes wanted moment (plan ∷ plans) few rests = (one_rests l f processes wanted moment plan few rests.0, all_rest l f processes wanted moment plans few rests.1)
 
 -- ## What rests is settled
-
-entries_still : (l : Limits) (f : Flat) (plan : Plan) (entries : List ℕ) → (is_some plan.code ≡ true) ⊎ RestsAt l f plan entries → settle_entries l f plan entries ≡ (f, plan)
-entries_still l f plan [] rests = refl
-entries_still l f plan (x ∷ xs) (inl decided) = rw decided refl
-entries_still l f plan (x ∷ xs) (inr waits) =
-    elim (is_some plan.code) as (λ b. cond b (f, plan) (moved f plan x (settle_entries l f (dropped plan x xs (code_in (move_of l f plan.tried x))) xs) (move_of l f plan.tried x)) ≡ (f, plan)) [
-      | true ↦ refl
-      | false ↦ rw waits refl
-    ]
-
-all_still : (l : Limits) (f : Flat) (plans : List Plan) → AllByRecursion (Rests l f) plans → settle_all l f plans ≡ (f, plans)
-all_still l f [] rests = refl
-all_still l f (plan ∷ plans) rests = rw (entries_still l f plan plan.entries rests.0, all_still l f plans rests.1) refl
 
 -- ## States
 

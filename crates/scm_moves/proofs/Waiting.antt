@@ -118,20 +118,20 @@ waiting_configured : (f : Flat) (number of : ℕ) (config : Option Config) → c
 waiting_configured f number of None = refl
 waiting_configured f number of (Some config) = refl
 
-waiting_done : (l : Limits) (f : Flat) (caller : ℕ) (asked : Request) (append : Kept) (number : ℕ) → changes_controls f (Call caller asked append) number ≡ false → controls_of (done_of l f caller asked).1 number ≡ controls_of f number
+waiting_done : (l : Limits) (f : Flat) (caller : ℕ) (asked : Request) (append : Kept) (number : ℕ) → changes_controls f (Call caller asked append) number ≡ false → controls_of (done_of l f caller asked).flat number ≡ controls_of f number
 waiting_done l f caller (request.Control handle control) append number other = controlled_others l.controls (process_in (controlled_service f caller handle)) control number f.processes other
 waiting_done l f caller (request.Change change) append number other = waiting_configured f number _ (asked_config f caller change)
 waiting_done l f caller asked append number other = refl
 
 waiting_call : (l : Limits) (f : Flat) (moment caller : ℕ) (asked : Request) (append : Kept) (number : ℕ) → changes_controls f (Call caller asked append) number ≡ false
-    → controls_of (call_of l (with_moment f moment) caller asked append).1 number ≡ controls_of f number
+    → controls_of (call_of l (with_moment f moment) caller asked append).flat number ≡ controls_of f number
 waiting_call l f moment caller asked append number other =
     let g = with_moment f moment in
     let code = verdict l g caller asked append in
-    by_verdict (λ r. controls_of r.1 number ≡ controls_of f number) code (told_refused g caller asked code) g (done_of l g caller asked) (λ e. waiting_by l f moment caller asked append number other) (λ e. refl)
+    by_verdict (λ r. controls_of r.flat number ≡ controls_of f number) code (told_refused g caller asked code) g (done_of l g caller asked) (λ e. waiting_by l f moment caller asked append number other) (λ e. refl)
   where
     waiting_by : (l : Limits) (f : Flat) (moment caller : ℕ) (asked : Request) (append : Kept) (number : ℕ) → changes_controls f (Call caller asked append) number ≡ false
-        → controls_of (done_of l (with_moment f moment) caller asked).1 number ≡ controls_of f number
+        → controls_of (done_of l (with_moment f moment) caller asked).flat number ≡ controls_of f number
     waiting_by l f moment caller (request.Control handle control) append number other = waiting_done l (with_moment f moment) caller (request.Control handle control) append number other
     waiting_by l f moment caller asked append number other = waiting_done l (with_moment f moment) caller asked append number refl
 
@@ -143,7 +143,7 @@ some_is : (b : Bool) (code : ℕ) → is_some (cond b (Some code) None) ≡ true
 some_is true code h = refl
 some_is false code h = absurd cc
 
-waiting_effect : (l : Limits) (f : Flat) (moment : ℕ) (step : Step) (number : ℕ) → changes_controls f step number ≡ false → controls_of (effect_of l (at_moment f moment step) step).1 number ≡ controls_of f number
+waiting_effect : (l : Limits) (f : Flat) (moment : ℕ) (step : Step) (number : ℕ) → changes_controls f step number ≡ false → controls_of (effect_of l (at_moment f moment step) step).flat number ≡ controls_of f number
 waiting_effect l f moment (Call caller asked append) number other = waiting_call l f moment caller asked append number other
 waiting_effect l f moment LaunchTaken number other = taken_same (first_wanted f.wanted) number f.processes
 waiting_effect l f moment (Launched process pid) number other = launched_same process pid number f.processes
@@ -152,7 +152,7 @@ waiting_effect l f moment (Ended process) number other = left_others process num
 waiting_effect l f moment (ControlTaken process) number other = relieved_others process number f.processes other
 waiting_effect l f moment step number other = refl
 
-ended_effect : (l : Limits) (f : Flat) (moment : ℕ) (step : Step) (number : ℕ) → ends step number ≡ true → controls_of (effect_of l (at_moment f moment step) step).1 number ≡ []
+ended_effect : (l : Limits) (f : Flat) (moment : ℕ) (step : Step) (number : ℕ) → ends step number ≡ true → controls_of (effect_of l (at_moment f moment step) step).flat number ≡ []
 ended_effect l f moment (LaunchFailed process code) number is = left_none process number f.processes (eqb-true process number (some_is (process == number) code is))
 ended_effect l f moment (Ended process) number is = left_none process number f.processes (eqb-true process number (some_is (process == number) 1067 is))
 ended_effect l f moment step number is = absurd cc
@@ -181,17 +181,17 @@ waiting_left : (g : Flat) (plan : ℕ) (code : Option ℕ) (number : ℕ) → co
 waiting_left g plan None number = refl
 waiting_left g plan (Some code) number = refl
 
-waiting_finished : (g : Flat) (told : Answer) (number : ℕ) → controls_of (finished g told).1 number ≡ controls_of g number
+waiting_finished : (g : Flat) (told : Answer) (number : ℕ) → controls_of (finished g told).flat number ≡ controls_of g number
 waiting_finished g (answer.Begun plan) number = waiting_left g plan (code_of g.plans plan) number
 waiting_finished g told number = refl
 
-waiting_after : (l : Limits) (f : Flat) (moment : ℕ) (step : Step) (number : ℕ) → controls_of (step_of l f moment step).1 number ≡ controls_of (effect_of l (at_moment f moment step) step).1 number
+waiting_after : (l : Limits) (f : Flat) (moment : ℕ) (step : Step) (number : ℕ) → controls_of (step_of l f moment step).flat number ≡ controls_of (effect_of l (at_moment f moment step) step).flat number
 waiting_after l f moment step number =
     let done = effect_of l (at_moment f moment step) step in
-    waiting_finished (settled l done.1) done.0 number ∙ waiting_settled l done.1 number
+    waiting_finished (settled l done.flat) done.answer number ∙ waiting_settled l done.flat number
 
-pub others_wait : (l : Limits) (f : Flat) (moment : ℕ) (step : Step) (number : ℕ) → changes_controls f step number ≡ false → controls_of (step_of l f moment step).1 number ≡ controls_of f number
+pub others_wait : (l : Limits) (f : Flat) (moment : ℕ) (step : Step) (number : ℕ) → changes_controls f step number ≡ false → controls_of (step_of l f moment step).flat number ≡ controls_of f number
 others_wait l f moment step number other = waiting_after l f moment step number ∙ waiting_effect l f moment step number other
 
-pub ended_none : (l : Limits) (f : Flat) (moment : ℕ) (step : Step) (number : ℕ) → ends step number ≡ true → controls_of (step_of l f moment step).1 number ≡ []
+pub ended_none : (l : Limits) (f : Flat) (moment : ℕ) (step : Step) (number : ℕ) → ends step number ≡ true → controls_of (step_of l f moment step).flat number ≡ []
 ended_none l f moment step number is = waiting_after l f moment step number ∙ ended_effect l f moment step number is

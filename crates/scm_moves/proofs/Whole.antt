@@ -1,16 +1,18 @@
 -- Both laws hold in each step from a state that a run reaches.
-use Rattle.std.proofs.Common.{ℕ, [], arith}
+use Rattle.std.proofs.Common.{ℕ, List, refl, sym, subst}
 use Rattle.std.proofs.lemmas.List.Elements.{All-nil}
+use Rattle.scm_model.specs.declared.flat.Config.{Config}
 use Rattle.scm_model.specs.declared.flat.Flat.{Flat}
 use Rattle.scm_model.specs.declared.flat.HandleRow.{HandleRow}
 use Rattle.scm_model.specs.declared.flat.Limits.{Limits}
-use Rattle.scm_rules.specs.Opening.{empty_at}
+use Rattle.scm_rules.specs.Opening.{IsOpening, opening, services_from}
 use Rattle.scm_laws.proofs.Along.{Gives, Keeps}
+use Rattle.scm_laws.proofs.Opened.{pairs_opened}
 use Rattle.scm_laws.proofs.Clear.{Clear, clear_begun, clear_keeps, is_valid_clear}
 use Rattle.scm_moves.specs.Controls.{LawOfControls}
 use Rattle.scm_moves.specs.Moves.{LawOfMoves}
 use Rattle.scm_moves.proofs.Controlled.{controls}
-use Rattle.scm_moves.proofs.Known.{IsOfOne, Known, known}
+use Rattle.scm_moves.proofs.Known.{AreApart, IsOfOne, Known, known}
 use Rattle.scm_moves.proofs.Moved.{moved}
 use Rattle.scm_moves.proofs.Stale.{refused, stale, unheard}
 
@@ -19,10 +21,17 @@ pub record Whole (l : Limits) (f : Flat) : Type 0 where
   pub clear : Clear l f
   pub known : Known f
 
-pub whole_begun : (l : Limits) (moment : ℕ) → Whole l (empty_at moment)
-whole_begun l moment = record {
-  clear = clear_begun l moment;
-  known = record { apart = λ i j d lt within. absurd (omega arith); opened = All-nil (λ (row : HandleRow). IsOfOne [] row.kind) };
+-- services that never ran have no process, and nobody has a handle
+opened_known : (l : Limits) (groups : List (List ℕ)) (configs : List Config) (moment : ℕ) → Known (opening l groups configs moment)
+opened_known l groups configs moment = record {
+  apart = pairs_opened AreApart 1 configs (λ i j d lt within e. refl);
+  opened = All-nil (λ (row : HandleRow). IsOfOne (services_from 1 configs) row.kind);
+}
+
+pub whole_begun : (l : Limits) (f : Flat) → IsOpening l f → Whole l f
+whole_begun l f o = record {
+  clear = clear_begun l f o;
+  known = subst Known (sym o.is) (opened_known l o.groups o.configs o.moment);
 }
 
 pub whole_keeps : (l : Limits) → Keeps (Whole l) l

@@ -18,20 +18,24 @@ use Rattle.dependency_index.specs.Naming.{is_named}
 use Rattle.scm_rules.specs.Controls.{control_verdict, controlled_service, controls_of, granted_in}
 use Rattle.scm_rules.specs.Query.{status_in}
 use Rattle.scm_rules.specs.Reports.{process_in}
-use Rattle.scm_rules.specs.Runs.{Entry}
+use Rattle.scm_model.specs.Entries.{Entry}
+use Rattle.scm_model.specs.declared.codes.TheConstants.{ERROR_DEPENDENT_SERVICES_RUNNING, ERROR_INVALID_SERVICE_CONTROL, ERROR_SERVICE_CANNOT_ACCEPT_CTRL, ERROR_SERVICE_NOT_ACTIVE, SERVICE_CONTROL_STOP, SERVICE_STOPPED}
 use Rattle.scm_moves.specs.Moves.{code_of_end}
 
 -- ## What a Control is told
 
 -- the status is told where the service gets the control, doesn't accept it (1052), can't get it now (1061) or is STOPPED (1062), and else zeros
+abbrev pub shows : ℕ → Bool
+shows code = code == 0 || code == ERROR_INVALID_SERVICE_CONTROL || code == ERROR_SERVICE_CANNOT_ACCEPT_CTRL || code == ERROR_SERVICE_NOT_ACTIVE
+
 abbrev pub shown_at : ℕ → Option Service → Status
-shown_at code service = if code == 0 || code == 1052 || code == 1061 || code == 1062 then status_in service else zero_status
+shown_at code service = if shows code then status_in service else zero_status
 
 -- ## Who needs a service that is to stop
 
 -- whether a service names one of this name as a need, and isn't STOPPED
 abbrev pub is_active_with : List ℕ → Service → Bool
-is_active_with name row = list_any (is_named name) row.config.needs && not (row.status.state == 1)
+is_active_with name row = list_any (is_named name) row.config.needs && not (row.status.state == SERVICE_STOPPED)
 
 -- whether a service that isn't STOPPED names this one as a need
 abbrev pub is_needed_by_active : Flat → Option Service → Bool
@@ -40,7 +44,7 @@ is_needed_by_active f (Some target) = list_any (is_active_with target.config.nam
 
 -- a STOP that would be taken if nobody needed the service and nothing waited, of a service that somebody needs
 pub record IsNeededStill (f : Flat) (caller handle control : ℕ) : Type 0 where
-  pub stop : control ≡ 1
+  pub stop : control ≡ SERVICE_CONTROL_STOP
   pub taken : judge (granted_in (opened f caller handle)) control (status_in (controlled_service f caller handle)) 0 0 1 ≡ 0
   pub needed : is_needed_by_active f (controlled_service f caller handle) ≡ true
 
@@ -67,7 +71,7 @@ pub record IsControlled (l : Limits) (before : Flat) (caller handle control : �
   pub taken : code ≡ 0 → OneMoreWaits before after (process_in (controlled_service before caller handle)) control
   pub refused : (code == 0) ≡ false → AllWaitAsBefore before after
   pub services : after.services ≡ before.services
-  pub needed : (code ≡ 1051) ↔ IsNeededStill before caller handle control
+  pub needed : (code ≡ ERROR_DEPENDENT_SERVICES_RUNNING) ↔ IsNeededStill before caller handle control
 
 -- the control that waited first is told, and waits no more
 pub record FirstIsTaken (before : Flat) (process : ℕ) (told : Answer) (after : Flat) : Type 0 where

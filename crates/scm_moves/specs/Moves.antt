@@ -12,7 +12,8 @@ use Rattle.scm_model.specs.declared.steps.Step.{Step}
 use Rattle.scm_model.specs.declared.steps.Step.TheVariants.{Call, LaunchFailed, Report, Ended}
 use Rattle.start_plan.specs.Entered.{starting}
 use Rattle.status_machine.specs.Moves.{take_end, takes}
-use Rattle.scm_rules.specs.Runs.{Entry}
+use Rattle.scm_model.specs.Entries.{Entry}
+use Rattle.scm_model.specs.declared.codes.TheConstants.{ERROR_INVALID_DATA, ERROR_PROCESS_ABORTED, SERVICE_STOPPED}
 use Rattle.scm_laws.specs.Leaving.{reports}
 
 -- the status that a step reports
@@ -24,7 +25,7 @@ report_in step = None
 -- the code that is left of a service whose current process this is, where a step ends it: 1067 where it ended without a word, and that of
 -- a launch that failed
 abbrev pub code_of_end : Step → ℕ → Option ℕ
-code_of_end (Ended ended) process = if ended == process then Some 1067 else None
+code_of_end (Ended ended) process = if ended == process then Some ERROR_PROCESS_ABORTED else None
 code_of_end (LaunchFailed failed code) process = if failed == process then Some code else None
 code_of_end step process = None
 
@@ -56,7 +57,7 @@ MovesItself before step old between = IsAsBefore old.status between ⊎ (IsRepor
 
 -- it was STOPPED, and is started by a process that none had before
 pub record IsStartedAnew (before : Flat) (between : Status) (new : Service) : Type 0 where
-  pub stopped : between.state ≡ 1
+  pub stopped : between.state ≡ SERVICE_STOPPED
   pub pending : new.status ≡ starting between
   pub process : before.next.process ≤ new.process
 
@@ -82,5 +83,6 @@ is_called_report step = false
 pub record LawOfMoves (l : Limits) (before : Flat) (e : Entry) (told : Answer) (after : Flat) : Type 0 where
   pub moved : All (HasMoved before e.1) after.services
   pub stale : told ≡ answer.Stale → after.services ≡ before.services
-  pub refused : (code : ℕ) → told ≡ answer.Refused code → (code ≡ 13) × (after.services ≡ before.services)
-  pub unheard : (code : ℕ) → is_called_report e.1 ≡ true → told ≡ answer.Reply (reply.Code code) → (code == 0) ≡ false → after.services ≡ before.services
+  pub refused : (code : ℕ) → told ≡ answer.Refused code → (code ≡ ERROR_INVALID_DATA) × (after.services ≡ before.services)
+  pub unheard : (code : ℕ) → is_called_report e.1 ≡ true → told ≡ answer.Reply (reply.Code code) → (code == 0) ≡ false
+      → after.services ≡ before.services

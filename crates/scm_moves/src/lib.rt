@@ -1,31 +1,33 @@
 //! Laws of how services move and of the controls that they get, over every run.
 #![tactic(auto)]
 
-ghost use Rattle.std.specs.Prelude.{◌≡◌, []};
 ghost use Rattle.scm_moves.specs.Controls.{LawOfControls};
 ghost use Rattle.scm_moves.specs.Moves.{LawOfMoves};
-ghost use Rattle.scm_rules.specs.Opening.{opening as opening_at};
+ghost use Rattle.scm_rules.specs.Opening.{IsOpening};
 ghost use Rattle.scm_rules.specs.Runs.{EachStep, IsLegal};
 
 use scm_model::{Flat, Limits, Step};
 use scm_text::Items;
 
-/// In each step a service's status stays as it is but for its type, or its current process reports another one that the table allows
-/// from there, or that process ends and the service is STOPPED; then it may be entered where it is STOPPED, by a process that none had
-/// before. A stale step changes no service, and a report that is refused changes none: a process's own with 13, one by a call with any
-/// code.
+/// The law of moves: in each step a service's status stays as it is but for its type, or its
+/// current process reports another one that the table allows from there, or that process ends and
+/// the service is STOPPED; then it may be entered where it is STOPPED, by a process that none had
+/// before. A stale step changes no service, and a report that is refused changes none: a process's
+/// own with 13, one by a call with any code.
 pub fn law_1(limits: &Limits, steps: &Items<(u64, Step)>, opening: &Flat)
-    requires begins { opening.now ≡ opening_at limits.now [] [] opening.now.moment }
+    requires begins { IsOpening limits.now opening.now }
     requires legal { IsLegal limits.now opening.now steps.now }
     ensures { EachStep (LawOfMoves limits.now) limits.now opening.now steps.now }
 {}
 
-/// A Control is told its verdict on the state before, whatever the moment, and changes no service. At code 0 the control waits behind
-/// those that waited for the service's process, and at any other nothing more waits. A STOP gets 1051 exactly where no earlier code
-/// applies and a service that isn't STOPPED names this one as a need. What waits is taken from the front; a process that ends has none,
-/// nor has one that is new, and no other step changes what waits for a process.
+/// The law of controls: a Control is told its verdict on the state before, whatever the moment, and
+/// changes no service. At code 0 the control waits behind those that waited for the service's
+/// process, and at any other nothing more waits. A STOP gets 1051 exactly where no earlier code
+/// applies and a service that isn't STOPPED names this one as a need. What waits is taken from the
+/// front; a process that ends has none, nor has one that is new, and no other step changes what
+/// waits for a process.
 pub fn law_3(limits: &Limits, steps: &Items<(u64, Step)>, opening: &Flat)
-    requires begins { opening.now ≡ opening_at limits.now [] [] opening.now.moment }
+    requires begins { IsOpening limits.now opening.now }
     requires legal { IsLegal limits.now opening.now steps.now }
     ensures { EachStep (LawOfControls limits.now) limits.now opening.now steps.now }
 {}

@@ -19,9 +19,10 @@ use Rattle.scm_model.specs.declared.steps.Step.{Step}
 use Rattle.scm_model.specs.declared.steps.Step.TheVariants.{Joined, Call, EndStart, LaunchTaken, Launched, LaunchFailed, Report, Ended, ControlTaken, Tick, Gone, NoMemory}
 use Rattle.scm_model.specs.Refused.{answered, first_refusal}
 use Rattle.scm_model.specs.Rows.{opened, service_of}
-use Rattle.dependency_index.specs.Needs.{has, numbers_of}
+use Rattle.scm_model.specs.Outcomes.{Done}
+use Rattle.scm_model.specs.Needs.{has, numbers_of}
 use Rattle.start_plan.specs.Decided.{decided_if, decided_in, is_numbered, is_target}
-use Rattle.start_plan.specs.Ready.{state_in, state_of}
+use Rattle.scm_model.specs.Ready.{state_in, state_of}
 use Rattle.start_plan.specs.Settle.{stays}
 use Rattle.scm_rules.specs.Change.{asked_config, with_new_config}
 use Rattle.scm_rules.specs.Controls.{controlled_if, controlled_service, relieved_if}
@@ -35,8 +36,9 @@ use Rattle.scm_rules.specs.Steps.{effect_of}
 use Rattle.scm_rules.specs.Verdicts.{call_of, done_of, told_refused, verdict}
 use Rattle.scm_laws.proofs.Processes.{IsOfControls}
 use Rattle.scm_laws.proofs.Sound.{controls_fewer, controls_more}
-use Rattle.scm_owed.specs.Owed.{owed, owed_by_plan, owed_by_process, owed_to, total, untried}
-use Rattle.scm_owed.specs.Room.{is_owed, need}
+use Rattle.scm_rules.specs.Owed.{owed, owed_by_process}
+use Rattle.start_plan.specs.Owed.{owed_by_plan, owed_to, total, untried}
+use Rattle.scm_rules.specs.Room.{debt, is_owed, need}
 use Rattle.scm_owed.proofs.Fewer.{few_in_order}
 use Rattle.scm_owed.proofs.Settling.{kept_owes, total_more}
 
@@ -80,7 +82,7 @@ plan_owes : (f : Flat) (plan : Plan) → owed (with_plan f plan) ≡ owed f + ow
 plan_owes f plan = let more = total_more owed_by_plan f.plans plan in omega (arith, more)
 
 start_owes : (f : Flat) (caller handle : ℕ) (words : Option (List (List ℕ))) → start_verdict f caller handle words ≡ 0
-    → owed (start_done f caller handle words).1 + 1 ≤ owed f + (3 * length f.services + 2)
+    → owed (start_done f caller handle words).flat + 1 ≤ owed f + (3 * length f.services + 2)
 start_owes f caller handle words e =
     let target = service_in (opened f caller handle) in
     let order = start_order f target in
@@ -97,9 +99,9 @@ start_owes f caller handle words e =
 zero_code : (code : ℕ) → (code == 0) ≡ true → code ≡ 0
 zero_code code e = eqb-true code 0 e
 
-of_answered : (code : ℕ) (told : Reply) (f : Flat) (done : Reply × Flat) (n : ℕ) → 1 ≤ n → (code ≡ 0 → owed done.1 + 1 ≤ owed f + n) → owed (answered code told f done).1 + 1 ≤ owed f + n
+of_answered : (code : ℕ) (told : Reply) (f : Flat) (done : Done) (n : ℕ) → 1 ≤ n → (code ≡ 0 → owed done.flat + 1 ≤ owed f + n) → owed (answered code told f done).flat + 1 ≤ owed f + n
 of_answered code told f done n least owes =
-    elim (code == 0) as (λ b. (code == 0) ≡ b → owed (cond b done (told, f)).1 + 1 ≤ owed f + n) [
+    elim (code == 0) as (λ b. (code == 0) ≡ b → owed (cond b done (record { reply = told; flat = f })).flat + 1 ≤ owed f + n) [
       | true ↦ λ e. owes (zero_code code e)
       | false ↦ λ e. omega (arith, least)
     ] refl
@@ -116,7 +118,7 @@ controls_owe change only (row ∷ rows) =
     let rest = controls_owe change only rows in
     omega (arith, one, rest)
 
-of_call : (l : Limits) (f : Flat) (caller : ℕ) (asked : Request) (append : Kept) → owed (call_of l f caller asked append).1 + 1 ≤ owed f + need f (Call caller asked append)
+of_call : (l : Limits) (f : Flat) (caller : ℕ) (asked : Request) (append : Kept) → owed (call_of l f caller asked append).flat + 1 ≤ owed f + need f (Call caller asked append)
 of_call l f caller (request.Start handle words) append =
     let code = verdict l f caller (request.Start handle words) append in
     of_answered code (told_refused f caller (request.Start handle words) code) f (done_of l f caller (request.Start handle words)) (3 * length f.services + 2) (omega arith) (λ e. start_owes f caller handle words e)
@@ -177,7 +179,31 @@ fired_owes moment plans (due ∷ rows) =
 
 -- ## Effects
 
-pub effects_owe : (l : Limits) (f : Flat) (step : Step) → is_owed step ≡ false → owed (effect_of l f step).1 + 1 ≤ owed f + need f step
+-- what a step may add and leave owed is at most its need, and nothing where it is owed
+pub debt_most : (f : Flat) (step : Step) → debt f step ≤ need f step
+debt_most f (Joined principal) = omega arith
+debt_most f (Call caller asked append) = omega arith
+debt_most f (EndStart caller plan) = omega arith
+debt_most f LaunchTaken = omega arith
+debt_most f (Launched process pid) = omega arith
+debt_most f (LaunchFailed process code) = omega arith
+debt_most f (Report process status) = omega arith
+debt_most f (Ended process) = omega arith
+debt_most f (ControlTaken process) = omega arith
+debt_most f Tick = omega arith
+debt_most f (Gone caller) = omega arith
+debt_most f (NoMemory caller) = omega arith
+
+pub debt_owed : (f : Flat) (step : Step) → is_owed step ≡ true → debt f step ≡ 0
+debt_owed f (EndStart caller plan) e = refl
+debt_owed f LaunchTaken e = refl
+debt_owed f (Launched process pid) e = refl
+debt_owed f (LaunchFailed process code) e = refl
+debt_owed f (Ended process) e = refl
+debt_owed f (Gone caller) e = refl
+debt_owed f step e = absurd cc
+
+pub effects_owe : (l : Limits) (f : Flat) (step : Step) → is_owed step ≡ false → owed (effect_of l f step).flat + 1 ≤ owed f + debt f step
 effects_owe l f (Joined principal) e = let more = length-append f.callers (record { number = f.next.caller; principal = principal } ∷ []) in omega (arith, more)
 effects_owe l f (Call caller asked append) e = of_call l f caller asked append
 effects_owe l f (Report process status) e = omega arith

@@ -2,9 +2,10 @@
 use Rattle.std.proofs.Common.{ℕ, ◌≡◌, ◌≤◌, ◌||◌, zero, suc, Bool, true, false, cond, List, [], ◌∷◌, ◌++◌, Option, None, Some, length, eqb, refl, subst, arith}
 use Rattle.std.specs.Prelude.{option_and_then, unwrap_or}
 use Rattle.std.specs.List.{IsDistinct}
-use Rattle.dependency_index.specs.declared.rows.NeedRow.{NeedRow}
-use Rattle.dependency_index.specs.Needs.{has, needs_of, numbers_of}
-use Rattle.dependency_index.specs.Order.{IsWithin, explore, is_running, noted, order_in, try_all}
+use Rattle.scm_model.specs.declared.flat.NeedRow.{NeedRow}
+use Rattle.scm_model.specs.Needs.{has, needs_of, numbers_of}
+use Rattle.dependency_index.specs.Order.{IsWithin}
+use Rattle.scm_model.specs.Order.{explore, is_running, noted, order_in, try_all}
 use Rattle.dependency_index.proofs.Lists.{needed_listed, or_right}
 use Rattle.dependency_index.proofs.Rooms.{few, more_within}
 

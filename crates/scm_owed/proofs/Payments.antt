@@ -1,5 +1,5 @@
 -- What an owed step pays.
-use Rattle.std.proofs.Common.{ℕ, ◌≡◌, ◌≤◌, ◌<◌, ◌+◌, ◌==◌, ◌&&◌, Bool, true, false, not, cond, zero, suc, List, [], ◌∷◌, Option, None, Some, length, map, filter, find, get_or, refl, sym, ap, subst, arith, eq-eqb, eqb-true, ne_eqb}
+use Rattle.std.proofs.Common.{ℕ, ◌≡◌, ◌≤◌, ◌<◌, ◌+◌, ◌==◌, Bool, true, false, not, cond, zero, suc, List, [], ◌∷◌, Option, None, Some, length, map, filter, find, get_or, refl, sym, ap, subst, arith, eq-eqb, eqb-true, ne_eqb}
 use Rattle.std.specs.Prelude.{All, AllPairs, is_some, option_map}
 use Rattle.std.proofs.lemmas.List.Folds.{list_any_none}
 use Rattle.scm_model.specs.declared.flat.Caller.{Caller}
@@ -12,17 +12,21 @@ use Rattle.scm_model.specs.declared.flat.Process.{Process}
 use Rattle.scm_model.specs.declared.flat.Wanted.{Wanted}
 use Rattle.scm_model.specs.declared.steps.Step.{Step}
 use Rattle.scm_model.specs.declared.steps.Step.TheVariants.{EndStart, LaunchTaken, Launched, LaunchFailed, Report, Ended, ControlTaken, Gone, Joined, Call, Tick, NoMemory}
-use Rattle.start_plan.specs.Decided.{aims_at, caller_of, is_numbered, without_plan}
+use Rattle.scm_model.specs.Rows.{is_caller}
+use Rattle.start_plan.specs.Decided.{aims_at, caller_of, code_of, is_numbered, without_plan}
 use Rattle.scm_rules.specs.Launches.{first_wanted, is_running, is_taken, launched_if, process_of, service_of_process, taken_if}
-use Rattle.scm_rules.specs.Start.{is_caller_of}
+use Rattle.scm_rules.specs.Start.{can_end, is_caller_of}
 use Rattle.scm_rules.specs.Steps.{at_moment, effect_of, is_wanted, may}
 use Rattle.scm_rules.specs.Valid.{AreNumbered, has_process, is_to_launch}
 use Rattle.scm_laws.proofs.Processes.{is_there, number_of, process_in}
 use Rattle.scm_laws.proofs.Sound.{Sound}
-use Rattle.scm_owed.specs.Owed.{owed, owed_by_plan, owed_by_process, owed_in_phase, owed_to, total}
-use Rattle.scm_owed.specs.Room.{is_owed}
+use Rattle.scm_rules.specs.Owed.{owed, owed_by_process, owed_in_phase}
+use Rattle.start_plan.specs.Owed.{owed_by_plan, owed_to, total}
+use Rattle.scm_rules.specs.Room.{is_owed}
 use Rattle.scm_owed.proofs.Effects.{decision_owes}
 use Rattle.scm_owed.proofs.Settling.{kept_owes}
+use Rattle.std.proofs.lemmas.Bool.{and_parts}
+use Rattle.scm_laws.proofs.Wanted.{taken_listed}
 
 -- ## A launch that is taken
 
@@ -137,10 +141,6 @@ left_pays n (row ∷ rows) e =
       | false ↦ λ h g. let rest = left_pays n rows g in omega (arith, rest)
     ] refl e
 
-taken_listed : (found : Option Process) → is_taken found ≡ true → is_some found ≡ true
-taken_listed None e = absurd cc
-taken_listed (Some row) e = refl
-
 running_listed : (found : Option Process) → is_running found ≡ true → is_some found ≡ true
 running_listed None e = absurd cc
 running_listed (Some row) e = refl
@@ -192,36 +192,29 @@ positive n next rows numbered e = at rows numbered.positive e
 
 -- ## Owed steps
 
-first : (a b : Bool) → (a && b) ≡ true → a ≡ true
-first true b e = refl
-first false b e = absurd cc
-
-second : (a b : Bool) → (a && b) ≡ true → b ≡ true
-second true b e = e
-second false b e = absurd cc
-
-pub owed_steps_pay : (l : Limits) (f : Flat) (moment : ℕ) (step : Step) → Sound f → may l f moment step ≡ true → is_owed step ≡ true → owed (effect_of l (at_moment f moment step) step).1 + 1 ≤ owed f
+pub owed_steps_pay : (l : Limits) (f : Flat) (moment : ℕ) (step : Step) → Sound f → may l f moment step ≡ true → is_owed step ≡ true → owed (effect_of l (at_moment f moment step) step).flat + 1 ≤ owed f
 owed_steps_pay l f moment (EndStart caller plan) s ok e =
-    let came = first _ _ ok in
-    let least = positive caller f.next.caller f.callers s.handles.callers (first _ _ came) in
-    let pays : total owed_by_plan (without_plan f.plans plan) + 1 ≤ total owed_by_plan f.plans = ended_pays plan caller f.plans least (first _ _ (second _ _ came)) in
+    let came = (and_parts _ _ ok).0 in
+    let least = positive caller f.next.caller f.callers s.handles.callers (and_parts _ _ came).0 in
+    let pays : total owed_by_plan (without_plan f.plans plan) + 1 ≤ total owed_by_plan f.plans = ended_pays plan caller f.plans least
+    (and_parts (is_caller_of (caller_of f.plans plan) caller) (is_some (code_of f.plans plan)) (and_parts (is_caller f caller) (can_end f caller plan) came).1).0 in
     omega (arith, pays)
 owed_steps_pay l f moment LaunchTaken s ok e =
-    let pays = first_pays f.wanted f.processes s.processes.numbered.rising s.processes.wanted (first _ _ ok) in
+    let pays = first_pays f.wanted f.processes s.processes.numbered.rising s.processes.wanted (and_parts _ _ ok).0 in
     omega (arith, pays)
 owed_steps_pay l f moment (Launched process pid) s ok e =
-    let pays = launched_pays process pid f.processes (first _ _ ok) in
+    let pays = launched_pays process pid f.processes (and_parts _ _ ok).0 in
     let decided = decision_owes (aims_at (service_of_process f process)) 0 f.plans in
     omega (arith, pays, decided)
 owed_steps_pay l f moment (LaunchFailed process code) s ok e =
-    let pays = left_pays process f.processes (taken_listed (process_of f process) (first _ _ (first _ _ ok))) in
+    let pays = left_pays process f.processes (taken_listed (process_of f process) (and_parts _ _ (and_parts _ _ ok).0).0) in
     let decided = decision_owes (aims_at (service_of_process f process)) code f.plans in
     omega (arith, pays, decided)
 owed_steps_pay l f moment (Ended process) s ok e =
-    let pays = left_pays process f.processes (running_listed (process_of f process) (first _ _ ok)) in
+    let pays = left_pays process f.processes (running_listed (process_of f process) (and_parts _ _ ok).0) in
     omega (arith, pays)
 owed_steps_pay l f moment (Gone caller) s ok e =
-    let pays = gone_pays caller f.callers (first _ _ ok) in
+    let pays = gone_pays caller f.callers (and_parts _ _ ok).0 in
     let plans = kept_owes (λ (plan : Plan). not (plan.caller == caller)) f.plans in
     omega (arith, pays, plans)
 owed_steps_pay l f moment (Joined principal) s ok e = absurd cc

@@ -11,7 +11,8 @@ use Rattle.start_plan.specs.Settle.{code_in, dropped, moved, settle_all, settle_
 use Rattle.start_plan.specs.declared.settling.Move.TheVariants as moves
 use Rattle.start_plan.proofs.Keeps.{is_entry, keeps_all}
 use Rattle.start_plan.proofs.Enterings.{all_units}
-use Rattle.scm_owed.specs.Owed.{owed, owed_by_plan, owed_by_process, owed_to, total, untried}
+use Rattle.scm_rules.specs.Owed.{owed, owed_by_process}
+use Rattle.start_plan.specs.Owed.{owed_by_plan, owed_to, total, untried}
 
 -- what the processes and a plan owe
 abbrev both : Flat × Plan → ℕ

@@ -1,4 +1,2 @@
-pub mod Owed
-pub mod Room
 pub mod Paying
 pub mod Legal

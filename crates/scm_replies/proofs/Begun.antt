@@ -8,9 +8,10 @@ use Rattle.scm_model.specs.declared.flat.DueKind.TheVariants as dues
 use Rattle.scm_model.specs.declared.flat.Flat.{Flat}
 use Rattle.scm_model.specs.declared.flat.Limits.{Limits}
 use Rattle.scm_model.specs.declared.flat.Plan.{Plan}
-use Rattle.scm_model.specs.declared.steps.Answer.{Answer}
 use Rattle.scm_model.specs.declared.steps.Answer.TheVariants as answer
-use Rattle.scm_model.specs.Changes.{purged, with_moment}
+use Rattle.scm_model.specs.Changes.{with_moment}
+use Rattle.scm_model.specs.Purge.{purged}
+use Rattle.scm_model.specs.Outcomes.{Told}
 use Rattle.start_plan.specs.Decided.{code_of, is_numbered}
 use Rattle.start_plan.specs.Settle.{is_due_still, is_undecided, settle_all, settle_plan, settled, stays, tidied}
 use Rattle.scm_rules.specs.Start.{ended, with_plan}
@@ -18,6 +19,7 @@ use Rattle.scm_rules.specs.Steps.{answered_by, left_by}
 use Rattle.scm_replies.specs.Replies.{Waits, with_plan_spent}
 use Rattle.scm_replies.proofs.Lists.{NoneHas, dues_before, filter_last, found_last, stays_by, undecided_last, without_last}
 use Rattle.scm_replies.proofs.Refused.{closed}
+use Rattle.scm_replies.proofs.Verdicts.{leaving}
 use Rattle.scm_replies.proofs.Settling.{Enters, Still, plan_settles, still_over}
 
 -- ## The state with a plan more
@@ -54,18 +56,18 @@ settled_begun l f moment plan s stay =
 -- ## What it comes to
 
 -- what is answered and left of a settled state
-abbrev finish : ℕ → Flat → Option ℕ → Answer × Flat
-finish n g code = (answered_by n code, purged (left_by g n code))
+abbrev finish : ℕ → Flat → Option ℕ → Told
+finish n g code = leaving (answered_by n code) (purged (left_by g n code))
 
 -- a step's effect that began a plan which its own settling decided
-pub record Decided (l : Limits) (f : Flat) (moment : ℕ) (done : Answer × Flat) : Type 0 where
+pub record Decided (l : Limits) (f : Flat) (moment : ℕ) (done : Told) : Type 0 where
   pub code : ℕ
-  pub decided : code_of (settled l done.1).plans f.next.plan ≡ Some code
-  pub reply : (closed l done).0 ≡ answer.Reply (reply.Code code)
-  pub same : (closed l done).1 ≡ with_plan_spent (with_moment f moment)
+  pub decided : code_of (settled l done.flat).plans f.next.plan ≡ Some code
+  pub reply : (closed l done).answer ≡ answer.Reply (reply.Code code)
+  pub same : (closed l done).flat ≡ with_plan_spent (with_moment f moment)
 
-abbrev pub Comes : Limits → Flat → ℕ → Answer × Flat → Type 0
-Comes l f moment done = Waits f (closed l done).0 (closed l done).1 ⊎ Decided l f moment done
+abbrev pub Comes : Limits → Flat → ℕ → Told → Type 0
+Comes l f moment done = Waits f (closed l done).answer (closed l done).flat ⊎ Decided l f moment done
 
 -- the plan is found with its code
 code_found : (f : Flat) (n : ℕ) (last : Plan) (code : Option ℕ) → NoneHas n f.plans → is_numbered n last ≡ true → last.code ≡ code
@@ -86,16 +88,16 @@ comes_by : (l : Limits) (f : Flat) (moment : ℕ) (plan : Plan) (code : Option �
     → stays (own_end l f moment plan).1 ≡ true
     → ((own_end l f moment plan).0 ≡ begun f moment plan) ⊎ Enters (begun f moment plan) (own_end l f moment plan)
     → (own_end l f moment plan).1.code ≡ code
-    → Comes l f moment (answer.Begun f.next.plan, begun f moment plan)
+    → Comes l f moment (leaving (answer.Begun f.next.plan) (begun f moment plan))
 comes_by l f moment plan None s clear none is stay state e =
     let n = f.next.plan in
     let end = own_end l f moment plan in
     let g = with_all end.0 (f.plans ++ end.1 ∷ []) in
-    let whole : closed l (answer.Begun n, begun f moment plan) ≡ (answer.Begun n, purged g) =
+    let whole : closed l (leaving (answer.Begun n) (begun f moment plan)) ≡ leaving (answer.Begun n) (purged g) =
     ap (λ (h : Flat). finish n h (code_of h.plans n)) (settled_begun l f moment plan s stay) ∙ ap (finish n g) (code_found f n end.1 None none is e) in
     inl (record {
-      begun = ap (λ (r : Answer × Flat). r.0) whole;
-      undecided = ap (λ (r : Answer × Flat). list_any (is_undecided n) r.1.plans) whole ∙ undecided_last n f.plans end.1 is (ap is_none e);
+      begun = ap (λ (r : Told). r.answer) whole;
+      undecided = ap (λ (r : Told). list_any (is_undecided n) r.flat.plans) whole ∙ undecided_last n f.plans end.1 is (ap is_none e);
     })
 comes_by l f moment plan (Some code) s clear none is stay (inr enters) e = absurd (let no = enters.undecided in let yes : is_some (own_end l f moment plan).1.code ≡ true = ap is_some e in cc)
 comes_by l f moment plan (Some code) s clear none is stay (inl same) e =
@@ -106,22 +108,22 @@ comes_by l f moment plan (Some code) s clear none is stay (inl same) e =
     let found : code_of g.plans n ≡ Some code = code_found f n end.1 (Some code) none is e in
     let dues : filter (λ (due : Due). is_due_still f.plans due.kind) f.dues ≡ f.dues =
     ap (λ (plans : List Plan). filter (λ (due : Due). is_due_still plans due.kind) f.dues) (sym (ap (λ (h : Flat). h.plans) s.tidy)) ∙ ap (λ (h : Flat). h.dues) s.tidy in
-    let whole : closed l (answer.Begun n, begun f moment plan) ≡ (answer.Reply (reply.Code code), with_plan_spent (with_moment f moment)) =
+    let whole : closed l (leaving (answer.Begun n) (begun f moment plan)) ≡ leaving (answer.Reply (reply.Code code)) (with_plan_spent (with_moment f moment)) =
     ap (λ (h : Flat). finish n h (code_of h.plans n)) tidy
     ∙ ap (finish n g) found
-    ∙ ap (λ (h : Flat). (answer.Reply (reply.Code code), purged h)) (nothing_left f moment n plan end.1 code refl none is e dues)
-    ∙ ap (λ (h : Flat). (answer.Reply (reply.Code code), with_plan_spent (with_moment h moment))) clear in
+    ∙ ap (λ (h : Flat). leaving (answer.Reply (reply.Code code)) (purged h)) (nothing_left f moment n plan end.1 code refl none is e dues)
+    ∙ ap (λ (h : Flat). leaving (answer.Reply (reply.Code code)) (with_plan_spent (with_moment h moment))) clear in
     inr (record {
       code = code;
       decided = ap (λ (h : Flat). code_of h.plans n) tidy ∙ found;
-      reply = ap (λ (r : Answer × Flat). r.0) whole;
-      same = ap (λ (r : Answer × Flat). r.1) whole;
+      reply = ap (λ (r : Told). r.answer) whole;
+      same = ap (λ (r : Told). r.flat) whole;
     })
 
 -- a plan that has the next number and a caller waits, or is decided at once
 pub comes : (l : Limits) (f : Flat) (moment : ℕ) (plan : Plan) → Still l f → purged f ≡ f → NoneHas f.next.plan f.plans
     → plan.number ≡ f.next.plan → (plan.caller == 0) ≡ false
-    → Comes l f moment (answer.Begun f.next.plan, begun f moment plan)
+    → Comes l f moment (leaving (answer.Begun f.next.plan) (begun f moment plan))
 comes l f moment plan s clear none number caller =
     let end = own_end l f moment plan in
     let settles = plan_settles l (begun f moment plan) plan in

@@ -1,9 +1,8 @@
 -- Lists of plans with one more at the end, whose number none before has.
-use Rattle.std.proofs.Common.{ℕ, ◌≡◌, ◌∙◌, ◌<◌, ◌≤◌, ◌==◌, ◌||◌, ◌&&◌, ◌++◌, Bool, true, false, not, cond, List, [], ◌∷◌, Some, filter, find, ap, refl, arith, eqb-true, ne_eqb, append-nil}
+use Rattle.std.proofs.Common.{ℕ, ◌≡◌, ◌∙◌, ◌<◌, ◌==◌, ◌||◌, ◌&&◌, ◌++◌, Bool, true, false, not, cond, List, [], ◌∷◌, Some, filter, ap, refl, arith, ne_eqb, append-nil}
 use Rattle.std.specs.Prelude.{All, is_none, is_some}
 use Rattle.std.specs.List.{list_any}
 use Rattle.std.proofs.lemmas.List.Elements.{All-head, All-tail, All-weaker, filter-append}
-use Rattle.scm_model.specs.declared.flat.Caller.{Caller}
 use Rattle.scm_model.specs.declared.flat.Due.{Due}
 use Rattle.scm_model.specs.declared.flat.DueKind.{DueKind}
 use Rattle.scm_model.specs.declared.flat.DueKind.TheVariants as dues
@@ -89,13 +88,3 @@ stays_by plan somebody = elim (is_some plan.code) as (λ b. not (b && plan.calle
 pub filter_last : {X : Type 0} (p : X → Bool) (xs : List X) (x : X) → filter p xs ≡ xs → p x ≡ true
     → filter p (xs ++ x ∷ []) ≡ xs ++ x ∷ []
 filter_last p xs x stay is = filter-append p xs (x ∷ []) ∙ ap (λ ys. ys ++ filter p (x ∷ [])) stay ∙ ap (λ b. xs ++ cond b (x ∷ []) []) is
-
--- who has joined has a number
-pub not_nobody : (caller : ℕ) (rows : List Caller) → All (λ (row : Caller). 1 ≤ row.number) rows
-    → is_some (find (λ (row : Caller). row.number == caller) rows) ≡ true → (caller == 0) ≡ false
-not_nobody caller [] positive there = absurd (cc)
-not_nobody caller (row ∷ rows) positive there =
-    elim (row.number == caller) as (λ b. (row.number == caller) ≡ b → is_some (cond b (Some row) (find (λ (row : Caller). row.number == caller) rows)) ≡ true → (caller == 0) ≡ false) [
-      | true ↦ λ e h. ne_eqb caller 0 (λ zero. absurd (let same = eqb-true row.number caller e in let up = All-head (λ (row : Caller). 1 ≤ row.number) row rows positive in omega (arith, same, up, zero)))
-      | false ↦ λ e h. not_nobody caller rows (All-tail (λ (row : Caller). 1 ≤ row.number) row rows positive) h
-    ] refl there

@@ -5,12 +5,12 @@ use Rattle.scm_model.specs.declared.calls.Request.{Request}
 use Rattle.scm_model.specs.declared.calls.Request.TheVariants as request
 use Rattle.scm_model.specs.declared.flat.Flat.{Flat}
 use Rattle.scm_model.specs.declared.flat.Limits.{Limits}
-use Rattle.scm_model.specs.declared.steps.Answer.{Answer}
 use Rattle.scm_model.specs.declared.steps.Kept.{Kept}
 use Rattle.scm_model.specs.declared.steps.Step.{Step}
 use Rattle.scm_model.specs.declared.steps.Step.TheVariants.{Call}
 use Rattle.scm_model.specs.Changes.{with_moment}
 use Rattle.scm_model.specs.Rows.{is_caller, opened}
+use Rattle.scm_model.specs.Outcomes.{Told}
 use Rattle.scm_rules.specs.Needs.{start_order}
 use Rattle.scm_rules.specs.Query.{service_in}
 use Rattle.scm_rules.specs.Start.{new_plan}
@@ -19,19 +19,20 @@ use Rattle.scm_rules.specs.Valid.{IsValid}
 use Rattle.scm_rules.specs.Verdicts.{done_of, told_refused, verdict}
 use Rattle.scm_replies.specs.Replies.{IsDecided, Passes, Waits, code_told}
 use Rattle.scm_replies.proofs.Begun.{Comes, comes}
-use Rattle.scm_replies.proofs.Lists.{none_has, not_nobody}
+use Rattle.scm_replies.proofs.Lists.{none_has}
 use Rattle.scm_replies.proofs.Refused.{closed}
 use Rattle.scm_replies.proofs.Settling.{still}
 use Rattle.scm_replies.proofs.Verdicts.{begun_effect, done_code, passed_effect, verdict_moved}
+use Rattle.scm_laws.proofs.Handles.{not_nobody}
 
 -- a call that is no start is told 0
 told_zero : (l : Limits) (f : Flat) (moment caller : ℕ) (asked : Request) (append : Kept) → tells_plan asked 0 ≡ false
     → verdict l f caller asked append ≡ 0
-    → code_told (step_of l f moment (Call caller asked append)).0 ≡ Some 0
+    → code_told (step_of l f moment (Call caller asked append)).answer ≡ Some 0
 told_zero l f moment caller asked append plain none =
     let g = with_moment f moment in
     let code = verdict l g caller asked append in
-    ap (λ (r : Answer × Flat). code_told (closed l r).0) (passed_effect asked code g.next.plan (told_refused g caller asked code) g (done_of l g caller asked) (verdict_moved l f moment caller asked append ∙ none) plain)
+    ap (λ (r : Told). code_told (closed l r).answer) (passed_effect asked code g.next.plan (told_refused g caller asked code) g (done_of l g caller asked) (verdict_moved l f moment caller asked append ∙ none) plain)
     ∙ ap (λ (n : ℕ). Some n) (done_code l g caller asked)
 
 -- a start waits, or is told what was decided
@@ -48,13 +49,13 @@ started l f moment caller handle words append valid there none =
     (none_has f.next.plan f.plans valid.plans.below) refl (not_nobody caller f.callers valid.callers.positive there))
 
 as_stated : (l : Limits) (f : Flat) (moment : ℕ) (step : Step) → Comes l f moment (effect_of l (with_moment f moment) step)
-    → Waits f (closed l (effect_of l (with_moment f moment) step)).0 (closed l (effect_of l (with_moment f moment) step)).1
-    ⊎ IsDecided l f moment step (closed l (effect_of l (with_moment f moment) step)).0 (closed l (effect_of l (with_moment f moment) step)).1
+    → Waits f (closed l (effect_of l (with_moment f moment) step)).answer (closed l (effect_of l (with_moment f moment) step)).flat
+    ⊎ IsDecided l f moment step (closed l (effect_of l (with_moment f moment) step)).answer (closed l (effect_of l (with_moment f moment) step)).flat
 as_stated l f moment step (inl waits) = inl waits
 as_stated l f moment step (inr d) = inr (record { code = d.code; decided = d.decided; reply = d.reply; same = d.same })
 
 pub passes : (l : Limits) (f : Flat) (moment caller : ℕ) (asked : Request) (append : Kept) → IsValid l f
     → is_caller f caller ≡ true → verdict l f caller asked append ≡ 0
-    → Passes l f moment (Call caller asked append) asked (step_of l f moment (Call caller asked append)).0 (step_of l f moment (Call caller asked append)).1
+    → Passes l f moment (Call caller asked append) asked (step_of l f moment (Call caller asked append)).answer (step_of l f moment (Call caller asked append)).flat
 passes l f moment caller (request.Start handle words) append valid there none = as_stated l f moment (Call caller (request.Start handle words) append) (started l f moment caller handle words append valid there none)
 passes l f moment caller asked append valid there none = told_zero l f moment caller asked append refl none

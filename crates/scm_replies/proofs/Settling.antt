@@ -1,5 +1,5 @@
 -- What settling comes to in a state that was settled, when the moment moves and when a plan begins.
-use Rattle.std.proofs.Common.{ℕ, suc, ◌≡◌, ◌⊎◌, ◌∙◌, ◌<◌, ◌≤◌, Bool, true, false, cond, List, [], ◌∷◌, filter, length, ap, sym, refl, arith, inl, inr}
+use Rattle.std.proofs.Common.{ℕ, ◌≡◌, ◌⊎◌, ◌∙◌, ◌<◌, true, false, cond, List, [], ◌∷◌, filter, length, ap, sym, refl, arith, inl, inr}
 use Rattle.std.specs.Prelude.{is_some}
 use Rattle.scm_model.specs.declared.flat.Flat.{Flat}
 use Rattle.scm_model.specs.declared.flat.Limits.{Limits}
@@ -8,6 +8,8 @@ use Rattle.scm_model.specs.Changes.{with_moment}
 use Rattle.start_plan.specs.Moves.{move_of}
 use Rattle.start_plan.specs.Settle.{code_in, dropped, moved, settle_all, settle_entries, settle_plan, settled, stays, tidied}
 use Rattle.start_plan.specs.declared.settling.Move.TheVariants as moves
+use Rattle.scm_laws.proofs.Lists.{filter_full}
+use Rattle.scm_laws.proofs.Rests.{same_length}
 
 -- ## What settling reads and changes
 
@@ -91,26 +93,6 @@ all_settle l f (plan ∷ plans) =
         | inr up ↦ inr (let before = enters.up in omega (arith, before, up))
       ]
     ]
-
-same_length : (l : Limits) (f : Flat) (plans : List Plan) → length (settle_all l f plans).1 ≡ length plans
-same_length l f [] = refl
-same_length l f (plan ∷ plans) = ap suc (same_length l (settle_plan l f plan).0 plans)
-
-filter_short : {X : Type 0} (p : X → Bool) (xs : List X) → length (filter p xs) ≤ length xs
-filter_short p [] = omega arith
-filter_short p (x ∷ xs) =
-    let rest = filter_short p xs in
-    elim (p x) as (λ b. length (cond b (x ∷ filter p xs) (filter p xs)) ≤ suc (length xs)) [ true ↦ omega arith | false ↦ omega arith ]
-
--- a filter that drops nobody
-filter_full : {X : Type 0} (p : X → Bool) (xs : List X) → length (filter p xs) ≡ length xs → filter p xs ≡ xs
-filter_full p [] e = refl
-filter_full p (x ∷ xs) e =
-    let short = filter_short p xs in
-    elim (p x) as (λ b. length (cond b (x ∷ filter p xs) (filter p xs)) ≡ suc (length xs) → cond b (x ∷ filter p xs) (filter p xs) ≡ x ∷ xs) [
-      | true ↦ λ h. ap (λ ys. x ∷ ys) (filter_full p xs (omega arith))
-      | false ↦ λ h. absurd (omega arith)
-    ] e
 
 -- settling leaves the state and each plan as they are
 pub record Still (l : Limits) (f : Flat) : Type 0 where

@@ -1,5 +1,5 @@
 -- What each step is told.
-use Rattle.std.proofs.Common.{ℕ, ◌≡◌, ◌&&◌, Bool, true, false, Option, None, Some, Result, Ok, Err, IsTrue, refl}
+use Rattle.std.proofs.Common.{ℕ, ◌≡◌, true, Option, None, Some, Result, Ok, Err, IsTrue, refl}
 use Rattle.std.specs.Prelude.{is_some, unwrap_or}
 use Rattle.scm_model.specs.declared.calls.Reply.TheVariants as reply
 use Rattle.scm_model.specs.declared.calls.Request.{Request}
@@ -15,8 +15,9 @@ use Rattle.scm_model.specs.Changes.{with_moment}
 use Rattle.start_plan.specs.Decided.{code_of}
 use Rattle.start_plan.specs.Settle.{settled}
 use Rattle.status_machine.specs.Moves.{take_report}
-use Rattle.scm_rules.specs.Reports.{current_of, end_told, process_ended, report_answer, report_told, reported}
-use Rattle.scm_rules.specs.Runs.{Entry}
+use Rattle.scm_rules.specs.Reports.{current_of, report_answer, report_told, reported}
+use Rattle.scm_rules.specs.Ends.{end_told, process_ended}
+use Rattle.scm_model.specs.Entries.{Entry}
 use Rattle.scm_rules.specs.Steps.{finished, may, step_of}
 use Rattle.scm_rules.specs.Valid.{IsValid}
 use Rattle.scm_laws.proofs.Along.{Gives}
@@ -24,23 +25,16 @@ use Rattle.scm_laws.proofs.Clear.{Clear, is_valid_clear}
 use Rattle.scm_replies.specs.Replies.{ComesTo, Ends, LawOfReplies, code_told}
 use Rattle.scm_replies.proofs.Passed.{passes}
 use Rattle.scm_replies.proofs.Refused.{is_refused}
+use Rattle.std.proofs.lemmas.Bool.{and_parts}
 
 of_call : (l : Limits) (f : Flat) (moment caller : ℕ) (asked : Request) (append : Kept) → IsValid l f → is_caller f caller ≡ true
-    → ComesTo l f moment caller asked append (step_of l f moment (Call caller asked append)).0 (step_of l f moment (Call caller asked append)).1
+    → ComesTo l f moment caller asked append (step_of l f moment (Call caller asked append)).answer (step_of l f moment (Call caller asked append)).flat
 of_call l f moment caller asked append valid there = record {
   refused = is_refused l f moment caller asked append valid.settled valid.purged;
   passes = passes l f moment caller asked append valid there;
 }
 
 -- ## Steps
-
-second : (a b : Bool) → (a && b) ≡ true → b ≡ true
-second true b e = e
-second false b e = absurd (cc)
-
-first : (a b : Bool) → (a && b) ≡ true → a ≡ true
-first true b e = refl
-first false b e = absurd (cc)
 
 -- a start that ends is decided
 decided : (f : Flat) (plan : ℕ) (code : Option ℕ) → code_of f.plans plan ≡ code → is_some code ≡ true
@@ -49,24 +43,24 @@ decided f plan None e some = absurd (cc)
 decided f plan (Some code) e some = record { code = code; decided = e; ended = refl }
 
 -- a report and an end have no reply
-report_answered : (g : Flat) (taken : Result Status ℕ) → code_told (finished g (report_answer taken)).0 ≡ None
+report_answered : (g : Flat) (taken : Result Status ℕ) → code_told (finished g (report_answer taken)).answer ≡ None
 report_answered g (Ok status) = refl
 report_answered g (Err code) = refl
 
-report_untold : (g : Flat) (row : Option Service) (report : Status) → code_told (finished g (report_told row report)).0 ≡ None
+report_untold : (g : Flat) (row : Option Service) (report : Status) → code_told (finished g (report_told row report)).answer ≡ None
 report_untold g None report = refl
 report_untold g (Some row) report = report_answered g (take_report row.status report)
 
-end_untold : (g : Flat) (row : Option Service) → code_told (finished g (end_told row)).0 ≡ None
+end_untold : (g : Flat) (row : Option Service) → code_told (finished g (end_told row)).answer ≡ None
 end_untold g None = refl
 end_untold g (Some row) = refl
 
 told_rightly : (l : Limits) (f : Flat) (e : Entry) → IsValid l f → IsTrue (may l f e.0 e.1)
-    → LawOfReplies l f e (step_of l f e.0 e.1).0 (step_of l f e.0 e.1).1
-told_rightly l f (moment, Call caller asked append) valid ok = of_call l f moment caller asked append valid (first _ _ ok)
-told_rightly l f (moment, EndStart caller plan) valid ok = decided f plan (code_of f.plans plan) refl (second _ _ (second _ _ (first _ _ ok)))
-told_rightly l f (moment, Report process status) valid ok = report_untold (settled l (reported (with_moment f moment) process status).1) (current_of f process) status
-told_rightly l f (moment, Ended process) valid ok = end_untold (settled l (process_ended (with_moment f moment) process).1) (current_of f process)
+    → LawOfReplies l f e (step_of l f e.0 e.1).answer (step_of l f e.0 e.1).flat
+told_rightly l f (moment, Call caller asked append) valid ok = of_call l f moment caller asked append valid (and_parts _ _ (and_parts _ _ ok).0).0
+told_rightly l f (moment, EndStart caller plan) valid ok = decided f plan (code_of f.plans plan) refl (and_parts _ _ (and_parts _ _ (and_parts _ _ ok).0).1).1
+told_rightly l f (moment, Report process status) valid ok = report_untold (settled l (reported (with_moment f moment) process status).flat) (current_of f process) status
+told_rightly l f (moment, Ended process) valid ok = end_untold (settled l (process_ended (with_moment f moment) process).flat) (current_of f process)
 told_rightly l f (moment, step) valid ok = refl
 
 -- each step from a state that a run reaches

@@ -10,6 +10,7 @@ use Rattle.scm_model.specs.declared.steps.Answer.TheVariants as answer
 use Rattle.scm_model.specs.declared.steps.Kept.{Kept}
 use Rattle.scm_model.specs.Changes.{with_moment}
 use Rattle.scm_model.specs.Refused.{answered}
+use Rattle.scm_model.specs.Outcomes.{Done, Told}
 use Rattle.scm_rules.specs.Steps.{answer_of, tells_plan}
 use Rattle.scm_rules.specs.Verdicts.{done_of, told_refused, verdict}
 use Rattle.scm_replies.specs.Replies.{code_in}
@@ -54,7 +55,7 @@ refused_code f caller (request.DisplayName handle name size) code = refl
 refused_code f caller (request.KeyName handle name size) code = refl
 
 -- what is told of a call's effect ends with 0
-pub done_code : (l : Limits) (f : Flat) (caller : ℕ) (asked : Request) → code_in (done_of l f caller asked).0 ≡ 0
+pub done_code : (l : Limits) (f : Flat) (caller : ℕ) (asked : Request) → code_in (done_of l f caller asked).reply ≡ 0
 done_code l f caller (request.Close handle) = refl
 done_code l f caller (request.Control handle control) = refl
 done_code l f caller (request.Delete handle) = refl
@@ -77,18 +78,22 @@ no_plan : (asked : Request) (code : ℕ) → (code == 0) ≡ false → tells_pla
 no_plan (request.Start handle words) code some = some
 no_plan asked code some = refl
 
+-- an answer, and the state that is left
+abbrev pub leaving : Answer → Flat → Told
+leaving told f = record { answer = told; flat = f }
+
 -- the effect of a call that is refused
-pub refused_effect : (asked : Request) (code plan : ℕ) (told : Reply) (f : Flat) (done : Reply × Flat) → (code == 0) ≡ false
-    → ◌≡◌ {A = Answer × Flat} (answer_of (tells_plan asked code) plan (answered code told f done).0, (answered code told f done).1) (answer.Reply told, f)
+pub refused_effect : (asked : Request) (code plan : ℕ) (told : Reply) (f : Flat) (done : Done) → (code == 0) ≡ false
+    → leaving (answer_of (tells_plan asked code) plan (answered code told f done).reply) (answered code told f done).flat ≡ leaving (answer.Reply told) f
 refused_effect asked code plan told f done some = rw (no_plan asked code some, some) refl
 
 -- the effect of a call with verdict 0 that is no start
-pub passed_effect : (asked : Request) (code plan : ℕ) (told : Reply) (f : Flat) (done : Reply × Flat) → code ≡ 0
+pub passed_effect : (asked : Request) (code plan : ℕ) (told : Reply) (f : Flat) (done : Done) → code ≡ 0
     → tells_plan asked 0 ≡ false
-    → ◌≡◌ {A = Answer × Flat} (answer_of (tells_plan asked code) plan (answered code told f done).0, (answered code told f done).1) (answer.Reply done.0, done.1)
+    → leaving (answer_of (tells_plan asked code) plan (answered code told f done).reply) (answered code told f done).flat ≡ leaving (answer.Reply done.reply) done.flat
 passed_effect asked code plan told f done none plain = rw (none, plain) refl
 
 -- the effect of a start with verdict 0
-pub begun_effect : (code plan : ℕ) (told : Reply) (f : Flat) (done : Reply × Flat) → code ≡ 0
-    → ◌≡◌ {A = Answer × Flat} (answer_of (code == 0) plan (answered code told f done).0, (answered code told f done).1) (answer.Begun plan, done.1)
+pub begun_effect : (code plan : ℕ) (told : Reply) (f : Flat) (done : Done) → code ≡ 0
+    → leaving (answer_of (code == 0) plan (answered code told f done).reply) (answered code told f done).flat ≡ leaving (answer.Begun plan) done.flat
 begun_effect code plan told f done none = rw none refl

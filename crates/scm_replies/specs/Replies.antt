@@ -15,7 +15,7 @@ use Rattle.scm_model.specs.declared.steps.Step.TheVariants.{Call, EndStart}
 use Rattle.scm_model.specs.Changes.{with_moment}
 use Rattle.start_plan.specs.Decided.{code_of}
 use Rattle.start_plan.specs.Settle.{is_undecided, settled}
-use Rattle.scm_rules.specs.Runs.{Entry}
+use Rattle.scm_model.specs.Entries.{Entry}
 use Rattle.scm_rules.specs.Steps.{effect_of}
 use Rattle.scm_rules.specs.Verdicts.{told_refused, verdict}
 
@@ -64,7 +64,7 @@ with_plan_spent f = record f { next = record f.next { plan = f.next.plan + 1; du
 -- its deadline
 pub record IsDecided (l : Limits) (before : Flat) (moment : ℕ) (step : Step) (told : Answer) (after : Flat) : Type 0 where
   pub code : ℕ
-  pub decided : code_of (settled l (effect_of l (with_moment before moment) step).1).plans before.next.plan ≡ Some code
+  pub decided : code_of (settled l (effect_of l (with_moment before moment) step).flat).plans before.next.plan ≡ Some code
   pub reply : told ≡ answer.Reply (reply.Code code)
   pub same : after ≡ with_plan_spent (with_moment before moment)
 

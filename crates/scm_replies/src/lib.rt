@@ -1,19 +1,20 @@
 //! What the service manager's calls are told, over every run.
 #![tactic(auto)]
 
-ghost use Rattle.std.specs.Prelude.{◌≡◌, []};
 ghost use Rattle.scm_replies.specs.Replies.{LawOfReplies};
-ghost use Rattle.scm_rules.specs.Opening.{opening as opening_at};
+ghost use Rattle.scm_rules.specs.Opening.{IsOpening};
 ghost use Rattle.scm_rules.specs.Runs.{EachStep, IsLegal};
 
 use scm_model::{Flat, Limits, Step};
 use scm_text::Items;
 
-/// In each step the code of a reply is the call's verdict in the state before, or what the start's plan was decided to be; a start that isn't
-/// decided yet is told its plan, and no step but a call and the end of a start has a reply. A call that is refused changes nothing but the
-/// moment, and a start that its own settling decides nothing but that and the next numbers of plans and of what becomes due.
+/// The law of replies: in each step the code of a reply is the call's verdict in the state before,
+/// or what the start's plan was decided to be; a start that isn't decided yet is told its plan, and
+/// no step but a call and the end of a start has a reply. A call that is refused changes nothing
+/// but the moment, and a start that its own settling decides nothing but that and the next numbers
+/// of plans and of what becomes due.
 pub fn law_6(limits: &Limits, steps: &Items<(u64, Step)>, opening: &Flat)
-    requires begins { opening.now ≡ opening_at limits.now [] [] opening.now.moment }
+    requires begins { IsOpening limits.now opening.now }
     requires legal { IsLegal limits.now opening.now steps.now }
     ensures { EachStep (LawOfReplies limits.now) limits.now opening.now steps.now }
 {}

@@ -1,4 +1,3 @@
-use Rattle.std.proofs.Common.{sym, subst}
 use Rattle.scm_laws.proofs.Along.{along}
 use Rattle.scm_laws.proofs.Calls.{keeps}
 use Rattle.scm_laws.proofs.Sound.{Sound, begun}
@@ -9,8 +8,8 @@ use Rattle.scm_history.proofs.callers_stay.Goals as goal
 pub returns-clause-each_step : goal.returns-clause-each_step
 returns-clause-each_step c =
     along Sound CallersStay c.args.limits.now (keeps c.args.limits.now) (gives c.args.limits.now) c.args.opening.now c.args.steps.now
-    (subst Sound (sym c.requires.begins) (begun c.args.opening.now.moment)) c.requires.legal
+    (begun c.args.limits.now c.args.opening.now c.requires.begins) c.requires.legal
 
 pub returns-clause-for_good : goal.returns-clause-for_good
 returns-clause-for_good c =
-    gone_for_good c.args.limits.now c.args.opening.now c.args.steps.now (subst Sound (sym c.requires.begins) (begun c.args.opening.now.moment)) c.requires.legal
+    gone_for_good c.args.limits.now c.args.opening.now c.args.steps.now (begun c.args.limits.now c.args.opening.now c.requires.begins) c.requires.legal

@@ -1,4 +1,3 @@
-use Rattle.std.proofs.Common.{sym, subst}
 use Rattle.scm_laws.specs.Handles.{LawOfHandles}
 use Rattle.scm_laws.proofs.Along.{along}
 use Rattle.scm_laws.proofs.Calls.{keeps}
@@ -9,4 +8,4 @@ use Rattle.scm_laws.proofs.law_5.Goals as goal
 pub returns : goal.returns
 returns c =
     along Sound (LawOfHandles c.args.limits.now) c.args.limits.now (keeps c.args.limits.now) (gives c.args.limits.now) c.args.opening.now c.args.steps.now
-    (subst Sound (sym c.requires.begins) (begun c.args.opening.now.moment)) c.requires.legal
+    (begun c.args.limits.now c.args.opening.now c.requires.begins) c.requires.legal

@@ -1,5 +1,5 @@
-use Rattle.scm_owed.proofs.Effects.{effects_owe}
+use Rattle.scm_owed.proofs.Effects.{debt_most, effects_owe}
 use Rattle.scm_owed.proofs.effects_owe_less_than_their_need.Goals as goal
 
 pub returns : goal.returns
-returns c = λ l f step e. effects_owe l f step e
+returns c = λ l f step e. (effects_owe l f step e, debt_most f step)

@@ -1,9 +1,8 @@
-use Rattle.std.proofs.Common.{sym, subst}
 use Rattle.scm_laws.proofs.Along.{along}
 use Rattle.scm_laws.proofs.Calls.{keeps}
 use Rattle.scm_laws.proofs.Sound.{Sound, begun}
 use Rattle.scm_owed.specs.Paying.{LawOfOwed}
-use Rattle.scm_owed.proofs.Histories.{at_entry, legal_made}
+use Rattle.scm_laws.proofs.Histories.{at_entry, legal_made}
 use Rattle.scm_owed.proofs.Whole.{gives}
 use Rattle.scm_owed.proofs.law_of_owed_entries.Goals as goal
 
@@ -12,4 +11,4 @@ returns c =
     let l = c.args.limits.now in
     let f = c.args.opening.now in
     let es = c.args.steps.now in
-    at_entry LawOfOwed l f es (along Sound LawOfOwed l (keeps l) (gives l) f es (subst Sound (sym c.requires.begins) (begun f.moment)) (legal_made l f es c.requires.legal))
+    at_entry LawOfOwed l f es (along Sound LawOfOwed l (keeps l) (gives l) f es (begun l f c.requires.begins) (legal_made l f es c.requires.legal))

@@ -1,4 +1,3 @@
-use Rattle.std.proofs.Common.{sym, subst}
 use Rattle.scm_laws.proofs.Along.{along}
 use Rattle.scm_laws.proofs.Calls.{keeps}
 use Rattle.scm_laws.proofs.Sound.{Sound, begun}
@@ -9,4 +8,4 @@ use Rattle.scm_owed.proofs.law_of_owed_steps.Goals as goal
 pub returns : goal.returns
 returns c =
     along Sound LawOfOwed c.args.limits.now (keeps c.args.limits.now) (gives c.args.limits.now) c.args.opening.now c.args.steps.now
-    (subst Sound (sym c.requires.begins) (begun c.args.opening.now.moment)) c.requires.legal
+    (begun c.args.limits.now c.args.opening.now c.requires.begins) c.requires.legal

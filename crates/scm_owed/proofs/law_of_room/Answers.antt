@@ -1,12 +1,16 @@
-use Rattle.std.proofs.Common.{◌≡◌, ap, sym, subst, arith}
-use Rattle.scm_model.specs.declared.flat.Flat.{Flat}
-use Rattle.scm_laws.proofs.Sound.{Sound, begun}
-use Rattle.scm_owed.specs.Owed.{owed}
-use Rattle.scm_owed.proofs.Whole.{room_kept}
+use Rattle.std.proofs.Common.{ap, arith}
+use Rattle.scm_laws.proofs.Histories.{state_is}
+use Rattle.scm_laws.proofs.Sound.{begun}
+use Rattle.scm_rules.specs.Owed.{owed}
+use Rattle.scm_owed.proofs.Whole.{opened_owes, room_kept}
 use Rattle.scm_owed.proofs.law_of_room.Goals as goal
 
 pub returns : goal.returns
 returns c =
-    let none : owed c.args.opening.now ≡ 0 = ap (λ (f : Flat). owed f) c.requires.begins in
-    let rest = room_kept c.args.limits.now c.args.opening.now 0 0 c.args.steps.now (subst Sound (sym c.requires.begins) (begun c.args.opening.now.moment)) (omega (arith, none)) c.requires.legal c.requires.room in
-    omega (arith, rest)
+    let l = c.args.limits.now in
+    let f = c.args.opening.now in
+    let es = c.args.steps.now in
+    let none = opened_owes l f c.requires.begins in
+    let rest = room_kept l f 0 0 es (begun l f c.requires.begins) (omega (arith, none)) c.requires.legal c.requires.room in
+    let same = ap owed (state_is l f es) in
+    omega (arith, rest, same)

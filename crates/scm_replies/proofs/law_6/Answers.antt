@@ -1,4 +1,3 @@
-use Rattle.std.proofs.Common.{sym, subst}
 use Rattle.scm_laws.proofs.Along.{along}
 use Rattle.scm_laws.proofs.Clear.{Clear, clear_begun, clear_keeps}
 use Rattle.scm_replies.specs.Replies.{LawOfReplies}
@@ -9,4 +8,4 @@ pub returns : goal.returns
 returns c =
     let l = c.args.limits.now in
     along (Clear l) (LawOfReplies l) l (clear_keeps l) (gives l) c.args.opening.now c.args.steps.now
-    (subst (Clear l) (sym c.requires.begins) (clear_begun l c.args.opening.now.moment)) c.requires.legal
+    (clear_begun l c.args.opening.now c.requires.begins) c.requires.legal

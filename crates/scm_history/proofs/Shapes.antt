@@ -1,0 +1,136 @@
+-- The shape of each answer.
+use Rattle.std.proofs.Common.{ℕ, ◌≡◌, ◌⊎◌, ◌∙◌, ◌==◌, true, false, cond, List, Option, None, Some, Ok, Err, refl, inl, inr}
+use Rattle.std.specs.Prelude.{is_some, unwrap_or}
+use Rattle.scm_model.specs.declared.codes.TheConstants.{ERROR_INVALID_DATA}
+use Rattle.scm_model.specs.declared.flat.Flat.{Flat}
+use Rattle.scm_model.specs.declared.flat.Limits.{Limits}
+use Rattle.scm_model.specs.declared.flat.Service.{Service}
+use Rattle.scm_model.specs.declared.flat.Status.{Status}
+use Rattle.scm_model.specs.declared.calls.Reply.TheVariants as reply
+use Rattle.scm_model.specs.declared.calls.Request.{Request}
+use Rattle.scm_model.specs.declared.calls.Request.TheVariants as request
+use Rattle.scm_model.specs.declared.steps.Answer.{Answer}
+use Rattle.scm_model.specs.declared.steps.Answer.TheVariants as answer
+use Rattle.scm_model.specs.declared.steps.Kept.{Kept}
+use Rattle.scm_model.specs.declared.steps.Step.{Step}
+use Rattle.scm_model.specs.declared.steps.Step.TheVariants.{Call, EndStart, Report, Ended, ControlTaken}
+use Rattle.scm_model.specs.Changes.{with_moment}
+use Rattle.scm_model.specs.Outcomes.{Done}
+use Rattle.start_plan.specs.Decided.{code_of}
+use Rattle.start_plan.specs.Settle.{settled}
+use Rattle.status_machine.specs.Moves.{takes}
+use Rattle.scm_rules.specs.Controls.{controls_of, first_control}
+use Rattle.scm_rules.specs.Ends.{end_told}
+use Rattle.scm_rules.specs.Reports.{current_of, report_answer, report_told}
+use Rattle.scm_rules.specs.Start.{start_done, start_verdict}
+use Rattle.scm_rules.specs.Steps.{answered_by, at_moment, effect_of, finished, step_of}
+use Rattle.scm_rules.specs.Verdicts.{call_of, done_of, told_refused, verdict}
+use Rattle.scm_laws.proofs.Along.{Gives}
+use Rattle.scm_laws.proofs.Calls.{by_verdict}
+use Rattle.scm_laws.proofs.Lists.{is_some-find}
+use Rattle.scm_laws.proofs.Sound.{Sound}
+use Rattle.scm_history.specs.Shapes.{HasShape, IsAnswered, IsReplied, LawOfShapes, has_current, is_reply_to}
+
+-- ## Replies
+
+of_done : (l : Limits) (f : Flat) (caller : ℕ) (asked : Request) → is_reply_to asked (done_of l f caller asked).reply ≡ true
+of_done l f caller (request.Close handle) = refl
+of_done l f caller (request.Control handle control) = refl
+of_done l f caller (request.Delete handle) = refl
+of_done l f caller (request.Lock handle) = refl
+of_done l f caller (request.QueryStatus handle) = refl
+of_done l f caller (request.SetStatus handle status) = refl
+of_done l f caller (request.Unlock handle) = refl
+of_done l f caller (request.Change change) = refl
+of_done l f caller (request.Create new) = refl
+of_done l f caller (request.OpenManager database access) = refl
+of_done l f caller (request.OpenService handle name access) = refl
+of_done l f caller (request.QueryConfig handle size) = refl
+of_done l f caller (request.QueryLock handle size) = refl
+of_done l f caller (request.Start handle words) = refl
+of_done l f caller (request.DisplayName handle name size) = refl
+of_done l f caller (request.KeyName handle name size) = refl
+
+of_refused : (f : Flat) (caller : ℕ) (asked : Request) (code : ℕ) → is_reply_to asked (told_refused f caller asked code) ≡ true
+of_refused f caller (request.Close handle) code = refl
+of_refused f caller (request.Control handle control) code = refl
+of_refused f caller (request.Delete handle) code = refl
+of_refused f caller (request.Lock handle) code = refl
+of_refused f caller (request.QueryStatus handle) code = refl
+of_refused f caller (request.SetStatus handle status) code = refl
+of_refused f caller (request.Unlock handle) code = refl
+of_refused f caller (request.Change change) code = refl
+of_refused f caller (request.Create new) code = refl
+of_refused f caller (request.OpenManager database access) code = refl
+of_refused f caller (request.OpenService handle name access) code = refl
+of_refused f caller (request.QueryConfig handle size) code = refl
+of_refused f caller (request.QueryLock handle size) code = refl
+of_refused f caller (request.Start handle words) code = refl
+of_refused f caller (request.DisplayName handle name size) code = refl
+of_refused f caller (request.KeyName handle name size) code = refl
+
+pub of_reply : (l : Limits) (f : Flat) (caller : ℕ) (asked : Request) (append : Kept) → is_reply_to asked (call_of l f caller asked append).reply ≡ true
+of_reply l f caller asked append =
+    by_verdict (λ r. is_reply_to asked r.reply ≡ true) (verdict l f caller asked append) (told_refused f caller asked (verdict l f caller asked append)) f (done_of l f caller asked)
+    (λ e. of_done l f caller asked) (λ e. of_refused f caller asked (verdict l f caller asked append))
+
+-- ## Calls
+
+-- a start that isn't refused waits, or is told its code
+of_begun : (number handle : ℕ) (words : Option (List (List ℕ))) (code : Option ℕ) → IsReplied (request.Start handle words) (answered_by number code) ⊎ (answered_by number code ≡ answer.Begun number)
+of_begun number handle words None = inr refl
+of_begun number handle words (Some code) = inl (record { said = reply.Code code; is = refl; form = refl })
+
+of_call : (l : Limits) (f : Flat) (moment caller : ℕ) (asked : Request) (append : Kept) → IsAnswered f asked (step_of l f moment (Call caller asked append)).answer
+of_call l f moment caller (request.Start handle words) append =
+    let g = with_moment f moment in
+    let done = start_done g caller handle words in
+    let refusal : Done = record { reply = told_refused g caller (request.Start handle words) (start_verdict g caller handle words); flat = g } in
+    elim (start_verdict g caller handle words == 0) as (λ b. IsAnswered f (request.Start handle words) (finished (settled l (cond b done refusal).flat) (cond b (answer.Begun f.next.plan) (answer.Reply (cond b done refusal).reply))).answer) [
+      | true ↦ of_begun f.next.plan handle words (code_of (settled l done.flat).plans f.next.plan)
+      | false ↦ inl (record { said = refusal.reply; is = refl; form = refl })
+    ]
+of_call l f moment caller asked append = record { said = (call_of l (with_moment f moment) caller asked append).reply; is = refl; form = of_reply l (with_moment f moment) caller asked append }
+
+-- ## Reports and ends
+
+-- what is told of a process by whether a service has it
+record IsHeard (found : Option Service) (told : Answer) : Type 0 where
+  stale : is_some found ≡ false → told ≡ answer.Stale
+  heard : is_some found ≡ true → (told ≡ answer.Done) ⊎ (told ≡ answer.Refused ERROR_INVALID_DATA)
+
+of_taken : (g : Flat) (row : Service) (report : Status) → ((finished g (report_told (Some row) report)).answer ≡ answer.Done) ⊎ ((finished g (report_told (Some row) report)).answer ≡ answer.Refused ERROR_INVALID_DATA)
+of_taken g row report =
+    elim (takes row.status report) as (λ b. ((finished g (report_answer (cond b (Ok report) (Err ERROR_INVALID_DATA)))).answer ≡ answer.Done)
+    ⊎ ((finished g (report_answer (cond b (Ok report) (Err ERROR_INVALID_DATA)))).answer ≡ answer.Refused ERROR_INVALID_DATA)) [ true ↦ inl refl | false ↦ inr refl ]
+
+of_report : (g : Flat) (found : Option Service) (report : Status) → IsHeard found (finished g (report_told found report)).answer
+of_report g None report = record { stale = λ e. refl; heard = λ e. absurd cc }
+of_report g (Some row) report = record { stale = λ e. absurd cc; heard = λ e. of_taken g row report }
+
+record IsOver (found : Option Service) (told : Answer) : Type 0 where
+  stale : is_some found ≡ false → told ≡ answer.Stale
+  done : is_some found ≡ true → told ≡ answer.Done
+
+of_end : (g : Flat) (found : Option Service) → IsOver found (finished g (end_told found)).answer
+of_end g None = record { stale = λ e. refl; done = λ e. absurd cc }
+of_end g (Some row) = record { stale = λ e. absurd cc; done = λ e. refl }
+
+-- a service is found exactly where one has the process
+same_current : (f : Flat) (process : ℕ) → is_some (current_of f process) ≡ has_current f process
+same_current f process = is_some-find (λ (row : Service). row.process == process) f.services
+
+of_step : (l : Limits) (f : Flat) (moment : ℕ) (step : Step) → HasShape f step (step_of l f moment step).answer
+of_step l f moment (Call caller asked append) = of_call l f moment caller asked append
+of_step l f moment (EndStart caller plan) = record { code = unwrap_or (code_of f.plans plan) 0; is = refl }
+of_step l f moment (Report process status) =
+    let told = of_report (settled l (effect_of l (at_moment f moment (Report process status)) (Report process status)).flat) (current_of f process) status in
+    record { stale = λ e. told.stale (same_current f process ∙ e); heard = λ e. told.heard (same_current f process ∙ e) }
+of_step l f moment (Ended process) =
+    let told = of_end (settled l (effect_of l (at_moment f moment (Ended process)) (Ended process)).flat) (current_of f process) in
+    record { stale = λ e. told.stale (same_current f process ∙ e); done = λ e. told.done (same_current f process ∙ e) }
+of_step l f moment (ControlTaken process) = record { code = first_control (controls_of f process); is = refl }
+of_step l f moment step = refl
+
+pub gives : (l : Limits) → Gives Sound LawOfShapes l
+gives l f e s ok = of_step l f e.0 e.1

@@ -1,0 +1,21 @@
+-- Whose plan begins in a start that waits.
+use Rattle.std.specs.Prelude.{◌≡◌, IfSome, None}
+use Rattle.scm_model.specs.declared.flat.Flat.{Flat}
+use Rattle.scm_model.specs.declared.calls.Request.TheVariants as request
+use Rattle.scm_model.specs.declared.steps.Answer.{Answer}
+use Rattle.scm_model.specs.declared.steps.Step.{Step}
+use Rattle.scm_model.specs.declared.steps.Step.TheVariants.{Call}
+use Rattle.scm_model.specs.Rows.{opened}
+use Rattle.scm_model.specs.Entries.{Entry}
+use Rattle.scm_rules.specs.Named.{plan_made}
+use Rattle.scm_rules.specs.Query.{service_in}
+use Rattle.scm_history.specs.Plans.{IsPlanOf}
+
+-- behind a Start that waits its plan is there, of the caller that asked and aimed at its handle's service; no other step begins a plan
+abbrev pub BeginsOwn : Flat → Step → Answer → Flat → Type 0
+BeginsOwn before (Call caller (request.Start handle words) append) told after =
+    IfSome (plan_made told) (λ number. IsPlanOf after number caller (service_in (opened before caller handle)))
+BeginsOwn before step told after = plan_made told ≡ None
+
+abbrev pub LawOfBegun : Flat → Entry → Answer → Flat → Type 0
+LawOfBegun before e told after = BeginsOwn before e.1 told after
