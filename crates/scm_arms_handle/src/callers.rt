@@ -25,6 +25,7 @@ pub fn leave(tables: &mut Tables, caller: u64) -> Answer
 {
     tables.free_lock_of(caller);
     tables.remove_handles_of(caller);
+    tables.remove_registrations_of(caller);
     tables.remove_plans_of(caller);
     tables.remove_caller(caller);
     Answer::Done

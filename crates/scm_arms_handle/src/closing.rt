@@ -2,8 +2,9 @@ ghost use Rattle.std.specs.Prelude.{◌≡◌};
 ghost use Rattle.scm_model.specs.Refused.{outcome};
 ghost use Rattle.scm_model.specs.Rows.{is_closable};
 ghost use Rattle.scm_model.specs.declared.calls.Request.TheVariants as request;
-ghost use Rattle.scm_rules.specs.Close.{close_done, close_verdict};
+ghost use Rattle.scm_rules.specs.Close.{close_done, close_verdict, close_outcome};
 
+use scm_model::codes::ERROR_INVALID_HANDLE;
 use scm_model::{HandleKind, Reply};
 use scm_tables::Tables;
 
@@ -22,15 +23,21 @@ pub fn close_verdict(tables: &Tables, caller: u64, handle: u64) -> u32
     ensures { result ≡ close_verdict tables.now.flat caller handle }
 {
     match tables.handle(caller, handle) {
-        Some(row) => { if is_closable(row.kind) { 0 } else { 6 } }
-        None => 6,
+        Some(row) => {
+            if is_closable(row.kind) {
+                0
+            } else {
+                ERROR_INVALID_HANDLE
+            }
+        }
+        None => ERROR_INVALID_HANDLE,
     }
 }
 
 /// Closes a caller's handle.
 pub fn close(tables: &mut Tables, caller: u64, handle: u64) -> Reply
-    ensures reply { result ≡ (outcome (close_verdict tables.old.flat caller handle) (request.Close handle) tables.old.flat (close_done tables.old.flat handle)).0 }
-    ensures flat { tables.new.flat ≡ (outcome (close_verdict tables.old.flat caller handle) (request.Close handle) tables.old.flat (close_done tables.old.flat handle)).1 }
+    ensures reply { result ≡ (close_outcome tables.old.flat caller handle).reply }
+    ensures flat { tables.new.flat ≡ (close_outcome tables.old.flat caller handle).flat }
     ensures limits { tables.new.limits ≡ tables.old.limits }
 {
     let code = close_verdict(tables, caller, handle);

@@ -1,6 +1,7 @@
 ghost use Rattle.std.specs.Prelude.{◌≡◌, ◌<◌, ◌^◌, ◌==◌, Some, codes, length, IfOk, if◌then◌else◌};
 ghost use Rattle.scm_rules.specs.Locks.{is_held, lock_owner, lock_size, name_of, query_lock_reply, query_lock_verdict, seconds_at};
 
+use scm_model::codes::{ERROR_ACCESS_DENIED, ERROR_INSUFFICIENT_BUFFER, ERROR_INVALID_HANDLE};
 use scm_model::{LockRow, Principal, Reply};
 use scm_tables::{Tables, mask_lacks};
 use scm_text::{OutOfMemory, WText};
@@ -77,13 +78,13 @@ fn query_lock_verdict(tables: &Tables, caller: u64, handle: u64, size: u32, need
     ensures { result ≡ query_lock_verdict tables.now.flat caller handle size }
 {
     let Some(granted) = tables.manager_mask(caller, handle) else {
-        return 6;
+        return ERROR_INVALID_HANDLE;
     };
     if mask_lacks(granted, SC_MANAGER_QUERY_LOCK_STATUS) {
-        return 5;
+        return ERROR_ACCESS_DENIED;
     }
     if size < needed {
-        return 122;
+        return ERROR_INSUFFICIENT_BUFFER;
     }
     0
 }
@@ -109,7 +110,11 @@ pub fn query_lock(tables: &Tables, caller: u64, handle: u64, size: u32, owner: W
         held: 0,
         owner: None,
         seconds: 0,
-        needed: if code == 122 { needed } else { 0 },
+        needed: if code == ERROR_INSUFFICIENT_BUFFER {
+            needed
+        } else {
+            0
+        },
         code,
     }
 }

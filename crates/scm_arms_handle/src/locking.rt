@@ -1,12 +1,14 @@
 ghost use Rattle.std.specs.Prelude.{◌≡◌, ◌≤◌, ◌<◌, ◌^◌};
 ghost use Rattle.scm_model.specs.Refused.{outcome};
 ghost use Rattle.scm_model.specs.declared.calls.Request.TheVariants as request;
-ghost use Rattle.scm_rules.specs.Locks.{lock_done, lock_verdict, locks, unlock_done, unlock_verdict};
+ghost use Rattle.scm_rules.specs.Locks.{lock_done, lock_verdict, locks, unlock_done, unlock_verdict, lock_outcome, unlock_outcome};
 
+use scm_model::codes::{
+    ERROR_ACCESS_DENIED, ERROR_INVALID_HANDLE, ERROR_NOT_ENOUGH_QUOTA,
+    ERROR_SERVICE_DATABASE_LOCKED, SC_MANAGER_LOCK,
+};
 use scm_model::{HandleKind, HandleRow, Limits, Reply};
 use scm_tables::{Tables, mask_lacks};
-
-const SC_MANAGER_LOCK: u32 = 8;
 
 /// What `RLockServiceDatabase` is refused with, or 0: `ERROR_INVALID_HANDLE` (6), `ERROR_ACCESS_DENIED` (5),
 /// `ERROR_SERVICE_DATABASE_LOCKED` (1055) or `ERROR_NOT_ENOUGH_QUOTA` (1816).
@@ -14,16 +16,16 @@ pub fn lock_verdict(tables: &Tables, limits: &Limits, caller: u64, handle: u64) 
     ensures { result ≡ lock_verdict limits.now tables.now.flat caller handle }
 {
     let Some(granted) = tables.manager_mask(caller, handle) else {
-        return 6;
+        return ERROR_INVALID_HANDLE;
     };
     if mask_lacks(granted, SC_MANAGER_LOCK) {
-        return 5;
+        return ERROR_ACCESS_DENIED;
     }
     if tables.lock().is_some() {
-        return 1055;
+        return ERROR_SERVICE_DATABASE_LOCKED;
     }
     if limits.handles as usize <= tables.handles_of(caller) {
-        return 1816;
+        return ERROR_NOT_ENOUGH_QUOTA;
     }
     0
 }
@@ -32,8 +34,8 @@ pub fn lock_verdict(tables: &Tables, limits: &Limits, caller: u64, handle: u64) 
 pub fn lock(tables: &mut Tables, limits: &Limits, caller: u64, handle: u64) -> Reply
     requires room { 1 ≤ tables.old.spare.handles }
     requires next { tables.old.flat.next.handle < 2 ^ 63 }
-    ensures reply { result ≡ (outcome (lock_verdict limits.now tables.old.flat caller handle) (request.Lock handle) tables.old.flat (lock_done tables.old.flat caller)).0 }
-    ensures flat { tables.new.flat ≡ (outcome (lock_verdict limits.now tables.old.flat caller handle) (request.Lock handle) tables.old.flat (lock_done tables.old.flat caller)).1 }
+    ensures reply { result ≡ (lock_outcome limits.now tables.old.flat caller handle).reply }
+    ensures flat { tables.new.flat ≡ (lock_outcome limits.now tables.old.flat caller handle).flat }
     ensures limits { tables.new.limits ≡ tables.old.limits }
 {
     let code = lock_verdict(tables, limits, caller, handle);
@@ -68,8 +70,8 @@ pub fn unlock_verdict(tables: &Tables, caller: u64, handle: u64) -> u32
 
 /// Gives the lock of the database back. Its handle leaves.
 pub fn unlock(tables: &mut Tables, caller: u64, handle: u64) -> Reply
-    ensures reply { result ≡ (outcome (unlock_verdict tables.old.flat caller handle) (request.Unlock handle) tables.old.flat (unlock_done tables.old.flat handle)).0 }
-    ensures flat { tables.new.flat ≡ (outcome (unlock_verdict tables.old.flat caller handle) (request.Unlock handle) tables.old.flat (unlock_done tables.old.flat handle)).1 }
+    ensures reply { result ≡ (unlock_outcome tables.old.flat caller handle).reply }
+    ensures flat { tables.new.flat ≡ (unlock_outcome tables.old.flat caller handle).flat }
     ensures limits { tables.new.limits ≡ tables.old.limits }
 {
     let code = unlock_verdict(tables, caller, handle);

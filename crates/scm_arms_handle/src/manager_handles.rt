@@ -1,10 +1,13 @@
 ghost use Rattle.std.specs.Prelude.{◌≡◌, ◌≤◌, ◌<◌, ◌^◌};
 ghost use Rattle.scm_model.specs.Refused.{outcome};
 ghost use Rattle.scm_model.specs.declared.calls.Request.TheVariants as request;
-ghost use Rattle.scm_rules.specs.OpenManager.{manager_granted, open_manager_done, open_manager_verdict};
+ghost use Rattle.scm_rules.specs.OpenManager.{manager_granted, open_manager_done, open_manager_verdict, open_manager_outcome};
 
 use super::databases::{names_active, names_failed};
 use access_mask::granted;
+use scm_model::codes::{
+    ERROR_ACCESS_DENIED, ERROR_DATABASE_DOES_NOT_EXIST, ERROR_INVALID_NAME, ERROR_NOT_ENOUGH_QUOTA,
+};
 use scm_model::{HandleKind, Limits, Reply};
 use scm_tables::Tables;
 use scm_text::WText;
@@ -28,16 +31,16 @@ pub fn open_manager_verdict(
     ensures { result ≡ open_manager_verdict limits.now tables.now.flat caller database.now access }
 {
     if names_failed(database) {
-        return 1065;
+        return ERROR_DATABASE_DOES_NOT_EXIST;
     }
     if !names_active(database) {
-        return 123;
+        return ERROR_INVALID_NAME;
     }
     if manager_granted(tables, caller, access).is_none() {
-        return 5;
+        return ERROR_ACCESS_DENIED;
     }
     if limits.handles as usize <= tables.handles_of(caller) {
-        return 1816;
+        return ERROR_NOT_ENOUGH_QUOTA;
     }
     0
 }
@@ -52,8 +55,8 @@ pub fn open_manager(
 ) -> Reply
     requires room { 1 ≤ tables.old.spare.handles }
     requires next { tables.old.flat.next.handle < 2 ^ 63 }
-    ensures reply { result ≡ (outcome (open_manager_verdict limits.now tables.old.flat caller database.now access) (request.OpenManager database.now access) tables.old.flat (open_manager_done tables.old.flat caller access)).0 }
-    ensures flat { tables.new.flat ≡ (outcome (open_manager_verdict limits.now tables.old.flat caller database.now access) (request.OpenManager database.now access) tables.old.flat (open_manager_done tables.old.flat caller access)).1 }
+    ensures reply { result ≡ (open_manager_outcome limits.now tables.old.flat caller database.now access).reply }
+    ensures flat { tables.new.flat ≡ (open_manager_outcome limits.now tables.old.flat caller database.now access).flat }
     ensures limits { tables.new.limits ≡ tables.old.limits }
 {
     let code = open_manager_verdict(tables, limits, caller, database, access);

@@ -2,9 +2,13 @@ ghost use Rattle.std.specs.Prelude.{◌≡◌, ◌≤◌, ◌<◌, ◌^◌, opti
 ghost use Rattle.scm_model.specs.Refused.{outcome};
 ghost use Rattle.scm_model.specs.Rows.{named};
 ghost use Rattle.scm_model.specs.declared.calls.Request.TheVariants as request;
-ghost use Rattle.scm_rules.specs.OpenService.{number_in, open_service_done, open_service_verdict, service_granted};
+ghost use Rattle.scm_rules.specs.OpenService.{number_in, open_service_done, open_service_verdict, service_granted, open_service_outcome};
 
 use access_mask::granted;
+use scm_model::codes::{
+    ERROR_ACCESS_DENIED, ERROR_INVALID_HANDLE, ERROR_INVALID_NAME, ERROR_NOT_ENOUGH_QUOTA,
+    ERROR_SERVICE_DOES_NOT_EXIST,
+};
 use scm_model::{HandleKind, Limits, Reply};
 use scm_tables::Tables;
 use scm_text::WText;
@@ -40,19 +44,19 @@ pub fn open_service_verdict(
     ensures { result ≡ open_service_verdict limits.now tables.now.flat caller handle name.now access }
 {
     if tables.manager_mask(caller, handle).is_none() {
-        return 6;
+        return ERROR_INVALID_HANDLE;
     }
     if is_bad_name(name) {
-        return 123;
+        return ERROR_INVALID_NAME;
     }
     if tables.named(name).is_none() {
-        return 1060;
+        return ERROR_SERVICE_DOES_NOT_EXIST;
     }
     if service_granted(tables, caller, access).is_none() {
-        return 5;
+        return ERROR_ACCESS_DENIED;
     }
     if limits.handles as usize <= tables.handles_of(caller) {
-        return 1816;
+        return ERROR_NOT_ENOUGH_QUOTA;
     }
     0
 }
@@ -68,8 +72,8 @@ pub fn open_service(
 ) -> Reply
     requires room { 1 ≤ tables.old.spare.handles }
     requires next { tables.old.flat.next.handle < 2 ^ 63 }
-    ensures reply { result ≡ (outcome (open_service_verdict limits.now tables.old.flat caller handle name.now access) (request.OpenService handle name.now access) tables.old.flat (open_service_done tables.old.flat caller name.now access)).0 }
-    ensures flat { tables.new.flat ≡ (outcome (open_service_verdict limits.now tables.old.flat caller handle name.now access) (request.OpenService handle name.now access) tables.old.flat (open_service_done tables.old.flat caller name.now access)).1 }
+    ensures reply { result ≡ (open_service_outcome limits.now tables.old.flat caller handle name.now access).reply }
+    ensures flat { tables.new.flat ≡ (open_service_outcome limits.now tables.old.flat caller handle name.now access).flat }
     ensures limits { tables.new.limits ≡ tables.old.limits }
 {
     let code = open_service_verdict(tables, limits, caller, handle, name, access);

@@ -5,6 +5,9 @@ ghost use Rattle.scm_rules.specs.Controls.{control_done, control_taken, control_
 
 use super::reporting::process_in;
 use control_dispatch::judge;
+use scm_model::codes::{
+    ERROR_INVALID_SERVICE_CONTROL, ERROR_SERVICE_CANNOT_ACCEPT_CTRL, ERROR_SERVICE_NOT_ACTIVE,
+};
 use scm_model::{Answer, Opened, Reply, Service, Status, zero_status};
 use scm_tables::Tables;
 
@@ -47,7 +50,9 @@ pub fn control_verdict(tables: &Tables, caller: u64, handle: u64, control: u32) 
 fn tells_status(code: u32) -> bool
     ensures { result ≡ tells_status code }
 {
-    code == 1052 || code == 1061 || code == 1062
+    code == ERROR_INVALID_SERVICE_CONTROL
+        || code == ERROR_SERVICE_CANNOT_ACCEPT_CTRL
+        || code == ERROR_SERVICE_NOT_ACTIVE
 }
 
 /// The status of a service that is told with a code that refuses a control.
@@ -64,8 +69,8 @@ fn status_told(tables: &Tables, code: u32, service: u64) -> Status
 /// A control more waits for a service's process; its status is told. It takes no memory.
 pub fn control(tables: &mut Tables, caller: u64, handle: u64, control: u32) -> Reply
     requires { tables.old.limits.controls ≤ 16 }
-    ensures reply { result ≡ (answered (control_verdict tables.old.limits tables.old.flat caller handle control) (control_told tables.old.flat caller handle (control_verdict tables.old.limits tables.old.flat caller handle control)) tables.old.flat (control_done tables.old.limits tables.old.flat caller handle control)).0 }
-    ensures flat { tables.new.flat ≡ (answered (control_verdict tables.old.limits tables.old.flat caller handle control) (control_told tables.old.flat caller handle (control_verdict tables.old.limits tables.old.flat caller handle control)) tables.old.flat (control_done tables.old.limits tables.old.flat caller handle control)).1 }
+    ensures reply { result ≡ (answered (control_verdict tables.old.limits tables.old.flat caller handle control) (control_told tables.old.flat caller handle (control_verdict tables.old.limits tables.old.flat caller handle control)) tables.old.flat (control_done tables.old.limits tables.old.flat caller handle control)).reply }
+    ensures flat { tables.new.flat ≡ (answered (control_verdict tables.old.limits tables.old.flat caller handle control) (control_told tables.old.flat caller handle (control_verdict tables.old.limits tables.old.flat caller handle control)) tables.old.flat (control_done tables.old.limits tables.old.flat caller handle control)).flat }
     ensures limits { tables.new.limits ≡ tables.old.limits }
 {
     let code = control_verdict(tables, caller, handle, control);
@@ -84,8 +89,8 @@ pub fn control(tables: &mut Tables, caller: u64, handle: u64, control: u32) -> R
 
 /// The control that waits first for a process is taken in hand. It takes no memory.
 pub fn take_control(tables: &mut Tables, process: u64) -> Answer
-    ensures answer { result ≡ (control_taken tables.old.flat process).0 }
-    ensures flat { tables.new.flat ≡ (control_taken tables.old.flat process).1 }
+    ensures answer { result ≡ (control_taken tables.old.flat process).answer }
+    ensures flat { tables.new.flat ≡ (control_taken tables.old.flat process).flat }
     ensures limits { tables.new.limits ≡ tables.old.limits }
 {
     let code = tables.first_control(process);

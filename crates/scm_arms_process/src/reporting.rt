@@ -2,18 +2,17 @@ ghost use Rattle.std.specs.Prelude.{◌≡◌, ◌&&◌, option_copied};
 ghost use Rattle.scm_model.specs.declared.calls.Request.TheVariants as request;
 ghost use Rattle.scm_model.specs.Refused.{outcome};
 ghost use Rattle.scm_model.specs.Rows.{service_of};
-ghost use Rattle.scm_rules.specs.Reports.{end_told, may_report, process_ended, process_in, report_answer, report_told, reported, set_status_done, set_status_verdict};
+ghost use Rattle.scm_rules.specs.Reports.{may_report, process_in, report_answer, report_told, reported, set_status_done, set_status_verdict, set_status_outcome};
+ghost use Rattle.scm_rules.specs.Ends.{end_told, process_ended};
 ghost use Rattle.status_machine.specs.Moves.{takes};
 
+use scm_model::codes::{
+    ERROR_ACCESS_DENIED, ERROR_INVALID_DATA, ERROR_INVALID_HANDLE, ERROR_PROCESS_ABORTED,
+    SERVICE_SET_STATUS,
+};
 use scm_model::{Answer, Reply, Service, Status};
 use scm_tables::{Tables, mask_lacks};
 use status_machine::take_report;
-
-/// The right to report.
-const SERVICE_SET_STATUS: u32 = 0x8000;
-
-/// `ERROR_PROCESS_ABORTED`: a process that ended without a word.
-const PROCESS_ABORTED: u32 = 1067;
 
 /// How a report of a service's current process is answered.
 fn report_answer(taken: Result<Status, u32>) -> Answer
@@ -37,8 +36,8 @@ fn report_told(service: Option<&Service>, report: &Status) -> Answer
 
 /// The service whose current process this is takes its report, if it is one that it may make. It takes no memory.
 pub fn report(tables: &mut Tables, process: u64, report: &Status) -> Answer
-    ensures answer { result ≡ (reported tables.old.flat process report.now).0 }
-    ensures flat { tables.new.flat ≡ (reported tables.old.flat process report.now).1 }
+    ensures answer { result ≡ (reported tables.old.flat process report.now).answer }
+    ensures flat { tables.new.flat ≡ (reported tables.old.flat process report.now).flat }
     ensures limits { tables.new.limits ≡ tables.old.limits }
 {
     let answer = report_told(tables.current(process), report);
@@ -58,12 +57,12 @@ fn end_told(service: Option<&Service>) -> Answer
 
 /// A process leaves, and the service falls whose current one it is. It takes no memory.
 pub fn end(tables: &mut Tables, process: u64) -> Answer
-    ensures answer { result ≡ (process_ended tables.old.flat process).0 }
-    ensures flat { tables.new.flat ≡ (process_ended tables.old.flat process).1 }
+    ensures answer { result ≡ (process_ended tables.old.flat process).answer }
+    ensures flat { tables.new.flat ≡ (process_ended tables.old.flat process).flat }
     ensures limits { tables.new.limits ≡ tables.old.limits }
 {
     let answer = end_told(tables.current(process));
-    tables.fall(process, PROCESS_ABORTED);
+    tables.fall(process, ERROR_PROCESS_ABORTED);
     tables.remove_process(process);
     answer
 }
@@ -101,21 +100,21 @@ pub fn set_status_verdict(tables: &Tables, caller: u64, handle: u64, report: &St
     ensures { result ≡ set_status_verdict tables.now.flat caller handle report.now }
 {
     let Some(opened) = tables.opened(caller, handle) else {
-        return 6;
+        return ERROR_INVALID_HANDLE;
     };
     if mask_lacks(opened.granted, SERVICE_SET_STATUS) {
-        return 5;
+        return ERROR_ACCESS_DENIED;
     }
     if !may_report(tables, tables.service(opened.service), report) {
-        return 13;
+        return ERROR_INVALID_DATA;
     }
     0
 }
 
 /// A service takes a report as if its current process had made it. It takes no memory.
 pub fn set_status(tables: &mut Tables, caller: u64, handle: u64, report: &Status) -> Reply
-    ensures reply { result ≡ (outcome (set_status_verdict tables.old.flat caller handle report.now) (request.SetStatus handle report.now) tables.old.flat (set_status_done tables.old.flat caller handle report.now)).0 }
-    ensures flat { tables.new.flat ≡ (outcome (set_status_verdict tables.old.flat caller handle report.now) (request.SetStatus handle report.now) tables.old.flat (set_status_done tables.old.flat caller handle report.now)).1 }
+    ensures reply { result ≡ (set_status_outcome tables.old.flat caller handle report.now).reply }
+    ensures flat { tables.new.flat ≡ (set_status_outcome tables.old.flat caller handle report.now).flat }
     ensures limits { tables.new.limits ≡ tables.old.limits }
 {
     let code = set_status_verdict(tables, caller, handle, report);

@@ -10,19 +10,19 @@ use Rattle.scm_model.specs.declared.flat.Limits.{Limits}
 use Rattle.scm_model.specs.declared.flat.Service.{Service}
 use Rattle.scm_model.specs.declared.steps.Kept.{Kept}
 use Rattle.scm_model.specs.declared.steps.Kept.TheVariants as appended
-use Rattle.scm_model.specs.declared.calls.Reply.{Reply}
 use Rattle.scm_model.specs.declared.calls.Reply.TheVariants as reply
 use Rattle.scm_model.specs.declared.calls.Request.{Request}
 use Rattle.scm_model.specs.declared.calls.Request.TheVariants as request
-use Rattle.scm_model.specs.Refused.{first_refusal, outcome, refused}
+use Rattle.scm_model.specs.Refused.{Refusals, first_refusal, outcome, refused}
+use Rattle.scm_model.specs.Outcomes.{Done}
 use Rattle.service_record.specs.Checks.{check_new, has_bad_lists, has_bad_names, has_bad_numbers, is_bad_account, is_bad_line, is_longer}
 use Rattle.service_record.specs.Words.{has_word}
 use Rattle.std.specs.Char.Utf16.{has_unpaired_surrogate}
-use Rattle.scm_rules.specs.Change.{asked_config, change_done, change_refusals, change_verdict, changed_service, checked, new_config, tags_no_group}
-use Rattle.scm_rules.specs.Create.{config_of, create_done, create_refusals, create_verdict, tags_nothing}
+use Rattle.scm_rules.specs.Change.{asked_refusals, clash_refusals, row_refusals, asked_config, change_done, change_refusals, change_verdict, changed_service, checked, new_config, tags_no_group}
+use Rattle.scm_rules.specs.Create.{config_refusals, place_refusals, right_refusals, config_of, create_done, create_refusals, create_verdict, tags_nothing}
 use Rattle.scm_rules.specs.Delete.{is_failed}
 use Rattle.scm_rules.specs.Needs.{are_unreadable}
-use Rattle.scm_arms_service.specs.Judged.{Refusals, asked_refusals, clash_refusals, code_once_kept, config_refusals, place_refusals, right_refusals, row_refusals}
+use Rattle.scm_arms_service.specs.Judged.{code_once_kept}
 
 -- ## Refusals
 
@@ -73,7 +73,7 @@ stops (row ∷ rows) more other =
     ] other
 
 -- a call that is refused makes no change
-refused_outcome : (told code : ℕ) (asked : Request) (f : Flat) (done : Reply × Flat) → told ≡ code → (code ≡ 0 → ⊥) → outcome told asked f done ≡ (refused asked code, f)
+refused_outcome : (told code : ℕ) (asked : Request) (f : Flat) (done : Done) → told ≡ code → (code ≡ 0 → ⊥) → outcome told asked f done ≡ record { reply = refused asked code; flat = f }
 refused_outcome told code asked f done is other = rw (is, ne_eqb code 0 other) refl
 
 -- ## Checks
@@ -90,7 +90,7 @@ long_refused false false false true broken group description command lists accou
 long_refused false false false false broken group description command lists account is p q = false≢true is
 
 -- a configuration that passes has a path that isn't too long
-short_path : (config : Config) (account : Option (List ℕ)) → (check_new config account == 123) ≡ false → (check_new config account == 87) ≡ false → length config.path ≤ 2048
+pub short_path : (config : Config) (account : Option (List ℕ)) → (check_new config account == 123) ≡ false → (check_new config account == 87) ≡ false → length config.path ≤ 2048
 unfolding check_new
 short_path config account names texts =
     elim (cases_Bool (is_longer 2048 config.path)) [
@@ -169,7 +169,7 @@ create_code l f caller new append code result is made =
 -- a creation that is refused makes no change
 pub create_refused : (l : Limits) (f : Flat) (caller : ℕ) (new : NewService) (append : Kept) (code result : ℕ) → code ≡ create_verdict l f caller new appended.Kept → result ≡ code_once_kept code append
     → (result ≡ 0 → ⊥)
-    → (reply.Made new.tag 0 result, f) ≡ outcome (create_verdict l f caller new append) (request.Create new) f (create_done f caller new)
+    → record { reply = reply.Made new.tag 0 result; flat = f } ≡ outcome (create_verdict l f caller new append) (request.Create new) f (create_done f caller new)
 create_refused l f caller new append code result is made other =
     sym (refused_outcome (create_verdict l f caller new append) result (request.Create new) f (create_done f caller new) (create_code l f caller new append code result is made) other)
 
@@ -228,7 +228,7 @@ change_code f caller change append code result is made =
 -- a change that is refused makes no change
 pub change_refused : (f : Flat) (caller : ℕ) (change : ChangeService) (append : Kept) (code result : ℕ) → code ≡ change_verdict f caller change appended.Kept → result ≡ code_once_kept code append
     → (result ≡ 0 → ⊥)
-    → (reply.Tag change.tag result, f) ≡ outcome (change_verdict f caller change append) (request.Change change) f (change_done f caller change)
+    → record { reply = reply.Tag change.tag result; flat = f } ≡ outcome (change_verdict f caller change append) (request.Change change) f (change_done f caller change)
 change_refused f caller change append code result is made other =
     sym (refused_outcome (change_verdict f caller change append) result (request.Change change) f (change_done f caller change) (change_code f caller change append code result is made) other)
 

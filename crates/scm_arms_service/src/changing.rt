@@ -2,22 +2,24 @@ ghost use Rattle.std.specs.Prelude.{◌≡◌, IfOk, is_some, option_copied, Som
 ghost use Rattle.scm_model.specs.Refused.{first_refusal, outcome};
 ghost use Rattle.scm_model.specs.declared.calls.Request.TheVariants as request;
 ghost use Rattle.scm_model.specs.declared.steps.Kept.TheVariants as appended;
-ghost use Rattle.scm_rules.specs.Change.{asked_config, change_change, change_done, change_verdict, changed_row, changed_service, new_config, tag_in, tags_no_group, takes_name};
+ghost use Rattle.scm_rules.specs.Change.{asked_refusals, clash_refusals, row_refusals, asked_config, change_change, change_done, change_verdict, changed_row, changed_service, new_config, tag_in, tags_no_group, takes_name, change_outcome};
 ghost use Rattle.scm_rules.specs.Needs.{are_unreadable};
 ghost use Rattle.scm_rules.specs.Verdicts.{unless_refused};
-ghost use Rattle.scm_arms_service.specs.Judged.{asked_refusals, clash_refusals, row_refusals};
 
 use super::deleting::code_once_kept;
 use super::making::told_tag;
 use super::needing::are_unreadable;
-use super::replacing::{config_with, is_as_before, tag_or, text_or};
+use super::replacing::{are_kept_alike, config_with, tag_or, text_or};
+use scm_model::codes::{
+    ERROR_ACCESS_DENIED, ERROR_CIRCULAR_DEPENDENCY, ERROR_DUPLICATE_SERVICE_NAME,
+    ERROR_INVALID_HANDLE, ERROR_INVALID_NAME, ERROR_INVALID_PARAMETER,
+    ERROR_INVALID_SERVICE_ACCOUNT, ERROR_SERVICE_MARKED_FOR_DELETE, SERVICE_CHANGE_CONFIG,
+};
 use scm_model::{Change, ChangeService, Config, Kept, Reply, Service};
 use scm_tables::{Tables, mask_lacks};
 use scm_text::OutOfMemory;
 use service_record::check_change;
 use std::alloc::Global;
-
-const SERVICE_CHANGE_CONFIG: u32 = 2;
 
 /// The service that a change is of.
 fn changed_service<'a>(
@@ -85,17 +87,17 @@ fn asked_verdict(
     ensures { IfOk result (λ code. code ≡ first_refusal (asked_refusals tables.now.flat change.now (Some service.now))) }
 {
     let checked = check_change(&service.config, new, change.account.as_ref());
-    if checked == 123 {
-        return Ok(123);
+    if checked == ERROR_INVALID_NAME {
+        return Ok(ERROR_INVALID_NAME);
     }
-    if checked == 87 || tags_no_group(change, service) {
-        return Ok(87);
+    if checked == ERROR_INVALID_PARAMETER || tags_no_group(change, service) {
+        return Ok(ERROR_INVALID_PARAMETER);
     }
     if are_unreadable(&change.needs, alloc)? {
-        return Ok(87);
+        return Ok(ERROR_INVALID_PARAMETER);
     }
-    if checked == 1057 {
-        return Ok(1057);
+    if checked == ERROR_INVALID_SERVICE_ACCOUNT {
+        return Ok(ERROR_INVALID_SERVICE_ACCOUNT);
     }
     Ok(0)
 }
@@ -112,10 +114,10 @@ fn clash_verdict(
     ensures { IfOk result (λ code. code ≡ first_refusal (clash_refusals tables.now.flat change.now (Some service.now))) }
 {
     if takes_name(tables, change, service, new) {
-        return Ok(1078);
+        return Ok(ERROR_DUPLICATE_SERVICE_NAME);
     }
     if tables.makes_cycle(service.number, new, alloc)? {
-        return Ok(1059);
+        return Ok(ERROR_CIRCULAR_DEPENDENCY);
     }
     Ok(0)
 }
@@ -130,7 +132,7 @@ fn row_verdict(
     ensures { IfOk result (λ code. code ≡ first_refusal (row_refusals tables.now.flat change.now (Some service.now))) }
 {
     if service.marked {
-        return Ok(1072);
+        return Ok(ERROR_SERVICE_MARKED_FOR_DELETE);
     }
     let new = new_config(tables, change, service, alloc)?;
     let wrong = asked_verdict(tables, change, service, &new, alloc)?;
@@ -142,10 +144,10 @@ fn row_verdict(
 
 /// The same of a service that isn't there.
 fn absent_verdict(change: &ChangeService, alloc: Global) -> Result<u32, OutOfMemory>
-    ensures { IfOk result (λ code. code ≡ (if are_unreadable change.now.needs then 87 else 0)) }
+    ensures { IfOk result (λ code. code ≡ (if are_unreadable change.now.needs then ERROR_INVALID_PARAMETER else 0)) }
 {
     if are_unreadable(&change.needs, alloc)? {
-        return Ok(87);
+        return Ok(ERROR_INVALID_PARAMETER);
     }
     Ok(0)
 }
@@ -162,10 +164,10 @@ pub fn change_verdict(
     ensures { IfOk result (λ code. code ≡ change_verdict tables.now.flat caller change.now appended.Kept) }
 {
     let Some(opened) = tables.opened(caller, change.handle) else {
-        return Ok(6);
+        return Ok(ERROR_INVALID_HANDLE);
     };
     if mask_lacks(opened.granted, SERVICE_CHANGE_CONFIG) {
-        return Ok(5);
+        return Ok(ERROR_ACCESS_DENIED);
     }
     match changed_service(tables, caller, change) {
         Some(row) => row_verdict(tables, change, row, alloc),
@@ -183,7 +185,7 @@ fn changed_row(
     ensures { IfOk result (λ told. told ≡ changed_row tables.now.flat change.now service.now) }
 {
     let config = new_config(tables, change, service, alloc)?;
-    if is_as_before(&service.config, &config) {
+    if are_kept_alike(&service.config, &config, alloc)? {
         return Ok(None);
     }
     Ok(Some(Change::Changed(config)))
@@ -208,16 +210,26 @@ pub fn changed(
     }
 }
 
-/// Whether a call changes the configurations.
+/// Whether a call whose configuration and code were made changes what is kept.
 pub fn changes(
     tables: &Tables,
     caller: u64,
     change: &ChangeService,
+    code: u32,
+    config: &Option<Config>,
     alloc: Global,
 ) -> Result<bool, OutOfMemory>
+    requires verdict { code ≡ change_verdict tables.now.flat caller change.now appended.Kept }
+    requires made { config.now ≡ asked_config tables.now.flat caller change.now }
     ensures { IfOk result (λ changes. changes ≡ is_some (unless_refused (change_verdict tables.now.flat caller change.now appended.Kept) (change_change tables.now.flat caller change.now))) }
 {
-    Ok(changed(tables, caller, change, alloc)?.is_some())
+    if code != 0 {
+        return Ok(false);
+    }
+    match (changed_service(tables, caller, change), config) {
+        (Some(row), Some(config)) => Ok(!are_kept_alike(&row.config, config, alloc)?),
+        (Some(_), None) | (None, _) => Ok(false),
+    }
 }
 
 /// The tag of a new configuration.
@@ -242,8 +254,8 @@ pub fn change(
 ) -> Reply
     requires verdict { code ≡ change_verdict tables.old.flat caller change.now appended.Kept }
     requires made { config ≡ asked_config tables.old.flat caller change.now }
-    ensures reply { result ≡ (outcome (change_verdict tables.old.flat caller change.now kept) (request.Change change.now) tables.old.flat (change_done tables.old.flat caller change.now)).0 }
-    ensures flat { tables.new.flat ≡ (outcome (change_verdict tables.old.flat caller change.now kept) (request.Change change.now) tables.old.flat (change_done tables.old.flat caller change.now)).1 }
+    ensures reply { result ≡ (change_outcome tables.old.flat caller change.now kept).reply }
+    ensures flat { tables.new.flat ≡ (change_outcome tables.old.flat caller change.now kept).flat }
     ensures limits { tables.new.limits ≡ tables.old.limits }
 {
     let code = code_once_kept(code, kept);

@@ -3,22 +3,25 @@ ghost use Rattle.scm_model.specs.Refused.{first_refusal, outcome};
 ghost use Rattle.scm_model.specs.Rows.{held_by};
 ghost use Rattle.scm_model.specs.declared.calls.Request.TheVariants as request;
 ghost use Rattle.scm_model.specs.declared.steps.Kept.TheVariants as appended;
-ghost use Rattle.scm_rules.specs.Create.{config_of, create_change, create_done, create_verdict, tags_nothing};
+ghost use Rattle.scm_rules.specs.Create.{config_refusals, place_refusals, right_refusals, config_of, create_change, create_done, create_verdict, tags_nothing, create_outcome};
 ghost use Rattle.scm_rules.specs.OpenService.{service_granted};
 ghost use Rattle.scm_rules.specs.Verdicts.{unless_refused};
-ghost use Rattle.scm_arms_service.specs.Judged.{config_refusals, place_refusals, right_refusals};
 
 use super::deleting::{code_once_kept, is_marked};
-use super::making::{config_of, new_status, told_tag};
+use super::making::{config_of, told_tag};
 use super::needing::are_unreadable;
 use access_mask::granted;
+use scm_model::codes::{
+    ERROR_ACCESS_DENIED, ERROR_CIRCULAR_DEPENDENCY, ERROR_DUPLICATE_SERVICE_NAME,
+    ERROR_INVALID_HANDLE, ERROR_INVALID_NAME, ERROR_INVALID_PARAMETER,
+    ERROR_INVALID_SERVICE_ACCOUNT, ERROR_NOT_ENOUGH_QUOTA, ERROR_SERVICE_EXISTS,
+    ERROR_SERVICE_MARKED_FOR_DELETE, SC_MANAGER_CREATE_SERVICE,
+};
 use scm_model::{Change, Config, HandleKind, Kept, Limits, NewService, Reply};
-use scm_tables::{Tables, mask_lacks};
+use scm_tables::{Tables, mask_lacks, new_status};
 use scm_text::OutOfMemory;
 use service_record::check_new;
 use std::alloc::Global;
-
-const SC_MANAGER_CREATE_SERVICE: u32 = 2;
 
 /// The rights that a caller is granted on a service.
 fn service_granted(tables: &Tables, caller: u64, access: u32) -> Option<u32>
@@ -32,12 +35,12 @@ fn right_verdict(tables: &Tables, caller: u64, new: &NewService) -> u32
     ensures { result ≡ first_refusal (right_refusals tables.now.flat caller new.now) }
 {
     let Some(granted) = tables.manager_mask(caller, new.handle) else {
-        return 6;
+        return ERROR_INVALID_HANDLE;
     };
     if mask_lacks(granted, SC_MANAGER_CREATE_SERVICE)
         || service_granted(tables, caller, new.access).is_none()
     {
-        return 5;
+        return ERROR_ACCESS_DENIED;
     }
     0
 }
@@ -57,17 +60,17 @@ fn config_verdict(new: &NewService, config: &Config, alloc: Global) -> Result<u3
     ensures { IfOk result (λ code. code ≡ first_refusal (config_refusals new.now config.now)) }
 {
     let checked = check_new(config, new.account.as_ref());
-    if checked == 123 {
-        return Ok(123);
+    if checked == ERROR_INVALID_NAME {
+        return Ok(ERROR_INVALID_NAME);
     }
-    if checked == 87 || tags_nothing(new) {
-        return Ok(87);
+    if checked == ERROR_INVALID_PARAMETER || tags_nothing(new) {
+        return Ok(ERROR_INVALID_PARAMETER);
     }
     if are_unreadable(&new.needs, alloc)? {
-        return Ok(87);
+        return Ok(ERROR_INVALID_PARAMETER);
     }
-    if checked == 1057 {
-        return Ok(1057);
+    if checked == ERROR_INVALID_SERVICE_ACCOUNT {
+        return Ok(ERROR_INVALID_SERVICE_ACCOUNT);
     }
     Ok(0)
 }
@@ -91,19 +94,19 @@ fn place_verdict(
     ensures { IfOk result (λ code. code ≡ first_refusal (place_refusals limits.now tables.now.flat caller config.now)) }
 {
     if is_marked(tables.named(&config.name)) {
-        return Ok(1072);
+        return Ok(ERROR_SERVICE_MARKED_FOR_DELETE);
     }
     if tables.named(&config.name).is_some() {
-        return Ok(1073);
+        return Ok(ERROR_SERVICE_EXISTS);
     }
     if tables.is_shown(&config.display) {
-        return Ok(1078);
+        return Ok(ERROR_DUPLICATE_SERVICE_NAME);
     }
     if tables.makes_cycle(tables.next_service(), config, alloc)? {
-        return Ok(1059);
+        return Ok(ERROR_CIRCULAR_DEPENDENCY);
     }
     if is_full(tables, limits, caller) {
-        return Ok(1816);
+        return Ok(ERROR_NOT_ENOUGH_QUOTA);
     }
     Ok(0)
 }
@@ -152,20 +155,6 @@ pub fn created(
     Ok(Some(Change::Created(config)))
 }
 
-/// Whether a call changes the configurations.
-pub fn creates(
-    tables: &Tables,
-    limits: &Limits,
-    caller: u64,
-    new: &NewService,
-    alloc: Global,
-) -> Result<bool, OutOfMemory>
-    ensures { IfOk result (λ changes. changes ≡ is_some (unless_refused (create_verdict limits.now tables.now.flat caller new.now appended.Kept) (create_change tables.now.flat new.now))) }
-{
-    let config = config_of(tables, new, alloc)?;
-    Ok(create_verdict(tables, limits, caller, new, &config, alloc)? == 0)
-}
-
 /// Creates a service that has the configuration that was made for it, and opens a handle of it. The code is what the call is refused
 /// with before anything is kept; where that fails it is `ERROR_CANTWRITE` (1013). It takes no memory.
 pub fn create(
@@ -183,8 +172,8 @@ pub fn create(
     requires handles { 1 ≤ tables.old.spare.handles }
     requires next_service { tables.old.flat.next.service < 2 ^ 63 }
     requires next_handle { tables.old.flat.next.handle < 2 ^ 63 }
-    ensures reply { result ≡ (outcome (create_verdict limits.now tables.old.flat caller new kept) (request.Create new) tables.old.flat (create_done tables.old.flat caller new)).0 }
-    ensures flat { tables.new.flat ≡ (outcome (create_verdict limits.now tables.old.flat caller new kept) (request.Create new) tables.old.flat (create_done tables.old.flat caller new)).1 }
+    ensures reply { result ≡ (create_outcome limits.now tables.old.flat caller new kept).reply }
+    ensures flat { tables.new.flat ≡ (create_outcome limits.now tables.old.flat caller new kept).flat }
     ensures limits { tables.new.limits ≡ tables.old.limits }
 {
     let code = code_once_kept(code, kept);

@@ -1,15 +1,19 @@
 ghost use Rattle.std.specs.Prelude.{◌≡◌, IfOk, is_some, option_copied};
 ghost use Rattle.scm_model.specs.Refused.{outcome};
 ghost use Rattle.scm_model.specs.declared.calls.Request.TheVariants as request;
-ghost use Rattle.scm_rules.specs.Delete.{delete_change, delete_done, delete_verdict, is_failed, is_marked};
+ghost use Rattle.scm_rules.specs.Delete.{delete_change, delete_done, delete_verdict, is_failed, is_marked, delete_outcome};
+ghost use Rattle.scm_model.specs.declared.steps.Kept.TheVariants as appended;
+ghost use Rattle.scm_rules.specs.Verdicts.{unless_refused};
 ghost use Rattle.scm_arms_service.specs.Judged.{code_once_kept};
 
+use scm_model::codes::{
+    DELETE, ERROR_ACCESS_DENIED, ERROR_CANTWRITE, ERROR_INVALID_HANDLE,
+    ERROR_SERVICE_MARKED_FOR_DELETE,
+};
 use scm_model::{Change, Kept, Reply, Service};
 use scm_tables::{Tables, mask_lacks};
 use scm_text::OutOfMemory;
 use std::alloc::Global;
-
-const DELETE: u32 = 0x1_0000;
 
 /// Whether a service that is there is marked.
 pub fn is_marked(service: Option<&Service>) -> bool
@@ -45,27 +49,28 @@ pub fn delete_verdict(tables: &Tables, caller: u64, handle: u64, kept: Kept) -> 
     ensures { result ≡ delete_verdict tables.now.flat caller handle kept }
 {
     let Some(opened) = tables.opened(caller, handle) else {
-        return 6;
+        return ERROR_INVALID_HANDLE;
     };
     if mask_lacks(opened.granted, DELETE) {
-        return 5;
+        return ERROR_ACCESS_DENIED;
     }
     if is_marked(tables.service(opened.service)) {
-        return 1072;
+        return ERROR_SERVICE_MARKED_FOR_DELETE;
     }
     if is_failed(kept) {
-        return 1013;
+        return ERROR_CANTWRITE;
     }
     0
 }
 
-/// Whether a service is there to be removed, where the call isn't refused.
+/// Whether a call marks a service if that is kept.
 pub fn removes(tables: &Tables, caller: u64, handle: u64) -> bool
-    ensures { result ≡ is_some (delete_change tables.now.flat caller handle) }
+    ensures { result ≡ is_some (unless_refused (delete_verdict tables.now.flat caller handle appended.Kept) (delete_change tables.now.flat caller handle)) }
 {
-    tables
-        .service(tables.opened_service(caller, handle))
-        .is_some()
+    delete_verdict(tables, caller, handle, Kept::Kept) == 0
+        && tables
+            .service(tables.opened_service(caller, handle))
+            .is_some()
 }
 
 /// The change of the configurations that a call asks for where it isn't refused.
@@ -85,8 +90,8 @@ pub fn removed(
 
 /// Marks a service. It leaves once it is STOPPED and no handle names it.
 pub fn delete(tables: &mut Tables, caller: u64, handle: u64, kept: Kept) -> Reply
-    ensures reply { result ≡ (outcome (delete_verdict tables.old.flat caller handle kept) (request.Delete handle) tables.old.flat (delete_done tables.old.flat caller handle)).0 }
-    ensures flat { tables.new.flat ≡ (outcome (delete_verdict tables.old.flat caller handle kept) (request.Delete handle) tables.old.flat (delete_done tables.old.flat caller handle)).1 }
+    ensures reply { result ≡ (delete_outcome tables.old.flat caller handle kept).reply }
+    ensures flat { tables.new.flat ≡ (delete_outcome tables.old.flat caller handle kept).flat }
     ensures limits { tables.new.limits ≡ tables.old.limits }
 {
     let code = delete_verdict(tables, caller, handle, kept);

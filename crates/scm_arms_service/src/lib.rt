@@ -12,7 +12,7 @@ mod replacing;
 mod showing;
 
 pub use changing::{asked_config, change, change_verdict, changed, changes};
-pub use creating::{create, create_verdict, created, creates};
+pub use creating::{create, create_verdict, created};
 pub use deleting::{delete, delete_verdict, removed, removes};
 pub use making::config_of;
 pub use naming::{display_name, key_name};

@@ -1,8 +1,8 @@
 ghost use Rattle.std.specs.Prelude.{◌≡◌, [], unwrap_or, IfOk};
-ghost use Rattle.scm_rules.specs.Create.{config_of, display_of, new_status, tag_of, told_tag};
+ghost use Rattle.scm_rules.specs.Create.{config_of, display_of, tag_of, told_tag};
 
 use super::needing::needs_or;
-use scm_model::{Config, NewService, Status};
+use scm_model::{Config, NewService};
 use scm_tables::Tables;
 use scm_text::{Items, OutOfMemory, WText};
 use std::alloc::Global;
@@ -81,19 +81,4 @@ pub fn config_of(tables: &Tables, new: &NewService, alloc: Global) -> Result<Con
         delayed: false,
         triggers: Items::new(alloc),
     })
-}
-
-/// The status of a service that never ran: STOPPED, with `ERROR_SERVICE_NEVER_STARTED` (1077).
-pub fn new_status(kind: u32) -> Status
-    ensures { result ≡ new_status kind }
-{
-    Status {
-        kind,
-        state: 1,
-        accepted: 0,
-        win32: 1077,
-        specific: 0,
-        checkpoint: 0,
-        hint: 0,
-    }
 }

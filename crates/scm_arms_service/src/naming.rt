@@ -2,6 +2,9 @@ ghost use Rattle.std.specs.Prelude.{◌≡◌, IfOk};
 ghost use Rattle.scm_rules.specs.OtherName.{display_by_name, name_by_display, name_or_empty, other_name_reply, other_name_verdict, units_of};
 
 use scm_model::Reply;
+use scm_model::codes::{
+    ERROR_INSUFFICIENT_BUFFER, ERROR_INVALID_HANDLE, ERROR_SERVICE_DOES_NOT_EXIST,
+};
 use scm_tables::Tables;
 use scm_text::{OutOfMemory, WText};
 use std::alloc::Global;
@@ -28,13 +31,13 @@ fn other_name_verdict(
     ensures { result ≡ other_name_verdict tables.now.flat caller handle size other.now }
 {
     if tables.manager_mask(caller, handle).is_none() {
-        return 6;
+        return ERROR_INVALID_HANDLE;
     }
     if other.is_none() {
-        return 1060;
+        return ERROR_SERVICE_DOES_NOT_EXIST;
     }
     if size <= units_of(other) {
-        return 122;
+        return ERROR_INSUFFICIENT_BUFFER;
     }
     0
 }
@@ -71,7 +74,11 @@ fn other_name(
     }
     Reply::Name {
         name: WText::new(alloc),
-        size: if code == 122 { units } else { 0 },
+        size: if code == ERROR_INSUFFICIENT_BUFFER {
+            units
+        } else {
+            0
+        },
         code,
     }
 }

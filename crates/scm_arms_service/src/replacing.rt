@@ -1,25 +1,24 @@
 ghost use Rattle.std.specs.Prelude.{◌≡◌, unwrap_or, IfOk};
-ghost use Rattle.std.specs.Cmp.Lexicographic.{pointwise};
-ghost use Rattle.scm_rules.specs.Change.{config_with, display_or, is_as_before, is_equal_need, number_or, tag_or};
+ghost use Rattle.scm_rules.specs.Change.{config_with, display_or, is_kept_alike, number_or, tag_or};
 
 use super::making::shown;
 use super::needing::needs_or;
-use scm_model::{ChangeService, Config, Need};
+use scm_model::codes::{SERVICE_AUTO_START, SERVICE_NO_CHANGE};
+use scm_model::{ChangeService, Config};
 use scm_tables::Tables;
 use scm_text::{OutOfMemory, WText};
+use service_record::record_bytes;
 use std::alloc::Global;
-
-/// `SERVICE_NO_CHANGE`.
-const NO_CHANGE: u32 = 0xFFFF_FFFF;
-
-/// `SERVICE_AUTO_START`.
-const AUTO_START: u32 = 2;
 
 /// The number that is asked for, or the old one.
 fn number_or(old: u32, asked: u32) -> u32
     ensures { result ≡ number_or old asked }
 {
-    if asked == NO_CHANGE { old } else { asked }
+    if asked == SERVICE_NO_CHANGE {
+        old
+    } else {
+        asked
+    }
 }
 
 /// The text that is asked for, or the old one.
@@ -75,48 +74,16 @@ pub fn config_with(
         group,
         tag,
         needs,
-        delayed: old.delayed && start == AUTO_START,
+        delayed: old.delayed && start == SERVICE_AUTO_START,
         ..old.copy(alloc)?
     })
 }
 
-/// Whether two needs are of the same kind and have the same units.
-fn is_equal_need(a: &Need, b: &Need) -> bool
-    ensures { result ≡ is_equal_need a.now b.now }
+/// Whether two configurations are kept as the same bytes.
+pub fn are_kept_alike(old: &Config, new: &Config, alloc: Global) -> Result<bool, OutOfMemory>
+    ensures { IfOk result (λ alike. alike ≡ is_kept_alike old.now new.now) }
 {
-    match (a, b) {
-        (Need::Service(a), Need::Service(b)) | (Need::Group(a), Need::Group(b)) => {
-            a.units() == b.units()
-        }
-        (Need::Service(_), Need::Group(_)) | (Need::Group(_), Need::Service(_)) => false,
-    }
-}
-
-/// Whether two lists of needs are the same.
-fn are_equal_needs(a: &[Need], b: &[Need]) -> bool
-    ensures { result ≡ pointwise is_equal_need a.now b.now }
-{
-    if a.len() != b.len() {
-        return false;
-    }
-    for i in 0..a.len() {
-        if !is_equal_need(&a[i], &b[i]) {
-            return false;
-        }
-    }
-    true
-}
-
-/// Whether a new configuration has all that can be asked for as the old one has it.
-pub fn is_as_before(old: &Config, new: &Config) -> bool
-    ensures { result ≡ is_as_before old.now new.now }
-{
-    old.display.units() == new.display.units()
-        && old.kind == new.kind
-        && old.start == new.start
-        && old.error == new.error
-        && old.path.units() == new.path.units()
-        && old.group.units() == new.group.units()
-        && old.tag == new.tag
-        && are_equal_needs(old.needs.as_slice(), new.needs.as_slice())
+    let old = record_bytes(alloc, old)?;
+    let new = record_bytes(alloc, new)?;
+    Ok(old.as_slice() == new.as_slice())
 }

@@ -4,12 +4,13 @@ ghost use Rattle.scm_model.specs.declared.calls.Reply.TheVariants as reply;
 ghost use Rattle.scm_model.specs.Refused.{answered};
 ghost use Rattle.scm_rules.specs.QueryConfig.{query_config_reply, query_config_verdict, shown_by, shown_in, shown_need, shown_needs, shown_of, shown_size, size_in, text_size};
 
+use scm_model::codes::{
+    ERROR_ACCESS_DENIED, ERROR_INSUFFICIENT_BUFFER, ERROR_INVALID_HANDLE, SERVICE_QUERY_CONFIG,
+};
 use scm_model::{Config, Need, Reply, Service, Shown};
 use scm_tables::{Tables, mask_lacks};
 use scm_text::{OutOfMemory, WText};
 use std::alloc::Global;
-
-const SERVICE_QUERY_CONFIG: u32 = 1;
 
 /// `LocalSystem`
 const LOCAL_SYSTEM: [u16; 11] = [76, 111, 99, 97, 108, 83, 121, 115, 116, 101, 109];
@@ -120,20 +121,20 @@ fn query_config_verdict(tables: &Tables, caller: u64, handle: u64, size: u32, ne
     ensures { result ≡ query_config_verdict tables.now.flat caller handle size }
 {
     let Some(opened) = tables.opened(caller, handle) else {
-        return 6;
+        return ERROR_INVALID_HANDLE;
     };
     if mask_lacks(opened.granted, SERVICE_QUERY_CONFIG) {
-        return 5;
+        return ERROR_ACCESS_DENIED;
     }
     if size < needed {
-        return 122;
+        return ERROR_INSUFFICIENT_BUFFER;
     }
     0
 }
 
 /// What is answered of a configuration that may be shown.
 fn told(config: Option<Shown>, needed: u32, code: u32) -> Reply
-    ensures { (f : Flat) → result ≡ (answered code (reply.Shown None (if code == 122 then needed else 0) code) f (reply.Shown config needed 0, f)).0 }
+    ensures { (f : Flat) → result ≡ (answered code (reply.Shown None (if code == ERROR_INSUFFICIENT_BUFFER then needed else 0) code) f (record { reply = reply.Shown config needed 0; flat = f })).reply }
 {
     if code == 0 {
         return Reply::Shown {
@@ -144,7 +145,11 @@ fn told(config: Option<Shown>, needed: u32, code: u32) -> Reply
     }
     Reply::Shown {
         config: None,
-        needed: if code == 122 { needed } else { 0 },
+        needed: if code == ERROR_INSUFFICIENT_BUFFER {
+            needed
+        } else {
+            0
+        },
         code,
     }
 }

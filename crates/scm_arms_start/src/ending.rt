@@ -21,8 +21,8 @@ pub fn end_start(tables: &mut Tables, plan: u64) -> Answer
 
 /// A start that settling decided is answered at once, and its plan leaves.
 pub fn finish(tables: &mut Tables, answer: Answer) -> Answer
-    ensures answer { result ≡ (finished tables.old.flat answer).0 }
-    ensures flat { tables.new.flat ≡ (finished tables.old.flat answer).1 }
+    ensures answer { result ≡ (finished tables.old.flat answer).answer }
+    ensures flat { tables.new.flat ≡ (finished tables.old.flat answer).flat }
     ensures limits { tables.new.limits ≡ tables.old.limits }
 {
     match answer {

@@ -4,23 +4,22 @@ ghost use Rattle.std.specs.Char.Utf16.{has_unpaired_surrogate};
 ghost use Rattle.scm_model.specs.Refused.{first_refusal, outcome};
 ghost use Rattle.scm_model.specs.declared.calls.Request.TheVariants as request;
 ghost use Rattle.scm_rules.specs.Delete.{is_marked};
-ghost use Rattle.scm_rules.specs.Start.{are_bad_words, is_disabled, is_missing, lacks_need, new_plan, start_done, start_verdict};
+ghost use Rattle.scm_rules.specs.Start.{service_refusals, are_bad_words, is_disabled, is_missing, lacks_need, new_plan, start_done, start_verdict, start_outcome};
 ghost use Rattle.scm_rules.specs.Steps.{answer_of};
-ghost use Rattle.start_plan.specs.Ready.{state_in};
-ghost use Rattle.scm_arms_start.specs.Entries.{service_refusals, start_entries};
+ghost use Rattle.scm_model.specs.Ready.{state_in};
+ghost use Rattle.scm_arms_start.specs.Entries.{start_entries};
 
+use scm_model::codes::{
+    ERROR_ACCESS_DENIED, ERROR_INVALID_HANDLE, ERROR_INVALID_PARAMETER,
+    ERROR_SERVICE_ALREADY_RUNNING, ERROR_SERVICE_DATABASE_LOCKED, ERROR_SERVICE_DEPENDENCY_DELETED,
+    ERROR_SERVICE_DISABLED, ERROR_SERVICE_MARKED_FOR_DELETE, SERVICE_DISABLED, SERVICE_START,
+    SERVICE_STOPPED,
+};
 use scm_model::{Answer, Need, Plan, Reply, Service};
 use scm_tables::{Tables, mask_lacks};
 use scm_text::{Items, OutOfMemory, WText};
 use service_record::is_broken;
 use std::alloc::Global;
-
-const SERVICE_START: u32 = 0x10;
-
-const STOPPED: u32 = 1;
-
-/// `SERVICE_DISABLED`.
-const DISABLED: u32 = 4;
 
 /// Whether one of the words is no well-formed UTF-16.
 fn is_one_broken(words: &[WText]) -> bool
@@ -69,7 +68,7 @@ fn is_disabled(service: Option<&Service>) -> bool
     ensures { result ≡ is_disabled (option_copied service.entry) }
 {
     match service {
-        Some(row) => row.config.start == DISABLED,
+        Some(row) => row.config.start == SERVICE_DISABLED,
         None => false,
     }
 }
@@ -112,19 +111,19 @@ fn service_verdict(tables: &Tables, service: u64) -> u32
 {
     let row = tables.service(service);
     if is_marked(row) {
-        return 1072;
+        return ERROR_SERVICE_MARKED_FOR_DELETE;
     }
     if tables.lock().is_some() {
-        return 1055;
+        return ERROR_SERVICE_DATABASE_LOCKED;
     }
-    if state_in(row) != STOPPED || tables.is_target(service) {
-        return 1056;
+    if state_in(row) != SERVICE_STOPPED || tables.is_target(service) {
+        return ERROR_SERVICE_ALREADY_RUNNING;
     }
     if is_disabled(row) {
-        return 1058;
+        return ERROR_SERVICE_DISABLED;
     }
     if lacks_need(tables, row) {
-        return 1075;
+        return ERROR_SERVICE_DEPENDENCY_DELETED;
     }
     0
 }
@@ -136,13 +135,13 @@ pub fn start_verdict(tables: &Tables, caller: u64, handle: u64, words: &Option<I
     ensures { result ≡ start_verdict tables.now.flat caller handle words.now }
 {
     let Some(opened) = tables.opened(caller, handle) else {
-        return 6;
+        return ERROR_INVALID_HANDLE;
     };
     if are_bad_words(words) {
-        return 87;
+        return ERROR_INVALID_PARAMETER;
     }
     if mask_lacks(opened.granted, SERVICE_START) {
-        return 5;
+        return ERROR_ACCESS_DENIED;
     }
     service_verdict(tables, opened.service)
 }
@@ -188,8 +187,8 @@ pub fn start(
     requires tried { length (start_entries tables.old.flat caller handle words) ≤ tables.old.spare.tried }
     requires next_plan { tables.old.flat.next.plan < 2 ^ 63 }
     requires next_due { tables.old.flat.next.due < 2 ^ 63 }
-    ensures answer { result ≡ answer_of (start_verdict tables.old.flat caller handle words == 0) tables.old.flat.next.plan (outcome (start_verdict tables.old.flat caller handle words) (request.Start handle words) tables.old.flat (start_done tables.old.flat caller handle words)).0 }
-    ensures flat { tables.new.flat ≡ (outcome (start_verdict tables.old.flat caller handle words) (request.Start handle words) tables.old.flat (start_done tables.old.flat caller handle words)).1 }
+    ensures answer { result ≡ answer_of (start_verdict tables.old.flat caller handle words == 0) tables.old.flat.next.plan (start_outcome tables.old.flat caller handle words).reply }
+    ensures flat { tables.new.flat ≡ (start_outcome tables.old.flat caller handle words).flat }
     ensures limits { tables.new.limits ≡ tables.old.limits }
 {
     let code = start_verdict(tables, caller, handle, &words);

@@ -1,5 +1,6 @@
 -- What is made for a step, and its room, don't hang on the moment.
-use Rattle.std.proofs.Common.{ℕ, ◌≡◌, ◌≤◌, ◌==◌, true, false, cond, List, Option, Some, ap, refl, subst, sym}
+use Rattle.std.proofs.Common.{ℕ, ◌≡◌, ◌≤◌, ◌==◌, ◌∙◌, Bool, true, false, cond, List, Option, Some, ap, refl, subst, sym}
+use Rattle.std.specs.Prelude.{is_some}
 use Rattle.scm_model.specs.Changes.{with_moment}
 use Rattle.scm_model.specs.declared.calls.Request.{Request}
 use Rattle.scm_model.specs.declared.calls.Request.TheVariants as request
@@ -10,17 +11,24 @@ use Rattle.scm_model.specs.declared.steps.Step.{Step}
 use Rattle.scm_model.specs.declared.steps.Step.TheVariants.{Joined, Call, EndStart, LaunchTaken, Launched, LaunchFailed, Report, Ended, ControlTaken, Tick, Gone, NoMemory}
 use Rattle.scm_model.specs.declared.calls.Reply.{Reply}
 use Rattle.scm_model.specs.Refused.{answered}
-use Rattle.scm_model.specs.Unkept.{unkept}
+use Rattle.scm_model.specs.Entries.{unkept}
+use Rattle.scm_model.specs.Outcomes.{Done}
 use Rattle.scm_rules.specs.OtherName.{display_by_name, name_by_display, other_name_done, other_name_reply, other_name_told, other_name_verdict}
 use Rattle.scm_rules.specs.QueryConfig.{query_config_done, query_config_told, query_config_verdict}
-use Rattle.scm_rules.specs.Steps.{at_moment}
+use Rattle.scm_rules.specs.Steps.{at_moment, keeps_right}
+use Rattle.scm_rules.specs.Verdicts.{change_of, change_of_call, tells_right}
+use Rattle.scm_core.specs.Inside.{KeepsMade}
+use Rattle.scm_core.specs.Judged.{changes_in, told_in}
+use Rattle.scm_core.specs.Managed.{WasMadeFor}
 use Rattle.scm_tables.specs.Tabled.{Spare, Tabled}
 use Rattle.scm_core.specs.declared.made.Made.{Made}
 use Rattle.scm_core.specs.Room.{HasRoomFor, IsMadeFor, made_for, nothing_made}
 
 -- the reply of a call that changes nothing
-told_at : (code : ℕ) (told done : Reply) (f g : Flat) → (answered code told f (done, f)).0 ≡ (answered code told g (done, g)).0
-told_at code told done f g = elim (code == 0) as (λ b. (cond {A = Reply × Flat} b (done, f) (told, f)).0 ≡ (cond {A = Reply × Flat} b (done, g) (told, g)).0) [ true ↦ refl | false ↦ refl ]
+told_at : (code : ℕ) (told done : Reply) (f g : Flat) → (answered code told f (record { reply = done; flat = f })).reply ≡ (answered code told g (record { reply = done; flat = g })).reply
+told_at code told done f g =
+    elim (code == 0) as (λ b. (cond {A = Done} b (record { reply = done; flat = f }) (record { reply = told; flat = f })).reply
+    ≡ (cond {A = Done} b (record { reply = done; flat = g }) (record { reply = told; flat = g })).reply) [ true ↦ refl | false ↦ refl ]
 
 abbrev replying : Reply → Made
 replying told = record nothing_made { reply = Some told }
@@ -28,12 +36,12 @@ replying told = record nothing_made { reply = Some told }
 other_name_at : (f : Flat) (moment caller handle size : ℕ) (other : Option (List ℕ)) → replying (other_name_reply (with_moment f moment) caller handle size other) ≡ replying (other_name_reply f caller handle size other)
 other_name_at f moment caller handle size other =
     let code = other_name_verdict f caller handle size other in
-    ap replying (told_at code (other_name_told other code) (other_name_done f other).0 (with_moment f moment) f)
+    ap replying (told_at code (other_name_told other code) (other_name_done f other).reply (with_moment f moment) f)
 
 made_at : (l : Limits) (f : Flat) (moment caller : ℕ) (asked : Request) → made_for l (with_moment f moment) caller asked ≡ made_for l f caller asked
 made_at l f moment caller (request.QueryConfig handle size) =
     let code = query_config_verdict f caller handle size in
-    ap replying (told_at code (query_config_told f caller handle code) (query_config_done f caller handle).0 (with_moment f moment) f)
+    ap replying (told_at code (query_config_told f caller handle code) (query_config_done f caller handle).reply (with_moment f moment) f)
 made_at l f moment caller (request.DisplayName handle name size) = other_name_at f moment caller handle size (display_by_name f name)
 made_at l f moment caller (request.KeyName handle name size) = other_name_at f moment caller handle size (name_by_display f name)
 made_at l f moment caller (request.Close handle) = refl
@@ -130,3 +138,21 @@ has_room_unkept t (ControlTaken process) has = tt
 has_room_unkept t Tick has = tt
 has_room_unkept t (Gone caller) has = tt
 has_room_unkept t (NoMemory caller) has = tt
+
+-- what was made for a call tells whether it makes a change
+changes_made : (l : Limits) (f : Flat) (caller : ℕ) (asked : Request) → (made_for l f caller asked).changes ≡ is_some (change_of_call l f caller asked)
+changes_made l f caller (request.Change change) = refl
+changes_made l f caller (request.Create new) = refl
+changes_made l f caller (request.Delete handle) = refl
+changes_made l f caller _ = refl
+
+-- so does what is kept for a step that room was made for
+pub makes_change_made : (l : Limits) (f : Flat) (made : Made) (room : Option Step) (step : Step) → KeepsMade l f made room → WasMadeFor room step → changes_in made step ≡ is_some (change_of l f step)
+makes_change_made l f made room (Call caller asked append) keeps was =
+    ap (λ (m : Made). m.changes) (subst (KeepsMade l f made) was keeps) ∙ changes_made l f caller asked
+makes_change_made l f made room _ keeps was = refl
+
+pub told_made : (l : Limits) (f : Flat) (made : Made) (room : Option Step) (step : Step) → KeepsMade l f made room → WasMadeFor room step → told_in made step ≡ keeps_right l f step
+told_made l f made room (Call caller asked append) keeps was =
+    ap (λ (changes : Bool). tells_right changes append) (makes_change_made l f made room (Call caller asked append) keeps was)
+told_made l f made room _ keeps was = refl

@@ -1,14 +1,11 @@
 -- A step gives few numbers.
-use Rattle.std.proofs.Common.{ℕ, ◌≡◌, ◌+◌, ◌*◌, ◌<◌, ◌≤◌, ◌^◌, ◌==◌, Bool, true, false, cond, List, [], ◌∷◌, ◌++◌, Option, None, Some, length, length-append, refl, sym, subst, ap, arith}
-use Rattle.std.specs.Prelude.{nat_le}
+use Rattle.std.proofs.Common.{ℕ, ◌≡◌, ◌+◌, ◌<◌, ◌≤◌, ◌^◌, ◌==◌, true, false, cond, [], ◌∷◌, Option, None, Some, length, length-append, refl, sym, subst, ap, arith}
 use Rattle.std.proofs.lemmas.Bool.Decides.{nat_tests}
-use Rattle.scm_model.specs.Changes.{with_moment}
 use Rattle.scm_model.specs.Rows.{opened}
 use Rattle.scm_model.specs.declared.flat.Config.{Config}
 use Rattle.scm_model.specs.declared.flat.Flat.{Flat}
 use Rattle.scm_model.specs.declared.flat.Limits.{Limits}
 use Rattle.scm_model.specs.declared.flat.Next.{Next}
-use Rattle.scm_model.specs.declared.flat.Plan.{Plan}
 use Rattle.scm_model.specs.declared.calls.Reply.{Reply}
 use Rattle.scm_model.specs.declared.calls.Request.{Request}
 use Rattle.scm_model.specs.declared.calls.Request.TheVariants as request
@@ -18,10 +15,11 @@ use Rattle.scm_model.specs.declared.steps.Kept.{Kept}
 use Rattle.scm_model.specs.declared.steps.Step.{Step}
 use Rattle.scm_model.specs.declared.steps.Step.TheVariants.{Joined, Call, EndStart, LaunchTaken, Launched, LaunchFailed, Report, Ended, ControlTaken, Tick, Gone, NoMemory}
 use Rattle.scm_model.specs.Refused.{answered}
+use Rattle.scm_model.specs.Outcomes.{Done}
 use Rattle.start_plan.specs.Decided.{code_of}
 use Rattle.start_plan.specs.Entered.{HasNumbers as HasProcessNumbers, wanted_process}
 use Rattle.start_plan.specs.Moves.{is_full}
-use Rattle.start_plan.specs.Settle.{settle_all, settled}
+use Rattle.start_plan.specs.Settle.{settled}
 use Rattle.start_plan.proofs.Enterings.{all_units}
 use Rattle.start_plan.proofs.Keeps.{Keeps, keeps_all}
 use Rattle.scm_rules.specs.Change.{asked_config, with_new_config}
@@ -45,20 +43,20 @@ same old new e = subst (λ n. NumbersRise old (record new { next = n })) (sym e)
 
 -- ## Calls
 
-of_answered : (code : ℕ) (told : Reply) (f : Flat) (done : Reply × Flat) → NumbersRise f done.1 → NumbersRise f (answered code told f done).1
-of_answered code told f done rises = elim (code == 0) as (λ b. NumbersRise f (cond b done (told, f)).1) [ true ↦ rises | false ↦ same f f refl ]
+of_answered : (code : ℕ) (told : Reply) (f : Flat) (done : Done) → NumbersRise f done.flat → NumbersRise f (answered code told f done).flat
+of_answered code told f done rises = elim (code == 0) as (λ b. NumbersRise f (cond {A = Done} b done (record { reply = told; flat = f })).flat) [ true ↦ rises | false ↦ same f f refl ]
 
 of_new_config : (f : Flat) (number : ℕ) (config : Option Config) → NumbersRise f (with_new_config f number config)
 of_new_config f number None = same f f refl
 of_new_config f number (Some config) = same f (with_new_config f number (Some config)) refl
 
-of_done : (l : Limits) (f : Flat) (caller : ℕ) (asked : Request) → NumbersRise f (done_of l f caller asked).1
-of_done l f caller (request.Close handle) = same f (done_of l f caller (request.Close handle)).1 refl
-of_done l f caller (request.Control handle control) = same f (done_of l f caller (request.Control handle control)).1 refl
-of_done l f caller (request.Delete handle) = same f (done_of l f caller (request.Delete handle)).1 refl
+of_done : (l : Limits) (f : Flat) (caller : ℕ) (asked : Request) → NumbersRise f (done_of l f caller asked).flat
+of_done l f caller (request.Close handle) = same f (done_of l f caller (request.Close handle)).flat refl
+of_done l f caller (request.Control handle control) = same f (done_of l f caller (request.Control handle control)).flat refl
+of_done l f caller (request.Delete handle) = same f (done_of l f caller (request.Delete handle)).flat refl
 of_done l f caller (request.Lock handle) = record { handle = omega arith; caller = omega arith; service = omega arith; plan = omega arith; due = omega arith; process = refl }
-of_done l f caller (request.SetStatus handle status) = same f (done_of l f caller (request.SetStatus handle status)).1 refl
-of_done l f caller (request.Unlock handle) = same f (done_of l f caller (request.Unlock handle)).1 refl
+of_done l f caller (request.SetStatus handle status) = same f (done_of l f caller (request.SetStatus handle status)).flat refl
+of_done l f caller (request.Unlock handle) = same f (done_of l f caller (request.Unlock handle)).flat refl
 of_done l f caller (request.QueryStatus handle) = same f f refl
 of_done l f caller (request.Change change) = of_new_config f (service_in (opened f caller change.handle)) (asked_config f caller change)
 of_done l f caller (request.Create new) = record { handle = omega arith; caller = omega arith; service = omega arith; plan = omega arith; due = omega arith; process = refl }
@@ -70,23 +68,23 @@ of_done l f caller (request.Start handle words) = record { handle = omega arith;
 of_done l f caller (request.DisplayName handle name size) = same f f refl
 of_done l f caller (request.KeyName handle name size) = same f f refl
 
-of_call : (l : Limits) (f : Flat) (caller : ℕ) (asked : Request) (append : Kept) → NumbersRise f (call_of l f caller asked append).1
+of_call : (l : Limits) (f : Flat) (caller : ℕ) (asked : Request) (append : Kept) → NumbersRise f (call_of l f caller asked append).flat
 of_call l f caller asked append = of_answered (verdict l f caller asked append) (told_refused f caller asked (verdict l f caller asked append)) f (done_of l f caller asked) (of_done l f caller asked)
 
 -- ## Steps
 
-of_effect : (l : Limits) (f : Flat) (step : Step) → NumbersRise f (effect_of l f step).1
+of_effect : (l : Limits) (f : Flat) (step : Step) → NumbersRise f (effect_of l f step).flat
 of_effect l f (Joined principal) = record { handle = omega arith; caller = omega arith; service = omega arith; plan = omega arith; due = omega arith; process = refl }
 of_effect l f (Call caller asked append) = of_call l f caller asked append
-of_effect l f (EndStart caller plan) = same f (effect_of l f (EndStart caller plan)).1 refl
-of_effect l f LaunchTaken = same f (effect_of l f LaunchTaken).1 refl
-of_effect l f (Launched process pid) = same f (effect_of l f (Launched process pid)).1 refl
-of_effect l f (LaunchFailed process code) = same f (effect_of l f (LaunchFailed process code)).1 refl
-of_effect l f (Report process status) = same f (effect_of l f (Report process status)).1 refl
-of_effect l f (Ended process) = same f (effect_of l f (Ended process)).1 refl
-of_effect l f (ControlTaken process) = same f (effect_of l f (ControlTaken process)).1 refl
-of_effect l f Tick = same f (effect_of l f Tick).1 refl
-of_effect l f (Gone caller) = same f (effect_of l f (Gone caller)).1 refl
+of_effect l f (EndStart caller plan) = same f (effect_of l f (EndStart caller plan)).flat refl
+of_effect l f LaunchTaken = same f (effect_of l f LaunchTaken).flat refl
+of_effect l f (Launched process pid) = same f (effect_of l f (Launched process pid)).flat refl
+of_effect l f (LaunchFailed process code) = same f (effect_of l f (LaunchFailed process code)).flat refl
+of_effect l f (Report process status) = same f (effect_of l f (Report process status)).flat refl
+of_effect l f (Ended process) = same f (effect_of l f (Ended process)).flat refl
+of_effect l f (ControlTaken process) = same f (effect_of l f (ControlTaken process)).flat refl
+of_effect l f Tick = same f (effect_of l f Tick).flat refl
+of_effect l f (Gone caller) = same f (effect_of l f (Gone caller)).flat refl
 of_effect l f (NoMemory caller) = same f f refl
 
 at_next : (f : Flat) (moment : ℕ) (step : Step) → (at_moment f moment step).next ≡ f.next
@@ -150,7 +148,7 @@ left_next : (f : Flat) (plan : ℕ) (code : Option ℕ) → (left_by f plan code
 left_next f plan None = refl
 left_next f plan (Some code) = refl
 
-finished_next : (f : Flat) (told : Answer) → (finished f told).1.next ≡ f.next
+finished_next : (f : Flat) (told : Answer) → (finished f told).flat.next ≡ f.next
 finished_next f (answer.Begun plan) = left_next f plan (code_of f.plans plan)
 finished_next f (answer.Caller number) = refl
 finished_next f (answer.Reply told) = refl
@@ -163,7 +161,7 @@ finished_next f answer.Done = refl
 -- ## A whole step
 
 -- there are numbers of processes left after a step's effect
-pub numbers_left : (l : Limits) (f g : Flat) (step : Step) → g ≡ (effect_of l f step).1 → l.processes < 2 ^ 32 → f.next.process ≤ 2 ^ 62 → HasProcessNumbers l g
+pub numbers_left : (l : Limits) (f g : Flat) (step : Step) → g ≡ (effect_of l f step).flat → l.processes < 2 ^ 32 → f.next.process ≤ 2 ^ 62 → HasProcessNumbers l g
 numbers_left l f g step e limit few =
     let same_next = ap (λ (x : Flat). x.next.process) e in
     omega (arith, same_next, (of_effect l f step).process, limit, few)
@@ -177,12 +175,12 @@ pub record StepRises (l : Limits) (old new : Flat) : Type 0 where
   pub process : new.next.process ≤ old.next.process + l.processes
 
 -- a step gives at most one number of each kind, and of processes as many as may be listed
-pub of_step : (l : Limits) (f : Flat) (moment : ℕ) (step : Step) → StepRises l f (step_of l f moment step).1
+pub of_step : (l : Limits) (f : Flat) (moment : ℕ) (step : Step) → StepRises l f (step_of l f moment step).flat
 of_step l f moment step =
     let begun = at_moment f moment step in
     let e = of_effect l begun step in
-    let s = of_settled l (effect_of l begun step).1 in
-    let ends = finished_next (settled l (effect_of l begun step).1) (effect_of l begun step).0 in
+    let s = of_settled l (effect_of l begun step).flat in
+    let ends = finished_next (settled l (effect_of l begun step).flat) (effect_of l begun step).answer in
     let first = at_next f moment step in
     record {
       handle = omega (arith, ap (λ (n : Next). n.handle) first, e.handle, s.handle, ap (λ (n : Next). n.handle) ends);

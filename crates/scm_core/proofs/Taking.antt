@@ -1,11 +1,12 @@
 -- A launch that is taken leaves no words behind.
-use Rattle.std.proofs.Common.{ℕ, ◌≡◌, ◌∙◌, ◌+◌, ◌==◌, Option, None, Bool, true, false, not, cond, List, [], ◌∷◌, filter, refl, sym, ap, eq-eqb}
+use Rattle.std.proofs.Common.{ℕ, ◌≡◌, ◌∙◌, ◌+◌, Option, None, List, [], ◌∷◌, refl, ap, eq-eqb}
 use Rattle.scm_model.specs.declared.flat.Flat.{Flat}
 use Rattle.scm_model.specs.declared.flat.Limits.{Limits}
 use Rattle.scm_model.specs.declared.flat.Wanted.{Wanted}
 use Rattle.scm_model.specs.declared.steps.Step.{Step}
 use Rattle.scm_model.specs.declared.steps.Step.TheVariants.{LaunchTaken}
-use Rattle.scm_model.specs.Changes.{purged, with_moment}
+use Rattle.scm_model.specs.Changes.{with_moment}
+use Rattle.scm_model.specs.Purge.{purged}
 use Rattle.scm_rules.specs.Launches.{first_wanted, launch_taken, wanted_of_others}
 use Rattle.scm_rules.specs.Steps.{is_wanted, step_of}
 use Rattle.start_plan.specs.Settle.{settled}
@@ -31,7 +32,7 @@ same_others (row ∷ rows) = rw (eq-eqb row.process row.process refl) refl
 same_taken : (f : Flat) → launch_taken (emptied f) ≡ launch_taken f
 same_taken f = rw (same_first f.wanted) (ap (λ (ws : List Wanted). record (launch_taken f) { wanted = ws }) (same_others f.wanted))
 
-pub same_step : (l : Limits) (f : Flat) (moment : ℕ) → (step_of l (emptied f) moment LaunchTaken).1 ≡ (step_of l f moment LaunchTaken).1
+pub same_step : (l : Limits) (f : Flat) (moment : ℕ) → (step_of l (emptied f) moment LaunchTaken).flat ≡ (step_of l f moment LaunchTaken).flat
 same_step l f moment = ap (λ (g : Flat). purged (settled l g)) (same_taken (with_moment f moment))
 
 -- ## The manager
@@ -41,10 +42,10 @@ same_managed : (m : Managed) (f : Flat) (l : Limits) (s t : ℕ) (r : Option Ste
 same_managed m f l s t r a b c d e = rw (← a, ← b, ← c, ← d, ← e) refl
 
 -- a step from the state without these words is one from the state with them
-pub taken_whole : (old new : Managed) (moment : ℕ) (l : Limits) (g : Flat) → l ≡ old.limits → g ≡ emptied old.flat → new.flat ≡ (step_of l g moment LaunchTaken).1
+pub taken_whole : (old new : Managed) (moment : ℕ) (l : Limits) (g : Flat) → l ≡ old.limits → g ≡ emptied old.flat → new.flat ≡ (step_of l g moment LaunchTaken).flat
     → new.limits ≡ l → new.steps ≡ old.steps + 1 → new.text ≡ old.text → new.room ≡ None
-    → new ≡ record old { flat = (step_of old.limits old.flat moment LaunchTaken).1; steps = old.steps + 1; room = None }
+    → new ≡ record old { flat = (step_of old.limits old.flat moment LaunchTaken).flat; steps = old.steps + 1; room = None }
 taken_whole old new moment l g limits before flat limits_now steps text room =
     same_managed new _ _ _ _ _
-    (flat ∙ ap (λ (x : Limits). (step_of x g moment LaunchTaken).1) limits ∙ ap (λ (x : Flat). (step_of old.limits x moment LaunchTaken).1) before ∙ same_step old.limits old.flat moment)
+    (flat ∙ ap (λ (x : Limits). (step_of x g moment LaunchTaken).flat) limits ∙ ap (λ (x : Flat). (step_of old.limits x moment LaunchTaken).flat) before ∙ same_step old.limits old.flat moment)
     (limits_now ∙ limits) steps text room

@@ -1,16 +1,22 @@
 -- What contracts see of a manager's fields, and what is always true of them.
-use Rattle.std.specs.Prelude.{◌+◌, ◌*◌, ◌^◌, ◌≤◌, Option, None, Some}
+use Rattle.std.specs.Prelude.{◌+◌, ◌*◌, ◌^◌, ◌≤◌, Option, None, Some, option_map}
 use Rattle.scm_model.specs.declared.flat.Flat.{Flat}
 use Rattle.scm_model.specs.declared.flat.Limits.{Limits}
 use Rattle.scm_model.specs.declared.steps.Step.{Step}
+use Rattle.scm_model.specs.Entries.{unkept}
+use Rattle.std.specs.declared.snapshot.Snapshot.{Snapshot}
 use Rattle.scm_tables.specs.Tabled.{Tabled}
 use Rattle.scm_core.specs.declared.made.Made.{Made}
 use Rattle.scm_core.specs.declared.manager.Manager.TheInside.{Inside}
 use Rattle.scm_core.specs.Managed.{Managed}
 use Rattle.scm_core.specs.Room.{HasRoomFor, IsMadeFor}
 
+-- the step that room was made for, before it is known whether its change was kept
+abbrev pub promised : Option (Snapshot Step) → Option Step
+promised room = option_map (λ (s : Snapshot Step). unkept s.value) room
+
 abbrev pub managed : Inside → Managed
-managed a = record { flat = a.tables.flat; limits = a.tables.limits; steps = a.steps; text = a.text; room = a.room }
+managed a = record { flat = a.tables.flat; limits = a.tables.limits; steps = a.steps; text = a.text; room = promised a.room }
 
 -- the lists have the room that was promised
 abbrev pub KeepsRoom : Tabled → Option Step → Type 0
@@ -22,15 +28,15 @@ abbrev pub KeepsMade : Limits → Flat → Made → Option Step → Type 0
 KeepsMade l f made None = Unit {0}
 KeepsMade l f made (Some step) = IsMadeFor l f made step
 
--- a step gives few numbers: of processes as many as may be listed, of all else one
+-- a step gives few numbers: of processes as many as may be listed, of all else one; few services stand from the beginning
 pub record IsSound (a : Inside) : Type 0 where
   pub handles : a.tables.flat.next.handle ≤ a.steps + 1
   pub callers : a.tables.flat.next.caller ≤ a.steps + 1
-  pub services : a.tables.flat.next.service ≤ a.steps + 1
+  pub services : a.tables.flat.next.service ≤ a.steps + 2 ^ 10
   pub plans : a.tables.flat.next.plan ≤ a.steps + 1
   pub dues : a.tables.flat.next.due ≤ a.steps + 1
   pub processes : a.tables.flat.next.process ≤ a.steps * 2 ^ 12 + 1
   pub limit : a.tables.limits.processes ≤ 2 ^ 12
   pub controls : a.tables.limits.controls ≤ 16
-  pub room : KeepsRoom a.tables a.room
-  pub made : KeepsMade a.tables.limits a.tables.flat a.made a.room
+  pub room : KeepsRoom a.tables (promised a.room)
+  pub made : KeepsMade a.tables.limits a.tables.flat a.made (promised a.room)

@@ -1,3 +1,4 @@
 pub mod Managed
 pub mod Room
 pub mod Inside
+pub mod Judged

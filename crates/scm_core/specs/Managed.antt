@@ -5,7 +5,7 @@ use Rattle.scm_model.specs.declared.flat.Flat.{Flat}
 use Rattle.scm_model.specs.declared.flat.Limits.{Limits}
 use Rattle.scm_model.specs.declared.steps.Step.{Step}
 use Rattle.scm_model.specs.declared.steps.Step.TheVariants.{Joined, Call, LaunchTaken}
-use Rattle.scm_model.specs.Unkept.{unkept}
+use Rattle.scm_model.specs.Entries.{unkept}
 use Rattle.scm_rules.specs.Launches.{first_wanted}
 use Rattle.scm_rules.specs.Steps.{is_wanted, step_of}
 use Rattle.scm_tables.specs.Lines.{first_line}
@@ -44,4 +44,4 @@ TakesLaunch old new moment path path_now (Some taken) =
     (taken.0 ≡ first_wanted old.flat.wanted)
     × (path_now ≡ record { units = (first_line old.flat old.flat.wanted).0; room = path.room })
     × (taken.1 ≡ (first_line old.flat old.flat.wanted).1)
-    × (new ≡ record old { flat = (step_of old.limits old.flat moment LaunchTaken).1; steps = old.steps + 1; room = None })
+    × (new ≡ record old { flat = (step_of old.limits old.flat moment LaunchTaken).flat; steps = old.steps + 1; room = None })

@@ -25,8 +25,8 @@ fn call(
     requires room { HasRoomForCall tables.old caller request }
     requires numbers { HasNumbers tables.old.flat }
     requires controls { tables.old.limits.controls ≤ 16 }
-    ensures answer { result ≡ (effect_of tables.old.limits tables.old.flat (Call caller request kept)).0 }
-    ensures flat { tables.new.flat ≡ (effect_of tables.old.limits tables.old.flat (Call caller request kept)).1 }
+    ensures answer { result ≡ (effect_of tables.old.limits tables.old.flat (Call caller request kept)).answer }
+    ensures flat { tables.new.flat ≡ (effect_of tables.old.limits tables.old.flat (Call caller request kept)).flat }
     ensures limits { tables.new.limits ≡ tables.old.limits }
 {
     let limits = tables.limits();
@@ -101,8 +101,8 @@ fn effect(tables: &mut Tables, alloc: Global, step: Step, made: &mut Made) -> An
     requires room { HasRoomFor tables.old step }
     requires numbers { HasNumbers tables.old.flat }
     requires controls { tables.old.limits.controls ≤ 16 }
-    ensures answer { result ≡ (effect_of tables.old.limits tables.old.flat step).0 }
-    ensures flat { tables.new.flat ≡ (effect_of tables.old.limits tables.old.flat step).1 }
+    ensures answer { result ≡ (effect_of tables.old.limits tables.old.flat step).answer }
+    ensures flat { tables.new.flat ≡ (effect_of tables.old.limits tables.old.flat step).flat }
     ensures limits { tables.new.limits ≡ tables.old.limits }
 {
     match step {
@@ -135,8 +135,8 @@ pub fn act(tables: &mut Tables, alloc: Global, moment: u64, step: Step, made: &m
     requires limit { tables.old.limits.processes < 2 ^ 32 }
     requires controls { tables.old.limits.controls ≤ 16 }
     requires processes { tables.old.flat.next.process ≤ 2 ^ 62 }
-    ensures answer { result ≡ (step_of tables.old.limits tables.old.flat moment step).0 }
-    ensures flat { tables.new.flat ≡ (step_of tables.old.limits tables.old.flat moment step).1 }
+    ensures answer { result ≡ (step_of tables.old.limits tables.old.flat moment step).answer }
+    ensures flat { tables.new.flat ≡ (step_of tables.old.limits tables.old.flat moment step).flat }
     ensures limits { tables.new.limits ≡ tables.old.limits }
 {
     begin(tables, moment, &step);

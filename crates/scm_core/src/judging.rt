@@ -1,8 +1,10 @@
-ghost use Rattle.std.specs.Prelude.{◌≡◌, IfOk, is_some};
-ghost use Rattle.scm_rules.specs.Steps.{keeps_right, may_come};
+ghost use Rattle.std.specs.Prelude.{◌≡◌, IfOk};
+ghost use Rattle.scm_rules.specs.Steps.{may_come};
+ghost use Rattle.scm_core.specs.Judged.{changes_in, told_in};
 ghost use Rattle.scm_rules.specs.Verdicts.{change_of, change_of_call, tells_right};
 
-use scm_arms_service::{changed, changes, created, creates, delete_verdict, removed, removes};
+use super::made::Made;
+use scm_arms_service::{changed, created, delete_verdict, removed};
 use scm_model::{Change, Kept, Request, Step};
 use scm_tables::Tables;
 use scm_text::OutOfMemory;
@@ -16,9 +18,9 @@ pub fn may_come(tables: &Tables, moment: u64, step: &Step) -> bool
         Step::Joined { .. } => tables.callers() < tables.limits().callers as usize,
         Step::Call {
             caller,
-            request: _,
+            request,
             kept: _,
-        } => tables.is_caller(*caller),
+        } => tables.is_caller(*caller) && request.in_range(),
         Step::EndStart { caller, plan } => {
             tables.is_caller(*caller) && tables.can_end(*caller, *plan)
         }
@@ -34,48 +36,12 @@ pub fn may_come(tables: &Tables, moment: u64, step: &Step) -> bool
     }
 }
 
-/// Whether a call makes a change of the configurations, if it is kept.
-fn call_changes(
-    tables: &Tables,
-    caller: u64,
-    request: &Request,
-    alloc: Global,
-) -> Result<bool, OutOfMemory>
-    ensures { IfOk result (λ changes. changes ≡ is_some (change_of_call tables.now.limits tables.now.flat caller request.now)) }
-{
-    match request {
-        Request::Create(new) => creates(tables, &tables.limits(), caller, new, alloc),
-        Request::Delete { handle } => Ok(
-            delete_verdict(tables, caller, *handle, Kept::Kept) == 0
-                && removes(tables, caller, *handle),
-        ),
-        Request::Change(change) => changes(tables, caller, change, alloc),
-        Request::Close { .. }
-        | Request::Control { .. }
-        | Request::Lock { .. }
-        | Request::QueryStatus { .. }
-        | Request::SetStatus { .. }
-        | Request::Unlock { .. }
-        | Request::OpenManager { .. }
-        | Request::OpenService { .. }
-        | Request::QueryConfig { .. }
-        | Request::QueryLock { .. }
-        | Request::Start { .. }
-        | Request::DisplayName { .. }
-        | Request::KeyName { .. } => Ok(false),
-    }
-}
-
-/// Whether a step makes a change of the configurations, if it is kept.
-pub fn makes_change(tables: &Tables, step: &Step, alloc: Global) -> Result<bool, OutOfMemory>
-    ensures { IfOk result (λ changes. changes ≡ is_some (change_of tables.now.limits tables.now.flat step.now)) }
+/// Whether a step for which this was made changes the configurations, if it is kept.
+pub fn makes_change(step: &Step, made: &Made) -> bool
+    ensures { result ≡ changes_in made.now step.now }
 {
     match step {
-        Step::Call {
-            caller,
-            request,
-            kept: _,
-        } => call_changes(tables, *caller, request, alloc),
+        Step::Call { .. } => made.changes,
         Step::Joined { .. }
         | Step::EndStart { .. }
         | Step::LaunchTaken
@@ -86,7 +52,7 @@ pub fn makes_change(tables: &Tables, step: &Step, alloc: Global) -> Result<bool,
         | Step::ControlTaken { .. }
         | Step::Tick
         | Step::Gone { .. }
-        | Step::NoMemory { .. } => Ok(false),
+        | Step::NoMemory { .. } => false,
     }
 }
 
@@ -100,16 +66,16 @@ fn tells_right(changes: bool, kept: Kept) -> bool
     }
 }
 
-/// Whether a step tells that a change was kept or not exactly where it makes one.
-pub fn is_told(tables: &Tables, step: &Step, alloc: Global) -> Result<bool, OutOfMemory>
-    ensures { IfOk result (λ told. told ≡ keeps_right tables.now.limits tables.now.flat step.now) }
+/// Whether a step for which this was made tells that a change was kept or not exactly where it makes one.
+pub fn is_told(step: &Step, made: &Made) -> bool
+    ensures { result ≡ told_in made.now step.now }
 {
     match step {
         Step::Call {
-            caller,
-            request,
+            caller: _,
+            request: _,
             kept,
-        } => Ok(tells_right(call_changes(tables, *caller, request, alloc)?, *kept)),
+        } => tells_right(made.changes, *kept),
         Step::Joined { .. }
         | Step::EndStart { .. }
         | Step::LaunchTaken
@@ -120,7 +86,7 @@ pub fn is_told(tables: &Tables, step: &Step, alloc: Global) -> Result<bool, OutO
         | Step::ControlTaken { .. }
         | Step::Tick
         | Step::Gone { .. }
-        | Step::NoMemory { .. } => Ok(true),
+        | Step::NoMemory { .. } => true,
     }
 }
 

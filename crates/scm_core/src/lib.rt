@@ -5,10 +5,7 @@ mod effect;
 mod judging;
 mod made;
 mod manager;
+mod owing;
 mod room;
-mod texts;
 
 pub use manager::Manager;
-
-#[cfg(test)]
-mod tests;

@@ -4,7 +4,8 @@ ghost use Rattle.scm_core.specs.Room.{IsMadeFor, made_for, nothing_made};
 
 use scm_arms_handle::lock_owner;
 use scm_arms_service::{
-    asked_config, change_verdict, config_of, create_verdict, display_name, key_name, query_config,
+    asked_config, change_verdict, changes, config_of, create_verdict, display_name, key_name,
+    query_config, removes,
 };
 use scm_arms_start::start_entries;
 use scm_model::{ChangeService, Config, NewService, Reply, Request, Step};
@@ -21,6 +22,8 @@ pub struct Made {
     pub config: Option<Config>,
     /// What a creation or a change is refused with if it is kept, or 0.
     pub code: u32,
+    /// Whether the call changes the configurations if it is kept.
+    pub changes: bool,
     /// The services that a start goes by.
     pub entries: Option<Items<u64>>,
     /// The reply to a call that only reads.
@@ -34,6 +37,7 @@ pub fn nothing_made() -> Made
         name: None,
         config: None,
         code: 0,
+        changes: false,
         entries: None,
         reply: None,
     }
@@ -46,18 +50,33 @@ fn made_of_name(name: WText) -> Made
         name: Some(name),
         config: None,
         code: 0,
+        changes: false,
         entries: None,
         reply: None,
     }
 }
 
-fn made_of_config(config: Option<Config>, code: u32) -> Made
-    ensures { result ≡ record nothing_made { config = config; code = code } }
+fn made_of_config(config: Option<Config>, code: u32, changes: bool) -> Made
+    ensures { result ≡ record nothing_made { config = config; code = code; changes = changes } }
 {
     Made {
         name: None,
         config,
         code,
+        changes,
+        entries: None,
+        reply: None,
+    }
+}
+
+fn made_of_removal(changes: bool) -> Made
+    ensures { result ≡ record nothing_made { changes = changes } }
+{
+    Made {
+        name: None,
+        config: None,
+        code: 0,
+        changes,
         entries: None,
         reply: None,
     }
@@ -70,6 +89,7 @@ fn made_of_entries(entries: Items<u64>) -> Made
         name: None,
         config: None,
         code: 0,
+        changes: false,
         entries: Some(entries),
         reply: None,
     }
@@ -82,6 +102,7 @@ fn made_of_reply(reply: Reply) -> Made
         name: None,
         config: None,
         code: 0,
+        changes: false,
         entries: None,
         reply: Some(reply),
     }
@@ -98,7 +119,7 @@ fn make_for_create(
 {
     let config = config_of(tables, new, alloc)?;
     let code = create_verdict(tables, &tables.limits(), caller, new, &config, alloc)?;
-    Ok(made_of_config(Some(config), code))
+    Ok(made_of_config(Some(config), code, code == 0))
 }
 
 /// Makes what a change needs.
@@ -112,7 +133,8 @@ fn make_for_change(
 {
     let config = asked_config(tables, caller, change, alloc)?;
     let code = change_verdict(tables, caller, change, alloc)?;
-    Ok(made_of_config(config, code))
+    let changes = changes(tables, caller, change, code, &config, alloc)?;
+    Ok(made_of_config(config, code, changes))
 }
 
 /// Makes what a call needs.
@@ -126,6 +148,7 @@ fn make_for_call(
 {
     match request {
         Request::Create(new) => make_for_create(tables, caller, new, alloc),
+        Request::Delete { handle } => Ok(made_of_removal(removes(tables, caller, *handle))),
         Request::QueryLock { .. } => Ok(made_of_name(lock_owner(tables, alloc)?)),
         Request::Change(change) => make_for_change(tables, caller, change, alloc),
         Request::QueryConfig { handle, size } => Ok(made_of_reply(query_config(
@@ -142,7 +165,6 @@ fn make_for_call(
         )?)),
         Request::Close { .. }
         | Request::Control { .. }
-        | Request::Delete { .. }
         | Request::Lock { .. }
         | Request::QueryStatus { .. }
         | Request::SetStatus { .. }

@@ -1,39 +1,42 @@
 ghost use Rattle.std.specs.Prelude.{◌≡◌, ◌+◌, ◌<◌, ◌≤◌, ◌==◌, ◌^◌, max, nat_le, IsTrue, OnOk, OnErr, IfOk, None, Some, length, filter, is_some, []};
 ghost use Rattle.std.specs.List.{list_any};
 ghost use Rattle.scm_rules.specs.Controls.{waiting};
-ghost use Rattle.scm_rules.specs.Opening.{opening};
+ghost use Rattle.scm_rules.specs.Opening.{CanOpen, opening};
 ghost use Rattle.scm_rules.specs.Start.{is_due};
 ghost use Rattle.start_plan.specs.Decided.{caller_of, code_of};
 ghost use Rattle.scm_rules.specs.Steps.{is_wanted, may, may_come, step_of};
-ghost use Rattle.scm_rules.specs.Texts.{text_of};
+ghost use Rattle.scm_model.specs.Texts.{text_of};
 ghost use Rattle.scm_rules.specs.Verdicts.{change_of};
-ghost use Rattle.scm_model.specs.Unkept.{unkept};
+ghost use Rattle.scm_model.specs.Entries.{unkept};
+ghost use Rattle.scm_core.specs.Inside.{promised};
 ghost use Rattle.scm_core.specs.Managed.{AreSmall, TakesLaunch, WasMadeFor};
+ghost use Rattle.scm_model.specs.declared.codes.TheConstants.{SERVICE_RUNNING};
 
 use super::effect::act;
 use super::judging::{change_of, is_told, makes_change, may_come};
 use super::made::{Made, make_for, nothing_made};
 use super::room::reserve;
-use super::texts::text_of;
 use scm_model::{Answer, Change, Config, Limits, Step};
 use scm_tables::Tables;
 use scm_text::{Items, OutOfMemory, TextRoom, WText};
 use std::alloc::Global;
 use std::marker::Model;
+use std::snapshot::Snapshot;
 
 /// The service manager. Contracts see its flat state, its limits, how many steps were made and
 /// their text, and the step that room was made for.
 #[derive(Drop)]
 pub struct Manager {
-    tables: Tables,
-    steps: u64,
-    text: u64,
-    room: Option<Step>,
+    pub(crate) tables: Tables,
+    pub(crate) steps: u64,
+    pub(crate) text: u64,
+    room: Option<Snapshot<Step>>,
     made: Made,
     alloc: Global,
 }
 
 impl Model for Manager {
+    ghost use Rattle.scm_core.specs.Inside.{promised};
     ghost use Rattle.scm_core.specs.Managed.{Managed};
 
     ghost Value = { Managed };
@@ -46,23 +49,23 @@ impl Model for Manager {
 }
 
 /// Lets the room of a step go.
-fn forget(room: &mut Option<Step>)
+fn forget(room: &mut Option<Snapshot<Step>>)
     ensures { room.new ≡ None }
 {
     *room = None;
 }
 
 /// Keeps what was made for a step.
-fn keep(room: &mut Option<Step>, made: &mut Made, step: Step, now: Made)
-    ensures room { room.new ≡ Some step }
+fn keep(room: &mut Option<Snapshot<Step>>, made: &mut Made, step: &Step, now: Made)
+    ensures room { promised room.new ≡ Some (unkept step.now) }
     ensures made { made.new ≡ now }
 {
-    *room = Some(step);
+    *room = Some(Snapshot::of(step));
     *made = now;
 }
 
 impl Manager {
-    /// A manager with no services and no callers. It takes no groups and no configurations yet.
+    /// A manager with a service for each configuration, which never ran, and with no callers. It takes no groups yet.
     pub fn new(
         alloc: Global,
         limits: Limits,
@@ -71,14 +74,14 @@ impl Manager {
         moment: u64,
     ) -> Result<Manager, OutOfMemory>
         requires groups { groups ≡ [] }
-        requires configs { configs ≡ [] }
+        requires configs { CanOpen limits configs }
         requires limits { AreSmall limits }
         ensures flat { IfOk result (λ manager. manager.flat ≡ opening limits groups configs moment) }
         ensures limits { IfOk result (λ manager. manager.limits ≡ limits) }
         ensures fresh { IfOk result (λ manager. (manager.steps ≡ 0) × (manager.text ≡ 0) × (manager.room ≡ None)) }
     {
         Ok(Manager {
-            tables: Tables::new(alloc, limits, moment)?,
+            tables: Tables::new(alloc, limits, configs, moment)?,
             steps: 0,
             text: 0,
             room: None,
@@ -96,7 +99,7 @@ impl Manager {
 
     /// How many services are RUNNING.
     pub fn running(&self) -> u64
-        ensures { result ≡ length (filter (λ row. row.status.state == 4) self.now.flat.services) }
+        ensures { result ≡ length (filter (λ row. row.status.state == SERVICE_RUNNING) self.now.flat.services) }
     {
         self.tables.running() as u64
     }
@@ -114,7 +117,7 @@ impl Manager {
         ensures text { IsTrue result → self.now.text + text_of step.now < 2 ^ 63 }
         ensures fits { self.now.steps < 2 ^ 50 → self.now.text + text_of step.now < 2 ^ 63 → IsTrue result }
     {
-        self.has_steps(1) && (self.text as u128).saturating_add(text_of(step)) < (1 << 63)
+        self.has_steps(1) && (self.text as u128).saturating_add(step.text()) < (1 << 63)
     }
 
     /// Whether a step may be done at a moment, whatever it tells of what was kept. It takes no memory.
@@ -124,11 +127,12 @@ impl Manager {
         may_come(&self.tables, moment, step)
     }
 
-    /// Whether a step may be done at a moment, apart from its room and from the number and text of the steps.
-    pub fn admits(&self, moment: u64, step: &Step) -> Result<bool, OutOfMemory>
-        ensures { IfOk result (λ admits. admits ≡ may self.now.limits self.now.flat moment step.now) }
+    /// Whether a step that room was made for may be done at a moment, apart from the number and text of the steps. It takes no memory.
+    pub fn admits(&self, moment: u64, step: &Step) -> bool
+        requires { WasMadeFor self.now.room step.now }
+        ensures { result ≡ may self.now.limits self.now.flat moment step.now }
     {
-        Ok(self.may(moment, step) && is_told(&self.tables, step, self.alloc)?)
+        self.may(moment, step) && is_told(step, &self.made)
     }
 
     /// The code of a plan; none where it is undecided or absent. It takes no memory.
@@ -166,11 +170,12 @@ impl Manager {
         self.tables.is_due(self.tables.moment().max(moment))
     }
 
-    /// Whether a step makes a change of the configurations, if it is kept.
-    pub fn makes_change(&self, _moment: u64, step: &Step) -> Result<bool, OutOfMemory>
-        ensures { IfOk result (λ changes. changes ≡ is_some (change_of self.now.limits self.now.flat step.now)) }
+    /// Whether a step that room was made for changes the configurations, if it is kept. It takes no memory.
+    pub fn makes_change(&self, step: &Step) -> bool
+        requires { WasMadeFor self.now.room step.now }
+        ensures { result ≡ is_some (change_of self.now.limits self.now.flat step.now) }
     {
-        makes_change(&self.tables, step, self.alloc)
+        makes_change(step, &self.made)
     }
 
     /// The change of the configurations that a step makes if it is kept.
@@ -188,8 +193,7 @@ impl Manager {
         forget(&mut self.room);
         let made = make_for(&self.tables, step, self.alloc)?;
         reserve(&mut self.tables, step, &made)?;
-        let copy = step.copy_unkept(self.alloc)?;
-        keep(&mut self.room, &mut self.made, copy, made);
+        keep(&mut self.room, &mut self.made, step, made);
         Ok(())
     }
 
@@ -199,15 +203,15 @@ impl Manager {
         requires room { WasMadeFor self.old.room step }
         requires steps { self.old.steps < 2 ^ 50 }
         requires text { self.old.text + text_of step < 2 ^ 63 }
-        ensures answer { result ≡ (step_of self.old.limits self.old.flat moment step).0 }
-        ensures flat { self.new.flat ≡ (step_of self.old.limits self.old.flat moment step).1 }
+        ensures answer { result ≡ (step_of self.old.limits self.old.flat moment step).answer }
+        ensures flat { self.new.flat ≡ (step_of self.old.limits self.old.flat moment step).flat }
         ensures limits { self.new.limits ≡ self.old.limits }
         ensures steps { self.new.steps ≡ self.old.steps + 1 }
         ensures text { self.new.text ≡ self.old.text + text_of step }
         ensures room { self.new.room ≡ None }
     {
         self.steps += 1;
-        self.text += text_of(&step) as u64;
+        self.text += step.text() as u64;
         forget(&mut self.room);
         act(&mut self.tables, self.alloc, moment, step, &mut self.made)
     }

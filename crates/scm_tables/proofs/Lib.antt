@@ -4,3 +4,4 @@ pub mod Keeping
 pub mod Listing
 pub mod Wording
 pub mod NeedRows
+pub mod Opened

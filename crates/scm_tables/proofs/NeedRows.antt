@@ -4,7 +4,7 @@ use Rattle.std.specs.Prelude.{All, AllPairs, IsSome, find}
 use Rattle.std.proofs.lemmas.Bool.{eq-eqb, eqb-true, false≢true, ne_eqb}
 use Rattle.std.proofs.lemmas.List.{get_or_default, get_or-take, length-take-le}
 use Rattle.scm_model.specs.declared.flat.Service.{Service}
-use Rattle.dependency_index.specs.Needs.{has, numbers_of}
+use Rattle.scm_model.specs.Needs.{has, numbers_of}
 use Rattle.scm_rules.specs.Needs.{need_rows}
 
 -- a number above all has no row

@@ -1,5 +1,5 @@
 ghost use Rattle.std.specs.Prelude.{◌≡◌, ◌++◌, ◌∷◌, ◌≤◌, ◌<◌, [], false, length, AllPairs, IfOk, IsSome, OnOk};
-ghost use Rattle.dependency_index.specs.Needs.{has, numbers_of};
+ghost use Rattle.scm_model.specs.Needs.{has, numbers_of};
 ghost use Rattle.scm_model.specs.Rows.{service_of};
 ghost use Rattle.scm_rules.specs.Needs.{makes_cycle, need_row, need_rows, start_order};
 

@@ -4,6 +4,7 @@
 mod due_rows;
 mod handle_rows;
 mod indexing;
+mod opening;
 mod planning;
 mod process_rows;
 mod running;
@@ -14,6 +15,7 @@ mod tables;
 ghost use Rattle.std.specs.Prelude.{◌≡◌};
 ghost use Rattle.scm_rules.specs.Rights.{mask_lacks};
 
+pub use opening::new_status;
 pub use tables::Tables;
 
 /// Whether a mask lacks one of the rights.

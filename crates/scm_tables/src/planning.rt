@@ -1,6 +1,7 @@
-ghost use Rattle.std.specs.Prelude.{◌≡◌, ◌≤◌, ◌<◌, ◌^◌, None, [], length, OnOk};
+ghost use Rattle.std.specs.Prelude.{◌≡◌, ◌≤◌, ◌<◌, ◌-◌, ◌^◌, None, [], length, min, OnOk};
 ghost use Rattle.std.specs.List.{list_any};
 ghost use Rattle.scm_rules.specs.Launches.{first_wanted, is_taken, path_in, process_of, service_of_process, with_decided, with_fallen, with_launched, with_taken, without_process};
+ghost use Rattle.scm_rules.specs.Owed.{owed};
 ghost use Rattle.scm_rules.specs.Start.{can_end, ended, is_due, ticked, with_plan};
 ghost use Rattle.scm_rules.specs.Steps.{is_wanted, without_plans};
 ghost use Rattle.scm_model.specs.Rows.{service_of};
@@ -10,8 +11,8 @@ ghost use Rattle.scm_tables.specs.Listed.{without_words};
 
 use super::due_rows::{drop_due, fire, is_any_due};
 use super::process_rows::{
-    drop_process, first_wanted, is_any_wanted, is_taken_in, launch_in, service_of, take_in,
-    take_words,
+    drop_process, first_wanted, is_any_wanted, is_taken_in, launch_in, owed_in, service_of,
+    take_in, take_words,
 };
 use super::service_rows::fall_in;
 use super::tables::Tables;
@@ -231,5 +232,14 @@ impl Tables {
     {
         fire(&mut self.plans, self.moment, self.dues.as_slice());
         drop_due(&mut self.dues, self.moment);
+    }
+
+    /// How many steps are owed, up to 2^64 - 1.
+    pub fn owed(&self) -> u64
+        ensures { result ≡ min (owed self.now.flat) (2 ^ 64 - 1) }
+    {
+        (self.callers() as u64)
+            .saturating_add(owed_in(self.processes.as_slice()))
+            .saturating_add(self.plans.owed())
     }
 }

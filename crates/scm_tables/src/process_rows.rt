@@ -1,8 +1,10 @@
-ghost use Rattle.std.specs.Prelude.{◌≡◌, ◌==◌, ◌≤◌, [], length, nat_le, not, position, map, filter, find, option_copied, option_map, vec_capacity};
+ghost use Rattle.std.specs.Prelude.{◌≡◌, ◌==◌, ◌≤◌, ◌-◌, ◌^◌, [], length, min, nat_le, not, position, map, filter, find, option_copied, option_map, vec_capacity};
 ghost use Rattle.scm_model.specs.declared.flat.Process.{Process};
 ghost use Rattle.scm_rules.specs.Controls.{controlled_if, controls_in, first_control, relieved_if};
 ghost use Rattle.scm_rules.specs.Launches.{first_wanted, is_running, is_taken, launched_if, service_in_process, taken_if};
+ghost use Rattle.scm_rules.specs.Owed.{owed_by_process, owed_in_phase};
 ghost use Rattle.scm_rules.specs.Steps.{is_wanted as is_any_wanted};
+ghost use Rattle.start_plan.specs.Owed.{total};
 ghost use Rattle.scm_tables.specs.Listed.{is_wanted, listed_as, processes_in, wanted_in, without_words, words_in};
 
 use control_dispatch::Controls;
@@ -222,4 +224,26 @@ pub fn is_full(rows: &[ProcessRow], limit: u32) -> bool
     ensures { result ≡ nat_le limit (length (processes_in rows.now)) }
 {
     limit as usize <= rows.len()
+}
+
+/// How many steps a process in a phase still owes.
+fn owed_in_phase(phase: Phase) -> u64
+    ensures { result ≡ owed_in_phase phase }
+{
+    match phase {
+        Phase::Wanted => 3,
+        Phase::Taken => 2,
+        Phase::Launched => 1,
+    }
+}
+
+/// How many steps the processes owe, up to 2^64 - 1.
+pub fn owed_in(rows: &[ProcessRow]) -> u64
+    ensures { result ≡ min (total owed_by_process (processes_in rows.now)) (2 ^ 64 - 1) }
+{
+    let mut owed = 0u64;
+    for row in rows {
+        owed = owed.saturating_add(owed_in_phase(row.phase));
+    }
+    owed
 }

@@ -2,13 +2,14 @@ ghost use Rattle.std.specs.Prelude.{◌≡◌, ◌≢◌, ◌<◌, ◌+◌, ◌-
 ghost use Rattle.std.specs.List.{list_any};
 ghost use Rattle.dependency_index.specs.Naming.{is_named};
 ghost use Rattle.scm_text.specs.Fold.{same_text};
-ghost use Rattle.scm_model.specs.Changes.{configured_if, leaves, marked_if};
+ghost use Rattle.scm_model.specs.Changes.{configured_if, marked_if};
+ghost use Rattle.scm_model.specs.Purge.{leaves};
 ghost use Rattle.scm_rules.specs.Controls.{is_active_by};
 ghost use Rattle.scm_rules.specs.Create.{greatest_tag};
 ghost use Rattle.scm_rules.specs.Launches.{fallen_if};
 ghost use Rattle.scm_rules.specs.Reports.{reported_if};
 ghost use Rattle.start_plan.specs.Entered.{started_if};
-ghost use Rattle.start_plan.specs.Ready.{is_running};
+ghost use Rattle.scm_model.specs.Ready.{is_running};
 ghost use Rattle.scm_tables.specs.Tags.{tag_in};
 
 use super::handle_rows::is_open_in;

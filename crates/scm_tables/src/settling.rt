@@ -3,7 +3,7 @@ ghost use Rattle.std.specs.List.{list_any};
 ghost use Rattle.scm_model.specs.Rows.{members, named};
 ghost use Rattle.start_plan.specs.Entered.{HasNumbers};
 ghost use Rattle.start_plan.specs.Moves.{cause_at, entering_at};
-ghost use Rattle.start_plan.specs.Ready.{is_fulfilled, is_ready, is_running, is_up, state_of};
+ghost use Rattle.scm_model.specs.Ready.{is_fulfilled, is_ready, is_running, is_up, state_of};
 ghost use Rattle.start_plan.specs.Settle.{settled};
 
 use super::due_rows::keep_due;
@@ -12,36 +12,21 @@ use super::service_rows::{has_running, start_in};
 use super::tables::Tables;
 use control_dispatch::Controls;
 use dependency_index::StateOf;
+use scm_model::codes::{
+    ERROR_SERVICE_DEPENDENCY_FAIL, ERROR_SERVICE_DISABLED, ERROR_SERVICE_MARKED_FOR_DELETE,
+    ERROR_SERVICE_NO_THREAD, SERVICE_DISABLED, SERVICE_RUNNING, SERVICE_STOPPED,
+};
 use scm_model::{Need, Phase, Service};
 use scm_text::{Items, WText};
 use start_plan::{Entering, Field, Plans};
 use std::mem::replace;
 
-const STOPPED: u32 = 1;
-
-const RUNNING: u32 = 4;
-
-/// `SERVICE_DISABLED`.
-const DISABLED: u32 = 4;
-
-/// `ERROR_SERVICE_MARKED_FOR_DELETE`.
-const MARKED_FOR_DELETE: u32 = 1072;
-
-/// `ERROR_SERVICE_DISABLED`.
-const SERVICE_DISABLED: u32 = 1058;
-
-/// `ERROR_SERVICE_DEPENDENCY_FAIL`.
-const DEPENDENCY_FAIL: u32 = 1068;
-
-/// `ERROR_SERVICE_NO_THREAD`.
-const NO_THREAD: u32 = 1054;
-
-/// Whether a service is there, unmarked and RUNNING.
+/// Whether a service is there, unmarked and SERVICE_RUNNING.
 fn is_up(service: Option<&Service>) -> bool
     ensures { result ≡ is_up (option_copied service.entry) }
 {
     match service {
-        Some(row) => !row.marked && row.status.state == RUNNING,
+        Some(row) => !row.marked && row.status.state == SERVICE_RUNNING,
         None => false,
     }
 }
@@ -73,16 +58,16 @@ impl Tables {
         ensures { result ≡ entering_at (cause_at self.now.limits self.now.flat false (Some row.now)) (is_some self.now.flat.lock) }
     {
         if row.marked {
-            return Entering::No(MARKED_FOR_DELETE);
+            return Entering::No(ERROR_SERVICE_MARKED_FOR_DELETE);
         }
-        if row.config.start == DISABLED {
-            return Entering::No(SERVICE_DISABLED);
+        if row.config.start == SERVICE_DISABLED {
+            return Entering::No(ERROR_SERVICE_DISABLED);
         }
-        if !self.is_ready(row) || row.status.state != STOPPED {
-            return Entering::No(DEPENDENCY_FAIL);
+        if !self.is_ready(row) || row.status.state != SERVICE_STOPPED {
+            return Entering::No(ERROR_SERVICE_DEPENDENCY_FAIL);
         }
         if is_full(self.processes.as_slice(), self.limits.processes) {
-            return Entering::No(NO_THREAD);
+            return Entering::No(ERROR_SERVICE_NO_THREAD);
         }
         match self.lock() {
             Some(_) => Entering::Locked,
@@ -139,7 +124,7 @@ impl Field for Tables {
     fn may_enter(&self, service: u64) -> Entering {
         match self.service(service) {
             Some(row) => self.entering(row),
-            None => Entering::No(MARKED_FOR_DELETE),
+            None => Entering::No(ERROR_SERVICE_MARKED_FOR_DELETE),
         }
     }
 

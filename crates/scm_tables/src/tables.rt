@@ -1,14 +1,18 @@
-ghost use Rattle.std.specs.Prelude.{◌≡◌, ◌+◌, ◌^◌, ◌<◌, ◌≤◌, ◌==◌, filter, IfOk, OnOk, length, option_copied};
-ghost use Rattle.scm_model.specs.Changes.{with_handle, without_handle, without_handles_of, with_caller, without_caller, with_config, with_moment, with_service, with_mark, without_lock_of, purged};
+ghost use Rattle.std.specs.Prelude.{◌≡◌, ◌+◌, ◌^◌, ◌<◌, ◌≤◌, ◌==◌, filter, IfOk, OnOk, length, option_copied, All, []};
+ghost use Rattle.scm_model.specs.Changes.{with_handle, without_handle, without_handles_of, without_registrations_of, with_caller, without_caller, with_config, with_moment, with_service, with_mark, without_lock_of};
+ghost use Rattle.scm_model.specs.Purge.{purged};
 ghost use Rattle.scm_model.specs.Rows.{caller_of, displayed, handle_of, held_by, is_caller, is_shown, is_shown_by_another, manager_mask, named, opened, owner_at, principal_of, service_of};
 ghost use Rattle.scm_rules.specs.Create.{next_tag};
 ghost use Rattle.scm_rules.specs.Locks.{with_lock, without_lock};
-ghost use Rattle.scm_rules.specs.Opening.{empty_at};
+ghost use Rattle.scm_rules.specs.Opening.{empty_at, opening};
 ghost use Rattle.scm_rules.specs.Query.{service_in};
+ghost use Rattle.scm_model.specs.declared.codes.TheConstants.{SERVICE_RUNNING};
 
 use super::handle_rows::{
-    caller_in, count_of, drop_caller, drop_caller_row, drop_number, is_held_by, owner_at, row_of,
+    caller_in, count_of, drop_caller, drop_caller_row, drop_number, drop_registrations, is_held_by,
+    owner_at, row_of,
 };
+use super::opening::services_of;
 use super::process_rows::ProcessRow;
 use super::service_rows::{
     configure_in, displayed_in, greatest_tag_in, is_shown_by_another_in, is_shown_in, mark_in,
@@ -33,7 +37,7 @@ pub struct Tables {
     pub(crate) plans: Plans,
     /// For what the next plan will have tried.
     pub(crate) tried: Vec<u64>,
-    registrations: Items<Registration>,
+    registrations: Vec<Registration>,
     pub(crate) dues: Vec<Due>,
     callers: Vec<Caller>,
     pub(crate) lock: DatabaseLock,
@@ -55,38 +59,51 @@ impl Model for Tables {
     ghost invariant = { IsKept };
 }
 
-/// The numbers that are given first.
-const FIRST: Next = Next {
-    service: 1,
-    handle: 1,
-    process: 1,
-    plan: 1,
-    registration: 1,
-    due: 1,
-    caller: 1,
-};
+/// The numbers that are given first, behind those of so many services.
+fn first_numbers(services: u64) -> Next
+    requires { services < 2 ^ 63 }
+    ensures { result ≡ record (empty_at 0).next { service = services + 1 } }
+{
+    Next {
+        service: services + 1,
+        handle: 1,
+        process: 1,
+        plan: 1,
+        registration: 1,
+        due: 1,
+        caller: 1,
+    }
+}
 
 impl Tables {
-    /// Empty lists, with room for as many processes as may be listed.
-    pub fn new(alloc: Global, limits: Limits, moment: u64) -> Result<Self, OutOfMemory>
-        ensures flat { IfOk result (λ tables. tables.flat ≡ empty_at moment) }
+    /// A service that never ran for each configuration, with room for as many processes as may be listed.
+    pub fn new(
+        alloc: Global,
+        limits: Limits,
+        configs: Items<Config>,
+        moment: u64,
+    ) -> Result<Self, OutOfMemory>
+        requires paths { All (λ config. length config.path ≤ 2048) configs }
+        ensures flat { IfOk result (λ tables. tables.flat ≡ opening limits [] configs moment) }
         ensures limits { IfOk result (λ tables. tables.limits ≡ limits) }
     {
         let Ok(processes) = Vec::with_capacity(alloc, limits.processes as usize) else {
             return Err(OutOfMemory);
         };
+        let count = configs.len() as u64;
+        let services = services_of(alloc, configs)?;
         Ok(Tables {
-            services: Vec::new(alloc),
+            services,
             handles: Vec::new(alloc),
             processes,
             plans: Plans::none(alloc),
             tried: Vec::new(alloc),
-            registrations: Items::new(alloc),
+            registrations: Vec::new(alloc),
             dues: Vec::new(alloc),
             callers: Vec::new(alloc),
             lock: DatabaseLock::new(),
             moment,
-            next: FIRST,
+            next: first_numbers(count),
             reboots: 0,
             limits,
             alloc,
@@ -199,6 +216,14 @@ impl Tables {
         ensures limits { self.new.limits ≡ self.old.limits }
     {
         drop_caller(&mut self.handles, caller);
+    }
+
+    /// Takes all registrations of a caller away.
+    pub fn remove_registrations_of(&mut self, caller: u64)
+        ensures flat { self.new.flat ≡ without_registrations_of self.old.flat caller }
+        ensures limits { self.new.limits ≡ self.old.limits }
+    {
+        drop_registrations(&mut self.registrations, caller);
     }
 
     /// Who holds the lock of the database, and since when.
@@ -341,7 +366,7 @@ impl Tables {
 
     /// How many services are RUNNING.
     pub fn running(&self) -> usize
-        ensures { result ≡ length (filter (λ row. row.status.state == 4) self.now.flat.services) }
+        ensures { result ≡ length (filter (λ row. row.status.state == SERVICE_RUNNING) self.now.flat.services) }
     {
         running_in(self.services.as_slice())
     }

@@ -1,17 +1,16 @@
 use Rattle.std.proofs.Common.{ap, sym, ◌∙◌}
-use Rattle.scm_model.specs.declared.calls.Reply.{Reply}
-use Rattle.scm_model.specs.declared.flat.Flat.{Flat}
+use Rattle.scm_model.specs.Outcomes.{Done}
 use Rattle.scm_arms_service.proofs.Judging.{change_fits, change_refused}
 use Rattle.scm_arms_service.proofs.changing.change.Goals as goal
 
 pub returns-then-code-ne0-clause-reply : goal.returns-then-code-ne0-clause-reply
 returns-then-code-ne0-clause-reply c =
-    ap (λ (told : Reply × Flat). told.0)
+    ap (λ (told : Done). told.reply)
     (change_refused c.args.tables.now.flat c.args.caller c.args.change.now c.args.kept c.args.code c.code_once_kept-code.result c.requires.verdict c.code_once_kept-code.ensures c.if-code-ne0.true)
 
 pub returns-then-code-ne0-clause-flat : goal.returns-then-code-ne0-clause-flat
 returns-then-code-ne0-clause-flat c =
-    ap (λ (told : Reply × Flat). told.1)
+    ap (λ (told : Done). told.flat)
     (change_refused c.args.tables.now.flat c.args.caller c.args.change.now c.args.kept c.args.code c.code_once_kept-code.result c.requires.verdict c.code_once_kept-code.ensures c.if-code-ne0.true)
 
 pub configure-requires : goal.configure-requires

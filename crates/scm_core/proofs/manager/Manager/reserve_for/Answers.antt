@@ -1,11 +1,18 @@
+use Rattle.std.proofs.Common.{Some, subst, sym}
+use Rattle.scm_model.specs.Entries.{unkept}
+use Rattle.scm_core.specs.Inside.{KeepsMade, KeepsRoom}
+use Rattle.scm_core.specs.Room.{IsMadeFor}
+use Rattle.scm_core.specs.declared.made.Made.{Made}
 use Rattle.scm_core.proofs.Beforehand.{has_room_unkept, is_made_unkept}
 use Rattle.scm_core.proofs.manager.Manager.reserve_for.Goals as goal
 
 pub invariant_of-self-2 : goal.invariant_of-self-2
 invariant_of-self-2 c =
     let sound = c.self.invariant in
-    rw (c.keep.ensures.room, c.keep.ensures.made)
-    (record {
+    let tables = c.reserve.new.tables in
+    let made : IsMadeFor tables.limits tables.flat c.in_ok-made.made (unkept c.args.step.now) = rw (c.reserve.ensures.flat, c.reserve.ensures.limits)
+    (is_made_unkept c.self.inside.tables.limits c.self.inside.tables.flat c.in_ok-made.made c.args.step.now c.in_ok-made.ensures) in
+    record {
       handles = rw c.reserve.ensures.flat sound.handles;
       callers = rw c.reserve.ensures.flat sound.callers;
       services = rw c.reserve.ensures.flat sound.services;
@@ -14,7 +21,7 @@ invariant_of-self-2 c =
       processes = rw c.reserve.ensures.flat sound.processes;
       limit = rw c.reserve.ensures.limits sound.limit;
       controls = rw c.reserve.ensures.limits sound.controls;
-      room = rw c.in_ok-copy.ensures (has_room_unkept c.reserve.new.tables c.args.step.now c.in_ok-reserve.ensures.room);
-      made = rw (c.in_ok-copy.ensures, c.reserve.ensures.flat, c.reserve.ensures.limits)
-          (is_made_unkept c.self.inside.tables.limits c.self.inside.tables.flat c.in_ok-made.made c.args.step.now c.in_ok-made.ensures);
-    })
+      room = subst (KeepsRoom tables) (sym c.keep.ensures.room) (has_room_unkept tables c.args.step.now c.in_ok-reserve.ensures.room);
+      made = subst (KeepsMade tables.limits tables.flat c.keep.new.made) (sym c.keep.ensures.room)
+          (subst (λ (m : Made). KeepsMade tables.limits tables.flat m (Some (unkept c.args.step.now))) (sym c.keep.ensures.made) made);
+    }

@@ -1,7 +1,6 @@
-use Rattle.std.proofs.Common.{◌≡◌, ◌∙◌, ap, sym, refl, arith, ℕ, List}
+use Rattle.std.proofs.Common.{◌∙◌, ap, arith}
 use Rattle.scm_rules.specs.Launches.{first_wanted}
 use Rattle.scm_tables.specs.Lines.{first_line}
-use Rattle.scm_core.specs.Inside.{managed}
 use Rattle.scm_core.specs.Managed.{Managed}
 use Rattle.scm_core.proofs.Taking.{emptied, taken_whole}
 use Rattle.scm_core.proofs.manager.Manager.take_launch.Goals as goal

@@ -1,6 +1,6 @@
 use Rattle.std.proofs.Common.{ap, ◌∙◌}
-use Rattle.dependency_index.specs.Needs.{with_row}
-use Rattle.dependency_index.specs.Order.{is_cyclic}
+use Rattle.scm_model.specs.Needs.{with_row}
+use Rattle.scm_model.specs.Order.{is_cyclic}
 use Rattle.scm_rules.specs.Needs.{need_row_of}
 use Rattle.scm_tables.proofs.tables.Tables.makes_cycle.Goals as goal
 

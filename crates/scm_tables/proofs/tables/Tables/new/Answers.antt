@@ -1,0 +1,21 @@
+use Rattle.std.proofs.Common.{ℕ, rules, ◌≡◌, ◌+◌, sym, subst, length, All}
+use Rattle.scm_model.specs.declared.flat.Next.{Next}
+use Rattle.scm_rules.specs.Opening.{services_from}
+use Rattle.scm_tables.specs.Inside.{HasShortPath}
+use Rattle.scm_tables.specs.Tabled.{AreRising}
+use Rattle.scm_tables.proofs.Opened.{opened_paths, opened_rising}
+use Rattle.scm_tables.proofs.tables.Tables.new.Goals as goal
+
+pub invariant_of-result : goal.invariant_of-result
+invariant_of-result c =
+    let is : c.in_ok-services.services.items ≡ services_from 1 c.args.configs = c.in_ok-services.ensures in
+    let count : c.len-count.result ≡ length c.args.configs = c.len-count.ensures in
+    record {
+      rising = subst (λ (n : Next). AreRising n.service c.in_ok-services.services.items) (sym c.first_numbers.ensures)
+          (subst (λ (n : ℕ). AreRising (n + 1) c.in_ok-services.services.items) (sym count)
+          (subst (AreRising (length c.args.configs + 1)) (sym is) (opened_rising c.args.configs)));
+      paths = subst (All HasShortPath) (sym is) (opened_paths 1 c.args.configs c.requires.paths);
+      room = search rules;
+      plans = search rules;
+      untried = search rules;
+    }
