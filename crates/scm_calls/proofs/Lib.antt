@@ -1,9 +1,2 @@
-pub mod Loop
-pub mod Ranges
-pub mod Referents
-pub mod Numbers
-pub mod Argv
-pub mod Asked
-pub mod Put
-pub mod Sizes
-pub mod Told
+pub mod Codecs
+pub mod Bounds

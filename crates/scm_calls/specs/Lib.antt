@@ -1,6 +1,3 @@
-pub mod Ranges
-pub mod Words
-pub mod Statuses
+pub mod Calls
 pub mod Requests
 pub mod Replies
-pub mod Bodies

@@ -1,104 +1,79 @@
--- Replies: the one form that is written, how it is read, and how long it can be.
-use Rattle.std.specs.Prelude.{ℕ, Bool, ◌+◌, ◌-◌, ◌*◌, ◌/◌, ◌≤◌, ◌||◌, ◌==◌, nat_lt, List, [], ◌∷◌, length, replicate, Option, None, Some, IfSome, Result, Ok, if◌then◌else◌}
+-- The bodies of replies of every kind: their shapes, what is made of their values, the values of a reply, and how long it can be.
+use Rattle.std.specs.Prelude.{ℕ, ◌+◌, ◌-◌, ◌*◌, ◌/◌, ◌≤◌, nat_lt, List, [], ◌∷◌, ◌++◌, length, Some, IfSome, Result, if◌then◌else◌}
 use Rattle.scm_model.specs.declared.calls.Shown.{Shown}
 use Rattle.scm_model.specs.declared.calls.Request.{Request}
 use Rattle.scm_model.specs.declared.calls.Request.TheVariants as request
 use Rattle.scm_model.specs.declared.calls.Reply.{Reply}
 use Rattle.scm_model.specs.declared.calls.Reply.TheVariants as reply
 use Rattle.ndr_body.specs.declared.fault.BodyFault.{BodyFault}
-use Rattle.ndr_body.specs.Reading.{◌>>=◌, aligned, number_at, handle_at, text_at, finished}
-use Rattle.ndr_body.specs.Writing.{Draft, blank, put_number, put_handle, put_text, put_referent, put_some_number}
-use Rattle.scm_calls.specs.Statuses.{put_numbers, numbers_of, status_at}
+use Rattle.scm_shapes.specs.declared.item.Item.{Item}
+use Rattle.scm_shapes.specs.declared.item.Item.TheVariants as item
+use Rattle.scm_shapes.specs.declared.item.Value.{Value}
+use Rattle.scm_shapes.specs.declared.item.Value.TheVariants as value
+use Rattle.scm_shapes.specs.Shapes.{after, handle_of, number_of, text_of, some_number_of, lock_of, shown_in, body_bytes}
+use Rattle.scm_shapes.specs.Calls.{read_as, Spells}
+use Rattle.scm_calls.specs.declared.kinds.ReplyKind.{ReplyKind}
+use Rattle.scm_calls.specs.declared.kinds.ReplyKind.TheVariants as kind
+use Rattle.scm_calls.specs.Requests.{status_shape, status_from, status_values}
 
--- ## Writing
+abbrev pub kind_of : Reply → ReplyKind
+kind_of (reply.Code code) = kind.Code
+kind_of (reply.Handle handle code) = kind.Handle
+kind_of (reply.State status code) = kind.State
+kind_of (reply.Made tag handle code) = kind.Made
+kind_of (reply.Tag tag code) = kind.Tag
+kind_of (reply.Shown config needed code) = kind.Shown
+kind_of (reply.LockState held owner seconds needed code) = kind.LockState
+kind_of (reply.Name name size code) = kind.Name
 
--- the nine numbers of a configuration, five of which point to its texts
-unfoldable pub put_heads : Shown → Draft → Draft
-put_heads shown d = put_referent (put_referent (put_referent (put_number shown.tag (put_referent (put_referent (put_numbers (shown.kind ∷ shown.start ∷ shown.error ∷ []) d))))))
+abbrev pub reply_shape : ReplyKind → List Item
+reply_shape kind.Code = item.Number ∷ []
+reply_shape kind.Handle = item.Handle ∷ item.Number ∷ []
+reply_shape kind.State = status_shape ++ item.Number ∷ []
+reply_shape kind.Made = item.SomeNumber ∷ item.Handle ∷ item.Number ∷ []
+reply_shape kind.Tag = item.SomeNumber ∷ item.Number ∷ []
+reply_shape kind.Shown = item.Shown ∷ item.Number ∷ item.Number ∷ []
+reply_shape kind.LockState = item.Lock ∷ item.Number ∷ item.Number ∷ []
+reply_shape kind.Name = item.Text ∷ item.Number ∷ item.Number ∷ []
 
-unfoldable pub put_texts : Shown → Draft → Draft
-put_texts shown d = put_text shown.display (put_text shown.account (put_text shown.needs (put_text shown.group (put_text shown.path d))))
+abbrev pub reply_from : ReplyKind → List Value → Reply
+reply_from kind.Code vs = reply.Code (number_of vs)
+reply_from kind.Handle vs = reply.Handle (handle_of vs) (number_of (after 1 vs))
+reply_from kind.State vs = reply.State (status_from vs) (number_of (after 7 vs))
+reply_from kind.Made vs = reply.Made (some_number_of vs) (handle_of (after 1 vs)) (number_of (after 2 vs))
+reply_from kind.Tag vs = reply.Tag (some_number_of vs) (number_of (after 1 vs))
+reply_from kind.Shown vs = reply.Shown (shown_in vs) (number_of (after 1 vs)) (number_of (after 2 vs))
+reply_from kind.LockState vs = reply.LockState (lock_of vs).0 (lock_of vs).1 (lock_of vs).2 (number_of (after 1 vs)) (number_of (after 2 vs))
+reply_from kind.Name vs = reply.Name (text_of vs) (number_of (after 1 vs)) (number_of (after 2 vs))
 
--- nine times 0 for none
-unfoldable pub put_config : Option Shown → Draft → Draft
-put_config None d = put_numbers (replicate 9 0) d
-put_config (Some shown) d = put_texts shown (put_heads shown d)
+abbrev pub reply_values : Reply → List Value
+reply_values (reply.Code code) = value.Number code ∷ []
+reply_values (reply.Handle handle code) = value.Handle handle ∷ value.Number code ∷ []
+reply_values (reply.State status code) = status_values status ++ value.Number code ∷ []
+reply_values (reply.Made tag handle code) = value.SomeNumber tag ∷ value.Handle handle ∷ value.Number code ∷ []
+reply_values (reply.Tag tag code) = value.SomeNumber tag ∷ value.Number code ∷ []
+reply_values (reply.Shown config needed code) = value.Shown config ∷ value.Number needed ∷ value.Number code ∷ []
+reply_values (reply.LockState held owner seconds needed code) = value.Lock held owner seconds ∷ value.Number needed ∷ value.Number code ∷ []
+reply_values (reply.Name name size code) = value.Text name ∷ value.Number size ∷ value.Number code ∷ []
 
--- a pointer to a text that comes later, and that text
-abbrev pub put_pointer : Option (List ℕ) → Draft → Draft
-put_pointer None d = put_number 0 d
-put_pointer (Some text) d = put_referent d
+-- what a body of a kind tells, or the first fault
+abbrev pub told_at : ReplyKind → List ℕ → Result Reply BodyFault
+told_at told body = read_as (reply_shape told) (reply_from told) body
 
-abbrev pub put_pointed : Option (List ℕ) → Draft → Draft
-put_pointed None d = d
-put_pointed (Some text) d = put_text text d
+-- bytes are a body of a kind that tells this
+abbrev pub IsTold : ReplyKind → List ℕ → Reply → Type 0
+IsTold told bytes r = Spells reply_shape (λ r. Some (kind_of r)) reply_values told bytes r
 
--- whether the lock is held, by whom and for how many seconds
-unfoldable pub put_lock : ℕ → Option (List ℕ) → ℕ → Draft → Draft
-put_lock held owner seconds d = put_pointed owner (put_number seconds (put_pointer owner (put_number held d)))
+-- the one form that is written
+abbrev pub reply_bytes : Reply → List ℕ
+reply_bytes told = body_bytes (reply_values told)
 
--- a draft with a reply's items
-unfoldable pub with_reply : Reply → Draft → Draft
-with_reply (reply.Code code) d = put_number code d
-with_reply (reply.Handle handle code) d = put_number code (put_handle handle d)
-with_reply (reply.State status code) d = put_number code (put_numbers (numbers_of status) d)
-with_reply (reply.Made tag handle code) d = put_number code (put_handle handle (put_some_number tag d))
-with_reply (reply.Tag tag code) d = put_number code (put_some_number tag d)
-with_reply (reply.Shown config needed code) d = put_number code (put_number needed (put_config config d))
-with_reply (reply.LockState held owner seconds needed code) d = put_number code (put_number needed (put_lock held owner seconds d))
-with_reply (reply.Name name size code) d = put_number code (put_number size (put_text name d))
+-- ## How long a reply can be
 
-unfoldable pub reply_bytes : Reply → List ℕ
-reply_bytes told = (with_reply told blank).bytes
-
--- how many bytes that are
-abbrev pub tag_size : Option ℕ → ℕ
-tag_size None = 4
-tag_size (Some tag) = 8
-
--- three numbers, the units with the last 0, and the padding behind them
-abbrev pub text_size : List ℕ → ℕ
-text_size text = aligned (14 + 2 * length text)
-
-abbrev pub config_size : Option Shown → ℕ
-config_size None = 36
-config_size (Some shown) = 36 + text_size shown.path + text_size shown.group + text_size shown.needs + text_size shown.account + text_size shown.display
-
-abbrev pub owner_size : Option (List ℕ) → ℕ
-owner_size None = 0
-owner_size (Some owner) = text_size owner
-
-abbrev pub reply_size : Reply → ℕ
-reply_size (reply.Code code) = 4
-reply_size (reply.Handle handle code) = 24
-reply_size (reply.State status code) = 32
-reply_size (reply.Made tag handle code) = tag_size tag + 24
-reply_size (reply.Tag tag code) = tag_size tag + 4
-reply_size (reply.Shown config needed code) = config_size config + 8
-reply_size (reply.LockState held owner seconds needed code) = owner_size owner + 20
-reply_size (reply.Name name size code) = text_size name + 8
-
--- ## Which replies answer a request
-
-abbrev pub IsCode : Reply → Type 0
-IsCode (reply.Code code) = Unit {0}
-IsCode _ = ⊥
-
-abbrev pub IsHandled : Reply → Type 0
-IsHandled (reply.Handle handle code) = Unit {0}
-IsHandled _ = ⊥
-
-abbrev pub IsState : Reply → Type 0
-IsState (reply.State status code) = Unit {0}
-IsState _ = ⊥
-
-abbrev pub IsMade : Reply → Type 0
-IsMade (reply.Made tag handle code) = Unit {0}
-IsMade _ = ⊥
-
-abbrev pub IsTag : Reply → Type 0
-IsTag (reply.Tag tag code) = Unit {0}
-IsTag _ = ⊥
+-- the size in which a request asks for its reply, in bytes, where that decides how long it can be
+abbrev pub asked_size : Request → ℕ
+asked_size (request.QueryConfig handle size) = size
+asked_size _ = 0
 
 -- how many bytes a text takes in a caller's buffer, with its last 0
 abbrev pub taken_by : List ℕ → ℕ
@@ -108,128 +83,28 @@ taken_by text = 2 * (length text + 1)
 abbrev pub bytes_needed : Shown → ℕ
 bytes_needed shown = 36 + taken_by shown.path + taken_by shown.group + taken_by shown.needs + taken_by shown.account + taken_by shown.display
 
--- no configuration, or one that takes at most the size
-abbrev pub IsShown : ℕ → Reply → Type 0
-IsShown size (reply.Shown config needed code) = IfSome config (λ shown. bytes_needed shown ≤ size)
-IsShown size _ = ⊥
-
--- no owner, or one of at most 256 units
-abbrev pub IsLockState : Reply → Type 0
-IsLockState (reply.LockState held owner seconds needed code) = IfSome owner (λ owner. length owner ≤ 256)
-IsLockState _ = ⊥
-
--- a name of at most 256 units
-abbrev pub IsName : Reply → Type 0
-IsName (reply.Name name size code) = length name ≤ 256
-IsName _ = ⊥
-
-abbrev pub Answers : Request → Reply → Type 0
-Answers (request.Close handle) told = IsHandled told
-Answers (request.Control handle control) told = IsState told
-Answers (request.Delete handle) told = IsCode told
-Answers (request.Lock handle) told = IsHandled told
-Answers (request.QueryStatus handle) told = IsState told
-Answers (request.SetStatus handle status) told = IsCode told
-Answers (request.Unlock handle) told = IsHandled told
-Answers (request.Change change) told = IsTag told
-Answers (request.Create new) told = IsMade told
-Answers (request.OpenManager database access) told = IsHandled told
-Answers (request.OpenService handle name access) told = IsHandled told
-Answers (request.QueryConfig handle size) told = IsShown size told
-Answers (request.QueryLock handle size) told = IsLockState told
-Answers (request.Start handle words) told = IsCode told
-Answers (request.DisplayName handle name size) told = IsName told
-Answers (request.KeyName handle name size) told = IsName told
+-- a name or an owner has at most 256 units, and a configuration takes at most the size
+abbrev pub Fits : ℕ → Reply → Type 0
+Fits size (reply.Shown config needed code) = IfSome config (λ shown. bytes_needed shown ≤ size)
+Fits size (reply.LockState held owner seconds needed code) = IfSome owner (λ owner. length owner ≤ 256)
+Fits size (reply.Name name n code) = length name ≤ 256
+Fits size _ = Unit {0}
 
 -- five texts share the units that a size leaves, their last 0s included. Each has at least one, and an odd count takes padding: most bytes come of
 -- five odd counts.
 abbrev pub odd_below : ℕ → ℕ
 odd_below units = (units - 1) / 2 * 2 + 1
 
-abbrev pub shown_bound : ℕ → ℕ
-shown_bound size = let units = (size - 36) / 2 in if nat_lt units 5 then 44 else 114 + 2 * odd_below units
+abbrev pub longest_shown : ℕ → ℕ
+longest_shown size = let units = (size - 36) / 2 in if nat_lt units 5 then 44 else 114 + 2 * odd_below units
 
--- the greatest length of a reply that answers a request
-abbrev pub reply_bound : Request → ℕ
-reply_bound (request.Close handle) = 24
-reply_bound (request.Control handle control) = 32
-reply_bound (request.Delete handle) = 4
-reply_bound (request.Lock handle) = 24
-reply_bound (request.QueryStatus handle) = 32
-reply_bound (request.SetStatus handle status) = 4
-reply_bound (request.Unlock handle) = 24
-reply_bound (request.Change change) = 12
-reply_bound (request.Create new) = 32
-reply_bound (request.OpenManager database access) = 24
-reply_bound (request.OpenService handle name access) = 24
-reply_bound (request.QueryConfig handle size) = shown_bound size
-reply_bound (request.QueryLock handle size) = 548
-reply_bound (request.Start handle words) = 4
-reply_bound (request.DisplayName handle name size) = 536
-reply_bound (request.KeyName handle name size) = 536
-
--- ## Reading
-
-unfoldable pub code_at : List ℕ → Result Reply BodyFault
-code_at body = do
-  code ← number_at body 0
-  ended ← finished body code.1
-  Ok (reply.Code code.0)
-
-unfoldable pub handled_at : List ℕ → Result Reply BodyFault
-handled_at body = do
-  handle ← handle_at body 0
-  code ← number_at body handle.1
-  ended ← finished body code.1
-  Ok (reply.Handle handle.0 code.0)
-
-unfoldable pub state_at : List ℕ → Result Reply BodyFault
-state_at body = do
-  status ← status_at body 0
-  code ← number_at body status.1
-  ended ← finished body code.1
-  Ok (reply.State status.0 code.0)
-
--- the text of a pointer that was read before
-unfoldable pub owner_at : ℕ → List ℕ → ℕ → Result (Option (List ℕ) × ℕ) BodyFault
-owner_at pointer body place = if pointer == 0 then Ok (None, place) else (text_at body place >>= λ owner. Ok (Some owner.0, owner.1))
-
-unfoldable pub lock_state_at : List ℕ → Result Reply BodyFault
-lock_state_at body = do
-  held ← number_at body 0
-  pointer ← number_at body held.1
-  seconds ← number_at body pointer.1
-  owner ← owner_at pointer.0 body seconds.1
-  needed ← number_at body owner.1
-  code ← number_at body needed.1
-  ended ← finished body code.1
-  Ok (reply.LockState held.0 owner.0 seconds.0 needed.0 code.0)
-
-unfoldable pub name_at : List ℕ → Result Reply BodyFault
-name_at body = do
-  name ← text_at body 0
-  size ← number_at body name.1
-  code ← number_at body size.1
-  ended ← finished body code.1
-  Ok (reply.Name name.0 size.0 code.0)
-
--- the opnums that are answered by a code alone
-abbrev pub gives_code : ℕ → Bool
-gives_code opnum = opnum == 2 || opnum == 7 || opnum == 19
-
--- the opnums that are answered by a status
-abbrev pub gives_state : ℕ → Bool
-gives_state opnum = opnum == 1 || opnum == 6
-
--- the opnums that are answered by a name
-abbrev pub gives_name : ℕ → Bool
-gives_name opnum = opnum == 20 || opnum == 21
-
--- what a body answers a request of a served opnum, or the first fault
-unfoldable pub reply_at : ℕ → List ℕ → Result Reply BodyFault
-reply_at opnum body =
-    if gives_code opnum then code_at body
-    else if gives_state opnum then state_at body
-    else if opnum == 18 then lock_state_at body
-    else if gives_name opnum then name_at body
-    else handled_at body
+-- the greatest length of a reply of a kind in a size
+abbrev pub longest : ReplyKind → ℕ → ℕ
+longest kind.Code size = 4
+longest kind.Handle size = 24
+longest kind.State size = 32
+longest kind.Made size = 32
+longest kind.Tag size = 12
+longest kind.Shown size = longest_shown size
+longest kind.LockState size = 548
+longest kind.Name size = 536

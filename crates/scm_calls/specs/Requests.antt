@@ -1,145 +1,85 @@
--- Requests: how a body is read, and the one form that is written.
-use Rattle.std.specs.Prelude.{ℕ, Bool, ◌≤◌, ◌||◌, ◌==◌, List, length, None, IfSome, Result, Ok, if◌then◌else◌}
+-- The bodies of requests: their shapes, what is made of their values, and the values of a request.
+use Rattle.std.specs.Prelude.{ℕ, List, [], ◌∷◌, Result}
+use Rattle.scm_model.specs.declared.flat.Status.{Status}
 use Rattle.scm_model.specs.declared.calls.Request.{Request}
 use Rattle.scm_model.specs.declared.calls.Request.TheVariants as request
 use Rattle.ndr_body.specs.declared.fault.BodyFault.{BodyFault}
-use Rattle.ndr_body.specs.Reading.{◌>>=◌, number_at, handle_at, text_at, some_text_at, finished}
-use Rattle.ndr_body.specs.Writing.{Draft, blank, put_number, put_handle, put_text, put_some_text}
-use Rattle.scm_calls.specs.declared.requests.Named.{Named}
-use Rattle.scm_calls.specs.Ranges.{within_at}
-use Rattle.scm_calls.specs.Words.{words_at, put_words}
-use Rattle.scm_calls.specs.Statuses.{put_numbers, numbers_of, status_at}
+use Rattle.scm_shapes.specs.declared.item.Item.{Item}
+use Rattle.scm_shapes.specs.declared.item.Item.TheVariants as item
+use Rattle.scm_shapes.specs.declared.item.Value.{Value}
+use Rattle.scm_shapes.specs.declared.item.Value.TheVariants as value
+use Rattle.scm_shapes.specs.Shapes.{after, handle_of, number_of, text_of, some_text_of, words_of, body_bytes}
+use Rattle.scm_shapes.specs.Calls.{read_as, Spells}
+use Rattle.scm_calls.specs.declared.calls.Call.{Call}
+use Rattle.scm_calls.specs.declared.calls.Call.TheVariants as call
+use Rattle.scm_calls.specs.Calls.{call_of}
 
--- the opnums whose bodies are read and written here
-abbrev pub is_served : ℕ → Bool
-is_served opnum =
-    opnum == 0 || opnum == 1 || opnum == 2 || opnum == 3 || opnum == 6 || opnum == 7 || opnum == 8 || opnum == 15 || opnum == 16 || opnum == 18 || opnum == 19
-    || opnum == 20 || opnum == 21
+-- a status is its seven numbers
+abbrev pub status_shape : List Item
+status_shape = item.Number ∷ item.Number ∷ item.Number ∷ item.Number ∷ item.Number ∷ item.Number ∷ item.Number ∷ []
 
-abbrev pub opnum_of : Request → ℕ
-opnum_of (request.Close handle) = 0
-opnum_of (request.Control handle control) = 1
-opnum_of (request.Delete handle) = 2
-opnum_of (request.Lock handle) = 3
-opnum_of (request.QueryStatus handle) = 6
-opnum_of (request.SetStatus handle status) = 7
-opnum_of (request.Unlock handle) = 8
-opnum_of (request.Change change) = 11
-opnum_of (request.Create new) = 12
-opnum_of (request.OpenManager database access) = 15
-opnum_of (request.OpenService handle name access) = 16
-opnum_of (request.QueryConfig handle size) = 17
-opnum_of (request.QueryLock handle size) = 18
-opnum_of (request.Start handle words) = 19
-opnum_of (request.DisplayName handle name size) = 20
-opnum_of (request.KeyName handle name size) = 21
+abbrev pub status_from : List Value → Status
+status_from vs = record { kind = number_of vs; state = number_of (after 1 vs); accepted = number_of (after 2 vs); win32 = number_of (after 3 vs); specific = number_of (after 4 vs); checkpoint = number_of (after 5 vs); hint = number_of (after 6 vs) }
 
--- no body asks for a configuration of more than 8,192 bytes or for the lock's state in more than 4,096, or has more than 1,024 words
-abbrev pub IsInRange : Request → Type 0
-IsInRange (request.QueryConfig handle size) = size ≤ 8192
-IsInRange (request.QueryLock handle size) = size ≤ 4096
-IsInRange (request.Start handle words) = IfSome words (λ words. length words ≤ 1024)
-IsInRange _ = Unit {0}
+abbrev pub status_values : Status → List Value
+status_values s = value.Number s.kind ∷ value.Number s.state ∷ value.Number s.accepted ∷ value.Number s.win32 ∷ value.Number s.specific ∷ value.Number s.checkpoint ∷ value.Number s.hint ∷ []
 
--- ## Reading
+-- the machine's name is read and not kept
+abbrev pub request_shape : Call → List Item
+request_shape call.Close = item.Handle ∷ []
+request_shape call.Control = item.Handle ∷ item.Number ∷ []
+request_shape call.Delete = item.Handle ∷ []
+request_shape call.Lock = item.Handle ∷ []
+request_shape call.QueryStatus = item.Handle ∷ []
+request_shape call.SetStatus = item.Handle ∷ status_shape
+request_shape call.Unlock = item.Handle ∷ []
+request_shape call.OpenManager = item.UnkeptText ∷ item.SomeText ∷ item.Number ∷ []
+request_shape call.OpenService = item.Handle ∷ item.Text ∷ item.Number ∷ []
+request_shape call.QueryLock = item.Handle ∷ item.NumberTo 4096 ∷ []
+request_shape call.Start = item.Handle ∷ item.Words ∷ []
+request_shape call.DisplayName = item.Handle ∷ item.Text ∷ item.Number ∷ []
+request_shape call.KeyName = item.Handle ∷ item.Text ∷ item.Number ∷ []
 
--- a handle and nothing else
-unfoldable pub lone_handle_at : List ℕ → Result ℕ BodyFault
-lone_handle_at body = do
-  handle ← handle_at body 0
-  ended ← finished body handle.1
-  Ok handle.0
+abbrev pub request_from : Call → List Value → Request
+request_from call.Close vs = request.Close (handle_of vs)
+request_from call.Control vs = request.Control (handle_of vs) (number_of (after 1 vs))
+request_from call.Delete vs = request.Delete (handle_of vs)
+request_from call.Lock vs = request.Lock (handle_of vs)
+request_from call.QueryStatus vs = request.QueryStatus (handle_of vs)
+request_from call.SetStatus vs = request.SetStatus (handle_of vs) (status_from (after 1 vs))
+request_from call.Unlock vs = request.Unlock (handle_of vs)
+request_from call.OpenManager vs = request.OpenManager (some_text_of (after 1 vs)) (number_of (after 2 vs))
+request_from call.OpenService vs = request.OpenService (handle_of vs) (text_of (after 1 vs)) (number_of (after 2 vs))
+request_from call.QueryLock vs = request.QueryLock (handle_of vs) (number_of (after 1 vs))
+request_from call.Start vs = request.Start (handle_of vs) (words_of (after 1 vs))
+request_from call.DisplayName vs = request.DisplayName (handle_of vs) (text_of (after 1 vs)) (number_of (after 2 vs))
+request_from call.KeyName vs = request.KeyName (handle_of vs) (text_of (after 1 vs)) (number_of (after 2 vs))
 
--- a handle and the number of a control
-unfoldable pub control_at : List ℕ → Result Request BodyFault
-control_at body = do
-  handle ← handle_at body 0
-  control ← number_at body handle.1
-  ended ← finished body control.1
-  Ok (request.Control handle.0 control.0)
+-- no values of a request whose body isn't here
+abbrev pub values_of : Request → List Value
+values_of (request.Close handle) = value.Handle handle ∷ []
+values_of (request.Control handle control) = value.Handle handle ∷ value.Number control ∷ []
+values_of (request.Delete handle) = value.Handle handle ∷ []
+values_of (request.Lock handle) = value.Handle handle ∷ []
+values_of (request.QueryStatus handle) = value.Handle handle ∷ []
+values_of (request.SetStatus handle status) = value.Handle handle ∷ status_values status
+values_of (request.Unlock handle) = value.Handle handle ∷ []
+values_of (request.OpenManager database access) = value.UnkeptText ∷ value.SomeText database ∷ value.Number access ∷ []
+values_of (request.OpenService handle name access) = value.Handle handle ∷ value.Text name ∷ value.Number access ∷ []
+values_of (request.QueryLock handle size) = value.Handle handle ∷ value.Number size ∷ []
+values_of (request.Start handle words) = value.Handle handle ∷ value.Words words ∷ []
+values_of (request.DisplayName handle name size) = value.Handle handle ∷ value.Text name ∷ value.Number size ∷ []
+values_of (request.KeyName handle name size) = value.Handle handle ∷ value.Text name ∷ value.Number size ∷ []
+values_of _ = []
 
--- a handle and the seven numbers of a status
-unfoldable pub set_status_at : List ℕ → Result Request BodyFault
-set_status_at body = do
-  handle ← handle_at body 0
-  status ← status_at body handle.1
-  ended ← finished body status.1
-  Ok (request.SetStatus handle.0 status.0)
+-- what a body of a call asks, or the first fault
+abbrev pub request_at : Call → List ℕ → Result Request BodyFault
+request_at asked body = read_as (request_shape asked) (request_from asked) body
 
--- the machine's name is read and dropped
-unfoldable pub open_manager_at : List ℕ → Result Request BodyFault
-open_manager_at body = do
-  machine ← some_text_at body 0
-  database ← some_text_at body machine.1
-  access ← number_at body database.1
-  ended ← finished body access.1
-  Ok (request.OpenManager database.0 access.0)
+-- bytes are a body of a call that asks this
+abbrev pub IsRequest : Call → List ℕ → Request → Type 0
+IsRequest asked bytes r = Spells request_shape call_of values_of asked bytes r
 
--- a handle and a size of at most 4,096 bytes
-unfoldable pub query_lock_at : List ℕ → Result Request BodyFault
-query_lock_at body = do
-  handle ← handle_at body 0
-  size ← within_at 4096 body handle.1
-  ended ← finished body size.1
-  Ok (request.QueryLock handle.0 size.0)
-
--- a handle and words
-unfoldable pub start_at : List ℕ → Result Request BodyFault
-start_at body = do
-  handle ← handle_at body 0
-  words ← words_at body handle.1
-  ended ← finished body words.1
-  Ok (request.Start handle.0 words.0)
-
--- a handle, a name and a number
-unfoldable pub named_at : List ℕ → Result Named BodyFault
-named_at body = do
-  handle ← handle_at body 0
-  name ← text_at body handle.1
-  number ← number_at body name.1
-  ended ← finished body number.1
-  Ok (record { handle = handle.0; name = name.0; number = number.0 })
-
--- what a body of a served opnum asks, or the first fault
-unfoldable pub request_at : ℕ → List ℕ → Result Request BodyFault
-request_at opnum body =
-    if opnum == 0 then (lone_handle_at body >>= λ handle. Ok (request.Close handle))
-    else if opnum == 1 then control_at body
-    else if opnum == 2 then (lone_handle_at body >>= λ handle. Ok (request.Delete handle))
-    else if opnum == 3 then (lone_handle_at body >>= λ handle. Ok (request.Lock handle))
-    else if opnum == 6 then (lone_handle_at body >>= λ handle. Ok (request.QueryStatus handle))
-    else if opnum == 7 then set_status_at body
-    else if opnum == 8 then (lone_handle_at body >>= λ handle. Ok (request.Unlock handle))
-    else if opnum == 15 then open_manager_at body
-    else if opnum == 16 then (named_at body >>= λ named. Ok (request.OpenService named.handle named.name named.number))
-    else if opnum == 18 then query_lock_at body
-    else if opnum == 19 then start_at body
-    else if opnum == 20 then (named_at body >>= λ named. Ok (request.DisplayName named.handle named.name named.number))
-    else (named_at body >>= λ named. Ok (request.KeyName named.handle named.name named.number))
-
--- ## Writing
-
-unfoldable pub put_named : ℕ → List ℕ → ℕ → Draft → Draft
-put_named handle name number d = put_number number (put_text name (put_handle handle d))
-
--- a draft with a request's items; of an opnum that isn't served nothing
-unfoldable pub with_request : Request → Draft → Draft
-with_request (request.Close handle) d = put_handle handle d
-with_request (request.Control handle control) d = put_number control (put_handle handle d)
-with_request (request.Delete handle) d = put_handle handle d
-with_request (request.Lock handle) d = put_handle handle d
-with_request (request.QueryStatus handle) d = put_handle handle d
-with_request (request.SetStatus handle status) d = put_numbers (numbers_of status) (put_handle handle d)
-with_request (request.Unlock handle) d = put_handle handle d
-with_request (request.Change change) d = d
-with_request (request.Create new) d = d
-with_request (request.OpenManager database access) d = put_number access (put_some_text database (put_some_text None d))
-with_request (request.OpenService handle name access) d = put_named handle name access d
-with_request (request.QueryConfig handle size) d = d
-with_request (request.QueryLock handle size) d = put_number size (put_handle handle d)
-with_request (request.Start handle words) d = put_words words (put_handle handle d)
-with_request (request.DisplayName handle name size) d = put_named handle name size d
-with_request (request.KeyName handle name size) d = put_named handle name size d
-
-unfoldable pub request_bytes : Request → List ℕ
-request_bytes r = (with_request r blank).bytes
+-- the one form that is written
+abbrev pub request_bytes : Request → List ℕ
+request_bytes r = body_bytes (values_of r)

@@ -1,3 +1,2 @@
+pub mod Calls
 pub mod Requests
-pub mod Replies
-pub mod Bodies

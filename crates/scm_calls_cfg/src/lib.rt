@@ -2,11 +2,8 @@
 //! `RQueryServiceConfigW` of MS-SCMR.
 #![tactic(auto)]
 
-mod replies;
+mod calls;
 mod requests;
 
-pub use replies::{read_reply, write_reply};
-pub use requests::{is_served, read_request, write_request};
-
-#[cfg(test)]
-mod tests;
+pub use calls::{Call, call_at, call_of, reply_kind};
+pub use requests::{read_reply, read_request, write_request};

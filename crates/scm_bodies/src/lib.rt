@@ -1,0 +1,11 @@
+//! Bodies of every call of svcctl that is served, both ways. Which crate has a call's bodies is told
+//! here alone.
+#![tactic(auto)]
+
+mod call;
+mod replies;
+mod requests;
+
+pub use call::{Call, call_at, call_of};
+pub use replies::{read_reply, reply_bound, write_reply};
+pub use requests::{read_request, write_request};

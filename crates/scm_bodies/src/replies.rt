@@ -1,0 +1,60 @@
+ghost use Rattle.std.specs.Prelude.{◌≡◌, ◌≤◌, ◌++◌, ℕ, List, IsTrue, Ok, IfOk, IfErr, IsOk, length};
+ghost use Rattle.std.specs.List.{AllByRecursion};
+ghost use Rattle.ndr_body.specs.Reading.{Gives};
+ghost use Rattle.scm_shapes.specs.Laws.{IsCarried};
+ghost use Rattle.scm_model.specs.declared.calls.Request.{Request as ARequest};
+ghost use Rattle.scm_model.specs.declared.calls.Reply.{Reply as AReply};
+ghost use Rattle.scm_model.specs.Ranges.{in_range};
+ghost use Rattle.scm_calls.specs.Replies.{reply_values, kind_of, told_at};
+ghost use Rattle.scm_bodies.specs.declared.call.Call.{Call as ACall};
+ghost use Rattle.scm_bodies.specs.Replies.{reply_at, IsReply, Answers, reply_bound, reply_bytes};
+
+use crate::call::{Call, call_of, reply_kind};
+use ndr_body::BodyFault;
+use scm_calls::{asked_size, longest, read_told};
+use scm_model::{Reply, Request};
+use scm_text::{Buffer, OutOfMemory};
+use std::alloc::Global;
+
+/// What the body of a call's reply tells.
+pub fn read_reply(alloc: Global, call: Call, body: &[u8]) -> Result<Reply, BodyFault>
+    // What is read is told by the body, whatever its padding and its referents are.
+    ensures found { IfOk result (λ told. IsReply call body.now told) }
+    // What the body tells is read, unless memory runs out.
+    ensures only { (told : AReply) → IsReply call body.now told → Gives (λ r. r) result (Ok told) }
+    // Which fault it is.
+    ensures exact { Gives (λ r. r) result (reply_at call body.now) }
+{
+    read_told(alloc, reply_kind(call), body)
+}
+
+/// Writes the body of a reply behind what the buffer holds. Without memory the buffer is given back
+/// as it was.
+pub fn write_reply(reply: &Reply, out: Buffer<u8>) -> Result<Buffer<u8>, (OutOfMemory, Buffer<u8>)>
+    ensures ok { IfOk result (λ written. written.items ≡ out.items ++ reply_bytes reply.now) }
+    ensures err { IfErr result (λ failed. failed.1.items ≡ out.items) }
+    // It takes no memory where there is room for the body.
+    ensures enough { length (reply_bytes reply.now) ≤ out.room → IsOk result }
+    // Nor where there is room for every reply that answers a request.
+    ensures bounded { (request : ARequest) → Answers request reply.now → reply_bound request ≤ out.room → IsOk result }
+    // What some body tells is read back from the one that is written.
+    ensures back { (call : ACall) (bytes : List ℕ) → IsReply call bytes reply.now → reply_at call (reply_bytes reply.now) ≡ Ok reply.now }
+    // So is a reply whose parts can stand in a body.
+    ensures carried { AllByRecursion IsCarried (reply_values reply.now) → told_at (kind_of reply.now) (reply_bytes reply.now) ≡ Ok reply.now }
+{
+    scm_calls::write_reply(reply, out)
+}
+
+/// The greatest length of the body of a reply that answers a request.
+pub fn reply_bound(request: &Request) -> u32
+    // What is read is in its ranges. Beyond them no number of 32 bits may be great enough.
+    requires { IsTrue (in_range request.now) }
+    ensures value { result ≡ reply_bound request.now }
+    ensures bound { (told : AReply) → Answers request.now told → length (reply_bytes told) ≤ result }
+    ensures reached { (told : AReply) × Answers request.now told × (length (reply_bytes told) ≡ result) }
+{
+    let Some(call) = call_of(request) else {
+        unreachable!();
+    };
+    longest(reply_kind(call), asked_size(request))
+}

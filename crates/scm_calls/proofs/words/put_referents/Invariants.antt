@@ -1,6 +1,0 @@
-use Rattle.std.proofs.Common.{◌≡◌, ◌-◌}
-use Rattle.scm_calls.specs.Words.{put_referents}
-use Rattle.scm_calls.proofs.words.put_referents.Given as goal
-
-abbrev pub invariant-loop : goal.invariant-loop
-invariant-loop l = record { front : l.writer.front ≡ l.fn.writer.front; draft : put_referents (l.count - l.counter) l.writer.draft ≡ put_referents l.count l.fn.writer.draft }

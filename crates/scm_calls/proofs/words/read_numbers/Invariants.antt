@@ -1,8 +1,0 @@
-use Rattle.std.proofs.Common.{◌≡◌, ◌-◌}
-use Rattle.ndr_body.specs.Reading.{number_at}
-use Rattle.scm_calls.specs.Words.{each_at}
-use Rattle.scm_calls.proofs.Loop.{with_front}
-use Rattle.scm_calls.proofs.words.read_numbers.Given as goal
-
-abbrev pub invariant-loop : goal.invariant-loop
-invariant-loop l = record { so_far : with_front l.numbers (each_at number_at (l.count - l.counter) l.reader.body l.reader.place) ≡ each_at number_at l.count l.fn.reader.body l.fn.reader.place; body : l.reader.body ≡ l.fn.reader.body }

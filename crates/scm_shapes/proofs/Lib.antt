@@ -1,0 +1,11 @@
+pub mod Loop
+pub mod Ranges
+pub mod Referents
+pub mod Each
+pub mod Recorded
+pub mod Argv
+pub mod Widths
+pub mod Pieces
+pub mod Exact
+pub mod Back
+pub mod Calls

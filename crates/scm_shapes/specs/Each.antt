@@ -1,0 +1,24 @@
+-- Items of one kind, one behind the other.
+use Rattle.std.specs.Prelude.{◌≡◌, ℕ, suc, zero, List, [], ◌∷◌, Result, Ok}
+use Rattle.ndr_body.specs.declared.fault.BodyFault.{BodyFault}
+use Rattle.ndr_body.specs.Reading.{◌>>=◌}
+use Rattle.ndr_body.specs.Writing.{Draft, put_text}
+use Rattle.ndr_body.specs.Spelled.{Stands}
+
+-- items stand one behind the other
+abbrev pub EachStands : {A : Type 0} → (List ℕ → A → Type 0) → List ℕ → ℕ → List A → ℕ → Type 0
+EachStands Is bytes place [] after = after ≡ place
+EachStands Is bytes place (value ∷ values) after = (behind : ℕ) × Stands Is bytes place value behind × EachStands Is bytes behind values after
+
+-- so many are read
+unfoldable pub each_at : {A : Type 0} → (List ℕ → ℕ → Result (A × ℕ) BodyFault) → ℕ → List ℕ → ℕ → Result (List A × ℕ) BodyFault
+each_at item_at zero body place = Ok ([], place)
+each_at item_at (suc n) body place = do
+  first ← item_at body place
+  others ← each_at item_at n body first.1
+  Ok (first.0 ∷ others.0, others.1)
+
+-- texts are written
+abbrev pub put_each : List (List ℕ) → Draft → Draft
+put_each [] d = d
+put_each (text ∷ texts) d = put_each texts (put_text text d)

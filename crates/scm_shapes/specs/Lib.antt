@@ -1,0 +1,10 @@
+pub mod Each
+pub mod Records
+pub mod Words
+pub mod Ranges
+pub mod Sized
+pub mod Shapes
+pub mod Bodies
+pub mod Laws
+pub mod Widths
+pub mod Calls

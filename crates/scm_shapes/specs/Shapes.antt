@@ -1,0 +1,167 @@
+-- Bodies by their shapes: how a body is read, and the one form that is written.
+use Rattle.std.specs.Prelude.{ℕ, zero, suc, List, [], ◌∷◌, length, take, Option, None, Result, Ok}
+use Rattle.scm_model.specs.declared.calls.Shown.{Shown}
+use Rattle.ndr_body.specs.declared.fault.BodyFault.{BodyFault}
+use Rattle.ndr_body.specs.Reading.{◌>>=◌, number_at, handle_at, text_at, some_text_at, some_number_at, bytes_at, finished}
+use Rattle.ndr_body.specs.Writing.{Draft, blank, put_number, put_handle, put_text, put_bytes, put_some_text, put_some_number}
+use Rattle.scm_shapes.specs.declared.item.Item.{Item}
+use Rattle.scm_shapes.specs.declared.item.Item.TheVariants as item
+use Rattle.scm_shapes.specs.declared.item.Value.{Value}
+use Rattle.scm_shapes.specs.declared.item.Value.TheVariants as value
+use Rattle.scm_shapes.specs.declared.item.Piece.{Piece}
+use Rattle.scm_shapes.specs.declared.item.Piece.TheVariants as piece
+use Rattle.scm_shapes.specs.Ranges.{within_at}
+use Rattle.scm_shapes.specs.Sized.{sized_at, put_sized}
+use Rattle.scm_shapes.specs.Words.{words_at, put_words}
+use Rattle.scm_shapes.specs.Records.{lock_at, lock_marks, lock_texts, shown_at, shown_marks, shown_texts, put_record}
+
+-- ## Reading
+
+-- a value made of what is read
+abbrev pub made : {A : Type 0} → (A → Value) → Result (A × ℕ) BodyFault → Result (Value × ℕ) BodyFault
+made make read = read >>= λ x. Ok (make x.0, x.1)
+
+unfoldable pub item_at : Item → List ℕ → ℕ → Result (Value × ℕ) BodyFault
+item_at item.Handle body place = made value.Handle (handle_at body place)
+item_at item.Number body place = made value.Number (number_at body place)
+item_at (item.NumberTo most) body place = made value.Number (within_at most body place)
+item_at item.Text body place = made value.Text (text_at body place)
+item_at item.SomeText body place = made value.SomeText (some_text_at body place)
+item_at item.UnkeptText body place = made (λ text. value.UnkeptText) (some_text_at body place)
+item_at item.SomeNumber body place = made value.SomeNumber (some_number_at body place)
+item_at item.SomeBytes body place = made value.SomeBytes (sized_at body place)
+item_at item.UnkeptBytes body place = made (λ held. value.UnkeptBytes) (sized_at body place)
+item_at item.Bytes body place = made (λ held. value.Bytes (length held) held) (bytes_at body place)
+item_at item.Words body place = made value.Words (words_at body place)
+item_at item.Lock body place = made (λ l. value.Lock l.0 l.1 l.2) (lock_at body place)
+item_at item.Shown body place = made value.Shown (shown_at body place)
+
+-- the items of a shape, one behind the other
+unfoldable pub values_at : List Item → List ℕ → ℕ → Result (List Value × ℕ) BodyFault
+values_at [] body place = Ok ([], place)
+values_at (kind ∷ kinds) body place = do
+  first ← item_at kind body place
+  others ← values_at kinds body first.1
+  Ok (first.0 ∷ others.0, others.1)
+
+-- a whole body of a shape, or the first fault
+unfoldable pub body_at : List Item → List ℕ → Result (List Value) BodyFault
+body_at shape body = do
+  values ← values_at shape body 0
+  ended ← finished body values.1
+  Ok values.0
+
+-- ## Taking values
+
+abbrev pub rest : List Value → List Value
+rest [] = []
+rest (v ∷ vs) = vs
+
+-- the values behind so many
+abbrev pub after : ℕ → List Value → List Value
+after zero vs = vs
+after (suc n) vs = after n (rest vs)
+
+-- the first value, where it is of this kind; these are the values of a shape's kinds
+abbrev pub handle_of : List Value → ℕ
+handle_of (value.Handle handle ∷ vs) = handle
+handle_of _ = 0
+
+abbrev pub number_of : List Value → ℕ
+number_of (value.Number number ∷ vs) = number
+number_of _ = 0
+
+abbrev pub text_of : List Value → List ℕ
+text_of (value.Text text ∷ vs) = text
+text_of _ = []
+
+abbrev pub some_text_of : List Value → Option (List ℕ)
+some_text_of (value.SomeText text ∷ vs) = text
+some_text_of _ = None
+
+abbrev pub some_number_of : List Value → Option ℕ
+some_number_of (value.SomeNumber number ∷ vs) = number
+some_number_of _ = None
+
+abbrev pub some_bytes_of : List Value → Option (List ℕ)
+some_bytes_of (value.SomeBytes held ∷ vs) = held
+some_bytes_of _ = None
+
+abbrev pub size_of : List Value → ℕ
+size_of (value.Bytes size held ∷ vs) = size
+size_of _ = 0
+
+abbrev pub bytes_of : List Value → List ℕ
+bytes_of (value.Bytes size held ∷ vs) = held
+bytes_of _ = []
+
+abbrev pub words_of : List Value → Option (List (List ℕ))
+words_of (value.Words words ∷ vs) = words
+words_of _ = None
+
+abbrev pub lock_of : List Value → ℕ × Option (List ℕ) × ℕ
+lock_of (value.Lock held owner seconds ∷ vs) = (held, owner, seconds)
+lock_of _ = (0, None, 0)
+
+abbrev pub shown_in : List Value → Option Shown
+shown_in (value.Shown shown ∷ vs) = shown
+shown_in _ = None
+
+-- the first value as one of a kind
+abbrev pub first_as : Item → List Value → Value
+first_as item.Handle vs = value.Handle (handle_of vs)
+first_as item.Number vs = value.Number (number_of vs)
+first_as (item.NumberTo most) vs = value.Number (number_of vs)
+first_as item.Text vs = value.Text (text_of vs)
+first_as item.SomeText vs = value.SomeText (some_text_of vs)
+first_as item.UnkeptText vs = value.UnkeptText
+first_as item.SomeNumber vs = value.SomeNumber (some_number_of vs)
+first_as item.SomeBytes vs = value.SomeBytes (some_bytes_of vs)
+first_as item.UnkeptBytes vs = value.UnkeptBytes
+first_as item.Bytes vs = value.Bytes (size_of vs) (bytes_of vs)
+first_as item.Words vs = value.Words (words_of vs)
+first_as item.Lock vs = value.Lock (lock_of vs).0 (lock_of vs).1 (lock_of vs).2
+first_as item.Shown vs = value.Shown (shown_in vs)
+
+-- values as those of a shape
+abbrev pub fitted : List Item → List Value → List Value
+fitted [] vs = []
+fitted (kind ∷ kinds) vs = first_as kind vs ∷ fitted kinds (rest vs)
+
+-- ## Writing
+
+unfoldable pub put_value : Value → Draft → Draft
+put_value (value.Handle handle) d = put_handle handle d
+put_value (value.Number number) d = put_number number d
+put_value (value.Text text) d = put_text text d
+put_value (value.SomeText text) d = put_some_text text d
+put_value value.UnkeptText d = put_some_text None d
+put_value (value.SomeNumber number) d = put_some_number number d
+put_value (value.SomeBytes held) d = put_sized held d
+put_value value.UnkeptBytes d = put_sized None d
+put_value (value.Bytes size held) d = put_bytes (take size held) size d
+put_value (value.Words words) d = put_words words d
+put_value (value.Lock held owner seconds) d = put_record (lock_marks held owner seconds) (lock_texts owner) d
+put_value (value.Shown shown) d = put_record (shown_marks shown) (shown_texts shown) d
+
+unfoldable pub put_values : List Value → Draft → Draft
+put_values [] d = d
+put_values (v ∷ vs) d = put_values vs (put_value v d)
+
+unfoldable pub body_bytes : List Value → List ℕ
+body_bytes vs = (put_values vs blank).bytes
+
+-- a piece without where it lies in memory
+abbrev pub value_of : Piece → Value
+value_of (piece.Handle handle) = value.Handle handle
+value_of (piece.Number number) = value.Number number
+value_of (piece.Text text) = value.Text text.now
+value_of (piece.SomeText text) = value.SomeText text.now
+value_of piece.UnkeptText = value.UnkeptText
+value_of (piece.SomeNumber number) = value.SomeNumber number
+value_of (piece.SomeBytes held) = value.SomeBytes held.now
+value_of piece.UnkeptBytes = value.UnkeptBytes
+value_of (piece.Bytes size held) = value.Bytes size held.now
+value_of (piece.Words words) = value.Words words.now
+value_of (piece.Lock held owner seconds) = value.Lock held owner.now seconds
+value_of (piece.Shown shown) = value.Shown shown.now

@@ -1,0 +1,70 @@
+use scm_model::Shown;
+use scm_text::{Items, WText};
+
+/// A kind of item in a body.
+#[derive(Clone, Copy, Debug, PartialEq, Eq)]
+pub enum Item {
+    /// A context handle.
+    Handle,
+    /// A number of 32 bits.
+    Number,
+    /// A number of at most so much.
+    NumberTo(u32),
+    /// A string.
+    Text,
+    /// A string behind a pointer.
+    SomeText,
+    /// The same, which isn't kept.
+    UnkeptText,
+    /// A number behind a pointer.
+    SomeNumber,
+    /// Bytes behind a pointer, and their size.
+    SomeBytes,
+    /// The same, which isn't kept.
+    UnkeptBytes,
+    /// A size, as many bytes, and zeros up to it.
+    Bytes,
+    /// A count of words, a pointer to them, and the words.
+    Words,
+    /// The state of a lock: a number, a pointer, a number, and the text that the pointer points to.
+    Lock,
+    /// A configuration: nine numbers, five of which point to texts, and these texts. Nine times 0 for none.
+    Shown,
+}
+
+/// What an item holds. Nothing is known of an item that isn't kept.
+#[derive(Drop)]
+pub enum Value {
+    Handle(u64),
+    Number(u32),
+    Text(WText),
+    SomeText(Option<WText>),
+    UnkeptText,
+    SomeNumber(Option<u32>),
+    SomeBytes(Option<Items<u8>>),
+    UnkeptBytes,
+    /// The size, and the bytes.
+    Bytes(u32, Items<u8>),
+    Words(Option<Items<WText>>),
+    /// Whether it is held, by whom, and for how many seconds.
+    Lock(u32, Option<WText>, u32),
+    Shown(Option<Shown>),
+}
+
+/// A value to write, which is held elsewhere.
+#[derive(Clone, Copy)]
+pub enum Piece<'a> {
+    Handle(u64),
+    Number(u32),
+    Text(&'a WText),
+    SomeText(&'a Option<WText>),
+    UnkeptText,
+    SomeNumber(Option<u32>),
+    SomeBytes(&'a Option<Items<u8>>),
+    UnkeptBytes,
+    /// The size, and the bytes.
+    Bytes(u32, &'a Items<u8>),
+    Words(&'a Option<Items<WText>>),
+    Lock(u32, &'a Option<WText>, u32),
+    Shown(&'a Option<Shown>),
+}

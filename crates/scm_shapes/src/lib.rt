@@ -1,0 +1,15 @@
+//! Bodies by their shapes: a shape is a list of kinds of items, and bodies of every shape are read and written here.
+#![tactic(auto)]
+
+mod item;
+mod places;
+mod reading;
+mod records;
+mod values;
+mod words;
+mod writing;
+
+pub use item::{Item, Piece, Value};
+pub use reading::read_body;
+pub use values::Values;
+pub use writing::{put_pieces, write_pieces};

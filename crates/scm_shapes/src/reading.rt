@@ -1,0 +1,112 @@
+ghost use Rattle.std.specs.Prelude.{◌≡◌, ◌==◌, List, Ok, IfOk};
+ghost use Rattle.ndr_body.specs.Reading.{Gives};
+ghost use Rattle.scm_shapes.specs.Sized.{is_size, sized_at};
+ghost use Rattle.scm_shapes.specs.declared.item.Value.{Value as AValue};
+ghost use Rattle.scm_shapes.specs.Shapes.{item_at, values_at, body_at};
+ghost use Rattle.scm_shapes.specs.Bodies.{IsBody};
+ghost use Rattle.scm_shapes.specs.Laws.{CanHoldAll};
+
+use crate::item::{Item, Value};
+use crate::places::{next_place, read_within};
+use crate::records::{read_lock, read_shown};
+use crate::values::Values;
+use crate::words::read_words;
+use ndr_body::{BodyFault, NdrReader};
+use scm_text::Items;
+use std::alloc::Global;
+
+/// Whether a size is that of the bytes before it.
+fn is_size(held: &Option<Items<u8>>, size: u32) -> bool
+    ensures { result ≡ is_size held.now size }
+{
+    match held {
+        None => true,
+        Some(bytes) => bytes.len() == size as usize,
+    }
+}
+
+/// Bytes behind a pointer, and their size.
+#[tactic(auto, unfolding(crate::specs::Sized::sized_at))]
+fn read_sized(reader: &mut NdrReader, alloc: Global) -> Result<Option<Items<u8>>, BodyFault>
+    ensures value { Gives (λ v. (v, reader.new.place)) result (sized_at reader.old.body reader.old.place) }
+    ensures body { reader.new.body ≡ reader.old.body }
+{
+    let held = reader.some_bytes(alloc)?;
+    let start = next_place(reader);
+    let size = reader.number()?;
+    if is_size(&held, size) {
+        Ok(held)
+    } else {
+        Err(BodyFault::BadCount(start))
+    }
+}
+
+#[tactic(auto, unfolding(crate::specs::Shapes::item_at))]
+fn read_item(reader: &mut NdrReader, alloc: Global, item: Item) -> Result<Value, BodyFault>
+    ensures value { Gives (λ v. (v, reader.new.place)) result (item_at item reader.old.body reader.old.place) }
+    ensures body { reader.new.body ≡ reader.old.body }
+{
+    match item {
+        Item::Handle => Ok(Value::Handle(reader.handle()?)),
+        Item::Number => Ok(Value::Number(reader.number()?)),
+        Item::NumberTo(most) => Ok(Value::Number(read_within(reader, most)?)),
+        Item::Text => Ok(Value::Text(reader.text(alloc)?)),
+        Item::SomeText => Ok(Value::SomeText(reader.some_text(alloc)?)),
+        Item::UnkeptText => {
+            let _text = reader.some_text(alloc)?;
+            Ok(Value::UnkeptText)
+        }
+        Item::SomeNumber => Ok(Value::SomeNumber(reader.some_number()?)),
+        Item::SomeBytes => Ok(Value::SomeBytes(read_sized(reader, alloc)?)),
+        Item::UnkeptBytes => {
+            let _held = read_sized(reader, alloc)?;
+            Ok(Value::UnkeptBytes)
+        }
+        Item::Bytes => {
+            let held = reader.bytes(alloc)?;
+            let Ok(size) = u32::try_from(held.len()) else {
+                return Err(BodyFault::OutOfMemory);
+            };
+            Ok(Value::Bytes(size, held))
+        }
+        Item::Words => Ok(Value::Words(read_words(reader, alloc)?)),
+        Item::Lock => read_lock(reader, alloc),
+        Item::Shown => Ok(Value::Shown(read_shown(reader, alloc)?)),
+    }
+}
+
+fn read_values(reader: &mut NdrReader, alloc: Global, shape: &[Item]) -> Result<Values, BodyFault>
+    ensures value { Gives (λ v. (v, reader.new.place)) result (values_at shape.now reader.old.body reader.old.place) }
+    ensures body { reader.new.body ≡ reader.old.body }
+{
+    let mut values = Values::with_room(alloc, shape.len())?;
+    for item in shape {
+        let value = read_item(reader, alloc, *item)?;
+        values.push(value)?;
+    }
+    Ok(values)
+}
+
+#[tactic(auto, unfolding(crate::specs::Shapes::body_at))]
+fn values_of(alloc: Global, shape: &[Item], body: &[u8]) -> Result<Values, BodyFault>
+    ensures { Gives (λ v. v) result (body_at shape.now body.now) }
+{
+    let mut reader = NdrReader::new(body);
+    let values = read_values(&mut reader, alloc, shape)?;
+    reader.finish()?;
+    Ok(values)
+}
+
+/// The values of a body of this shape.
+pub fn read_body(alloc: Global, shape: &[Item], body: &[u8]) -> Result<Values, BodyFault>
+    // What is read is held by the body, whatever its padding and its referents are.
+    ensures found { IfOk result (λ vs. IsBody shape.now body.now vs) }
+    // What the body holds is read, unless memory runs out.
+    ensures only { (vs : List AValue) → IsBody shape.now body.now vs → Gives (λ v. v) result (Ok vs) }
+    // No value is beyond the range of its item.
+    ensures ranged { IfOk result (λ vs. CanHoldAll shape.now vs) }
+    // Which fault it is.
+    ensures exact { Gives (λ v. v) result (body_at shape.now body.now) }
+{
+    values_of(alloc, shape, body)
+}

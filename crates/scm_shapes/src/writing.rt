@@ -1,0 +1,109 @@
+ghost use Rattle.std.specs.Prelude.{◌≡◌, ◌≤◌, ◌++◌, map, length, take, IsOk, IfOk, IfErr, OnOk, List, Ok};
+ghost use Rattle.scm_shapes.specs.Sized.{put_sized};
+ghost use Rattle.scm_shapes.specs.declared.item.Item.{Item as AnItem};
+ghost use Rattle.scm_shapes.specs.Widths.{end_of, width_of};
+ghost use Rattle.scm_shapes.specs.Laws.{CanHoldAll, as_read};
+ghost use Rattle.scm_shapes.specs.Shapes.{body_at, value_of, put_value, put_values, body_bytes};
+
+use crate::item::Piece;
+use crate::records::{put_lock, put_shown};
+use crate::words::put_words;
+use ndr_body::NdrWriter;
+use scm_text::{Buffer, Items, OutOfMemory};
+
+/// Bytes behind a pointer, and their size.
+#[tactic(auto, using(crate::proofs::Widths::grows), unfolding(crate::specs::Sized::put_sized))]
+fn put_sized(writer: &mut NdrWriter, held: &Option<Items<u8>>) -> Result<(), OutOfMemory>
+    ensures front { writer.new.front ≡ writer.old.front }
+    ensures ok { OnOk result (writer.new.draft ≡ put_sized held.now writer.old.draft) }
+    ensures space { writer.old.space ≤ writer.new.space }
+    ensures enough { length (put_sized held.now writer.old.draft).bytes ≤ writer.old.space → IsOk result }
+{
+    match held {
+        None => {
+            writer.number(0)?;
+            writer.number(0)
+        }
+        Some(held) => {
+            let bytes = held.as_slice();
+            writer.referent()?;
+            writer.bytes(bytes, bytes.len())?;
+            writer.count(bytes.len())
+        }
+    }
+}
+
+#[tactic(auto, unfolding(crate::specs::Shapes::put_value))]
+fn put_piece(writer: &mut NdrWriter, piece: Piece) -> Result<(), OutOfMemory>
+    ensures front { writer.new.front ≡ writer.old.front }
+    ensures ok { OnOk result (writer.new.draft ≡ put_value (value_of piece.entry) writer.old.draft) }
+    ensures space { writer.old.space ≤ writer.new.space }
+    ensures enough { length (put_value (value_of piece.entry) writer.old.draft).bytes ≤ writer.old.space → IsOk result }
+{
+    match piece {
+        Piece::Handle(handle) => writer.handle(handle),
+        Piece::Number(number) => writer.number(number),
+        Piece::Text(text) => writer.text(text),
+        Piece::SomeText(text) => writer.some_text(text.as_ref()),
+        Piece::UnkeptText => writer.some_text(None),
+        Piece::SomeNumber(number) => writer.some_number(number),
+        Piece::SomeBytes(held) => put_sized(writer, held),
+        Piece::UnkeptBytes => put_sized(writer, &None),
+        Piece::Bytes(size, held) => writer.bytes(first(held.as_slice(), size), size as usize),
+        Piece::Words(words) => put_words(writer, words),
+        Piece::Lock(held, owner, seconds) => put_lock(writer, held, owner, seconds),
+        Piece::Shown(shown) => put_shown(writer, shown),
+    }
+}
+
+/// The first so many bytes, or all.
+fn first(bytes: &[u8], size: u32) -> &[u8]
+    ensures { result.now ≡ take size bytes.now }
+{
+    if bytes.len() <= size as usize {
+        bytes
+    } else {
+        &bytes[..size as usize]
+    }
+}
+
+/// Writes values one behind the other.
+pub fn put_pieces(writer: &mut NdrWriter, pieces: &[Piece]) -> Result<(), OutOfMemory>
+    ensures front { writer.new.front ≡ writer.old.front }
+    ensures ok { OnOk result (writer.new.draft ≡ put_values (map value_of pieces.now) writer.old.draft) }
+    ensures space { writer.old.space ≤ writer.new.space }
+    ensures enough { length (put_values (map value_of pieces.now) writer.old.draft).bytes ≤ writer.old.space → IsOk result }
+{
+    for piece in pieces {
+        put_piece(writer, *piece)?;
+    }
+    Ok(())
+}
+
+#[tactic(auto, unfolding(crate::specs::Shapes::body_bytes))]
+fn written(pieces: &[Piece], out: Buffer<u8>) -> Result<Buffer<u8>, (OutOfMemory, Buffer<u8>)>
+    ensures ok { IfOk result (λ written. written.items ≡ out.items ++ body_bytes (map value_of pieces.now)) }
+    ensures err { IfErr result (λ failed. failed.1.items ≡ out.items) }
+    ensures enough { length (body_bytes (map value_of pieces.now)) ≤ out.room → IsOk result }
+{
+    let mut writer = NdrWriter::new(out);
+    match put_pieces(&mut writer, pieces) {
+        Ok(()) => Ok(writer.end()),
+        Err(fault) => Err((fault, writer.undo())),
+    }
+}
+
+/// Writes a body behind what the buffer holds. Without memory the buffer is given back as it was.
+pub fn write_pieces(
+    pieces: &[Piece],
+    out: Buffer<u8>,
+) -> Result<Buffer<u8>, (OutOfMemory, Buffer<u8>)>
+    ensures ok { IfOk result (λ written. written.items ≡ out.items ++ body_bytes (map value_of pieces.now)) }
+    ensures err { IfErr result (λ failed. failed.1.items ≡ out.items) }
+    // It takes no memory where there is room for the body.
+    ensures enough { end_of (map width_of (map value_of pieces.now)) 0 ≤ out.room → IsOk result }
+    // Values that a shape can hold are read back from their body.
+    ensures back { (shape : List AnItem) → CanHoldAll shape (map value_of pieces.now) → body_at shape (body_bytes (map value_of pieces.now)) ≡ Ok (map as_read (map value_of pieces.now)) }
+{
+    written(pieces, out)
+}
