@@ -1,0 +1,8 @@
+use Rattle.std.specs.Prelude.{ℕ, List}
+use Rattle.scm_model.specs.Entries.{Entry}
+
+-- the entries of a history, and what finds room behind them
+pub record Trailed : Type 0 where
+  pub entries : List Entry
+  pub room : ℕ  -- how many entries more
+  pub text_room : ℕ  -- how much text these may have together
