@@ -1,0 +1,69 @@
+-- What a keeper holds of a journal, where it tells its bytes.
+use Rattle.std.specs.Prelude.{ℕ, ◌≡◌, ◌⊎◌, ◌+◌, Bool, true, false, List, [], ◌++◌, fold, length, take, Option, None, Some, Result, Ok, Err, if◌then◌else◌}
+use Rattle.outside.specs.Written.{Begins}
+use Rattle.scm_model.specs.declared.steps.Change.{Change}
+use Rattle.record_journal.specs.Format.{piece}
+use Rattle.record_journal.specs.declared.journal.Journal.{Journal}
+
+-- ## What one call does to the bytes
+
+-- behind so many bytes more, with nothing else behind them
+abbrev pub longer : Journal → List ℕ → Journal
+longer j bytes = record { good = j.good + length bytes; dirty = false }
+
+-- a part of a piece may stand behind the bytes
+abbrev pub broken : Journal → Journal
+broken j = record j { dirty = true }
+
+-- the bytes that are kept: where a part may stand behind them, as many as the journal says
+abbrev pub kept_of : Journal → List ℕ → List ℕ
+kept_of j bytes = if j.dirty then take j.good bytes else bytes
+
+-- what is kept is left; at a fault that, or all
+abbrev pub Mends : {E : Type 0} → Journal → Option (List ℕ) → Option (List ℕ) → Result (Unit {0}) E → Type 0
+Mends j None now result = Unit {0}
+Mends j (Some bytes) None result = ⊥
+Mends j (Some bytes) (Some now) (Ok done) = now ≡ kept_of j bytes
+Mends j (Some bytes) (Some now) (Err fault) = (now ≡ bytes) ⊎ (now ≡ kept_of j bytes)
+
+-- a piece stands behind what is kept; at a fault a front of it does, or all is as it was
+abbrev pub Puts : {E : Type 0} → List ℕ → Journal → Option (List ℕ) → Option (List ℕ) → Result (Unit {0}) E → Type 0
+Puts piece j None now result = Unit {0}
+Puts piece j (Some bytes) None result = ⊥
+Puts piece j (Some bytes) (Some now) (Ok done) = now ≡ kept_of j bytes ++ piece
+Puts piece j (Some bytes) (Some now) (Err fault) = (now ≡ bytes) ⊎ ((front : List ℕ) × Begins front piece × (now ≡ kept_of j bytes ++ front))
+
+-- ## What is kept, call by call
+
+-- behind what is kept stands nothing; or, where an append failed and nothing was cut since, a front of one piece more
+abbrev pub Tail : List ℕ → Bool → List ℕ → Type 0
+Tail good false tail = tail ≡ []
+Tail good true tail = (change : Change) × Begins tail (piece (length good) change)
+
+-- what is kept, and behind it no more than a front of one piece
+pub record Borne (good : List ℕ) (j : Journal) (now : List ℕ) : Type 0 where
+  pub tail : List ℕ
+  pub holds : now ≡ good ++ tail
+  pub part : Tail good j.dirty tail
+  pub long : j.good ≡ length good
+
+-- a keeper holds this of a journal, where it tells its bytes
+abbrev pub Bears : Option (List ℕ) → Journal → Option (List ℕ) → Type 0
+Bears None j told = Unit {0}
+Bears (Some good) j None = ⊥
+Bears (Some good) j (Some now) = Borne good j now
+
+abbrev pub and_change : Option (List ℕ) → Change → Option (List ℕ)
+and_change None change = None
+and_change (Some good) change = Some (good ++ piece (length good) change)
+
+abbrev pub and_changes : Option (List ℕ) → List Change → Option (List ℕ)
+and_changes told changes = fold and_change told changes
+
+-- one change more is kept, whatever was kept before
+unfoldable pub BearsMore : Change → Journal → Option (List ℕ) → Journal → Option (List ℕ) → Type 0
+BearsMore change j told j' told' = (good : Option (List ℕ)) → Bears good j told → Bears (and_change good change) j' told'
+
+-- what was kept is kept
+unfoldable pub BearsSame : Journal → Option (List ℕ) → Journal → Option (List ℕ) → Type 0
+BearsSame j told j' told' = (good : Option (List ℕ)) → Bears good j told → Bears good j' told'

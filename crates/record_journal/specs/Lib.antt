@@ -1,0 +1,4 @@
+pub mod Format
+pub mod Keepers
+pub mod InMemory
+pub mod Bearing

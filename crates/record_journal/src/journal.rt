@@ -1,0 +1,110 @@
+ghost use Rattle.std.specs.Prelude.{◌≡◌, ◌≤◌, ◌<◌, ◌+◌, ◌^◌, [], Some, length, true, false, OnOk, OnErr, IsErrOf};
+ghost use Rattle.outside.specs.Causes.{HasCause, Rose};
+ghost use Rattle.outside.specs.Written.{Writes};
+ghost use Rattle.record_journal.specs.Bearing.{Bears, BearsMore, BearsSame, Mends, Puts, broken, longer};
+ghost use Rattle.record_journal.specs.Format.{HasEntry, piece};
+
+use crate::entry::piece;
+use crate::keeper::{KeepFault, Keeper};
+use outside::Failed;
+use scm_model::Change;
+use std::alloc::Global;
+
+/// Where a journal ends.
+#[derive(Debug, Drop, PartialEq, Eq)]
+pub struct Journal {
+    /// How many bytes are kept.
+    pub good: u64,
+    /// Whether a part of a piece may stand behind them.
+    pub dirty: bool,
+}
+
+impl Journal {
+    /// The journal of a keeper that holds nothing.
+    pub fn empty() -> Self
+        ensures value { result ≡ record { good = 0; dirty = false } }
+        ensures bears { Bears (Some []) result (Some []) }
+    {
+        Journal {
+            good: 0,
+            dirty: false,
+        }
+    }
+
+    /// Cuts what a failed append may have left.
+    fn mend<K: Keeper>(&mut self, keeper: &mut K) -> Result<(), Failed>
+        ensures ok { OnOk result (self.new ≡ record self.old { dirty = false }) }
+        ensures err { OnErr result (self.new ≡ broken self.old) }
+        ensures bytes { Mends self.old (K.held keeper.old) (K.held keeper.new) result }
+        ensures cause { HasCause (K.faults keeper.old) (K.faults keeper.new) result }
+    {
+        if !self.dirty {
+            return Ok(());
+        }
+        keeper.cut(self.good)?;
+        self.dirty = false;
+        Ok(())
+    }
+
+    /// Appends a piece where nothing else stands behind what is kept.
+    fn add<K: Keeper>(&mut self, keeper: &mut K, piece: &[u8]) -> Result<(), Failed>
+        requires { self.old.good + length piece.now < 2 ^ 64 }
+        ensures ok { OnOk result (self.new ≡ longer self.old piece.now) }
+        ensures err { OnErr result (self.new ≡ broken self.old) }
+        ensures bytes { Writes (K.held keeper.old) (K.held keeper.new) result piece.now }
+        ensures cause { HasCause (K.faults keeper.old) (K.faults keeper.new) result }
+    {
+        self.dirty = true;
+        keeper.append(piece)?;
+        self.good += piece.len() as u64;
+        self.dirty = false;
+        Ok(())
+    }
+
+    /// Appends a piece behind what is kept, and cuts what else stands there before.
+    fn put<K: Keeper>(&mut self, keeper: &mut K, piece: &[u8]) -> Result<(), Failed>
+        requires { self.old.good + length piece.now < 2 ^ 64 }
+        ensures ok { OnOk result (self.new ≡ longer self.old piece.now) }
+        ensures err { OnErr result (self.new ≡ broken self.old) }
+        ensures bytes { Puts piece.now self.old (K.held keeper.old) (K.held keeper.new) result }
+        ensures cause { HasCause (K.faults keeper.old) (K.faults keeper.new) result }
+    {
+        self.mend(keeper)?;
+        self.add(keeper, piece)
+    }
+
+    /// Appends the entry of a change, in an empty journal behind the header, in one piece. What a
+    /// failed append may have left is cut before. The keeper is the one of the calls before.
+    pub fn append<K: Keeper>(
+        &mut self,
+        alloc: Global,
+        keeper: &mut K,
+        change: &Change,
+    ) -> Result<(), KeepFault>
+        ensures ok { OnOk result
+            (BearsMore change.now self.old (K.held keeper.old) self.new (K.held keeper.new)) }
+        ensures err { OnErr result
+            (BearsSame self.old (K.held keeper.old) self.new (K.held keeper.new)) }
+        ensures bytes { Puts (piece self.old.good change.now) self.old
+            (K.held keeper.old) (K.held keeper.new) result }
+        ensures longer { OnOk result (self.new ≡ longer self.old (piece self.old.good change.now)) }
+        ensures fits { OnOk result (HasEntry change.now) }
+        ensures broken { IsErrOf result KeepFault.Failed → self.new ≡ broken self.old }
+        ensures memory { IsErrOf result KeepFault.OutOfMemory → self.new ≡ self.old }
+        ensures untouched { IsErrOf result KeepFault.OutOfMemory → keeper.new ≡ keeper.old }
+        ensures grows { K.faults keeper.old ≤ K.faults keeper.new }
+        ensures cause { IsErrOf result KeepFault.Failed →
+            Rose (K.faults keeper.old) (K.faults keeper.new) }
+    {
+        let Ok(piece) = piece(alloc, self.good, change) else {
+            return Err(KeepFault::OutOfMemory);
+        };
+        if u64::MAX - self.good < piece.len() as u64 {
+            return Err(KeepFault::OutOfMemory);
+        }
+        match self.put(keeper, piece.as_slice()) {
+            Ok(()) => Ok(()),
+            Err(Failed) => Err(KeepFault::Failed),
+        }
+    }
+}

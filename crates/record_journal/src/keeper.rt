@@ -1,0 +1,50 @@
+ghost use Rattle.std.specs.Prelude.{◌≡◌, ◌≤◌, ℕ, List, Option, IfOk, IfSome, IsErrOf};
+ghost use Rattle.std.specs.Io.KnownBytes.{Keeps};
+ghost use Rattle.outside.specs.Causes.{HasCause, Rose};
+ghost use Rattle.outside.specs.Written.{Writes};
+ghost use Rattle.record_journal.specs.Keepers.{Cuts, Opens, has_path};
+
+use outside::Failed;
+use scm_text::Items;
+
+/// Why bytes are not kept, or not read.
+#[derive(Clone, Copy, Debug, PartialEq, Eq)]
+pub enum KeepFault {
+    /// The keeper failed, and its count of faults rose.
+    Failed,
+    OutOfMemory,
+}
+
+/// Keeps bytes, as a file does that grows at its end and is cut. A call that fails may be made
+/// again.
+pub trait Keeper: Drop {
+    /// The bytes that it holds, where the object tells them.
+    ghost held: { Self → Option (List ℕ) };
+
+    /// How often it failed.
+    ghost faults: { Self → ℕ };
+
+    /// Goes on with what stands under the path. Without a path it is empty from then on, and keeps
+    /// in memory.
+    fn open_at(&mut self, path: Option<&str>) -> Result<(), Failed>
+        ensures bytes { Opens (has_path path.entry) (held self.old) (held self.new) result }
+        ensures cause { HasCause (faults self.old) (faults self.new) result };
+
+    /// A copy of all bytes.
+    fn read_all(&mut self) -> Result<Items<u8>, KeepFault>
+        ensures bytes { IfOk result (λ all. IfSome (held self.old) (λ bytes. all ≡ bytes)) }
+        ensures same { Keeps (held self.old) (held self.new) }
+        ensures grows { faults self.old ≤ faults self.new }
+        ensures cause { IsErrOf result KeepFault.Failed →
+            Rose (faults self.old) (faults self.new) };
+
+    /// Appends bytes. After a fault a front of them may stand.
+    fn append(&mut self, bytes: &[u8]) -> Result<(), Failed>
+        ensures bytes { Writes (held self.old) (held self.new) result bytes.now }
+        ensures cause { HasCause (faults self.old) (faults self.new) result };
+
+    /// Keeps the front of this length alone. After a fault that is left, or all.
+    fn cut(&mut self, length: u64) -> Result<(), Failed>
+        ensures bytes { Cuts length (held self.old) (held self.new) result }
+        ensures cause { HasCause (faults self.old) (faults self.new) result };
+}

@@ -1,0 +1,173 @@
+ghost use Rattle.std.specs.Prelude.{◌≡◌, ◌≤◌, ◌+◌, ◌-◌, ◌++◌, Some, IsTrue, IfOk, OnOk, OnErr, IsErrOf, is_err, length, vec_capacity, vec_len};
+ghost use Rattle.std.specs.Io.KnownBytes.{Keeps};
+ghost use Rattle.outside.specs.Causes.{HasCause, Rose};
+ghost use Rattle.outside.specs.Written.{Writes};
+ghost use Rattle.record_journal.specs.InMemory.{IsTold, cut_told, fails_next, front_told, has_failed, later_fates, next_fate, one_more};
+ghost use Rattle.record_journal.specs.Keepers.{Cuts, Opens, has_path};
+
+use super::keeper::{KeepFault, Keeper};
+use outside::Failed;
+use scm_text::Items;
+use std::marker::Model;
+
+/// What becomes of a call.
+#[derive(Clone, Copy, Debug, PartialEq, Eq)]
+pub enum Fate {
+    Succeeds,
+    /// It fails when it has done so much: an append has appended that many bytes, all at the most;
+    /// a cut has cut, or at 0 it hasn't.
+    Fails { done: usize },
+}
+
+/// Bytes in memory. Each call takes what becomes of it from the end of `fates`; where none is left,
+/// it succeeds. An append that finds no memory fails too.
+#[derive(Drop)]
+pub struct MemoryKeeper {
+    bytes: Vec<u8>,
+    fates: Vec<Fate>,
+    faults: u64,
+}
+
+impl Model for MemoryKeeper {
+    ghost use Rattle.std.specs.Prelude.{◌-◌, vec_capacity, vec_len};
+    ghost use Rattle.record_journal.specs.InMemory.{InMemory};
+
+    ghost Value = { InMemory };
+
+    ghost view = { λ k. record {
+      bytes = k.bytes.items;
+      room = vec_capacity k.bytes - vec_len k.bytes;
+      fates = k.fates.items;
+      faults = k.faults;
+    } };
+}
+
+impl MemoryKeeper {
+    /// Holds these bytes, and finds room in their vector. It takes no memory.
+    pub fn new(bytes: Vec<u8>, fates: Vec<Fate>) -> Self
+        ensures bytes { result.bytes ≡ bytes.items }
+        ensures room { result.room ≡ vec_capacity bytes - vec_len bytes }
+        ensures fates { result.fates ≡ fates.items }
+        ensures faults { result.faults ≡ 0 }
+    {
+        MemoryKeeper {
+            bytes,
+            fates,
+            faults: 0,
+        }
+    }
+
+    /// The bytes that it holds.
+    pub fn bytes(&self) -> &[u8]
+        ensures { result.now ≡ self.now.bytes }
+    {
+        &self.bytes
+    }
+}
+
+impl MemoryKeeper {
+    /// What becomes of a call.
+    fn take_fate(&mut self) -> Fate
+        ensures fate { result ≡ next_fate self.old.fates }
+        ensures after { self.new ≡ record self.old { fates = later_fates self.old.fates } }
+    {
+        self.fates.pop().unwrap_or(Fate::Succeeds)
+    }
+
+    /// Counts a fault.
+    fn fail(&mut self) -> Failed
+        ensures after { self.new ≡ record self.old { faults = one_more self.old.faults } }
+        ensures grows { self.old.faults ≤ self.new.faults }
+    {
+        self.faults = self.faults.saturating_add(1);
+        Failed
+    }
+}
+
+impl Keeper for MemoryKeeper {
+    ghost held = { λ k. Some k.bytes };
+
+    ghost faults = { λ k. k.faults };
+
+    /// All paths are one: the bytes stand under each.
+    fn open_at(&mut self, path: Option<&str>) -> Result<(), Failed>
+        ensures bytes { Opens (has_path path.entry)
+            (Some self.old.bytes) (Some self.new.bytes) result }
+        ensures cause { HasCause self.old.faults self.new.faults result }
+        ensures told { IsTold self.old self.new (is_err result) }
+        ensures only { OnErr result (IsTrue (fails_next self.old)) }
+    {
+        if let Fate::Fails { .. } = self.take_fate() {
+            return Err(self.fail());
+        }
+        if path.is_none() {
+            self.bytes.clear();
+        }
+        Ok(())
+    }
+
+    fn read_all(&mut self) -> Result<Items<u8>, KeepFault>
+        ensures bytes { IfOk result (λ all. all ≡ self.old.bytes) }
+        ensures same { self.new.bytes ≡ self.old.bytes }
+        ensures grows { self.old.faults ≤ self.new.faults }
+        ensures cause { IsErrOf result KeepFault.Failed → Rose self.old.faults self.new.faults }
+        ensures told { IsTold self.old self.new (has_failed result) }
+        ensures only { IsErrOf result KeepFault.Failed → IsTrue (fails_next self.old) }
+    {
+        if let Fate::Fails { .. } = self.take_fate() {
+            let Failed = self.fail();
+            return Err(KeepFault::Failed);
+        }
+        match Items::from_slice(*self.bytes.allocator(), &self.bytes) {
+            Ok(all) => Ok(all),
+            Err(_) => Err(KeepFault::OutOfMemory),
+        }
+    }
+
+    /// Where there is no memory, nothing is appended.
+    fn append(&mut self, bytes: &[u8]) -> Result<(), Failed>
+        ensures bytes { Writes (Some self.old.bytes) (Some self.new.bytes) result bytes.now }
+        ensures cause { HasCause self.old.faults self.new.faults result }
+        ensures told { IsTold self.old self.new (is_err result) }
+        ensures only { length bytes.now ≤ self.old.room →
+            OnErr result (IsTrue (fails_next self.old)) }
+        ensures front { length bytes.now ≤ self.old.room →
+            self.new.bytes ≡ self.old.bytes ++ front_told (next_fate self.old.fates) bytes.now }
+        ensures room { self.old.room ≤ self.new.room + length bytes.now }
+    {
+        match self.take_fate() {
+            Fate::Succeeds => match self.bytes.extend_from_slice(bytes) {
+                Ok(()) => Ok(()),
+                Err(_) => Err(self.fail()),
+            },
+            Fate::Fails { done } => {
+                let _ = self
+                    .bytes
+                    .extend_from_slice(&bytes[..done.min(bytes.len())]);
+                Err(self.fail())
+            }
+        }
+    }
+
+    fn cut(&mut self, length: u64) -> Result<(), Failed>
+        ensures bytes { Cuts length (Some self.old.bytes) (Some self.new.bytes) result }
+        ensures cause { HasCause self.old.faults self.new.faults result }
+        ensures told { IsTold self.old self.new (is_err result) }
+        ensures only { OnErr result (IsTrue (fails_next self.old)) }
+        ensures front { self.new.bytes ≡ cut_told (next_fate self.old.fates) length self.old.bytes }
+        ensures room { self.old.room ≤ self.new.room }
+    {
+        match self.take_fate() {
+            Fate::Succeeds => {
+                self.bytes.truncate(length as usize);
+                Ok(())
+            }
+            Fate::Fails { done } => {
+                if 0 < done {
+                    self.bytes.truncate(length as usize);
+                }
+                Err(self.fail())
+            }
+        }
+    }
+}
