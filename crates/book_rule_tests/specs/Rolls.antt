@@ -1,0 +1,125 @@
+-- Rolls as histories: what is legal, who lives, and whom entries name and make.
+use Rattle.std.specs.Prelude.{◌≡◌, ℕ, ◌+◌, ◌^◌, ◌<◌, ◌≤◌, ◌==◌, ◌||◌, Bool, false, cond, List, [], ◌∷◌, ◌++◌, length, map, None}
+use Rattle.scm_model.specs.Entries.{Entry}
+use Rattle.scm_model.specs.declared.flat.Principal.TheVariants.{Admin}
+use Rattle.scm_model.specs.declared.steps.Name.{Name}
+use Rattle.scm_model.specs.declared.steps.Name.TheVariants.{Caller}
+use Rattle.scm_model.specs.declared.steps.Step.{Step}
+use Rattle.scm_model.specs.declared.steps.Step.TheVariants.{Joined, Gone, NoMemory}
+use Rattle.book_rule.specs.declared.view.Opening.{Opening}
+use Rattle.book_rule.specs.Ways.{Way}
+use Rattle.book_rule_tests.specs.declared.roll.Line.{Line}
+use Rattle.book_rule_tests.specs.declared.roll.What.{What}
+use Rattle.book_rule_tests.specs.declared.roll.What.TheVariants as what
+
+abbrev pub MOST : ℕ
+MOST = 2 ^ 40
+
+-- a note stands in the history as a call that found no memory
+abbrev pub step_of : What → Step
+step_of what.Joined = Joined Admin
+step_of (what.Noted caller) = NoMemory caller
+step_of (what.Gone caller) = Gone caller
+
+abbrev pub entry_of : Line → Entry
+entry_of line = (line.mark, step_of line.what)
+
+-- ## What a history says
+
+abbrev pub joins : Step → ℕ
+joins (Joined principal) = 1
+joins step = 0
+
+abbrev pub callers_in : List Entry → ℕ
+callers_in [] = 0
+callers_in (e ∷ es) = joins e.1 + callers_in es
+
+-- what a roll keeps beside its lines
+abbrev pub IsCounted : List Line → ℕ → Type 0
+IsCounted lines callers = (callers ≡ callers_in (map entry_of lines)) × (callers ≤ length lines) × (length lines ≤ MOST)
+
+-- the caller that an entry names, or 0
+abbrev pub named_by : Step → ℕ
+named_by (NoMemory caller) = caller
+named_by (Gone caller) = caller
+named_by step = 0
+
+-- the entries that name a caller
+abbrev pub of_caller : ℕ → List Entry → List Entry
+of_caller c [] = []
+of_caller c (e ∷ es) = cond (named_by e.1 == c) (e ∷ of_caller c es) (of_caller c es)
+
+abbrev pub leaves : ℕ → Step → Bool
+leaves c (Gone caller) = caller == c
+leaves c step = false
+
+abbrev pub has_gone : ℕ → List Entry → Bool
+has_gone c [] = false
+has_gone c (e ∷ es) = leaves c e.1 || has_gone c es
+
+-- the caller has joined, and hasn't gone
+pub record Lives (log : List Entry) (c : ℕ) : Type 0 where
+  pub some_one : 0 < c
+  pub joined : c ≤ callers_in log
+  pub stays : has_gone c log ≡ false
+
+abbrev pub May : List Entry → Step → Type 0
+May log (Joined principal) = Unit {0}
+May log (NoMemory caller) = Lives log caller
+May log (Gone caller) = Lives log caller
+May log step = ⊥
+
+-- callers note and go only where they live, and nothing else is done
+pub record IsLegal (log : List Entry) : Type 0 where
+  pub each : (front : List Entry) (e : Entry) (rest : List Entry) → log ≡ front ++ e ∷ rest → May front e.1
+  pub short : length log ≤ MOST
+
+-- ## The way of a roll
+
+abbrev pub names_in : Step → List Name
+names_in (NoMemory caller) = Caller caller ∷ []
+names_in (Gone caller) = Caller caller ∷ []
+names_in step = []
+
+abbrev pub made_by : List Entry → Step → List Name
+made_by log (Joined principal) = Caller (callers_in log + 1) ∷ []
+made_by log step = []
+
+abbrev pub caller_after : List Entry → ℕ → Step → ℕ
+caller_after log c (Joined principal) = callers_in log + 1
+caller_after log c (Gone caller) = 0
+caller_after log c step = c
+
+-- the rule asks for an opening, which a roll makes no use of
+abbrev pub opened : Opening
+opened = record {
+  limits = record { services = 0; handles = 0; registrations = 0; callers = 0; processes = 0; controls = 0; steps = 0; text = 0 };
+  first = record {
+    services = [];
+    handles = [];
+    processes = [];
+    wanted = [];
+    plans = [];
+    registrations = [];
+    dues = [];
+    callers = [];
+    lock = None;
+    moment = 0;
+    next = record { service = 0; handle = 0; process = 0; plan = 0; registration = 0; due = 0; caller = 0 };
+    reboots = 0;
+  };
+  bytes = None;
+  faults = 0;
+}
+
+abbrev pub way_of_rolls : Way (List Entry)
+way_of_rolls = record {
+  opening = λ r. opened;
+  trail = λ r. r;
+  fits = λ o log r. r ≡ log;
+  run = λ o log. IsLegal log;
+  lives = λ o log c. Lives log c;
+  names = λ e. names_in e.1;
+  makes = λ o log e. made_by log e.1;
+  whose = λ o log c e. caller_after log c e.1;
+}
