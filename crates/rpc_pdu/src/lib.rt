@@ -11,6 +11,3 @@ pub use context::{Context, read_context};
 pub use pdu::{Ack, Bind, FaultPdu, Nak, Pdu, PduKind, PduRead, RequestPdu, ResponsePdu};
 pub use reading::{read_pdu, read_reply_pdu};
 pub use writing::{fault_pdu, response_header, write_pdu};
-
-#[cfg(test)]
-mod tests;

@@ -15,6 +15,3 @@ pub use session::{Session, SessionFault};
 pub use sink::{MemorySink, Sink, WriteSink, write_all};
 pub use source::{MemorySource, ReadSource, SliceSource, Source};
 pub use state::{Incoming, RequestItem};
-
-#[cfg(test)]
-mod tests;

@@ -4,7 +4,7 @@ use Rattle.std.specs.Prelude.{OnOk}
 use Rattle.scm_core.specs.Managed.{Managed}
 use Rattle.scm_model.specs.declared.steps.Step.{Step}
 use Rattle.scm_model.specs.declared.steps.Step.TheVariants.{EndStart}
-use Rattle.scm_rules.specs.Runs.{Entry}
+use Rattle.scm_model.specs.Entries.{Entry}
 use Rattle.scm_rules.specs.Steps.{step_of}
 use Rattle.scm_generate.specs.declared.run.Run.TheInside.{Inside}
 use Rattle.scm_generate.specs.Listed.{asked_start, at_once, created, creations, down, downs, line_of, started, starts, up, ups}
@@ -18,7 +18,7 @@ after_both p (x ∷ xs) ys = after_both (after_one p x) xs ys
 -- a step more, which the manager made in the state before it
 pub one_more : (run : Inside) (p : Progress) (mid now : Managed) (step : Step) (taken : ℕ) → progress run ≡ p
     → mid.flat ≡ run.manager.flat → mid.limits ≡ run.manager.limits
-    → now.flat ≡ (step_of mid.limits mid.flat 0 step).1 → now.limits ≡ mid.limits → taken ≡ launch_in step
+    → now.flat ≡ (step_of mid.limits mid.flat 0 step).flat → now.limits ≡ mid.limits → taken ≡ launch_in step
     → progress (record { manager = now; steps = run.steps + 1; launches = run.launches + taken }) ≡ after_one p (at_once step)
 unfolding after_one
 one_more run p mid now step taken e flat limits flat_now limits_now count =

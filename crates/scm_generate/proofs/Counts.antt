@@ -1,6 +1,6 @@
 -- How long the list is, and how many launches it has.
 use Rattle.std.proofs.Common.{ℕ, zero, suc, ◌≡◌, ◌+◌, ◌*◌, List, [], ◌∷◌, ◌++◌, length, length-append, refl, ◌∙◌, arith}
-use Rattle.scm_rules.specs.Runs.{Entry}
+use Rattle.scm_model.specs.Entries.{Entry}
 use Rattle.scm_model.specs.declared.steps.Step.TheVariants.{EndStart, Gone}
 use Rattle.scm_generate.specs.Listed.{at_once, begun, created, creations, downs, generated, line_of, lines_to, started, starts, up, ups}
 use Rattle.scm_generate.specs.Summary.{launches}

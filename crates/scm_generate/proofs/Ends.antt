@@ -4,7 +4,8 @@ use Rattle.std.specs.Prelude.{IfOk}
 use Rattle.scm_model.specs.declared.flat.Limits.{Limits}
 use Rattle.scm_model.specs.declared.steps.Step.TheVariants.{Gone}
 use Rattle.scm_rules.specs.Opening.{opening}
-use Rattle.scm_rules.specs.Runs.{Entry, state_of}
+use Rattle.scm_rules.specs.Runs.{state_of}
+use Rattle.scm_model.specs.Entries.{Entry}
 use Rattle.scm_rules.specs.Steps.{step_of}
 use Rattle.scm_generate.specs.Listed.{at_once, begun, creations, generated, starts}
 use Rattle.scm_generate.specs.Progress.{Progress, after, after_one, at_first, summed_up}
@@ -19,7 +20,7 @@ run_through : (p : Progress) (h : List Entry) → after p h ≡ behind p h
 unfolding after_one
 run_through p [] = ap (λ n. record p { steps = n }) (omega arith) ∙ ap (λ n. record p { steps = p.steps + 0; launches = n }) (omega arith)
 run_through p (e ∷ es) =
-    let last = state_of p.limits (step_of p.limits p.flat e.0 e.1).1 es in
+    let last = state_of p.limits (step_of p.limits p.flat e.0 e.1).flat es in
     let steps : p.steps + 1 + length es ≡ p.steps + length (e ∷ es) = omega arith in
     let count : p.launches + launch_in e.1 + launches es ≡ p.launches + launches (e ∷ es) = omega arith in
     run_through (after_one p e) es

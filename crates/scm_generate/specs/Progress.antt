@@ -3,7 +3,7 @@ use Rattle.std.specs.Prelude.{ℕ, ◌≡◌, ◌+◌, ◌≤◌, List, [], ◌�
 use Rattle.scm_model.specs.declared.flat.Flat.{Flat}
 use Rattle.scm_model.specs.declared.flat.Limits.{Limits}
 use Rattle.scm_rules.specs.Opening.{opening}
-use Rattle.scm_rules.specs.Runs.{Entry}
+use Rattle.scm_model.specs.Entries.{Entry}
 use Rattle.scm_rules.specs.Steps.{step_of}
 use Rattle.scm_generate.specs.declared.run.Run.TheInside.{Inside}
 use Rattle.scm_generate.specs.Summary.{four_lines, launch_in, running}
@@ -29,7 +29,7 @@ at_first l = record { flat = opening l [] [] 0; limits = l; steps = 0; launches 
 
 -- one entry further
 unfoldable pub after_one : Progress → Entry → Progress
-after_one p e = record { flat = (step_of p.limits p.flat e.0 e.1).1; limits = p.limits; steps = p.steps + 1; launches = p.launches + launch_in e.1 }
+after_one p e = record { flat = (step_of p.limits p.flat e.0 e.1).flat; limits = p.limits; steps = p.steps + 1; launches = p.launches + launch_in e.1 }
 
 -- some entries further
 abbrev pub after : Progress → List Entry → Progress

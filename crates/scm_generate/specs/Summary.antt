@@ -5,7 +5,9 @@ use Rattle.scm_model.specs.declared.flat.Limits.{Limits}
 use Rattle.scm_model.specs.declared.flat.Service.{Service}
 use Rattle.scm_model.specs.declared.steps.Step.{Step}
 use Rattle.scm_model.specs.declared.steps.Step.TheVariants.{LaunchTaken}
-use Rattle.scm_rules.specs.Runs.{Entry, state_of}
+use Rattle.scm_rules.specs.Runs.{state_of}
+use Rattle.scm_model.specs.Entries.{Entry}
+use Rattle.scm_model.specs.declared.codes.TheConstants.{SERVICE_RUNNING}
 
 -- whether a step takes a launch in hand: 1 or 0
 abbrev pub launch_in : Step → ℕ
@@ -19,7 +21,7 @@ launches (e ∷ es) = launch_in e.1 + launches es
 
 -- how many services are RUNNING
 abbrev pub running : List Service → ℕ
-running rows = length (filter (λ (row : Service). row.status.state == 4) rows)
+running rows = length (filter (λ (row : Service). row.status.state == SERVICE_RUNNING) rows)
 
 -- a word, a number and a line feed
 abbrev pub numbered : List ℕ → ℕ → List ℕ

@@ -4,6 +4,10 @@ ghost use Rattle.scm_generate.specs.Progress.{after, after_one};
 
 use super::naming::{name_of, needing, text_of};
 use super::run::Run;
+use scm_model::codes::{
+    MAXIMUM_ALLOWED, SERVICE_ALL_ACCESS, SERVICE_DEMAND_START, SERVICE_ERROR_NORMAL,
+    SERVICE_WIN32_OWN_PROCESS,
+};
 use scm_model::{Kept, NewService, Principal, Request, Step};
 use scm_text::OutOfMemory;
 use std::alloc::Global;
@@ -13,21 +17,6 @@ pub const CALLER: u64 = 1;
 
 /// The handle of the manager.
 const MANAGER: u64 = 1;
-
-/// `MAXIMUM_ALLOWED` of MS-DTYP 2.4.3: every right that the caller may have.
-const MAXIMUM_ALLOWED: u32 = 0x02000000;
-
-/// `SERVICE_ALL_ACCESS` of MS-SCMR 3.1.4.
-const SERVICE_ALL_ACCESS: u32 = 0xF01FF;
-
-/// `SERVICE_WIN32_OWN_PROCESS` of MS-SCMR 2.2.15.
-pub const OWN_PROCESS: u32 = 0x10;
-
-/// `SERVICE_DEMAND_START` of MS-SCMR 2.2.15.
-const DEMAND_START: u32 = 3;
-
-/// `SERVICE_ERROR_NORMAL` of MS-SCMR 2.2.15.
-const ERROR_NORMAL: u32 = 1;
 
 /// The administrator joins, and opens the manager.
 pub fn begin(run: &mut Run) -> Result<(), OutOfMemory>
@@ -58,9 +47,9 @@ fn new_service(alloc: Global, number: u32) -> Result<NewService, OutOfMemory>
         name,
         display: None,
         access: SERVICE_ALL_ACCESS,
-        kind: OWN_PROCESS,
-        start: DEMAND_START,
-        error: ERROR_NORMAL,
+        kind: SERVICE_WIN32_OWN_PROCESS,
+        start: SERVICE_DEMAND_START,
+        error: SERVICE_ERROR_NORMAL,
         path,
         group: None,
         tag: None,

@@ -1,7 +1,7 @@
 ghost use Rattle.std.specs.Prelude.{◌≡◌, ◌≤◌, ◌<◌, ◌+◌, ◌^◌, IfOk, IsTrue, OnOk, Some};
 ghost use Rattle.scm_core.specs.Managed.{AreSmall, WasMadeFor};
 ghost use Rattle.scm_rules.specs.Steps.{may, step_of};
-ghost use Rattle.scm_rules.specs.Texts.{text_of};
+ghost use Rattle.scm_model.specs.Texts.{text_of};
 ghost use Rattle.scm_generate.specs.Listed.{at_once};
 ghost use Rattle.scm_generate.specs.Progress.{after_one, at_first, summed_up};
 ghost use Rattle.scm_generate.specs.Summary.{launch_in};
@@ -67,13 +67,14 @@ fn prepare(manager: &mut Manager, step: &Step) -> Result<(), OutOfMemory>
     ensures count { OnOk result (manager.new.steps < 2 ^ 50) }
     ensures text { OnOk result (manager.new.text + text_of step.now < 2 ^ 63) }
 {
-    if !manager.admits(MOMENT, step)? {
-        return Err(OutOfMemory);
-    }
     if !manager.fits(step) {
         return Err(OutOfMemory);
     }
-    manager.reserve_for(step)
+    manager.reserve_for(step)?;
+    if !manager.admits(MOMENT, step) {
+        return Err(OutOfMemory);
+    }
+    Ok(())
 }
 
 /// Makes a step, whatever it answers.
@@ -82,7 +83,7 @@ fn act(manager: &mut Manager, step: Step)
     requires room { WasMadeFor manager.old.room step }
     requires steps { manager.old.steps < 2 ^ 50 }
     requires text { manager.old.text + text_of step < 2 ^ 63 }
-    ensures flat { manager.new.flat ≡ (step_of manager.old.limits manager.old.flat 0 step).1 }
+    ensures flat { manager.new.flat ≡ (step_of manager.old.limits manager.old.flat 0 step).flat }
     ensures limits { manager.new.limits ≡ manager.old.limits }
     ensures steps { manager.new.steps ≡ manager.old.steps + 1 }
 {

@@ -2,20 +2,14 @@ ghost use Rattle.std.specs.Prelude.{◌≡◌, ◌<◌, ◌≤◌, ◌+◌, ◌^
 ghost use Rattle.scm_generate.specs.Listed.{asked_start, down, downs, line_of, started, starts, told, up, ups};
 ghost use Rattle.scm_generate.specs.Progress.{after, after_one};
 
-use super::creating::{CALLER, OWN_PROCESS};
+use super::creating::CALLER;
 use super::run::Run;
+use scm_model::codes::{
+    SERVICE_ACCEPT_STOP, SERVICE_RUNNING, SERVICE_STOPPED, SERVICE_WIN32_OWN_PROCESS,
+};
 use scm_model::{Kept, Request, Status, Step};
 use scm_text::{Items, OutOfMemory};
 use std::alloc::Global;
-
-/// `SERVICE_STOPPED` of MS-SCMR 2.2.47.
-const STOPPED: u32 = 1;
-
-/// `SERVICE_RUNNING` of MS-SCMR 2.2.47.
-const RUNNING: u32 = 4;
-
-/// `SERVICE_ACCEPT_STOP` of MS-SCMR 2.2.47.
-const ACCEPT_STOP: u32 = 1;
 
 /// How many services are started with the one of this number: it and all that it needs, as many as the number has binary digits.
 fn line_of(number: u32) -> u32
@@ -36,7 +30,7 @@ fn told(state: u32, accepted: u32) -> Status
     ensures { result ≡ told state accepted }
 {
     Status {
-        kind: OWN_PROCESS,
+        kind: SERVICE_WIN32_OWN_PROCESS,
         state,
         accepted,
         win32: 0,
@@ -58,7 +52,7 @@ fn up(run: &mut Run, number: u32) -> Result<(), OutOfMemory>
     })?;
     run.make(Step::Report {
         process,
-        status: told(RUNNING, ACCEPT_STOP),
+        status: told(SERVICE_RUNNING, SERVICE_ACCEPT_STOP),
     })
 }
 
@@ -83,7 +77,7 @@ fn down(run: &mut Run, number: u32) -> Result<(), OutOfMemory>
     let process = number as u64;
     run.make(Step::Report {
         process,
-        status: told(STOPPED, 0),
+        status: told(SERVICE_STOPPED, 0),
     })?;
     run.make(Step::Ended { process })
 }

@@ -14,6 +14,7 @@ use Rattle.scm_model.specs.declared.steps.Step.TheVariants.{Call}
 use Rattle.scm_model.specs.Refused.{answered}
 use Rattle.scm_model.specs.Rows.{opened}
 use Rattle.scm_model.specs.Changes.{with_moment}
+use Rattle.scm_model.specs.Outcomes.{Done}
 use Rattle.start_plan.specs.Decided.{code_of}
 use Rattle.start_plan.specs.Settle.{settled}
 use Rattle.start_plan.proofs.Enterings.{all_units}
@@ -33,32 +34,32 @@ of_left : (f : Flat) (plan : ℕ) (code : Option ℕ) → (left_by f plan code).
 of_left f plan None = refl
 of_left f plan (Some code) = refl
 
-of_finished : (f : Flat) (answer : Answer) → (finished f answer).1.callers ≡ f.callers
+of_finished : (f : Flat) (answer : Answer) → (finished f answer).flat.callers ≡ f.callers
 of_finished f (answers.Begun plan) = of_left f plan (code_of f.plans plan)
 of_finished f answer = refl
 
 -- what an effect leaves, the whole step leaves
-pub callers_kept : (l : Limits) (f : Flat) (moment : ℕ) (step : Step) → (effect_of l (at_moment f moment step) step).1.callers ≡ f.callers
-    → (step_of l f moment step).1.callers ≡ f.callers
+pub callers_kept : (l : Limits) (f : Flat) (moment : ℕ) (step : Step) → (effect_of l (at_moment f moment step) step).flat.callers ≡ f.callers
+    → (step_of l f moment step).flat.callers ≡ f.callers
 callers_kept l f moment step e =
     let done = effect_of l (at_moment f moment step) step in
-    of_finished (settled l done.1) done.0 ∙ of_settled l done.1 ∙ e
+    of_finished (settled l done.flat) done.answer ∙ of_settled l done.flat ∙ e
 
 -- ## A call
 
-of_answered : (code : ℕ) (told : Reply) (f : Flat) (done : Reply × Flat) → done.1.callers ≡ f.callers → (answered code told f done).1.callers ≡ f.callers
+of_answered : (code : ℕ) (told : Reply) (f : Flat) (done : Done) → done.flat.callers ≡ f.callers → (answered code told f done).flat.callers ≡ f.callers
 of_answered code told f done e =
-    elim (code == 0) as (λ b. (cond b done (told, f)).1.callers ≡ f.callers) [ true ↦ e | false ↦ refl ]
+    elim (code == 0) as (λ b. (cond {A = Done} b done (record { reply = told; flat = f })).flat.callers ≡ f.callers) [ true ↦ e | false ↦ refl ]
 
 of_config : (f : Flat) (number : ℕ) (config : Option Config) → (with_new_config f number config).callers ≡ f.callers
 of_config f number None = refl
 of_config f number (Some config) = refl
 
-of_done : (l : Limits) (f : Flat) (caller : ℕ) (asked : Request) → (done_of l f caller asked).1.callers ≡ f.callers
+of_done : (l : Limits) (f : Flat) (caller : ℕ) (asked : Request) → (done_of l f caller asked).flat.callers ≡ f.callers
 of_done l f caller (request.Change change) = of_config f (service_in (opened f caller change.handle)) (asked_config f caller change)
 of_done l f caller asked = refl
 
-pub callers_of_call : (l : Limits) (f : Flat) (moment caller : ℕ) (asked : Request) (append : Kept) → (step_of l f moment (Call caller asked append)).1.callers ≡ f.callers
+pub callers_of_call : (l : Limits) (f : Flat) (moment caller : ℕ) (asked : Request) (append : Kept) → (step_of l f moment (Call caller asked append)).flat.callers ≡ f.callers
 callers_of_call l f moment caller asked append =
     let begun = with_moment f moment in
     let code = verdict l begun caller asked append in

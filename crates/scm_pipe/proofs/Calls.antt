@@ -20,12 +20,16 @@ use Rattle.scm_model.specs.Rows.{is_caller}
 use Rattle.scm_model.specs.Changes.{with_moment}
 use Rattle.start_plan.specs.Decided.{caller_of, code_of}
 use Rattle.start_plan.specs.Settle.{settled}
-use Rattle.scm_calls.specs.Replies.{Answers, IsCode}
-use Rattle.scm_calls.specs.Requests.{IsInRange}
+use Rattle.scm_calls.specs.declared.kinds.ReplyKind.{ReplyKind}
+use Rattle.scm_calls.specs.declared.kinds.ReplyKind.TheVariants as kind
+use Rattle.scm_calls.specs.Replies.{kind_of, Fits}
+use Rattle.scm_bodies.specs.Replies.{Answers}
+use Rattle.scm_model.specs.Ranges.{in_range}
 use Rattle.scm_rules.specs.Launches.{first_wanted, is_taken, process_of}
 use Rattle.scm_rules.specs.Start.{can_end, is_caller_of, start_done, start_verdict}
 use Rattle.scm_rules.specs.Steps.{answer_of, answered_by, finished, is_wanted, may, step_of}
-use Rattle.scm_rules.specs.Runs.{Entry}
+use Rattle.scm_model.specs.Entries.{Entry}
+use Rattle.scm_model.specs.Outcomes.{Done}
 use Rattle.scm_rules.specs.Verdicts.{call_of, change_of_call, tells_right}
 use Rattle.scm_pipe.specs.Histories.{Follows, IsNotLost, IsServed, replies, told_by}
 use Rattle.scm_pipe.specs.Bodies.{reply_to}
@@ -54,11 +58,11 @@ not_lost true k e = rw e tt
 not_lost false k e = rw e tt
 
 -- a call's change is told rightly
-pub may_call : (l : Limits) (f : Flat) (moment : ℕ) (asked : Request) (k : Kept) → IsTrue (is_caller f 1)
+pub may_call : (l : Limits) (f : Flat) (moment : ℕ) (asked : Request) (k : Kept) → IsTrue (is_caller f 1) → IsTrue (in_range asked)
     → k ≡ cond (is_some (change_of_call l f 1 asked)) appended.Kept appended.NotAsked → IsTrue (may l f moment (Call 1 asked k))
-may_call l f moment asked k joined e =
+may_call l f moment asked k joined ranged e =
     let changes = is_some (change_of_call l f 1 asked) in
-    all (is_caller f 1) (tells_right changes k) joined (right changes k e)
+    all (is_caller f 1 && in_range asked) (tells_right changes k) (all (is_caller f 1) (in_range asked) joined ranged) (right changes k e)
 
 -- a launch that is wanted may be taken in hand
 pub may_take : (l : Limits) (f : Flat) (moment : ℕ) → is_wanted f.wanted ≡ true → IsTrue (may l f moment LaunchTaken)
@@ -78,7 +82,7 @@ may_end l f moment plan code joined mine decided = both (is_caller f 1 && can_en
 
 -- and so may the one that was wanted first
 pub may_fail_then : (l k : Limits) (f mid : Flat) (m n process : ℕ) → is_wanted f.wanted ≡ true → HasRun l f
-    → mid ≡ (step_of l f m LaunchTaken).1 → process ≡ first_wanted f.wanted → IsTrue (may k mid n (LaunchFailed process 1054))
+    → mid ≡ (step_of l f m LaunchTaken).flat → process ≡ first_wanted f.wanted → IsTrue (may k mid n (LaunchFailed process 1054))
 may_fail_then l k f mid m n process wanted run taken first =
     may_fail k mid n process (ap (λ x. is_taken (process_of mid x)) first ∙ ap (λ x. is_taken (process_of x (first_wanted f.wanted))) taken ∙ taken_of_run l f m run wanted)
 
@@ -87,7 +91,7 @@ may_fail_then l k f mid m n process wanted run taken first =
 module _ (tells : ℕ → Type 0) (l : Limits) where
   -- it ends
   pub waited_end : (f : Flat) (moment plan code : ℕ) → tells moment → IsTrue (may l f moment (EndStart 1 plan)) → code_of f.plans plan ≡ Some code
-      → Waited tells l f (step_of l f moment (EndStart 1 plan)).1 plan code
+      → Waited tells l f (step_of l f moment (EndStart 1 plan)).flat plan code
   waited_end f moment plan code told ok e = record {
     entries = (moment, EndStart 1 plan) ∷ [];
     told = All-cons (λ (e : Entry). tells e.0) (moment, EndStart 1 plan) [] told (All-nil (λ (e : Entry). tells e.0));
@@ -99,8 +103,8 @@ module _ (tells : ℕ → Type 0) (l : Limits) where
 
   -- a launch failed
   pub waits_on : (f : Flat) (m n plan : ℕ) → tells m → tells n
-      → IsTrue (may l f m LaunchTaken) → IsTrue (may l (step_of l f m LaunchTaken).1 n (LaunchFailed (first_wanted f.wanted) 1054)) → code_of f.plans plan ≡ None
-      → StillWaits tells l f (step_of l (step_of l f m LaunchTaken).1 n (LaunchFailed (first_wanted f.wanted) 1054)).1 plan
+      → IsTrue (may l f m LaunchTaken) → IsTrue (may l (step_of l f m LaunchTaken).flat n (LaunchFailed (first_wanted f.wanted) 1054)) → code_of f.plans plan ≡ None
+      → StillWaits tells l f (step_of l (step_of l f m LaunchTaken).flat n (LaunchFailed (first_wanted f.wanted) 1054)).flat plan
   waits_on f m n plan told told_then ok ok_then e = λ h code w.
       let taken : Entry = (m, LaunchTaken) in
       let failed : Entry = (n, LaunchFailed (first_wanted f.wanted) 1054) in
@@ -115,17 +119,17 @@ module _ (tells : ℕ → Type 0) (l : Limits) where
 
   -- the same under other names of its states
   pub waits_by : (k : Limits) (f mid g : Flat) (m n plan process : ℕ) → tells m → tells n → is_wanted f.wanted ≡ true → HasRun l f
-      → k ≡ l → mid ≡ (step_of l f m LaunchTaken).1 → process ≡ first_wanted f.wanted → g ≡ (step_of k mid n (LaunchFailed process 1054)).1
+      → k ≡ l → mid ≡ (step_of l f m LaunchTaken).flat → process ≡ first_wanted f.wanted → g ≡ (step_of k mid n (LaunchFailed process 1054)).flat
       → code_of f.plans plan ≡ None → StillWaits tells l f g plan
   waits_by k f mid g m n plan process told told_then wanted run limits taken first failed undecided =
       let same = failed
-      ∙ ap (λ x. (step_of x mid n (LaunchFailed process 1054)).1) limits
-      ∙ ap (λ x. (step_of l x n (LaunchFailed process 1054)).1) taken
-      ∙ ap (λ x. (step_of l (step_of l f m LaunchTaken).1 n (LaunchFailed x 1054)).1) first in
+      ∙ ap (λ x. (step_of x mid n (LaunchFailed process 1054)).flat) limits
+      ∙ ap (λ x. (step_of l x n (LaunchFailed process 1054)).flat) taken
+      ∙ ap (λ x. (step_of l (step_of l f m LaunchTaken).flat n (LaunchFailed x 1054)).flat) first in
       subst (λ s. StillWaits tells l f s plan) (sym same)
-      (waits_on f m n plan told told_then (may_take l f m wanted) (may_fail l (step_of l f m LaunchTaken).1 n (first_wanted f.wanted) (taken_of_run l f m run wanted)) undecided)
+      (waits_on f m n plan told told_then (may_take l f m wanted) (may_fail l (step_of l f m LaunchTaken).flat n (first_wanted f.wanted) (taken_of_run l f m run wanted)) undecided)
 
-  pub mine_by : (k : Limits) (f mid g : Flat) (m n plan process : ℕ) → mid ≡ (step_of l f m LaunchTaken).1 → g ≡ (step_of k mid n (LaunchFailed process 1054)).1 → IsMine f plan → IsMine g plan
+  pub mine_by : (k : Limits) (f mid g : Flat) (m n plan process : ℕ) → mid ≡ (step_of l f m LaunchTaken).flat → g ≡ (step_of k mid n (LaunchFailed process 1054)).flat → IsMine f plan → IsMine g plan
   mine_by k f mid g m n plan process taken failed mine =
       subst (λ s. IsMine s plan) (sym failed) (mine_failed k mid n plan process 1054 (subst (λ s. IsMine s plan) (sym taken) (mine_taken l f m plan mine)))
 
@@ -139,7 +143,7 @@ module _ (tells : ℕ → Type 0) (l : Limits) where
 
 -- there was no memory for it
 pub called_none : (tells : ℕ → Type 0) (l : Limits) (f : Flat) (moment : ℕ) (asked : Request) → tells moment → IsTrue (is_caller f 1)
-    → Called tells l f (step_of l f moment (NoMemory 1)).1 asked (refused asked 8)
+    → Called tells l f (step_of l f moment (NoMemory 1)).flat asked (refused asked 8)
 called_none tells l f moment asked told joined = record {
   entries = (moment, NoMemory 1) ∷ [];
   heard = None;
@@ -153,14 +157,14 @@ called_none tells l f moment asked told joined = record {
 
 -- it was made and answered
 pub called_call : (tells : ℕ → Type 0) (l : Limits) (f : Flat) (moment : ℕ) (asked : Request) (k : Kept) (reply : Reply) → tells moment
-    → IsTrue (may l f moment (Call 1 asked k)) → IsNotLost k → (step_of l f moment (Call 1 asked k)).0 ≡ answers.Reply reply
-    → Called tells l f (step_of l f moment (Call 1 asked k)).1 asked reply
+    → IsTrue (may l f moment (Call 1 asked k)) → IsNotLost k → (step_of l f moment (Call 1 asked k)).answer ≡ answers.Reply reply
+    → Called tells l f (step_of l f moment (Call 1 asked k)).flat asked reply
 called_call tells l f moment asked k reply told legal kept e = record {
   entries = (moment, Call 1 asked k) ∷ [];
   heard = Some reply;
   told = All-cons (λ (e : Entry). tells e.0) (moment, Call 1 asked k) [] told (All-nil (λ (e : Entry). tells e.0));
   legal = (legal, tt);
-  served = ((refl, refl, kept), subst (λ a. Follows l (step_of l f moment (Call 1 asked k)).1 1 a []) (sym e) refl);
+  served = ((refl, refl, kept), subst (λ a. Follows l (step_of l f moment (Call 1 asked k)).flat 1 a []) (sym e) refl);
   answer = ap (λ a. cons_option (told_by 1 (Call 1 asked k) a) []) e;
   replied = refl;
   state = refl;
@@ -168,11 +172,11 @@ called_call tells l f moment asked k reply told legal kept e = record {
 
 -- it began a start, which waited
 pub called_start : (tells : ℕ → Type 0) (l : Limits) (f h : Flat) (moment : ℕ) (asked : Request) (k : Kept) (plan code : ℕ) → tells moment
-    → IsTrue (may l f moment (Call 1 asked k)) → IsNotLost k → (step_of l f moment (Call 1 asked k)).0 ≡ answers.Begun plan
-    → Waited tells l (step_of l f moment (Call 1 asked k)).1 h plan code
+    → IsTrue (may l f moment (Call 1 asked k)) → IsNotLost k → (step_of l f moment (Call 1 asked k)).answer ≡ answers.Begun plan
+    → Waited tells l (step_of l f moment (Call 1 asked k)).flat h plan code
     → Called tells l f h asked (Code code)
 called_start tells l f h moment asked k plan code told legal kept e w =
-    let g = (step_of l f moment (Call 1 asked k)).1 in
+    let g = (step_of l f moment (Call 1 asked k)).flat in
     record {
       entries = (moment, Call 1 asked k) ∷ w.entries;
       heard = Some (Code code);
@@ -186,8 +190,8 @@ called_start tells l f h moment asked k plan code told legal kept e w =
 
 -- it was made, and its caller heard this
 pub called_heard : (tells : ℕ → Type 0) (l : Limits) (f h : Flat) (moment : ℕ) (asked : Request) (k : Kept) (answer : Answer) (reply : Reply) → tells moment
-    → IsTrue (may l f moment (Call 1 asked k)) → IsNotLost k → (step_of l f moment (Call 1 asked k)).0 ≡ answer
-    → Heard tells l (step_of l f moment (Call 1 asked k)).1 h answer reply → Called tells l f h asked reply
+    → IsTrue (may l f moment (Call 1 asked k)) → IsNotLost k → (step_of l f moment (Call 1 asked k)).answer ≡ answer
+    → Heard tells l (step_of l f moment (Call 1 asked k)).flat h answer reply → Called tells l f h asked reply
 called_heard tells l f h moment asked k (answers.Reply told) reply m ok kept e heard =
     subst (λ r. Called tells l f h asked r) (sym heard.0)
     (subst (λ s. Called tells l f s asked told) (sym heard.1) (called_call tells l f moment asked k told m ok kept e))
@@ -197,14 +201,14 @@ called_heard tells l f h moment asked k answer reply m ok kept e heard = absurd 
 
 -- the same under other names of its states
 pub called_by : (tells : ℕ → Type 0) (l n : Limits) (f e g h : Flat) (moment : ℕ) (asked : Request) (k : Kept) (changes : Bool) (step : Step) (answer : Answer) (reply : Reply) → tells moment
-    → IsTrue (is_caller f 1) → n ≡ l → e ≡ f → step ≡ Call 1 asked k → k ≡ cond changes appended.Kept appended.NotAsked → changes ≡ is_some (change_of_call n e 1 asked)
-    → answer ≡ (step_of n e moment step).0 → g ≡ (step_of n e moment step).1 → Heard tells n g h answer reply → Called tells l f h asked reply
-called_by tells l n f e g h moment asked k changes step answer reply m joined limits same is kept right said state heard =
-    let ok = may_call n e moment asked k (subst (λ s. IsTrue (is_caller s 1)) (sym same) joined) (kept ∙ ap (λ b. cond b appended.Kept appended.NotAsked) right) in
+    → IsTrue (is_caller f 1) → IsTrue (in_range asked) → n ≡ l → e ≡ f → step ≡ Call 1 asked k → k ≡ cond changes appended.Kept appended.NotAsked → changes ≡ is_some (change_of_call n e 1 asked)
+    → answer ≡ (step_of n e moment step).answer → g ≡ (step_of n e moment step).flat → Heard tells n g h answer reply → Called tells l f h asked reply
+called_by tells l n f e g h moment asked k changes step answer reply m joined ranged limits same is kept right said state heard =
+    let ok = may_call n e moment asked k (subst (λ s. IsTrue (is_caller s 1)) (sym same) joined) ranged (kept ∙ ap (λ b. cond b appended.Kept appended.NotAsked) right) in
     subst (λ s. Called tells l s h asked reply) same
     (subst (λ x. Called tells x e h asked reply) limits
-    (called_heard tells n e h moment asked k answer reply m ok (not_lost changes k kept) (sym (said ∙ ap (λ s. (step_of n e moment s).0) is))
-    (subst (λ s. Heard tells n s h answer reply) (state ∙ ap (λ s. (step_of n e moment s).1) is) heard)))
+    (called_heard tells n e h moment asked k answer reply m ok (not_lost changes k kept) (sym (said ∙ ap (λ s. (step_of n e moment s).answer) is))
+    (subst (λ s. Heard tells n s h answer reply) (state ∙ ap (λ s. (step_of n e moment s).flat) is) heard)))
 
 -- what answers it may be heard
 spoken_of : (f : Flat) (answer : Answer) → IsTold answer → ((plan : ℕ) → answer ≡ answers.Begun plan → IsMine f plan) → IsSpoken f answer
@@ -213,12 +217,12 @@ spoken_of f (answers.Begun plan) t mine = mine plan refl
 spoken_of f answer t mine = absurd t
 
 pub is_spoken : (l : Limits) (f g : Flat) (m : ℕ) (asked : Request) (k : Kept) (step : Step) (answer : Answer) → HasRun l f → step ≡ Call 1 asked k
-    → answer ≡ (step_of l f m step).0 → g ≡ (step_of l f m step).1 → IsSpoken g answer
+    → answer ≡ (step_of l f m step).answer → g ≡ (step_of l f m step).flat → IsSpoken g answer
 is_spoken l f g m asked k step answer run is said state =
-    let told = said ∙ ap (λ s. (step_of l f m s).0) is in
-    let same = state ∙ ap (λ s. (step_of l f m s).1) is in
+    let told = said ∙ ap (λ s. (step_of l f m s).answer) is in
+    let same = state ∙ ap (λ s. (step_of l f m s).flat) is in
     subst (λ s. IsSpoken s answer) (sym same)
-    (spoken_of (step_of l f m (Call 1 asked k)).1 answer (subst IsTold (sym told) (is_told l f m 1 asked k))
+    (spoken_of (step_of l f m (Call 1 asked k)).flat answer (subst IsTold (sym told) (is_told l f m 1 asked k))
     (λ plan e. mine_begun l f m asked k plan (sound_run l f run) (sym told ∙ e)))
 
 -- ## What it is told answers it
@@ -229,23 +233,27 @@ IsRight asked (answers.Reply told) = Answers asked told
 IsRight asked (answers.Begun plan) = (code : ℕ) → Answers asked (Code code)
 IsRight asked answer = Unit {0}
 
-start_code : (code : ℕ) (f : Flat) (done : Reply × Flat) → IsCode done.0 → IsCode (answered code (Code code) f done).0
-start_code code f done h = elim (code == 0) as (λ b. IsCode (cond b done (Code code, f)).0) [ true ↦ h | false ↦ tt ]
+-- what answers a start
+abbrev IsCode : Reply → Type 0
+IsCode told = ◌≡◌ {A = Option ReplyKind} (Some kind.Code) (Some (kind_of told)) × Fits 0 told
+
+start_code : (code : ℕ) (f : Flat) (done : Done) → IsCode done.reply → IsCode (answered code (Code code) f done).reply
+start_code code f done h = elim (code == 0) as (λ b. IsCode (cond {A = Done} b done (record { reply = Code code; flat = f })).reply) [ true ↦ h | false ↦ (refl, tt) ]
 
 by_decision : (handle : ℕ) (words : Option (List (List ℕ))) (plan : ℕ) (code : Option ℕ) → IsRight (request.Start handle words) (answered_by plan code)
-by_decision handle words plan None = λ code. tt
-by_decision handle words plan (Some code) = tt
+by_decision handle words plan None = λ code. (refl, tt)
+by_decision handle words plan (Some code) = (refl, tt)
 
-right_start : (handle : ℕ) (words : Option (List (List ℕ))) (f : Flat) (begins : Bool) (plan : ℕ) (told : Reply) → IsCode told → IsRight (request.Start handle words) (finished f (answer_of begins plan told)).0
+right_start : (handle : ℕ) (words : Option (List (List ℕ))) (f : Flat) (begins : Bool) (plan : ℕ) (told : Reply) → IsCode told → IsRight (request.Start handle words) (finished f (answer_of begins plan told)).answer
 right_start handle words f true plan told h = by_decision handle words plan (code_of f.plans plan)
 right_start handle words f false plan told h = h
 
-right_answer : (l : Limits) (f : Flat) (m of : ℕ) (x : Request) (k : Kept) → AllShort f → IsInRange x → IsRight x (step_of l f m (Call of x k)).0
+right_answer : (l : Limits) (f : Flat) (m of : ℕ) (x : Request) (k : Kept) → AllShort f → IsTrue (in_range x) → IsRight x (step_of l f m (Call of x k)).answer
 right_answer l f m of (request.Start handle words) k short range =
     let g = with_moment f m in
     let code = start_verdict g of handle words in
     let done = call_of l g of (request.Start handle words) k in
-    right_start handle words (settled l done.1) (code == 0) g.next.plan done.0 (start_code code g (start_done g of handle words) tt)
+    right_start handle words (settled l done.flat) (code == 0) g.next.plan done.reply (start_code code g (start_done g of handle words) (refl, tt))
 right_answer l f m of x k short range = of_call l (with_moment f m) of x k short range
 
 by_answer : (l : Limits) (g : Flat) (x : Request) (k : Kept) (es : List Entry) (answer : Answer) (heard : Option Reply) (reply : Reply)
@@ -261,16 +269,16 @@ by_answer l g x k es (answers.Begun plan) heard reply h s follows e p =
 by_answer l g x k es answer heard reply h s follows e p = absurd s
 
 of_made : (l : Limits) (f : Flat) (m of : ℕ) (x asked : Request) (k : Kept) (es : List Entry) (heard : Option Reply) (reply : Reply)
-    → of ≡ 1 → x ≡ asked → AllShort f → IsInRange asked → Follows l (step_of l f m (Call of x k)).1 1 (step_of l f m (Call of x k)).0 es
+    → of ≡ 1 → x ≡ asked → AllShort f → IsTrue (in_range asked) → Follows l (step_of l f m (Call of x k)).flat 1 (step_of l f m (Call of x k)).answer es
     → replies l f 1 ((m, Call of x k) ∷ es) ≡ heard ∷ [] → reply_to asked heard ≡ reply → Answers asked reply
 of_made l f m of x asked k es heard reply one same short range follows e q =
-    subst (λ y. IsInRange y → reply_to y heard ≡ reply → Answers y reply) same
-    (subst (λ n. Follows l (step_of l f m (Call n x k)).1 1 (step_of l f m (Call n x k)).0 es → replies l f 1 ((m, Call n x k) ∷ es) ≡ heard ∷ [] → IsInRange x → reply_to x heard ≡ reply → Answers x reply) (sym one)
-    (λ follows said range told. by_answer l (step_of l f m (Call 1 x k)).1 x k es (step_of l f m (Call 1 x k)).0 heard reply (right_answer l f m 1 x k short range) (is_told l f m 1 x k) follows said told)
+    subst (λ y. IsTrue (in_range y) → reply_to y heard ≡ reply → Answers y reply) same
+    (subst (λ n. Follows l (step_of l f m (Call n x k)).flat 1 (step_of l f m (Call n x k)).answer es → replies l f 1 ((m, Call n x k) ∷ es) ≡ heard ∷ [] → IsTrue (in_range x) → reply_to x heard ≡ reply → Answers x reply) (sym one)
+    (λ follows said range told. by_answer l (step_of l f m (Call 1 x k)).flat x k es (step_of l f m (Call 1 x k)).answer heard reply (right_answer l f m 1 x k short range) (is_told l f m 1 x k) follows said told)
     follows e) range q
 
 by_entries : (l : Limits) (f : Flat) (es : List Entry) (asked : Request) (heard : Option Reply) (reply : Reply)
-    → AllShort f → IsInRange asked → IsServed l f 1 asked es → replies l f 1 es ≡ heard ∷ [] → reply_to asked heard ≡ reply → Answers asked reply
+    → AllShort f → IsTrue (in_range asked) → IsServed l f 1 asked es → replies l f 1 es ≡ heard ∷ [] → reply_to asked heard ≡ reply → Answers asked reply
 by_entries l f [] asked heard reply short range p e q = absurd p
 by_entries l f ((m, Call of x k) ∷ es) asked heard reply short range p e q = of_made l f m of x asked k es heard reply p.0.0 p.0.1 short range p.1 e q
 by_entries l f ((m, NoMemory of) ∷ es) asked heard reply short range p e q =
@@ -280,5 +288,5 @@ by_entries l f ((m, NoMemory of) ∷ es) asked heard reply short range p e q =
 by_entries l f ((m, step) ∷ es) asked heard reply short range p e q = absurd p.0
 
 -- its reply answers it
-pub answers_called : (tells : ℕ → Type 0) (l : Limits) (f g : Flat) (asked : Request) (reply : Reply) → HasRun l f → IsInRange asked → Called tells l f g asked reply → Answers asked reply
+pub answers_called : (tells : ℕ → Type 0) (l : Limits) (f g : Flat) (asked : Request) (reply : Reply) → HasRun l f → IsTrue (in_range asked) → Called tells l f g asked reply → Answers asked reply
 answers_called tells l f g asked reply run range c = by_entries l f c.entries asked c.heard reply (all_short l f run) range c.served c.answer c.replied

@@ -17,7 +17,8 @@ use Rattle.start_plan.specs.Decided.{code_of}
 use Rattle.start_plan.specs.Settle.{settled}
 use Rattle.scm_rules.specs.Launches.{first_wanted}
 use Rattle.scm_rules.specs.Steps.{answer_of, answered_by, finished, step_of, tells_plan}
-use Rattle.scm_rules.specs.Runs.{Entry, IsLegal, state_of}
+use Rattle.scm_rules.specs.Runs.{IsLegal, state_of}
+use Rattle.scm_model.specs.Entries.{Entry}
 use Rattle.scm_rules.specs.Verdicts.{call_of, verdict}
 use Rattle.scm_pipe.specs.Histories.{AreRequests, AreServed, AsMany, Ends, Follows, IsMade, IsServed, Made, Waits, is_own, own, own_by, replies, told_by}
 
@@ -25,11 +26,11 @@ use Rattle.scm_pipe.specs.Histories.{AreRequests, AreServed, AsMany, Ends, Follo
 
 pub state_append : (l : Limits) (f : Flat) (es ds : List Entry) → state_of l f (es ++ ds) ≡ state_of l (state_of l f es) ds
 state_append l f [] ds = refl
-state_append l f (e ∷ es) ds = state_append l (step_of l f e.0 e.1).1 es ds
+state_append l f (e ∷ es) ds = state_append l (step_of l f e.0 e.1).flat es ds
 
 pub legal_append : (l : Limits) (f : Flat) (es ds : List Entry) → IsLegal l f es → IsLegal l (state_of l f es) ds → IsLegal l f (es ++ ds)
 legal_append l f [] ds p q = q
-legal_append l f (e ∷ es) ds p q = (p.0, legal_append l (step_of l f e.0 e.1).1 es ds p.1 q)
+legal_append l f (e ∷ es) ds p q = (p.0, legal_append l (step_of l f e.0 e.1).flat es ds p.1 q)
 
 cons_append : {A : Type 0} (o : Option A) (xs ys : List A) → cons_option o (xs ++ ys) ≡ cons_option o xs ++ ys
 cons_append None xs ys = refl
@@ -38,15 +39,15 @@ cons_append (Some x) xs ys = refl
 pub replies_append : (l : Limits) (f : Flat) (c : ℕ) (es ds : List Entry) → replies l f c (es ++ ds) ≡ replies l f c es ++ replies l (state_of l f es) c ds
 replies_append l f c [] ds = refl
 replies_append l f c (e ∷ es) ds =
-    let told = told_by c e.1 (step_of l f e.0 e.1).0 in
-    let g = (step_of l f e.0 e.1).1 in
+    let told = told_by c e.1 (step_of l f e.0 e.1).answer in
+    let g = (step_of l f e.0 e.1).flat in
     ap (cons_option told) (replies_append l g c es ds) ∙ cons_append told (replies l g c es) (replies l (state_of l g es) c ds)
 
 pub own_append : (l : Limits) (f : Flat) (c : ℕ) (es ds : List Entry) → own l f c (es ++ ds) ≡ own l f c es ++ own l (state_of l f es) c ds
 own_append l f c [] ds = refl
 own_append l f c (e ∷ es) ds =
-    let made = own_by c e (step_of l f e.0 e.1).0 in
-    let g = (step_of l f e.0 e.1).1 in
+    let made = own_by c e (step_of l f e.0 e.1).answer in
+    let g = (step_of l f e.0 e.1).flat in
     ap (cons_option made) (own_append l g c es ds) ∙ cons_append made (own l g c es) (own l (state_of l g es) c ds)
 
 pub served_append : (l : Limits) (f : Flat) (c : ℕ) (rs qs : List Request) (es ds : List Entry)
@@ -74,15 +75,15 @@ told_start : (plan : ℕ) (code : Option ℕ) → IsTold (answered_by plan code)
 told_start plan None = tt
 told_start plan (Some code) = tt
 
-told_by_finish : (f : Flat) (begins : Bool) (plan : ℕ) (told : Reply) → IsTold (finished f (answer_of begins plan told)).0
+told_by_finish : (f : Flat) (begins : Bool) (plan : ℕ) (told : Reply) → IsTold (finished f (answer_of begins plan told)).answer
 told_by_finish f true plan told = told_start plan (code_of f.plans plan)
 told_by_finish f false plan told = tt
 
-pub is_told : (l : Limits) (f : Flat) (moment caller : ℕ) (asked : Request) (append : Kept) → IsTold (step_of l f moment (Call caller asked append)).0
+pub is_told : (l : Limits) (f : Flat) (moment caller : ℕ) (asked : Request) (append : Kept) → IsTold (step_of l f moment (Call caller asked append)).answer
 is_told l f moment caller asked append =
     let begun = with_moment f moment in
     let done = call_of l begun caller asked append in
-    told_by_finish (settled l done.1) (tells_plan asked (verdict l begun caller asked append)) begun.next.plan done.0
+    told_by_finish (settled l done.flat) (tells_plan asked (verdict l begun caller asked append)) begun.next.plan done.reply
 
 -- ## One reply for each request
 
@@ -90,23 +91,23 @@ pub same_number : (n : ℕ) → (n == n) ≡ true
 same_number n = grind arith
 
 -- the end of a start tells a code
-end_told : (l : Limits) (f : Flat) (moment c plan : ℕ) → told_by c (EndStart c plan) (step_of l f moment (EndStart c plan)).0 ≡ Some (Some (Code (unwrap_or (code_of f.plans plan) 0)))
+end_told : (l : Limits) (f : Flat) (moment c plan : ℕ) → told_by c (EndStart c plan) (step_of l f moment (EndStart c plan)).answer ≡ Some (Some (Code (unwrap_or (code_of f.plans plan) 0)))
 end_told l f moment c plan = rw (same_number c) refl
 
 -- a launch that fails tells a caller nothing
 pub pair_silent : (l : Limits) (f : Flat) (c process code : ℕ) (e d : Entry) (es : List Entry) → e.1 ≡ LaunchTaken → d.1 ≡ LaunchFailed process code
     → replies l f c (e ∷ d ∷ es) ≡ replies l (state_of l f (e ∷ d ∷ [])) c es
 pair_silent l f c process code e d es p q =
-    let g = (step_of l f e.0 e.1).1 in
-    let taken : told_by c e.1 (step_of l f e.0 e.1).0 ≡ None = subst (λ s. told_by c s (step_of l f e.0 e.1).0 ≡ None) (sym p) refl in
-    let failed : told_by c d.1 (step_of l g d.0 d.1).0 ≡ None = subst (λ s. told_by c s (step_of l g d.0 d.1).0 ≡ None) (sym q) refl in
-    ap (λ o. cons_option o (replies l g c (d ∷ es))) taken ∙ ap (λ o. cons_option o (replies l (step_of l g d.0 d.1).1 c es)) failed
+    let g = (step_of l f e.0 e.1).flat in
+    let taken : told_by c e.1 (step_of l f e.0 e.1).answer ≡ None = subst (λ s. told_by c s (step_of l f e.0 e.1).answer ≡ None) (sym p) refl in
+    let failed : told_by c d.1 (step_of l g d.0 d.1).answer ≡ None = subst (λ s. told_by c s (step_of l g d.0 d.1).answer ≡ None) (sym q) refl in
+    ap (λ o. cons_option o (replies l g c (d ∷ es))) taken ∙ ap (λ o. cons_option o (replies l (step_of l g d.0 d.1).flat c es)) failed
 
 -- a start that waits is told a code once
 pub waits_reply : (l : Limits) (f : Flat) (c plan : ℕ) (es : List Entry) → Waits l f c plan es → (code : ℕ) × (replies l f c es ≡ Some (Code code) ∷ [])
 waits_reply l f c plan [] p = absurd p
 waits_reply l f c plan (e ∷ []) p =
-    let told = subst (λ s. told_by c s (step_of l f e.0 s).0 ≡ Some (Some (Code (unwrap_or (code_of f.plans plan) 0)))) (sym p) (end_told l f e.0 c plan) in
+    let told = subst (λ s. told_by c s (step_of l f e.0 s).answer ≡ Some (Some (Code (unwrap_or (code_of f.plans plan) 0)))) (sym p) (end_told l f e.0 c plan) in
     (unwrap_or (code_of f.plans plan) 0, ap (λ o. cons_option o []) told)
 waits_reply l f c plan (e ∷ d ∷ es) p =
     let more = waits_reply l (state_of l f (e ∷ d ∷ [])) c plan es p.3 in
@@ -124,10 +125,10 @@ pub served_reply : (l : Limits) (f : Flat) (c : ℕ) (r : Request) (es : List En
 served_reply l f c r [] p = absurd p
 served_reply l f c r ((m, Call of x k) ∷ es) p =
     subst (λ n. (told : Option Reply) × (replies l f c ((m, Call n x k) ∷ es) ≡ told ∷ [])) (sym p.0.0)
-    (call_reply l (step_of l f m (Call c x k)).1 c x k es (step_of l f m (Call c x k)).0 (is_told l f m c x k)
-    (subst (λ n. Follows l (step_of l f m (Call n x k)).1 c (step_of l f m (Call n x k)).0 es) p.0.0 p.1))
+    (call_reply l (step_of l f m (Call c x k)).flat c x k es (step_of l f m (Call c x k)).answer (is_told l f m c x k)
+    (subst (λ n. Follows l (step_of l f m (Call n x k)).flat c (step_of l f m (Call n x k)).answer es) p.0.0 p.1))
 served_reply l f c r ((m, NoMemory of) ∷ es) p =
-    (None, rw p.0 (rw (same_number c) (ap (λ (xs : List Entry). None ∷ replies l (step_of l f m (NoMemory c)).1 c xs) p.1)))
+    (None, rw p.0 (rw (same_number c) (ap (λ (xs : List Entry). None ∷ replies l (step_of l f m (NoMemory c)).flat c xs) p.1)))
 served_reply l f c r ((m, step) ∷ es) p = absurd p.0
 
 pub replies_as_many : (l : Limits) (f : Flat) (c : ℕ) (rs : List Request) (es : List Entry) → AreServed l f c rs es → AsMany rs (replies l f c es)
@@ -143,18 +144,18 @@ replies_as_many l f c (r ∷ rs) es p =
 pair_of_others : (l : Limits) (f : Flat) (c process code : ℕ) (e d : Entry) (es : List Entry) → e.1 ≡ LaunchTaken → d.1 ≡ LaunchFailed process code
     → own l f c (e ∷ d ∷ es) ≡ own l (state_of l f (e ∷ d ∷ [])) c es
 pair_of_others l f c process code e d es p q =
-    let g = (step_of l f e.0 e.1).1 in
+    let g = (step_of l f e.0 e.1).flat in
     let taken : is_own c e.1 ≡ false = subst (λ s. is_own c s ≡ false) (sym p) refl in
     let failed : is_own c d.1 ≡ false = subst (λ s. is_own c s ≡ false) (sym q) refl in
-    ap (λ b. cons_option (cond b (Some (record { moment = e.0; step = e.1; answer = (step_of l f e.0 e.1).0 })) None) (own l g c (d ∷ es))) taken
-    ∙ ap (λ b. cons_option (cond b (Some (record { moment = d.0; step = d.1; answer = (step_of l g d.0 d.1).0 })) None) (own l (step_of l g d.0 d.1).1 c es)) failed
+    ap (λ b. cons_option (cond b (Some (record { moment = e.0; step = e.1; answer = (step_of l f e.0 e.1).answer })) None) (own l g c (d ∷ es))) taken
+    ∙ ap (λ b. cons_option (cond b (Some (record { moment = d.0; step = d.1; answer = (step_of l g d.0 d.1).answer })) None) (own l (step_of l g d.0 d.1).flat c es)) failed
 
 -- of a start that waits its end alone
 waits_own : (l : Limits) (f : Flat) (c plan : ℕ) (es : List Entry) → Waits l f c plan es → (made : Made) × (own l f c es ≡ made ∷ []) × (made.step ≡ EndStart c plan)
 waits_own l f c plan [] p = absurd p
 waits_own l f c plan (e ∷ []) p =
     let mine : is_own c e.1 ≡ true = subst (λ s. is_own c s ≡ true) (sym p) (same_number c) in
-    let made : Made = record { moment = e.0; step = e.1; answer = (step_of l f e.0 e.1).0 } in
+    let made : Made = record { moment = e.0; step = e.1; answer = (step_of l f e.0 e.1).answer } in
     (made, ap (λ b. cons_option (cond b (Some made) None) []) mine, p)
 waits_own l f c plan (e ∷ d ∷ es) p =
     let more = waits_own l (state_of l f (e ∷ d ∷ [])) c plan es p.3 in
@@ -169,15 +170,15 @@ ends_by l g c es answer p = ap (own l g c) p
 served_made : (l : Limits) (f : Flat) (c : ℕ) (r : Request) (es : List Entry) → IsServed l f c r es → IsMade c r (own l f c es)
 served_made l f c r [] p = absurd p
 served_made l f c r ((m, Call of x k) ∷ es) p =
-    let made : Made = record { moment = m; step = Call of x k; answer = (step_of l f m (Call of x k)).0 } in
+    let made : Made = record { moment = m; step = Call of x k; answer = (step_of l f m (Call of x k)).answer } in
     let mine : (of == c) ≡ true = ap (λ n. n == c) p.0.0 ∙ same_number c in
-    subst (λ b. IsMade c r (cons_option (cond b (Some made) None) (own l (step_of l f m (Call of x k)).1 c es))) (sym mine)
-    (p.0, ends_by l (step_of l f m (Call of x k)).1 c es (step_of l f m (Call of x k)).0 p.1)
+    subst (λ b. IsMade c r (cons_option (cond b (Some made) None) (own l (step_of l f m (Call of x k)).flat c es))) (sym mine)
+    (p.0, ends_by l (step_of l f m (Call of x k)).flat c es (step_of l f m (Call of x k)).answer p.1)
 served_made l f c r ((m, NoMemory of) ∷ es) p =
-    let made : Made = record { moment = m; step = NoMemory of; answer = (step_of l f m (NoMemory of)).0 } in
+    let made : Made = record { moment = m; step = NoMemory of; answer = (step_of l f m (NoMemory of)).answer } in
     let mine : (of == c) ≡ true = ap (λ n. n == c) p.0 ∙ same_number c in
-    subst (λ b. IsMade c r (cons_option (cond b (Some made) None) (own l (step_of l f m (NoMemory of)).1 c es))) (sym mine)
-    (p.0, ends_by l (step_of l f m (NoMemory of)).1 c es (step_of l f m (NoMemory of)).0 p.1)
+    subst (λ b. IsMade c r (cons_option (cond b (Some made) None) (own l (step_of l f m (NoMemory of)).flat c es))) (sym mine)
+    (p.0, ends_by l (step_of l f m (NoMemory of)).flat c es (step_of l f m (NoMemory of)).answer p.1)
 served_made l f c r ((m, step) ∷ es) p = absurd p.0
 
 pub made_requests : (l : Limits) (f : Flat) (c : ℕ) (rs : List Request) (es : List Entry) → AreServed l f c rs es → AreRequests c rs (own l f c es)
@@ -194,8 +195,8 @@ made_requests l f c (r ∷ rs) es p = (
 pub own_moments : (tells : ℕ → Type 0) (l : Limits) (f : Flat) (c : ℕ) (es : List Entry) → All (λ (e : Entry). tells e.0) es → All (λ (made : Made). tells made.moment) (own l f c es)
 own_moments tells l f c [] told = All-nil (λ (made : Made). tells made.moment)
 own_moments tells l f c (e ∷ es) told =
-    let g = (step_of l f e.0 e.1).1 in
-    let made : Made = record { moment = e.0; step = e.1; answer = (step_of l f e.0 e.1).0 } in
+    let g = (step_of l f e.0 e.1).flat in
+    let made : Made = record { moment = e.0; step = e.1; answer = (step_of l f e.0 e.1).answer } in
     let here = All-head (λ (e : Entry). tells e.0) e es told in
     let more = own_moments tells l g c es (All-tail (λ (e : Entry). tells e.0) e es told) in
     elim (is_own c e.1) as (λ b. All (λ (made : Made). tells made.moment) (cons_option (cond b (Some made) None) (own l g c es))) [

@@ -14,6 +14,7 @@ use Rattle.scm_model.specs.declared.steps.Kept.{Kept}
 use Rattle.scm_model.specs.declared.steps.Step.TheVariants.{Call, LaunchTaken, LaunchFailed}
 use Rattle.scm_model.specs.Changes.{with_moment}
 use Rattle.scm_model.specs.Rows.{opened}
+use Rattle.scm_model.specs.Outcomes.{Done}
 use Rattle.start_plan.specs.Decided.{aims_at, caller_of, code_of, decided_if, is_numbered}
 use Rattle.start_plan.specs.Settle.{settle_all, settle_plan, settled, stays}
 use Rattle.start_plan.proofs.Keeps.{keeps_all}
@@ -87,10 +88,10 @@ decided_same test code (plan ∷ plans) = (refl, refl, decided_same test code pl
 
 -- ## A launch that fails
 
-pub mine_taken : (l : Limits) (f : Flat) (m n : ℕ) → IsMine f n → IsMine (step_of l f m LaunchTaken).1 n
+pub mine_taken : (l : Limits) (f : Flat) (m n : ℕ) → IsMine f n → IsMine (step_of l f m LaunchTaken).flat n
 mine_taken l f m n e = mine_settled l (launch_taken (with_moment f m)) n e
 
-pub mine_failed : (l : Limits) (f : Flat) (m n process code : ℕ) → IsMine f n → IsMine (step_of l f m (LaunchFailed process code)).1 n
+pub mine_failed : (l : Limits) (f : Flat) (m n process code : ℕ) → IsMine f n → IsMine (step_of l f m (LaunchFailed process code)).flat n
 mine_failed l f m n process code e =
     mine_settled l (launch_failed (with_moment f m) process code) n
     (kept_in n f.plans (map (decided_if (aims_at (service_of_process f process)) code) f.plans) (decided_same (aims_at (service_of_process f process)) code f.plans) e)
@@ -110,18 +111,18 @@ mine_decided : (s : Flat) (n plan : ℕ) (code : Option ℕ) → IsMine s n → 
 mine_decided s n plan None mine e = let same : n ≡ plan = cc in subst (IsMine s) same mine
 mine_decided s n plan (Some code) mine e = absurd cc
 
-mine_started : (l : Limits) (g : Flat) (b : Bool) (told : Reply) (done : Reply × Flat) (plan : ℕ) → IsMine (settled l done.1) g.next.plan
-    → (finished (settled l (cond b done (told, g)).1) (answer_of b g.next.plan (cond b done (told, g)).0)).0 ≡ answers.Begun plan
-    → IsMine (finished (settled l (cond b done (told, g)).1) (answer_of b g.next.plan (cond b done (told, g)).0)).1 plan
-mine_started l g true told done plan mine e = mine_decided (settled l done.1) g.next.plan plan (code_of (settled l done.1).plans g.next.plan) mine e
+mine_started : (l : Limits) (g : Flat) (b : Bool) (told : Reply) (done : Done) (plan : ℕ) → IsMine (settled l done.flat) g.next.plan
+    → (finished (settled l (cond {A = Done} b done (record { reply = told; flat = g })).flat) (answer_of b g.next.plan (cond {A = Done} b done (record { reply = told; flat = g })).reply)).answer ≡ answers.Begun plan
+    → IsMine (finished (settled l (cond {A = Done} b done (record { reply = told; flat = g })).flat) (answer_of b g.next.plan (cond {A = Done} b done (record { reply = told; flat = g })).reply)).flat plan
+mine_started l g true told done plan mine e = mine_decided (settled l done.flat) g.next.plan plan (code_of (settled l done.flat).plans g.next.plan) mine e
 mine_started l g false told done plan mine e = absurd cc
 
-pub mine_begun : (l : Limits) (f : Flat) (m : ℕ) (asked : Request) (k : Kept) (plan : ℕ) → Sound f → (step_of l f m (Call 1 asked k)).0 ≡ answers.Begun plan → IsMine (step_of l f m (Call 1 asked k)).1 plan
+pub mine_begun : (l : Limits) (f : Flat) (m : ℕ) (asked : Request) (k : Kept) (plan : ℕ) → Sound f → (step_of l f m (Call 1 asked k)).answer ≡ answers.Begun plan → IsMine (step_of l f m (Call 1 asked k)).flat plan
 mine_begun l f m (request.Start handle words) k plan s e =
     let g = with_moment f m in
     let code = start_verdict g 1 handle words in
     let done = start_done g 1 handle words in
     let below = (numbered g.next.plan g.next.service g.callers g.plans (moved f m s).plans).below in
     let new = mine_new g.plans (new_plan g 1 (service_in (opened g 1 handle)) (start_order g (service_in (opened g 1 handle))) (unwrap_or words [])) below refl in
-    mine_started l g (code == 0) (reply.Code code) done plan (mine_settled l done.1 g.next.plan new) e
+    mine_started l g (code == 0) (reply.Code code) done plan (mine_settled l done.flat g.next.plan new) e
 mine_begun l f m asked k plan s e = absurd cc

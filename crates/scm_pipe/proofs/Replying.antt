@@ -1,5 +1,6 @@
 -- What a request is told answers it.
-use Rattle.std.proofs.Common.{ℕ, ◌≡◌, ◌≤◌, length, Option, None, Some, refl, arith, ltb-false}
+use Rattle.std.proofs.Common.{ℕ, ◌≡◌, ◌≤◌, length, Option, None, Some, refl, arith, ltb-false, IsTrue}
+use Rattle.std.proofs.lemmas.Bool.{leb-true}
 use Rattle.std.specs.Prelude.{IfSome}
 use Rattle.scm_model.specs.declared.flat.Flat.{Flat}
 use Rattle.scm_model.specs.declared.flat.Limits.{Limits}
@@ -13,8 +14,9 @@ use Rattle.scm_model.specs.declared.calls.Shown.{Shown}
 use Rattle.scm_model.specs.declared.steps.Kept.{Kept}
 use Rattle.scm_model.specs.Refused.{refused}
 use Rattle.scm_model.specs.Rows.{named, displayed}
-use Rattle.scm_calls.specs.Replies.{Answers, bytes_needed}
-use Rattle.scm_calls.specs.Requests.{IsInRange}
+use Rattle.scm_calls.specs.Replies.{bytes_needed}
+use Rattle.scm_bodies.specs.Replies.{Answers}
+use Rattle.scm_model.specs.Ranges.{in_range}
 use Rattle.scm_rules.specs.Locks.{name_of, owner_of}
 use Rattle.scm_rules.specs.OtherName.{display_in, name_in, name_or_empty}
 use Rattle.scm_rules.specs.QueryConfig.{query_config_refusals, query_config_verdict, shown_by, size_in}
@@ -24,14 +26,14 @@ use Rattle.scm_laws.proofs.Sizes.{AreShort}
 use Rattle.scm_pipe.proofs.Running.{AllShort, short_by_name, short_by_display}
 
 pub of_refused : (asked : Request) (code : ℕ) → Answers asked (refused asked code)
-of_refused (request.DisplayName handle name size) code = omega arith
-of_refused (request.KeyName handle name size) code = omega arith
-of_refused asked code = tt
+of_refused (request.DisplayName handle name size) code = (refl, omega arith)
+of_refused (request.KeyName handle name size) code = (refl, omega arith)
+of_refused asked code = (refl, tt)
 
 of_told : (f : Flat) (caller : ℕ) (asked : Request) (code : ℕ) → Answers asked (told_refused f caller asked code)
-of_told f caller (request.DisplayName handle name size) code = omega arith
-of_told f caller (request.KeyName handle name size) code = omega arith
-of_told f caller asked code = tt
+of_told f caller (request.DisplayName handle name size) code = (refl, omega arith)
+of_told f caller (request.KeyName handle name size) code = (refl, omega arith)
+of_told f caller asked code = (refl, tt)
 
 -- what fits in a size that is read is told whole
 fits : (shown : Option Shown) (size : ℕ) → size ≤ 8192 → size_in shown ≤ size → IfSome shown (λ s. bytes_needed s ≤ size)
@@ -60,14 +62,14 @@ short_owner : (f : Flat) (held : Option LockRow) → length (owner_of f held) �
 short_owner f None = omega arith
 short_owner f (Some row) = short_principal _
 
-of_done : (l : Limits) (f : Flat) (caller : ℕ) (asked : Request) (append : Kept) → AllShort f → IsInRange asked → verdict l f caller asked append ≡ 0 → Answers asked (done_of l f caller asked).0
-of_done l f caller (request.QueryConfig handle size) append short range e = shown_fits f caller handle size range e
-of_done l f caller (request.QueryLock handle size) append short range e = short_owner f f.lock
-of_done l f caller (request.DisplayName handle name size) append short range e = short_display (named f name) (short_by_name f name short)
-of_done l f caller (request.KeyName handle name size) append short range e = short_name (displayed f name) (short_by_display f name short)
-of_done l f caller asked append short range e = tt
+of_done : (l : Limits) (f : Flat) (caller : ℕ) (asked : Request) (append : Kept) → AllShort f → IsTrue (in_range asked) → verdict l f caller asked append ≡ 0 → Answers asked (done_of l f caller asked).reply
+of_done l f caller (request.QueryConfig handle size) append short range e = (refl, shown_fits f caller handle size (leb-true size 8192 range) e)
+of_done l f caller (request.QueryLock handle size) append short range e = (refl, short_owner f f.lock)
+of_done l f caller (request.DisplayName handle name size) append short range e = (refl, short_display (named f name) (short_by_name f name short))
+of_done l f caller (request.KeyName handle name size) append short range e = (refl, short_name (displayed f name) (short_by_display f name short))
+of_done l f caller asked append short range e = (refl, tt)
 
-pub of_call : (l : Limits) (f : Flat) (caller : ℕ) (asked : Request) (append : Kept) → AllShort f → IsInRange asked → Answers asked (call_of l f caller asked append).0
+pub of_call : (l : Limits) (f : Flat) (caller : ℕ) (asked : Request) (append : Kept) → AllShort f → IsTrue (in_range asked) → Answers asked (call_of l f caller asked append).reply
 of_call l f caller asked append short range =
-    by_verdict (λ r. Answers asked r.0) (verdict l f caller asked append) (told_refused f caller asked (verdict l f caller asked append)) f (done_of l f caller asked)
+    by_verdict (λ r. Answers asked r.reply) (verdict l f caller asked append) (told_refused f caller asked (verdict l f caller asked append)) f (done_of l f caller asked)
     (of_done l f caller asked append short range) (λ e. of_told f caller asked (verdict l f caller asked append))

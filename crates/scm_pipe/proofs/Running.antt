@@ -12,11 +12,12 @@ use Rattle.scm_model.specs.declared.steps.Step.{Step}
 use Rattle.scm_model.specs.declared.steps.Step.TheVariants.{Call, LaunchTaken}
 use Rattle.scm_model.specs.Rows.{is_caller, named, displayed}
 use Rattle.scm_core.specs.Managed.{Managed}
+use Rattle.scm_core.proofs.Opened.{opens_empty}
 use Rattle.scm_rules.specs.Launches.{first_wanted, is_taken, process_of}
 use Rattle.scm_rules.specs.Opening.{opening}
-use Rattle.scm_rules.specs.Runs.{Entry}
+use Rattle.scm_model.specs.Entries.{Entry}
 use Rattle.scm_rules.specs.Steps.{is_wanted, may, step_of}
-use Rattle.scm_rules.specs.Texts.{text_of, text_of_call}
+use Rattle.scm_model.specs.Texts.{text_of, text_of_call}
 use Rattle.scm_laws.proofs.Along.{at_end}
 use Rattle.scm_laws.proofs.Calls.{keeps}
 use Rattle.scm_laws.proofs.Sizes.{AreShort, all_short as short_where_sound}
@@ -28,22 +29,22 @@ use Rattle.scm_pipe.proofs.Callers.{callers_of_call}
 use Rattle.scm_pipe.proofs.Histories.{legal_append, state_append}
 
 -- one step more
-pub run_on : (l : Limits) (f : Flat) (moment : ℕ) (step : Step) → IsTrue (may l f moment step) → HasRun l f → HasRun l (step_of l f moment step).1
+pub run_on : (l : Limits) (f : Flat) (moment : ℕ) (step : Step) → IsTrue (may l f moment step) → HasRun l f → HasRun l (step_of l f moment step).flat
 run_on l f moment step ok r =
     let e : Entry = (moment, step) in
     record {
       opened = r.opened;
       history = r.history ++ e ∷ [];
       legal = legal_append l (opening l [] [] r.opened) r.history (e ∷ []) r.legal (subst (λ g. IsTrue (may l g moment step)) (sym r.state) ok, tt);
-      state = state_append l (opening l [] [] r.opened) r.history (e ∷ []) ∙ ap (λ g. (step_of l g moment step).1) r.state;
+      state = state_append l (opening l [] [] r.opened) r.history (e ∷ []) ∙ ap (λ g. (step_of l g moment step).flat) r.state;
     }
 
 pub sound_run : (l : Limits) (f : Flat) → HasRun l f → Sound f
-sound_run l f r = subst Sound r.state (at_end Sound l (keeps l) (opening l [] [] r.opened) r.history (begun r.opened) r.legal)
+sound_run l f r = subst Sound r.state (at_end Sound l (keeps l) (opening l [] [] r.opened) r.history (begun l (opening l [] [] r.opened) (opens_empty l r.opened)) r.legal)
 
 -- after LaunchTaken the process that was wanted first is in hand
 pub taken_of_run : (l : Limits) (f : Flat) (moment : ℕ) → HasRun l f → is_wanted f.wanted ≡ true
-    → is_taken (process_of (step_of l f moment LaunchTaken).1 (first_wanted f.wanted)) ≡ true
+    → is_taken (process_of (step_of l f moment LaunchTaken).flat (first_wanted f.wanted)) ≡ true
 taken_of_run l f moment r wanted = taken_is_listed l f moment (sound_run l f r) wanted
 
 -- ## Texts
@@ -85,8 +86,8 @@ stays_then a b c p q = record { limits = q.limits ∙ p.limits; ready = q.ready 
 
 -- a step that leaves the callers as they are
 pub stays_after : (old new : Managed) (moment : ℕ) (step : Step) → IsReady old → IsTrue (may old.limits old.flat moment step)
-    → (step_of old.limits old.flat moment step).1.callers ≡ old.flat.callers
-    → new.limits ≡ old.limits → new.flat ≡ (step_of old.limits old.flat moment step).1 → new.text < 2 ^ 63 → Stays old new
+    → (step_of old.limits old.flat moment step).flat.callers ≡ old.flat.callers
+    → new.limits ≡ old.limits → new.flat ≡ (step_of old.limits old.flat moment step).flat → new.text < 2 ^ 63 → Stays old new
 stays_after old new moment step ready ok callers limits flat text = record {
   limits = limits;
   ready = record {
@@ -100,9 +101,9 @@ stays_after old new moment step ready ok callers limits flat text = record {
 -- a call, behind what leaves the manager the same
 pub stays_call : (old mid new : Managed) (moment : ℕ) (asked : Request) (k : Kept) (step : Step) → IsReady old → IsSame old mid
     → IsTrue (may mid.limits mid.flat moment (Call 1 asked k)) → step ≡ Call 1 asked k → mid.text + text_of_call asked < 2 ^ 63
-    → new.limits ≡ mid.limits → new.flat ≡ (step_of mid.limits mid.flat moment step).1 → new.text ≡ mid.text + text_of step → Stays old new
+    → new.limits ≡ mid.limits → new.flat ≡ (step_of mid.limits mid.flat moment step).flat → new.text ≡ mid.text + text_of step → Stays old new
 stays_call old mid new moment asked k step ready same ok is small limits flat text =
     let first = stays_same old mid ready same in
     let more : new.text ≡ mid.text + text_of_call asked = text ∙ ap (λ s. mid.text + text_of s) is in
     stays_then old mid new first
-    (stays_after mid new moment (Call 1 asked k) first.ready ok (callers_of_call mid.limits mid.flat moment 1 asked k) limits (flat ∙ ap (λ s. (step_of mid.limits mid.flat moment s).1) is) (omega arith))
+    (stays_after mid new moment (Call 1 asked k) first.ready ok (callers_of_call mid.limits mid.flat moment 1 asked k) limits (flat ∙ ap (λ s. (step_of mid.limits mid.flat moment s).flat) is) (omega arith))

@@ -11,7 +11,8 @@ use Rattle.scm_model.specs.declared.flat.Flat.{Flat}
 use Rattle.scm_model.specs.declared.flat.Limits.{Limits}
 use Rattle.scm_model.specs.declared.calls.Request.{Request as Call_}
 use Rattle.scm_model.specs.declared.calls.Reply.{Reply}
-use Rattle.scm_rules.specs.Runs.{Entry, IsLegal, state_of}
+use Rattle.scm_rules.specs.Runs.{IsLegal, state_of}
+use Rattle.scm_model.specs.Entries.{Entry}
 use Rattle.std.specs.Prelude.{IfSome, IsSome}
 use Rattle.rpc_session.specs.Replies.{reply_bytes as fragments_of}
 use Rattle.rpc_session.specs.declared.state.Terms.{Terms}

@@ -1,13 +1,14 @@
 -- What the items of a connection ask, and what they are answered.
-use Rattle.std.specs.Prelude.{ℕ, Bool, ◌==◌, ◌||◌, ◌++◌, List, [], ◌∷◌, drop, Option, None, Some, Result, Ok, Err, if◌then◌else◌}
+use Rattle.std.specs.Prelude.{ℕ, ◌++◌, List, [], ◌∷◌, drop, Option, None, Some, Result, Ok, Err}
 use Rattle.std.specs.List.{filter_map}
 use Rattle.scm_model.specs.declared.calls.Request.{Request as Call}
 use Rattle.scm_model.specs.declared.calls.Reply.{Reply}
 use Rattle.scm_model.specs.Refused.{refused}
 use Rattle.ndr_body.specs.declared.fault.BodyFault.{BodyFault}
-use Rattle.scm_calls.specs.Requests.{is_served, request_at}
-use Rattle.scm_calls.specs.Replies.{reply_bytes as body_of}
-use Rattle.scm_calls_cfg.specs.Requests.{is_served as is_config, request_at as config_request_at}
+use Rattle.scm_bodies.specs.declared.call.Call.{Call as Served}
+use Rattle.scm_bodies.specs.Calls.{call_at}
+use Rattle.scm_bodies.specs.Requests.{request_at}
+use Rattle.scm_bodies.specs.Replies.{reply_bytes as body_of}
 use Rattle.rpc_pdu.specs.Written.{fault_bytes}
 use Rattle.rpc_session.specs.Replies.{reply_bytes as fragments_of}
 use Rattle.rpc_session.specs.declared.contexts.Interface.{Interface}
@@ -23,12 +24,15 @@ abbrev pub or_fault : Result Call BodyFault → Result Call ℕ
 or_fault (Ok request) = Ok request
 or_fault (Err fault) = Err 0x6F7
 
--- what is asked, or the status of the fault that is answered; a call that isn't served is nca_op_rng_error
+-- a call that isn't served is nca_op_rng_error
+abbrev pub asked_of_call : Option Served → List ℕ → Result Call ℕ
+asked_of_call (Some call) body = or_fault (request_at call body)
+asked_of_call None body = Err 0x1C010002
+
+-- what is asked, or the status of the fault that is answered
 unfoldable pub asked_in : Interface → ℕ → List ℕ → Result Call ℕ
 asked_in Trigger opnum body = Err 0x1C010002
-asked_in Svcctl opnum body =
-    if is_served opnum then or_fault (request_at opnum body) else
-    if is_config opnum then or_fault (config_request_at opnum body) else Err 0x1C010002
+asked_in Svcctl opnum body = asked_of_call (call_at opnum) body
 
 abbrev pub asked_of : RequestItem → Result Call ℕ
 asked_of r = asked_in r.interface r.opnum r.body

@@ -9,9 +9,10 @@ use Rattle.scm_model.specs.declared.steps.Answer.{Answer}
 use Rattle.scm_model.specs.declared.steps.Answer.TheVariants as answers
 use Rattle.start_plan.specs.Decided.{caller_of}
 use Rattle.scm_rules.specs.Opening.{opening}
-use Rattle.scm_rules.specs.Runs.{Entry, IsLegal, state_of}
+use Rattle.scm_rules.specs.Runs.{IsLegal, state_of}
+use Rattle.scm_model.specs.Entries.{Entry}
 use Rattle.scm_pipe.specs.Histories.{IsServed, Waits, replies}
-use Rattle.scm_calls.specs.Replies.{reply_bytes as body_of}
+use Rattle.scm_bodies.specs.Replies.{reply_bytes as body_of}
 use Rattle.scm_pipe.specs.Bodies.{reply_to}
 
 -- a legal run that began without services leads to the state

@@ -6,7 +6,8 @@ use Rattle.outside.specs.Written.{Begins}
 use Rattle.scm_model.specs.declared.flat.Flat.{Flat}
 use Rattle.scm_model.specs.declared.flat.Limits.{Limits}
 use Rattle.scm_model.specs.declared.calls.Reply.{Reply}
-use Rattle.scm_rules.specs.Runs.{Entry, IsLegal}
+use Rattle.scm_rules.specs.Runs.{IsLegal}
+use Rattle.scm_model.specs.Entries.{Entry}
 use Rattle.rpc_session.specs.declared.state.Incoming.{Incoming}
 use Rattle.rpc_session.specs.Items.{StreamEnd, AtRest, Unfinished, BadPdu, TooLong, items}
 use Rattle.scm_pipe.specs.declared.served.Served.{Served}

@@ -14,7 +14,9 @@ use Rattle.scm_model.specs.declared.steps.Answer.TheVariants as answers
 use Rattle.start_plan.specs.Decided.{code_of}
 use Rattle.scm_rules.specs.Launches.{first_wanted}
 use Rattle.scm_rules.specs.Steps.{step_of}
-use Rattle.scm_rules.specs.Runs.{Entry, state_of}
+use Rattle.scm_rules.specs.Runs.{state_of}
+use Rattle.scm_model.specs.Entries.{Entry}
+use Rattle.scm_model.specs.declared.codes.TheConstants.{ERROR_SERVICE_NO_THREAD}
 
 -- ## Replies
 
@@ -34,7 +36,7 @@ told_by caller step answer = None
 abbrev pub replies : Limits → Flat → ℕ → List Entry → List (Option Reply)
 replies l f caller [] = []
 replies l f caller (e ∷ es) =
-    cons_option (told_by caller e.1 (step_of l f e.0 e.1).0) (replies l (step_of l f e.0 e.1).1 caller es)
+    cons_option (told_by caller e.1 (step_of l f e.0 e.1).answer) (replies l (step_of l f e.0 e.1).flat caller es)
 
 -- as many of one as of the other
 abbrev pub AsMany : {A B : Type 0} → List A → List B → Type 0
@@ -65,7 +67,7 @@ abbrev pub Waits : Limits → Flat → ℕ → ℕ → List Entry → Type 0
 Waits l f caller plan [] = ⊥
 Waits l f caller plan (e ∷ []) = e.1 ≡ EndStart caller plan
 Waits l f caller plan (e ∷ d ∷ es) =
-    (code_of f.plans plan ≡ None) × (e.1 ≡ LaunchTaken) × (d.1 ≡ LaunchFailed (first_wanted f.wanted) 1054)
+    (code_of f.plans plan ≡ None) × (e.1 ≡ LaunchTaken) × (d.1 ≡ LaunchFailed (first_wanted f.wanted) ERROR_SERVICE_NO_THREAD)
     × Waits l (state_of l f (e ∷ d ∷ [])) caller plan es
 
 -- what comes behind a call, by its answer: where a start was begun it waits, else nothing comes
@@ -77,7 +79,7 @@ Follows l f caller answer es = es ≡ []
 abbrev pub IsServed : Limits → Flat → ℕ → Request → List Entry → Type 0
 IsServed l f caller request [] = ⊥
 IsServed l f caller request (e ∷ es) =
-    IsRequest caller request e.1 × Follows l (step_of l f e.0 e.1).1 caller (step_of l f e.0 e.1).0 es
+    IsRequest caller request e.1 × Follows l (step_of l f e.0 e.1).flat caller (step_of l f e.0 e.1).answer es
 
 -- the entries are what became of a caller's requests, one after another, from state to state
 abbrev pub AreServed : Limits → Flat → ℕ → List Request → List Entry → Type 0
@@ -108,7 +110,7 @@ own_by caller e answer = if is_own caller e.1 then Some (record { moment = e.0; 
 abbrev pub own : Limits → Flat → ℕ → List Entry → List Made
 own l f caller [] = []
 own l f caller (e ∷ es) =
-    cons_option (own_by caller e (step_of l f e.0 e.1).0) (own l (step_of l f e.0 e.1).1 caller es)
+    cons_option (own_by caller e (step_of l f e.0 e.1).answer) (own l (step_of l f e.0 e.1).flat caller es)
 
 -- what comes behind a call, by its answer: where a start was begun its end, else nothing
 abbrev pub Ends : ℕ → Answer → List Made → Type 0

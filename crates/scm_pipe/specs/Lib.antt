@@ -1,6 +1,5 @@
 pub mod Histories
 pub mod Bodies
-pub mod Kept
 pub mod Talks
 pub mod Calling
 pub mod Ready

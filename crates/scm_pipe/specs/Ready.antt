@@ -2,9 +2,9 @@
 use Rattle.std.specs.Prelude.{◌≡◌, ◌+◌, ◌<◌, ◌^◌, IsTrue, Bool, Option, None, Some, is_some}
 use Rattle.scm_model.specs.declared.steps.Step.{Step}
 use Rattle.scm_model.specs.Rows.{is_caller}
-use Rattle.scm_model.specs.Unkept.{unkept}
+use Rattle.scm_model.specs.Entries.{unkept}
 use Rattle.scm_core.specs.Managed.{Managed}
-use Rattle.scm_rules.specs.Texts.{text_of}
+use Rattle.scm_model.specs.Texts.{text_of}
 use Rattle.scm_rules.specs.Verdicts.{change_of}
 use Rattle.scm_pipe.specs.Calling.{HasRun}
 

@@ -4,7 +4,8 @@ use Rattle.std.specs.Io.KnownBytes.{Appends}
 use Rattle.outside.specs.Written.{Begins}
 use Rattle.scm_model.specs.declared.flat.Flat.{Flat}
 use Rattle.scm_model.specs.declared.flat.Limits.{Limits}
-use Rattle.scm_rules.specs.Runs.{Entry, IsLegal, state_of}
+use Rattle.scm_rules.specs.Runs.{IsLegal, state_of}
+use Rattle.scm_model.specs.Entries.{Entry}
 use Rattle.rpc_session.specs.declared.state.Incoming.{Incoming}
 use Rattle.scm_pipe.specs.Bodies.{asked, spoken}
 use Rattle.scm_pipe.specs.Histories.{AreServed, replies}

@@ -1,6 +1,6 @@
-ghost use Rattle.std.specs.Prelude.{◌≡◌, ◌≤◌, ◌++◌, IfOk, OnErr, Some, length};
-ghost use Rattle.scm_calls.specs.Replies.{reply_bytes as body_of};
-ghost use Rattle.scm_calls.specs.Requests.{IsInRange};
+ghost use Rattle.std.specs.Prelude.{◌≡◌, ◌≤◌, ◌++◌, IfOk, IsTrue, OnErr, Some, length};
+ghost use Rattle.scm_bodies.specs.Replies.{reply_bytes as body_of};
+ghost use Rattle.scm_model.specs.Ranges.{in_range};
 ghost use Rattle.scm_pipe.specs.Along.{Answered, HasStopCause, stopped};
 ghost use Rattle.scm_pipe.specs.Calling.{Replied};
 ghost use Rattle.scm_pipe.specs.Ready.{IsReady, Stays};
@@ -13,7 +13,7 @@ use super::clock::Clock;
 use super::stop::Stop;
 use outside::Failed;
 use rpc_session::{Incoming, RequestItem, Session, Sink, write_all};
-use scm_calls::{reply_bound, write_reply};
+use scm_bodies::{reply_bound, write_reply};
 use scm_core::Manager;
 use scm_model::{Reply, Request};
 use scm_text::{Buffer, OutOfMemory};
@@ -53,7 +53,7 @@ fn replied<R: Wait, C: Clock>(
     clock: &C,
 ) -> Result<Buffer<u8>, OutOfMemory>
     requires ready { IsReady manager.old }
-    requires ranged { IsInRange request }
+    requires ranged { IsTrue (in_range request) }
     ensures ok { IfOk result (λ body. Replied (C.tells clock.now) manager.old.limits manager.old.flat manager.new.flat request body.items) }
     ensures err { OnErr result (manager.new.flat ≡ manager.old.flat) }
     ensures stays { Stays manager.old manager.new }

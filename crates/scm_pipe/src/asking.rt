@@ -1,12 +1,13 @@
-ghost use Rattle.std.specs.Prelude.{◌≡◌, IfOk, Result};
+ghost use Rattle.std.specs.Prelude.{◌≡◌, IsTrue, IfOk, Result};
 ghost use Rattle.scm_model.specs.declared.calls.Request.{Request};
 ghost use Rattle.ndr_body.specs.declared.fault.BodyFault.{BodyFault};
 ghost use Rattle.ndr_body.specs.Reading.{Gives};
-ghost use Rattle.scm_calls.specs.Requests.{IsInRange};
+ghost use Rattle.scm_model.specs.Ranges.{in_range};
 ghost use Rattle.scm_pipe.specs.Bodies.{asked_in, asked_of, or_fault};
 
 use ndr_body::BodyFault;
 use rpc_session::{Interface, RequestItem};
+use scm_bodies::{call_at, read_request};
 use scm_model::Request;
 use scm_text::OutOfMemory;
 use std::alloc::Global;
@@ -19,9 +20,9 @@ const BAD_BODY: u32 = 0x6F7;
 
 /// What a body that was read asks, or the fault of one that can't be.
 fn or_fault(read: Result<Request, BodyFault>) -> Result<Result<Request, u32>, OutOfMemory>
-    requires { IfOk read (λ r. IsInRange r) }
+    requires { IfOk read (λ r. IsTrue (in_range r)) }
     ensures told { (at : Result Request BodyFault) → Gives (λ r. r) read at → IfOk result (λ told. told ≡ or_fault at) }
-    ensures ranged { IfOk result (λ told. IfOk told (λ r. IsInRange r)) }
+    ensures ranged { IfOk result (λ told. IfOk told (λ r. IsTrue (in_range r))) }
 {
     match read {
         Ok(request) => Ok(Ok(request)),
@@ -44,18 +45,15 @@ fn asked_in(
     body: &[u8],
 ) -> Result<Result<Request, u32>, OutOfMemory>
     ensures asked { IfOk result (λ read. read ≡ asked_in interface opnum body.now) }
-    ensures ranged { IfOk result (λ read. IfOk read (λ r. IsInRange r)) }
+    ensures ranged { IfOk result (λ read. IfOk read (λ r. IsTrue (in_range r))) }
 {
     match interface {
         Interface::Trigger => Ok(Err(OP_RANGE)),
         Interface::Svcctl => {
-            if scm_calls::is_served(opnum) {
-                or_fault(scm_calls::read_request(alloc, opnum, body))
-            } else if scm_calls_cfg::is_served(opnum) {
-                or_fault(scm_calls_cfg::read_request(alloc, opnum, body))
-            } else {
-                Ok(Err(OP_RANGE))
-            }
+            let Some(call) = call_at(opnum) else {
+                return Ok(Err(OP_RANGE));
+            };
+            or_fault(read_request(alloc, call, body))
         }
     }
 }
@@ -63,7 +61,7 @@ fn asked_in(
 /// What a request asks, or the status of the fault that is answered.
 pub fn asked(alloc: Global, item: &RequestItem) -> Result<Result<Request, u32>, OutOfMemory>
     ensures asked { IfOk result (λ read. read ≡ asked_of item.now) }
-    ensures ranged { IfOk result (λ read. IfOk read (λ r. IsInRange r)) }
+    ensures ranged { IfOk result (λ read. IfOk read (λ r. IsTrue (in_range r))) }
 {
     asked_in(alloc, item.interface, item.opnum, item.body.as_slice())
 }

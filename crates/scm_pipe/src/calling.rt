@@ -1,15 +1,16 @@
-ghost use Rattle.std.specs.Prelude.{◌≡◌, IfOk, OnErr, if◌then◌else◌};
+ghost use Rattle.std.specs.Prelude.{◌≡◌, IfOk, IsTrue, OnErr, if◌then◌else◌};
+ghost use Rattle.scm_model.specs.Ranges.{in_range};
 ghost use Rattle.scm_model.specs.Refused.{refused};
 ghost use Rattle.scm_model.specs.declared.calls.Request.{Request};
 ghost use Rattle.scm_model.specs.declared.steps.Kept.TheVariants as appended;
 ghost use Rattle.scm_pipe.specs.Calling.{Called, Heard, IsSpoken};
-ghost use Rattle.scm_pipe.specs.Kept.{with_kept};
 ghost use Rattle.scm_pipe.specs.Ready.{IsPreparedIf, IsReady, IsSame, Stays};
 
 use super::answering::CALLER;
 use super::clock::Clock;
 use super::waiting::wait;
 use scm_core::Manager;
+use scm_model::codes::ERROR_NOT_ENOUGH_MEMORY;
 use scm_model::{Answer, Kept, Reply, Request, Step, refused};
 use scm_text::OutOfMemory;
 use std::alloc::Global;
@@ -22,36 +23,8 @@ fn kept_by(changes: bool) -> Kept
     if changes { Kept::Kept } else { Kept::NotAsked }
 }
 
-/// The step, if it is a call with what became of its change.
-fn told(step: Step, now: Kept) -> Step
-    ensures { result ≡ with_kept step now }
-{
-    match step {
-        Step::Call {
-            caller,
-            request,
-            kept: _,
-        } => Step::Call {
-            caller,
-            request,
-            kept: now,
-        },
-        Step::Joined { .. }
-        | Step::EndStart { .. }
-        | Step::LaunchTaken
-        | Step::Launched { .. }
-        | Step::LaunchFailed { .. }
-        | Step::Report { .. }
-        | Step::Ended { .. }
-        | Step::ControlTaken { .. }
-        | Step::Tick
-        | Step::Gone { .. }
-        | Step::NoMemory { .. } => step,
-    }
-}
-
 /// Makes room for a step, and tells whether it makes a change. `None` where there is no memory for it, or the manager can't count it.
-fn prepared(manager: &mut Manager, moment: u64, step: &Step) -> Option<bool>
+fn prepared(manager: &mut Manager, step: &Step) -> Option<bool>
     ensures same { IsSame manager.old manager.new }
     ensures prepared { IsPreparedIf manager.new step.now result }
 {
@@ -61,10 +34,7 @@ fn prepared(manager: &mut Manager, moment: u64, step: &Step) -> Option<bool>
     if !manager.fits(step) {
         return None;
     }
-    match manager.makes_change(moment, step) {
-        Ok(changes) => Some(changes),
-        Err(_) => None,
-    }
+    Some(manager.makes_change(step))
 }
 
 /// Lets it stand in the place of a request that there was no memory for it.
@@ -120,21 +90,22 @@ pub fn call<R: Wait, C: Clock>(
     request: Request,
     clock: &C,
 ) -> Result<Reply, OutOfMemory>
-    requires { IsReady manager.old }
+    requires ready { IsReady manager.old }
+    requires ranged { IsTrue (in_range request) }
     ensures called { IfOk result (λ reply. Called (C.tells clock.now) manager.old.limits manager.old.flat manager.new.flat request reply) }
     ensures err { OnErr result (manager.new.flat ≡ manager.old.flat) }
     ensures stays { Stays manager.old manager.new }
 {
     let moment = clock.now();
-    let refusal = refused(alloc, &request, 8);
+    let refusal = refused(alloc, &request, ERROR_NOT_ENOUGH_MEMORY);
     let step = Step::Call {
         caller: CALLER,
         request,
         kept: Kept::NotAsked,
     };
-    let Some(changes) = prepared(manager, moment, &step) else {
+    let Some(changes) = prepared(manager, &step) else {
         return no_memory(manager, refusal, clock);
     };
-    let answer = manager.step(moment, told(step, kept_by(changes)));
+    let answer = manager.step(moment, step.with_kept(kept_by(changes)));
     Ok(heard(rt, manager, answer, refusal, clock))
 }

@@ -6,11 +6,9 @@ ghost use Rattle.scm_pipe.specs.Ready.{IsReady, Stays};
 use super::answering::CALLER;
 use super::clock::Clock;
 use scm_core::Manager;
+use scm_model::codes::ERROR_SERVICE_NO_THREAD;
 use scm_model::{Answer, Step};
 use std::sync::Wait;
-
-/// ERROR_SERVICE_NO_THREAD of MS-ERREF: no process is run for a service.
-const NO_PROCESS: u32 = 1054;
 
 /// Takes the launch that is wanted first in hand, if there is one, and lets it fail.
 fn fail_launch<C: Clock>(manager: &mut Manager, clock: &C)
@@ -28,7 +26,7 @@ fn fail_launch<C: Clock>(manager: &mut Manager, clock: &C)
             clock.now(),
             Step::LaunchFailed {
                 process,
-                code: NO_PROCESS,
+                code: ERROR_SERVICE_NO_THREAD,
             },
         );
     }

@@ -3,27 +3,26 @@ use Rattle.std.specs.Prelude.{ℕ, ◌≡◌, ◌+◌, ◌<◌, ◌≤◌, ◌^�
 use Rattle.std.specs.Io.KnownBytes.{Appends, Consumes, IsAtEnd}
 use Rattle.outside.specs.Causes.{Rose}
 use Rattle.outside.specs.Written.{AppendsFront, Begins}
-use Rattle.scm_model.specs.declared.flat.Flat.{Flat}
 use Rattle.scm_model.specs.declared.flat.Limits.{Limits}
 use Rattle.scm_core.specs.Managed.{Managed}
 use Rattle.scm_replay.specs.declared.replayed.Replayed.{Replayed}
 use Rattle.scm_replay.specs.declared.replayed.Replayed.TheVariants as ended
 use Rattle.scm_replay.specs.declared.stop.Stop.{Stop}
 use Rattle.scm_replay.specs.declared.stop.Stop.TheVariants as stop
-use Rattle.scm_replay.specs.Outcomes.{goes_on, outcome_at}
+use Rattle.scm_replay.specs.Outcomes.{Standing, goes_on, outcome_at}
 use Rattle.scm_replay.specs.Answers.{answer_line}
 use Rattle.scm_replay.specs.Replay.{BadLine, Told, behind, replayed_from}
 
--- where a run stands: the state, the number of the next line, what was read of it, and the sink
+-- where a run stands: the manager, the number of the next line, what was read of it, and the sink
 pub record Point : Type 0 where
-  pub flat : Flat
+  pub at : Standing
   pub number : ℕ
   pub pending : List ℕ
   pub held : Option (List ℕ)
 
 -- what an input is answered from a point on
 abbrev pub told_at : Limits → Point → List ℕ → Told
-told_at l p input = replayed_from l p.flat p.number (p.pending ++ input)
+told_at l p input = replayed_from l p.at p.number (p.pending ++ input)
 
 -- no line feed stands in it
 abbrev pub IsOneLine : List ℕ → Type 0
@@ -55,13 +54,13 @@ Fed l piece a b (Err stop.WriteFault) = Breaks l piece a b
 Fed l piece a b (Err stop.OutOfMemory) = Breaks l piece a b
 
 -- what became of one line
-abbrev pub Lined : {T : Type 0} → Limits → (number : ℕ) → (line : List ℕ) → (f g : Flat) → (before now : Option (List ℕ)) → Result T Stop → Type 0
-Lined l number line f g before now (Ok done) =
-    (goes_on (outcome_at l f line).0 ≡ true) × (g ≡ (outcome_at l f line).1) × Appends before now (answer_line number (outcome_at l f line).0)
-Lined l number line f g before now (Err stop.BadLine) =
-    (goes_on (outcome_at l f line).0 ≡ false) × Appends before now (answer_line number (outcome_at l f line).0)
-Lined l number line f g before now (Err stop.WriteFault) = AppendsFront before now (answer_line number (outcome_at l f line).0)
-Lined l number line f g before now (Err stop.OutOfMemory) = now ≡ before
+abbrev pub Lined : {T : Type 0} → Limits → (number : ℕ) → (line : List ℕ) → (s t : Standing) → (before now : Option (List ℕ)) → Result T Stop → Type 0
+Lined l number line s t before now (Ok done) =
+    (goes_on (outcome_at l s line).0 ≡ true) × (t ≡ (outcome_at l s line).1) × Appends before now (answer_line number (outcome_at l s line).0)
+Lined l number line s t before now (Err stop.BadLine) =
+    (goes_on (outcome_at l s line).0 ≡ false) × Appends before now (answer_line number (outcome_at l s line).0)
+Lined l number line s t before now (Err stop.WriteFault) = AppendsFront before now (answer_line number (outcome_at l s line).0)
+Lined l number line s t before now (Err stop.OutOfMemory) = now ≡ before
 
 -- the count of faults never falls, and it rose where the sink is said to have failed
 pub record HasStopCause {T : Type 0} (before now : ℕ) (result : Result T Stop) : Type 0 where

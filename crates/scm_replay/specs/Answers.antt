@@ -3,11 +3,11 @@ use Rattle.std.specs.Prelude.{ℕ, List, [], ◌∷◌, ◌++◌, codes, decimal
 use Rattle.hex.specs.Hex.{encode_lower}
 use Rattle.scm_model.specs.declared.steps.Answer.{Answer}
 use Rattle.scm_model.specs.declared.steps.Answer.TheVariants as answers
-use Rattle.scm_calls.specs.Replies.{reply_bytes}
+use Rattle.scm_bodies.specs.Replies.{reply_bytes}
 use Rattle.scm_replay.specs.declared.missed.Missed.{Missed}
 use Rattle.scm_replay.specs.declared.missed.Missed.TheVariants.{Again, Empty, Over, Idle}
 use Rattle.scm_replay.specs.declared.outcome.Outcome.{Outcome}
-use Rattle.scm_replay.specs.declared.outcome.Outcome.TheVariants.{Answered, InVain, TooMany, Bad}
+use Rattle.scm_replay.specs.declared.outcome.Outcome.TheVariants.{Answered, InVain, TooMany, Full, Bad}
 
 -- a line, ended by a line feed
 abbrev pub line_with : List ℕ → List ℕ → List ℕ
@@ -35,4 +35,5 @@ abbrev pub answer_line : ℕ → Outcome → List ℕ
 answer_line number (Answered answer) = told_line answer
 answer_line number (InVain missed) = line_with (missed_word missed) []
 answer_line number TooMany = line_with (codes "toomany") []
+answer_line number Full = line_with (codes "full") []
 answer_line number Bad = line_with (codes "bad line ") (decimal number)

@@ -7,8 +7,8 @@ use Rattle.scm_model.specs.declared.calls.Request.{Request}
 use Rattle.scm_model.specs.declared.steps.Kept.TheVariants as appended
 use Rattle.scm_model.specs.declared.steps.Step.{Step}
 use Rattle.scm_model.specs.declared.steps.Step.TheVariants.{Joined, Call, EndStart, LaunchTaken, Launched, LaunchFailed, Report, Ended, ControlTaken, Tick, Gone, NoMemory}
-use Rattle.scm_calls.specs.Requests.{is_served, request_at}
-use Rattle.scm_calls_cfg.specs.Requests.{is_served as is_config, request_at as config_request_at}
+use Rattle.scm_bodies.specs.Calls.{call_at as served_at}
+use Rattle.scm_bodies.specs.Requests.{request_at}
 use Rattle.scm_replay.specs.declared.line.Line.{Line}
 use Rattle.scm_replay.specs.declared.verb.Verb.{Verb}
 use Rattle.scm_replay.specs.declared.verb.Verb.TheVariants as verb
@@ -25,9 +25,9 @@ joined_at name =
 
 -- what a call asks: of the calls whose bodies can be read, what the body says
 unfoldable pub request_in : ℕ → List ℕ → Option Request
-request_in opnum body =
-    if is_served opnum then result_ok (request_at opnum body) else
-    if is_config opnum then result_ok (config_request_at opnum body) else None
+request_in opnum body = do
+  asked ← served_at opnum
+  result_ok (request_at asked body)
 
 -- a caller, an opnum of 16 bits and a body; it isn't said what becomes of the call's change
 unfoldable pub call_at : List ℕ → List ℕ → List ℕ → Option Step

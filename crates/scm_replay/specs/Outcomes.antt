@@ -1,25 +1,37 @@
--- What a line comes to in a state. Whether there is still room for a step among those that a manager may make isn't tested here,
--- since the manager doesn't tell it yet: no line is answered "full".
-use Rattle.std.specs.Prelude.{ℕ, Bool, true, false, not, ◌&&◌, ◌==◌, is_none, is_some, max, List, Option, None, Some, if◌then◌else◌}
+-- What a line comes to where a manager stands.
+use Rattle.std.specs.Prelude.{ℕ, Bool, true, false, not, ◌&&◌, ◌||◌, ◌==◌, ◌+◌, is_none, is_some, max, List, Option, None, Some, if◌then◌else◌}
 use Rattle.std.specs.List.{list_any}
 use Rattle.scm_model.specs.declared.flat.Flat.{Flat}
 use Rattle.scm_model.specs.declared.flat.Limits.{Limits}
 use Rattle.scm_model.specs.declared.steps.Kept.{Kept}
 use Rattle.scm_model.specs.declared.steps.Kept.TheVariants as appended
 use Rattle.scm_model.specs.declared.steps.Step.{Step}
-use Rattle.scm_model.specs.declared.steps.Step.TheVariants.{Joined, Call, EndStart, LaunchTaken, ControlTaken, Tick}
-use Rattle.scm_model.specs.declared.steps.Answer.{Answer}
+use Rattle.scm_model.specs.declared.steps.Step.TheVariants.{Joined, EndStart, LaunchTaken, ControlTaken, Tick}
+use Rattle.scm_model.specs.Entries.{with_kept}
+use Rattle.scm_model.specs.Outcomes.{Told}
+use Rattle.scm_model.specs.Texts.{text_of}
 use Rattle.start_plan.specs.Decided.{caller_of, code_of}
 use Rattle.scm_rules.specs.Controls.{waiting}
+use Rattle.scm_rules.specs.Room.{has_room, is_owed}
 use Rattle.scm_rules.specs.Start.{is_due}
 use Rattle.scm_rules.specs.Steps.{is_wanted, may_come, step_of}
 use Rattle.scm_rules.specs.Verdicts.{change_of}
+use Rattle.scm_core.specs.Managed.{Managed}
 use Rattle.scm_replay.specs.declared.line.Line.{Line}
 use Rattle.scm_replay.specs.declared.missed.Missed.{Missed}
 use Rattle.scm_replay.specs.declared.missed.Missed.TheVariants.{Again, Empty, Over, Idle}
 use Rattle.scm_replay.specs.declared.outcome.Outcome.{Outcome}
-use Rattle.scm_replay.specs.declared.outcome.Outcome.TheVariants.{Answered, InVain, TooMany, Bad}
+use Rattle.scm_replay.specs.declared.outcome.Outcome.TheVariants.{Answered, InVain, TooMany, Full, Bad}
 use Rattle.scm_replay.specs.Lines.{line_at}
+
+-- where a manager stands: its state, how many steps were made, and how much text they had
+pub record Standing : Type 0 where
+  pub flat : Flat
+  pub steps : ℕ
+  pub text : ℕ
+
+abbrev pub standing : Managed → Standing
+standing m = record { flat = m.flat; steps = m.steps; text = m.text }
 
 -- ## Looks
 
@@ -51,10 +63,6 @@ kept_as false fails = appended.NotAsked
 kept_as true false = appended.Kept
 kept_as true true = appended.Failed
 
-abbrev pub with_kept : Step → Kept → Step
-with_kept (Call caller asked append) now = Call caller asked now
-with_kept step now = step
-
 -- the step that a line makes in a state
 abbrev pub step_in : Limits → Flat → Line → Step
 step_in l f line = with_kept line.step (kept_as (is_some (change_of l f line.step)) line.fails)
@@ -64,34 +72,39 @@ abbrev pub unmet : Step → Outcome
 unmet (Joined principal) = TooMany
 unmet step = Bad
 
-abbrev pub answered : Answer × Flat → Outcome × Flat
-answered done = (Answered done.0, done.1)
+-- a step that is owed was counted before; each other one has to find room
+abbrev pub finds_room : Limits → Standing → Step → Bool
+finds_room l s step = is_owed step || has_room l s.flat s.steps s.text step
 
--- what the step of a line comes to that isn't a look in vain, and the state behind it
-unfoldable pub made_in : Limits → Flat → Line → Outcome × Flat
-made_in l f line =
-    if may_come l f line.moment line.step
-    then answered (step_of l f line.moment (step_in l f line))
-    else (unmet line.step, f)
+-- the step was made
+abbrev pub answered : Standing → Step → Told → Outcome × Standing
+answered s step done = (Answered done.answer, record { flat = done.flat; steps = s.steps + 1; text = s.text + text_of step })
+
+-- what the step of a line comes to that isn't a look in vain, and where the manager stands behind it
+unfoldable pub made_in : Limits → Standing → Line → Outcome × Standing
+made_in l s line =
+    if not (may_come l s.flat line.moment line.step) then (unmet line.step, s)
+    else if not (finds_room l s line.step) then (Full, s)
+    else answered s line.step (step_of l s.flat line.moment (step_in l s.flat line))
 
 -- a look in vain makes no step, and leaves the state and its moment
-abbrev pub unless_missed : Flat → Option Missed → Outcome × Flat → Outcome × Flat
-unless_missed f None made = made
-unless_missed f (Some missed) made = (InVain missed, f)
+abbrev pub unless_missed : Standing → Option Missed → Outcome × Standing → Outcome × Standing
+unless_missed s None made = made
+unless_missed s (Some missed) made = (InVain missed, s)
 
 -- ## Lines
 
--- what a line that was read comes to, and the state behind it
-abbrev pub outcome_in : Limits → Flat → Line → Outcome × Flat
-outcome_in l f line = unless_missed f (missed_by f line.moment line.step) (made_in l f line)
+-- what a line that was read comes to, and where the manager stands behind it
+abbrev pub outcome_in : Limits → Standing → Line → Outcome × Standing
+outcome_in l s line = unless_missed s (missed_by s.flat line.moment line.step) (made_in l s line)
 
 -- what a line comes to, or a text that is none
-abbrev pub outcome_of : Limits → Flat → Option Line → Outcome × Flat
-outcome_of l f None = (Bad, f)
-outcome_of l f (Some line) = outcome_in l f line
+abbrev pub outcome_of : Limits → Standing → Option Line → Outcome × Standing
+outcome_of l s None = (Bad, s)
+outcome_of l s (Some line) = outcome_in l s line
 
-abbrev pub outcome_at : Limits → Flat → List ℕ → Outcome × Flat
-outcome_at l f text = outcome_of l f (line_at text)
+abbrev pub outcome_at : Limits → Standing → List ℕ → Outcome × Standing
+outcome_at l s text = outcome_of l s (line_at text)
 
 -- a bad line ends it all
 abbrev pub goes_on : Outcome → Bool

@@ -1,11 +1,11 @@
 ghost use Rattle.std.specs.Prelude.{◌≡◌, IfOk, decimal, string_bytes};
 ghost use Rattle.hex.specs.Hex.{encode_lower};
-ghost use Rattle.scm_calls.specs.Replies.{reply_bytes};
+ghost use Rattle.scm_bodies.specs.Replies.{reply_bytes};
 ghost use Rattle.scm_model.specs.declared.steps.Answer.TheVariants as answers;
 ghost use Rattle.scm_replay.specs.Answers.{answer_line, line_with, told_line};
 
 use super::outcome::Outcome;
-use scm_calls::write_reply;
+use scm_bodies::write_reply;
 use scm_model::{Answer, Reply};
 use scm_text::{Buffer, OutOfMemory};
 use std::alloc::{AllocError, Global};
@@ -88,6 +88,7 @@ pub fn answer_line(alloc: Global, number: u64, outcome: &Outcome) -> Result<Vec<
         Outcome::Answered(answer) => told_line(alloc, answer),
         Outcome::InVain(missed) => line_with(alloc, missed.word(), b""),
         Outcome::TooMany => line_with(alloc, "toomany", b""),
+        Outcome::Full => line_with(alloc, "full", b""),
         Outcome::Bad => numbered(alloc, "bad line ", number),
     }
 }

@@ -1,5 +1,6 @@
 ghost use Rattle.std.specs.Prelude.{◌≡◌, ◌+◌, ◌≤◌, ◌<◌, ◌^◌, ◌∷◌, [], length};
 ghost use Rattle.scm_replay.specs.Along.{Fed, HasStopCause, IsFit, IsOneLine, Keeps, Lined, stopped};
+ghost use Rattle.scm_replay.specs.Outcomes.{standing};
 
 use super::answers::answer_line;
 use super::making::outcome_at;
@@ -35,7 +36,7 @@ fn answer<O: Sink>(
     output: &mut O,
 ) -> Result<(), Stop>
     requires { IsFit manager.old 0 1 }
-    ensures lined { Lined manager.old.limits number line.now manager.old.flat manager.new.flat
+    ensures lined { Lined manager.old.limits number line.now (standing manager.old) (standing manager.new)
         (O.held output.old) (O.held output.new) result }
     ensures keeps { Keeps manager.old manager.new 1 }
     ensures cause { HasStopCause (O.faults output.old) (O.faults output.new) result }
@@ -74,8 +75,8 @@ fn end_line<O: Sink>(
     requires fit { IsFit manager.old reading.old.number 1 }
     requires clean { IsOneLine reading.old.pending.items }
     ensures fed { Fed manager.old.limits (10 ∷ [])
-        (record { flat = manager.old.flat; number = reading.old.number; pending = reading.old.pending.items; held = O.held output.old })
-        (record { flat = manager.new.flat; number = reading.new.number; pending = reading.new.pending.items; held = O.held output.new })
+        (record { at = standing manager.old; number = reading.old.number; pending = reading.old.pending.items; held = O.held output.old })
+        (record { at = standing manager.new; number = reading.new.number; pending = reading.new.pending.items; held = O.held output.new })
         result }
     ensures keeps { Keeps manager.old manager.new 1 }
     ensures number { reading.new.number ≤ reading.old.number + 1 }
@@ -107,8 +108,8 @@ fn take<O: Sink>(
     requires fit { IsFit manager.old reading.old.number 1 }
     requires clean { IsOneLine reading.old.pending.items }
     ensures fed { Fed manager.old.limits (byte ∷ [])
-        (record { flat = manager.old.flat; number = reading.old.number; pending = reading.old.pending.items; held = O.held output.old })
-        (record { flat = manager.new.flat; number = reading.new.number; pending = reading.new.pending.items; held = O.held output.new })
+        (record { at = standing manager.old; number = reading.old.number; pending = reading.old.pending.items; held = O.held output.old })
+        (record { at = standing manager.new; number = reading.new.number; pending = reading.new.pending.items; held = O.held output.new })
         result }
     ensures keeps { Keeps manager.old manager.new 1 }
     ensures number { reading.new.number ≤ reading.old.number + 1 }
@@ -134,8 +135,8 @@ pub fn feed<O: Sink>(
     requires fit { IsFit manager.old reading.old.number (length piece.now) }
     requires clean { IsOneLine reading.old.pending.items }
     ensures fed { Fed manager.old.limits piece.now
-        (record { flat = manager.old.flat; number = reading.old.number; pending = reading.old.pending.items; held = O.held output.old })
-        (record { flat = manager.new.flat; number = reading.new.number; pending = reading.new.pending.items; held = O.held output.new })
+        (record { at = standing manager.old; number = reading.old.number; pending = reading.old.pending.items; held = O.held output.old })
+        (record { at = standing manager.new; number = reading.new.number; pending = reading.new.pending.items; held = O.held output.new })
         result }
     ensures keeps { Keeps manager.old manager.new (length piece.now) }
     ensures number { reading.new.number ≤ reading.old.number + length piece.now }

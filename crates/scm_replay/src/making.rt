@@ -1,8 +1,9 @@
 ghost use Rattle.std.specs.Prelude.{◌≡◌, ◌+◌, ◌<◌, ◌^◌, IfOk, IsTrue, Some};
-ghost use Rattle.scm_model.specs.Unkept.{unkept};
-ghost use Rattle.scm_rules.specs.Texts.{text_of};
+ghost use Rattle.scm_model.specs.Entries.{unkept, with_kept};
+ghost use Rattle.scm_model.specs.Texts.{text_of};
 ghost use Rattle.scm_replay.specs.Along.{IsFit, Keeps};
-ghost use Rattle.scm_replay.specs.Outcomes.{kept_as, made_in, outcome_at, outcome_in, unmet, with_kept};
+ghost use Rattle.scm_rules.specs.Room.{is_owed};
+ghost use Rattle.scm_replay.specs.Outcomes.{finds_room, kept_as, made_in, outcome_at, outcome_in, standing, unmet};
 
 use super::line::Line;
 use super::looking::missed_by;
@@ -21,34 +22,6 @@ fn kept_as(changes: bool, fails: bool) -> Kept
         (false, _) => Kept::NotAsked,
         (true, false) => Kept::Kept,
         (true, true) => Kept::Failed,
-    }
-}
-
-/// The step, if it is a call with what became of its change.
-fn with_kept(step: Step, now: Kept) -> Step
-    ensures { result ≡ with_kept step now }
-{
-    match step {
-        Step::Call {
-            caller,
-            request,
-            kept: _,
-        } => Step::Call {
-            caller,
-            request,
-            kept: now,
-        },
-        Step::Joined { .. }
-        | Step::EndStart { .. }
-        | Step::LaunchTaken
-        | Step::Launched { .. }
-        | Step::LaunchFailed { .. }
-        | Step::Report { .. }
-        | Step::Ended { .. }
-        | Step::ControlTaken { .. }
-        | Step::Tick
-        | Step::Gone { .. }
-        | Step::NoMemory { .. } => step,
     }
 }
 
@@ -72,8 +45,35 @@ fn unmet(step: &Step) -> Outcome
     }
 }
 
+/// Whether a step was counted before, when it came to be owed.
+fn is_owed(step: &Step) -> bool
+    ensures { result ≡ is_owed step.now }
+{
+    match step {
+        Step::EndStart { .. }
+        | Step::LaunchTaken
+        | Step::Launched { .. }
+        | Step::LaunchFailed { .. }
+        | Step::Ended { .. }
+        | Step::Gone { .. } => true,
+        Step::Joined { .. }
+        | Step::Call { .. }
+        | Step::Report { .. }
+        | Step::ControlTaken { .. }
+        | Step::Tick
+        | Step::NoMemory { .. } => false,
+    }
+}
+
+/// Whether the limits have room for a step, where it needs some.
+fn finds_room(manager: &Manager, step: &Step) -> bool
+    ensures { result ≡ finds_room manager.now.limits (standing manager.now) step.now }
+{
+    is_owed(step) || manager.room(step)
+}
+
 /// Makes room for a step, if there is memory and the manager can still count it.
-fn has_room(manager: &mut Manager, step: &Step) -> bool
+fn makes_room(manager: &mut Manager, step: &Step) -> bool
     ensures flat { manager.new.flat ≡ manager.old.flat }
     ensures limits { manager.new.limits ≡ manager.old.limits }
     ensures steps { manager.new.steps ≡ manager.old.steps }
@@ -87,30 +87,33 @@ fn has_room(manager: &mut Manager, step: &Step) -> bool
     }
 }
 
-/// Makes the step of a line that isn't a look in vain, if it may come.
+/// Makes the step of a line that isn't a look in vain, if it may come and finds room.
 #[tactic(auto, unfolding(crate::specs::Outcomes::made_in))]
 fn made_in(manager: &mut Manager, line: Line) -> Result<Outcome, OutOfMemory>
     requires { IsFit manager.old 0 1 }
-    ensures outcome { IfOk result (λ outcome. outcome ≡ (made_in manager.old.limits manager.old.flat line).0) }
-    ensures flat { IfOk result (λ outcome. manager.new.flat ≡ (made_in manager.old.limits manager.old.flat line).1) }
+    ensures outcome { IfOk result (λ outcome. outcome ≡ (made_in manager.old.limits (standing manager.old) line).0) }
+    ensures standing { IfOk result (λ outcome. standing manager.new ≡ (made_in manager.old.limits (standing manager.old) line).1) }
     ensures keeps { Keeps manager.old manager.new 1 }
 {
     if !manager.may(line.moment, &line.step) {
         return Ok(unmet(&line.step));
     }
-    if !has_room(manager, &line.step) {
+    if !finds_room(manager, &line.step) {
+        return Ok(Outcome::Full);
+    }
+    if !makes_room(manager, &line.step) {
         return Err(OutOfMemory);
     }
-    let kept = kept_as(manager.makes_change(line.moment, &line.step)?, line.fails);
-    let answer = manager.step(line.moment, with_kept(line.step, kept));
+    let kept = kept_as(manager.makes_change(&line.step), line.fails);
+    let answer = manager.step(line.moment, line.step.with_kept(kept));
     Ok(Outcome::Answered(answer))
 }
 
-/// Makes the step of a line, unless it looks in vain or may not come.
+/// Makes the step of a line, unless it looks in vain, may not come or finds no room.
 fn outcome_in(manager: &mut Manager, line: Line) -> Result<Outcome, OutOfMemory>
     requires { IsFit manager.old 0 1 }
-    ensures outcome { IfOk result (λ outcome. outcome ≡ (outcome_in manager.old.limits manager.old.flat line).0) }
-    ensures flat { IfOk result (λ outcome. manager.new.flat ≡ (outcome_in manager.old.limits manager.old.flat line).1) }
+    ensures outcome { IfOk result (λ outcome. outcome ≡ (outcome_in manager.old.limits (standing manager.old) line).0) }
+    ensures standing { IfOk result (λ outcome. standing manager.new ≡ (outcome_in manager.old.limits (standing manager.old) line).1) }
     ensures keeps { Keeps manager.old manager.new 1 }
 {
     match missed_by(manager, line.moment, &line.step) {
@@ -119,11 +122,11 @@ fn outcome_in(manager: &mut Manager, line: Line) -> Result<Outcome, OutOfMemory>
     }
 }
 
-/// Makes the step of a text, if it is a line and its step may come.
+/// Makes the step of a text, if it is a line and its step may come and finds room.
 pub fn outcome_at(alloc: Global, manager: &mut Manager, text: &[u8]) -> Result<Outcome, OutOfMemory>
     requires { IsFit manager.old 0 1 }
-    ensures outcome { IfOk result (λ outcome. outcome ≡ (outcome_at manager.old.limits manager.old.flat text.now).0) }
-    ensures flat { IfOk result (λ outcome. manager.new.flat ≡ (outcome_at manager.old.limits manager.old.flat text.now).1) }
+    ensures outcome { IfOk result (λ outcome. outcome ≡ (outcome_at manager.old.limits (standing manager.old) text.now).0) }
+    ensures standing { IfOk result (λ outcome. standing manager.new ≡ (outcome_at manager.old.limits (standing manager.old) text.now).1) }
     ensures keeps { Keeps manager.old manager.new 1 }
 {
     match line_at(alloc, text)? {

@@ -13,6 +13,8 @@ pub enum Outcome {
     InVain(Missed),
     /// As many callers are there as may be. No step was made.
     TooMany,
+    /// The limits have no room for its step and what it may make owed. No step was made.
+    Full,
     /// It is no line, or its step may not come. No step was made.
     Bad,
 }
@@ -23,7 +25,7 @@ impl Outcome {
         ensures { result ≡ goes_on self.now }
     {
         match self {
-            Outcome::Answered(_) | Outcome::InVain(_) | Outcome::TooMany => true,
+            Outcome::Answered(_) | Outcome::InVain(_) | Outcome::TooMany | Outcome::Full => true,
             Outcome::Bad => false,
         }
     }

@@ -62,12 +62,9 @@ fn or_none(read: Result<Request, BodyFault>) -> Result<Option<Request>, OutOfMem
 fn request_in(alloc: Global, opnum: u16, body: &[u8]) -> Result<Option<Request>, OutOfMemory>
     ensures { IfOk result (λ request. request ≡ request_in opnum body.now) }
 {
-    if scm_calls::is_served(opnum) {
-        or_none(scm_calls::read_request(alloc, opnum, body))
-    } else if scm_calls_cfg::is_served(opnum) {
-        or_none(scm_calls_cfg::read_request(alloc, opnum, body))
-    } else {
-        Ok(None)
+    match scm_bodies::call_at(opnum) {
+        Some(call) => or_none(scm_bodies::read_request(alloc, call, body)),
+        None => Ok(None),
     }
 }
 

@@ -1,6 +1,7 @@
 ghost use Rattle.std.specs.Prelude.{◌≡◌, ◌≤◌, ◌<◌, ◌+◌, length, IfErr, IfOk};
 ghost use Rattle.scm_replay.specs.Along.{IsFit, IsOneLine, Keeps, Turn, ended_by};
 ghost use Rattle.scm_replay.specs.Replay.{IsCaused, IsFresh, IsReplayed};
+ghost use Rattle.scm_replay.specs.Outcomes.{standing};
 
 use super::feeding::{Reading, feed};
 use super::replayed::Replayed;
@@ -39,8 +40,8 @@ fn turn<I: Source, O: Sink>(
     requires fit { IsFit manager.old reading.old.number (length into.old) }
     requires clean { IsOneLine reading.old.pending.items }
     ensures turned { Turn manager.old.limits
-        (record { flat = manager.old.flat; number = reading.old.number; pending = reading.old.pending.items; held = O.held output.old })
-        (record { flat = manager.new.flat; number = reading.new.number; pending = reading.new.pending.items; held = O.held output.new })
+        (record { at = standing manager.old; number = reading.old.number; pending = reading.old.pending.items; held = O.held output.old })
+        (record { at = standing manager.new; number = reading.new.number; pending = reading.new.pending.items; held = O.held output.new })
         (I.left input.old) (I.left input.new) (length into.old) result }
     ensures keeps { IfOk result (λ n. Keeps manager.old manager.new n) }
     ensures number { IfOk result (λ n. reading.new.number ≤ reading.old.number + n) }
@@ -74,7 +75,7 @@ pub fn replay<I: Source, O: Sink>(
     output: &mut O,
 ) -> Replayed
     requires { IsFresh manager.old }
-    ensures replayed { IsReplayed manager.old.limits manager.old.flat
+    ensures replayed { IsReplayed manager.old.limits (standing manager.old)
         (I.left input.old) (I.left input.new) (O.held output.old) (O.held output.new) result }
     ensures input { I.faults input.old ≤ I.faults input.new }
     ensures output { O.faults output.old ≤ O.faults output.new }

@@ -145,3 +145,55 @@ fn a_change_that_cannot_be_appended(rt: HostRuntime) -> Result<(), Fail> {
         "caller 1\nreply 000000000100000000000000000000000000000000000000\nreply 000000000000000000000000000000000000000000000000f5030000\nreply 000000000000000000000000000000000000000024040000\n";
     expect(rt.alloc(), lines, 4096, Replayed::Ended, answers)
 }
+
+const FEW_STEPS: Limits = Limits {
+    services: 512,
+    handles: 1024,
+    registrations: 64,
+    callers: 2,
+    processes: 32,
+    controls: 16,
+    steps: 20,
+    text: 268435456,
+};
+
+/// A caller opens the manager, creates a service and starts it; its process is launched, reports that it is RUNNING, and is owed
+/// its end, as the caller is: eight steps, and two that are owed.
+const STARTED: &str =
+    "0 join admin\n0 call 1 15 00000000000000003f000f00\n0 call 1 12 0000000001000000000000000000000000000000080000000000000008000000530070006f006f006c0065007200000000000000ff010f001000000003000000010000000a000000000000000a0000002f00620069006e002f007400720075006500000000000000000000000000000000000000000000000000000000000000\n0 call 1 19 00000000020000000000000000000000000000000000000000000000\n0 take\n0 launched 1 500\n0 end 1 1\n0 report 1 16 4 1 0 0 0 0\n";
+
+const STARTED_ANSWERS: &str =
+    "caller 1\nreply 000000000100000000000000000000000000000000000000\nreply 00000000000000000200000000000000000000000000000000000000\nplan 1\nlaunch 1\ndone\nreply 00000000\ndone\n";
+
+const QUERY: &str = "0 call 1 6 0000000002000000000000000000000000000000\n";
+
+const RUNNING: &str = "reply 1000000004000000010000000000000000000000000000000000000000000000\n";
+
+#[test]
+fn steps_that_find_no_room_are_full(rt: HostRuntime) -> Result<(), Fail> {
+    let alloc = rt.alloc();
+    let mut lines = String::new(alloc);
+    let mut answers = String::new(alloc);
+    lines.push_str(STARTED)?;
+    answers.push_str(STARTED_ANSWERS)?;
+    for _ in 0..10 {
+        lines.push_str(QUERY)?;
+        answers.push_str(RUNNING)?;
+    }
+    // Eighteen steps, and two that are owed.
+    lines.push_str(QUERY)?;
+    answers.push_str("full\n")?;
+    lines.push_str("0 nomem 1\n0 take\n0 gone 1\n0 join admin\n0 ended 1\n0 join admin\n")?;
+    answers.push_str("full\nempty\ndone\nfull\ndone\nfull\n")?;
+    match Manager::new(alloc, FEW_STEPS, Items::new(alloc), Items::new(alloc), 0) {
+        Ok(mut manager) => run(
+            alloc,
+            &mut manager,
+            lines.as_str(),
+            4096,
+            Replayed::Ended,
+            answers.as_str(),
+        ),
+        Err(_) => Err("no memory".into()),
+    }
+}

@@ -18,7 +18,7 @@ use Rattle.scm_replay.specs.declared.replayed.Replayed.{Replayed}
 use Rattle.scm_replay.specs.declared.replayed.Replayed.TheVariants as answered
 use Rattle.scmd.specs.declared.words.Job.{Job}
 use Rattle.scmd.specs.declared.words.Job.TheVariants.{Pipe, Replay, Generate}
-use Rattle.scmd.specs.Jobs.{EndsAsLines, HasAllDone, HasRun, Sides, program_opening, status_behind, status_of_generate, status_of_replay}
+use Rattle.scmd.specs.Jobs.{EndsAsLines, HasAllDone, HasRun, Sides, program_start, status_behind, status_of_generate, status_of_replay}
 use Rattle.scmd.specs.Pipe.{IsOrLacks, IsPiped, IsComplete, EndsAs, program_limits, status_at, status_of}
 
 rest_of : (bytes read : List ℕ) (left : Option (List ℕ)) → Consumes (Some bytes) left read → (rest : List ℕ) × (bytes ≡ read ++ rest)
@@ -104,7 +104,7 @@ complete tells principal served.Worn bytes left_now held held_now source source_
 -- ## Lines
 
 abbrev here : List ℕ → Text
-here bytes = replayed program_limits program_opening bytes
+here bytes = replayed program_limits program_start bytes
 
 -- what was read ends so, and it was all
 lines_so : (bytes read written : List ℕ) (ending : TextEnd) → bytes ≡ read → length read < 2 ^ 40 → here read ≡ record { text = written; ending = ending } → EndsAsLines bytes (status_behind ending)
@@ -133,7 +133,7 @@ lines_lack : (bytes : List ℕ) → EndsAsLines bytes 8
 lines_lack bytes = record { whole = λ _. inr refl; worn = λ _ _ _ _. inr refl }
 
 complete_lines : (how : Replayed) (bytes : List ℕ) (left_now held held_now : Option (List ℕ)) (source source_now sink sink_now : ℕ)
-    → IsReplayed program_limits program_opening (Some bytes) left_now held held_now how → IsCausedReplay how source source_now sink sink_now
+    → IsReplayed program_limits program_start (Some bytes) left_now held held_now how → IsCausedReplay how source source_now sink sink_now
     → (Rose source source_now → ⊥) → (Rose sink sink_now → ⊥)
     → EndsAsLines bytes (status_of_replay how)
 complete_lines answered.Ended bytes left_now held held_now source source_now sink sink_now p c no_read no_write =
@@ -169,7 +169,7 @@ complete_in tells principal how (Some bytes) left_now held held_now source sourc
 
 lines_in : (how : Replayed) (left left_now held held_now : Option (List ℕ)) (source source_now sink sink_now status : ℕ)
     → status ≡ status_of_replay how
-    → IsReplayed program_limits program_opening left left_now held held_now how → IsCausedReplay how source source_now sink sink_now
+    → IsReplayed program_limits program_start left left_now held held_now how → IsCausedReplay how source source_now sink sink_now
     → IfSome left (λ bytes. (Rose source source_now → ⊥) → (Rose sink sink_now → ⊥) → EndsAsLines bytes status)
 lines_in how None left_now held held_now source source_now sink sink_now status e p c = tt
 lines_in how (Some bytes) left_now held held_now source source_now sink sink_now status e p c =

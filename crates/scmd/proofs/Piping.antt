@@ -10,7 +10,8 @@ use Rattle.scm_model.specs.Rows.{is_caller}
 use Rattle.scm_core.specs.Managed.{Managed}
 use Rattle.scm_rules.specs.Opening.{opening}
 use Rattle.scm_rules.specs.Steps.{step_of}
-use Rattle.scm_rules.specs.Runs.{Entry, state_of}
+use Rattle.scm_rules.specs.Runs.{state_of}
+use Rattle.scm_model.specs.Entries.{Entry}
 use Rattle.rpc_session.specs.Items.{items}
 use Rattle.scm_pipe.specs.Bodies.{asked}
 use Rattle.scm_pipe.specs.declared.served.Served.{Served}
@@ -32,7 +33,7 @@ abbrev whole : Principal → ℕ → List Entry → ℕ → List Entry
 whole principal joined calls gone = (joined, Joined principal) ∷ calls ++ (gone, Gone 1) ∷ []
 
 abbrev joined_state : Principal → ℕ → ℕ → Flat
-joined_state principal opened moment = (step_of program_limits (opening program_limits [] [] opened) moment (Joined principal)).1
+joined_state principal opened moment = (step_of program_limits (opening program_limits [] [] opened) moment (Joined principal)).flat
 
 -- the run so far is the caller's joining
 begun : (principal : Principal) (opened moment : ℕ) → HasRun program_limits (joined_state principal opened moment)

@@ -9,6 +9,7 @@ use Rattle.scm_generate.specs.declared.generated.Generated.{Generated}
 use Rattle.scm_generate.specs.declared.generated.Generated.TheVariants as printed
 use Rattle.scm_pipe.specs.Connection.{IsCaused}
 use Rattle.scm_pipe.specs.declared.served.Served.{Served}
+use Rattle.scm_replay.specs.Outcomes.{Standing}
 use Rattle.scm_replay.specs.Replay.{TextEnd, AtRest, Unfinished, BadLine, IsOpenEnd, IsReplayed, replayed, IsCaused as IsCausedReplay}
 use Rattle.scm_replay.specs.declared.replayed.Replayed.{Replayed}
 use Rattle.scm_replay.specs.declared.replayed.Replayed.TheVariants as answered
@@ -41,6 +42,10 @@ status_of_generate printed.OutOfMemory = 8
 abbrev pub program_opening : Flat
 program_opening = opening program_limits [] [] 0
 
+-- where the manager of a replay stands at first: it made no steps
+abbrev pub program_start : Standing
+program_start = record { flat = program_opening; steps = 0; text = 0 }
+
 -- what is read and written of the input and the output, and their counts of faults, before and after
 pub record Sides : Type 0 where
   pub left : Option (List ℕ)
@@ -63,7 +68,7 @@ pub record HasPiped (tells : ℕ → Type 0) (principal : Principal) (s : Sides)
 pub record HasReplayed (s : Sides) (status : ℕ) : Type 0 where
   pub how : Replayed
   pub status_is : status ≡ status_of_replay how
-  pub replayed : IsReplayed program_limits program_opening s.left s.left_now s.held s.held_now how
+  pub replayed : IsReplayed program_limits program_start s.left s.left_now s.held s.held_now how
   pub cause : IsCausedReplay how s.source s.source_now s.sink s.sink_now
 
 -- the summary of the stated list was written, and nothing was read
@@ -90,8 +95,8 @@ status_behind BadLine = 11
 
 -- Each end of the lines has its status; where more comes than an input may have and no bad line before that, it is 12.
 pub record EndsAsLines (bytes : List ℕ) (status : ℕ) : Type 0 where
-  pub whole : length bytes < 2 ^ 40 → IsOrLacks (status_behind (replayed program_limits program_opening bytes).ending) status
-  pub worn : (front : List ℕ) → Begins front bytes → length front ≡ 2 ^ 40 → IsOpenEnd (replayed program_limits program_opening front).ending → IsOrLacks 12 status
+  pub whole : length bytes < 2 ^ 40 → IsOrLacks (status_behind (replayed program_limits program_start bytes).ending) status
+  pub worn : (front : List ℕ) → Begins front bytes → length front ≡ 2 ^ 40 → IsOpenEnd (replayed program_limits program_start front).ending → IsOrLacks 12 status
 
 -- where no count rose and the input is told, the status is that of the job's end, or want of memory
 abbrev pub HasAllDone : Job → Sides → (status : ℕ) → Type 0

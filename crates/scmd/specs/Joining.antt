@@ -10,6 +10,6 @@ use Rattle.scmd.specs.Pipe.{program_limits}
 pub record HasJoined (tells : ℕ → Type 0) (principal : Principal) (opened : ℕ) (m : Managed) : Type 0 where
   pub moment : ℕ
   pub told : tells moment
-  pub flat : m.flat ≡ (step_of program_limits (opening program_limits [] [] opened) moment (Joined principal)).1
+  pub flat : m.flat ≡ (step_of program_limits (opening program_limits [] [] opened) moment (Joined principal)).flat
   pub limits : m.limits ≡ program_limits
   pub text : m.text ≡ 0

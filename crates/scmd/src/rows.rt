@@ -1,657 +1,543 @@
-// Lines with their answers, as the formats have them: each body and each answer was written from the formats by a generator that is no part of
-// this program.
-use super::tests::words_of;
-use super::top::{World, scmd_main};
-use rpc_session::{MemorySink, MemorySource};
-use scm_pipe::FixedClock;
-use std::sync::Wait;
-use std::test::Fail;
+//! What is asked and what is told. Behind `=` stand the status at the end, the words of the run and
+//! the matter. A row has what it shows, the question and the answer; a word alone stands for the
+//! rows of that name. All were written from the formats, and none by this program.
+//!
+//! A question is the name of a call and the items of its body, an answer the items of the reply's.
+//! `pdu` begins a PDU by its kind, its flags and its call id, with its items behind them, `hex` one
+//! as it stands, and `fault` an answer by its status. In a replay a row may have several lines,
+//! parted by `;`, with moment 0 where none is said, and items for the bodies of calls and replies.
+//!
+//! - `7`, `#1F`: a number of 32 bits, in decimal or hex
+//! - `-`, `*`: no pointer, or the next one; what it leads to stands behind it
+//! - `h2`: the handle 2
+//! - `'Data_base'`, `'a^256'`: the text "Data base", and one of 256 units
+//! - `[A/+G]`: the names `A` and `+G` as bytes, with their count
+//! - `x6100`, `x00^9`: bytes as they are
+//!
+//! are the items, with the names of `NAMED`. Their order is that of MS-SCMR:
+//!
+//! - `create`: manager, name, display name, rights, type, start, error, path, group, tag, needs and
+//!   their size, account, password and its size; it is told a tag, a handle, a code
+//! - `change`: service, type, start, error, path, group, tag, needs and their size, account,
+//!   password and its size, display name; it is told a tag, a code
+//! - `config`: service, size; it is told type, start, error, pointers to path and group, tag,
+//!   pointers to needs, account and display name, these five texts, the size that is needed, a code
+//! - `status`, `control`: service, and the control; they are told type, state, accepted controls,
+//!   exit code, the service's own, checkpoint, wait hint, a code
+//! - `locked`: manager, size; it is told whether, the owner, how long, the size needed, a code
+//! - `manager`: machine, database, rights. `open`: manager, name, rights. Both are told a handle
+//!   and a code
+//! - `display`, `key`: manager, name, size; they are told the other name, its size, a code
+//! - `start`: service, count of words, words; it is told a code, as are `delete` and `set`
 
-/// Fails unless `scmd` with these words ends with this status over this input and writes this.
-fn tells<R: Wait + AllocGlobal>(
-    rt: &R,
-    words: &[&str],
-    input: &str,
-    status: u8,
-    output: &str,
-) -> Result<(), Fail> {
-    let alloc = rt.alloc();
-    let bytes = Vec::from_slice(alloc, input.as_bytes())?;
-    let world = World {
-        input: MemorySource::in_pieces(bytes, 4096, Vec::new(alloc)),
-        output: MemorySink::new(alloc, Vec::new(alloc)),
-        clock: FixedClock { moment: 7 },
-    };
-    let (ended, world) = scmd_main(rt, alloc, &words_of(alloc, words)?, world);
-    if ended != status {
-        return Err("another status".into());
-    }
-    if world.output.bytes() != output.as_bytes() {
-        return Err("other lines".into());
-    }
-    Ok(())
-}
+pub const CALLS: [(&str, u16); 16] = [
+    ("close", 0),
+    ("control", 1),
+    ("delete", 2),
+    ("lock", 3),
+    ("status", 6),
+    ("set", 7),
+    ("unlock", 8),
+    ("change", 11),
+    ("create", 12),
+    ("manager", 15),
+    ("open", 16),
+    ("config", 17),
+    ("locked", 18),
+    ("start", 19),
+    ("display", 20),
+    ("key", 21),
+];
 
-/// Fails unless a replay of these lines, all of them good, has these answers.
-fn replays<R: Wait + AllocGlobal>(rt: &R, lines: &str, answers: &str) -> Result<(), Fail> {
-    tells(rt, &["replay"], lines, 0, answers)
-}
+pub const NAMED: [(&str, &str); 10] = [
+    // Interfaces and transfer syntaxes, each with its version.
+    ("svcctl", "81bb7a364498f135ad3298f03800100302000000"),
+    ("triggers", "100a3f5c4b2e614d9a770d5b1e6f2c0101000000"),
+    ("ndr", "045d888aeb1cc9119fe808002b10486002000000"),
+    ("ndr64", "33057171babe37498319b5dbef9ccc3601000000"),
+    ("nosyntax", "0000000000000000000000000000000000000000"),
+    // A number of a change that leaves what stands; type, start and error so.
+    ("keep", "ffffffff"),
+    ("kept", "ffffffffffffffffffffffff"),
+    // A change of neither path, group, tag, needs, account nor password.
+    (
+        "nothing",
+        "0000000000000000000000000000000000000000000000000000000000000000",
+    ),
+    // All rights; a process of its own, started on demand, with errors logged.
+    ("own", "ff010f00100000000300000001000000"),
+    // No group, tag, needs, account and password.
+    (
+        "plain",
+        "00000000000000000000000000000000000000000000000000000000",
+    ),
+];
 
-#[test]
-fn nothing_is_read_behind_a_bad_line(rt: HostRuntime) -> Result<(), Fail> {
-    tells(
-        &rt,
-        &["replay"],
-        "0 join admin\n0 ended 9\n0 join admin\n",
-        11,
-        "caller 1\nbad line 2\n",
-    )
-}
-
-#[test]
-fn a_line_without_its_line_feed(rt: HostRuntime) -> Result<(), Fail> {
-    tells(&rt, &["replay"], "0 join admin\n0 gone 1", 6, "caller 1\n")
-}
-
-#[test]
-fn two_services_are_started_with_their_needs(rt: HostRuntime) -> Result<(), Fail> {
-    tells(
-        &rt,
-        &["generate", "2"],
-        "",
-        0,
-        "steps 24\nservices 2\nlaunches 3\nrunning 0\n",
-    )
-}
-
-#[test]
-fn as_many_services_as_there_may_be_are_started(rt: HostRuntime) -> Result<(), Fail> {
-    tells(
-        &rt,
-        &["generate", "512"],
-        "",
-        0,
-        "steps 22074\nservices 512\nlaunches 4107\nrunning 0\n",
-    )
-}
-
-#[test]
-fn numbers_of_services_are_from_1_to_512(rt: HostRuntime) -> Result<(), Fail> {
-    tells(&rt, &["generate", "0"], "", 5, "")?;
-    tells(&rt, &["generate", "513"], "", 5, "")?;
-    tells(&rt, &["generate", "02"], "", 5, "")?;
-    tells(
-        &rt,
-        &["generate", "1"],
-        "",
-        0,
-        "steps 11\nservices 1\nlaunches 1\nrunning 0\n",
-    )
-}
-
-const EXAMPLE: &str = "0 join admin
-0 call 1 15 000000000000000000000000
-0 call 1 0 0000000001000000000000000000000000000000
-0 gone 1
+/// The smallest session, as it is sent and answered.
+pub const SMALLEST_ASKED: &str = "
+05000b03100000004800000001000000d016d01600000000010000000000010081bb7a364498f135ad3298f038001003
+02000000045d888aeb1cc9119fe808002b10486002000000050000031000000024000000020000000c00000000000f00
+00000000000000000000000005000003100000002c000000030000001400000000000000000000000100000000000000
+0000000000000000
 ";
 
-const EXAMPLE_ANSWERS: &str = "caller 1
-reply 000000000100000000000000000000000000000000000000
-reply 000000000000000000000000000000000000000000000000
-done
+pub const SMALLEST_TOLD: &str = "
+05000c03100000003800000001000000d016d01601000000010000000100000000000000045d888aeb1cc9119fe80800
+2b1048600200000005000203100000003000000002000000180000000000000000000000010000000000000000000000
+000000000000000005000203100000003000000003000000180000000000000000000000000000000000000000000000
+0000000000000000
 ";
 
-#[test]
-fn a_caller_opens_and_closes_the_manager(rt: HostRuntime) -> Result<(), Fail> {
-    replays(&rt, EXAMPLE, EXAMPLE_ANSWERS)
-}
-
-const CONTROL_THAT_THERE_IS_NOT: &str = "0 join admin
-0 call 1 15 00000000000000003f000f00
-0 call 1 12 00000000010000000000000000000000000000000200000000000000020000004100000000000000ff010f001000000003000000010000000700000000000000070000002f00620069006e002f0061000000000000000000000000000000000000000000000000000000000000000000
-0 call 1 1 000000000200000000000000000000000000000005000000
+/// The same in words.
+pub const SMALLEST: &str = "bind
+the manager with no right | manager - - 0 | h1 0
+its handle                | close h1      | h0 0
 ";
 
-const CONTROL_THAT_THERE_IS_NOT_ANSWERS: &str = "caller 1
-reply 000000000100000000000000000000000000000000000000
-reply 00000000000000000200000000000000000000000000000000000000
-reply 0000000000000000000000000000000000000000000000000000000057000000
+/// Bodies in words, and as they are sent: in hex, of which a line ends anywhere.
+pub const BODIES: [(&str, &str); 4] = [
+    (
+        "h1 'Db' * 'Data_base' own '/a' plain",
+        "
+00000000010000000000000000000000000000000300000000000000030000004400620000000000000002000a000000
+000000000a0000004400610074006100200062006100730065000000ff010f0010000000030000000100000003000000
+00000000030000002f0061000000000000000000000000000000000000000000000000000000000000000000
+",
+    ),
+    (
+        "h1 'C' - own '/a' * 'G' - * [+G] 8 - - 0",
+        "
+00000000010000000000000000000000000000000200000000000000020000004300000000000000ff010f0010000000
+03000000010000000300000000000000030000002f006100000000000000020002000000000000000200000047000000
+0000000004000200080000002b0047000000000008000000000000000000000000000000
+",
+    ),
+    (
+        "h2 2 * 2 * * 'a' 'b_c'",
+        "
+000000000200000000000000000000000000000002000000000002000200000004000200080002000200000000000000
+02000000610000000400000000000000040000006200200063000000
+",
+    ),
+    (
+        "16 3 1 * * 0 * * * '/a' '' 'B/' 'LocalSystem' 'A' 78 0",
+        "
+100000000300000001000000000002000400020000000000080002000c00020010000200030000000000000003000000
+2f006100000000000100000000000000010000000000000003000000000000000300000042002f00000000000c000000
+000000000c0000004c006f00630061006c00530079007300740065006d00000002000000000000000200000041000000
+4e00000000000000
+",
+    ),
+];
+
+/// Rows by name.
+pub const ROWS: [(&str, &str); 7] = [
+    (
+        "bind",
+        "| pdu 11 3 1 #16D016D0 0 1 x00000100 svcctl ndr | pdu 12 3 1 #16D016D0 1 x01000000 1 0 ndr",
+    ),
+    (
+        "manager",
+        "the manager with all rights | manager - - #F003F | h1 0",
+    ),
+    (
+        "user",
+        "all rights of an administrator | manager - - #F003F             | h0 5
+all that a user may have       | manager - - #2000000           | h1 0
+which is not to create         | create h1 'A' - own '/a' plain | - h0 5",
+    ),
+    (
+        "administrator",
+        "| join admin; call 1 manager - - #F003F | caller 1; reply h1 0",
+    ),
+    (
+        "A",
+        "| call 1 create h1 'A' - own '/bin/a' plain | reply - h2 0",
+    ),
+    (
+        "runs",
+        "A is started                | call 1 start h2 0 -     | plan 1
+its process is launched     | take; launched 1 101    | launch 1; done
+the start is answered       | end 1 1                 | reply 0
+it runs, and accepts a stop | report 1 16 4 1 0 0 0 0 | done",
+    ),
+    (
+        "group",
+        "three members     | call 1 create h1 'M1' - own '/bin/m1' * 'G' - - 0 - - 0 | reply - h2 0
+                  | call 1 create h1 'M2' - own '/bin/m2' * 'G' - - 0 - - 0 | reply - h3 0
+                  | call 1 create h1 'M3' - own '/bin/m3' * 'G' - - 0 - - 0 | reply - h4 0
+T needs the group | call 1 create h1 'T' - own '/bin/t' - - * [+G] 8 - - 0  | reply - h5 0
+                  | call 1 start h5 0 -                                     | plan 1
+the first fails   | take; unlaunched 1 2                                    | launch 1; done
+the second fails  | take; unlaunched 2 2                                    | launch 2; done",
+    ),
+];
+
+/// Connections.
+pub const PIPES: &str = "
+= 0 pipe: an empty input
+= 6 pipe: a part of a header
+fourteen bytes | hex 05000b0310000000480000000100 |
+= 6 pipe: a byte more of it
+fifteen bytes | hex 05000b031000000048000000010000 |
+= 7 pipe: a byte behind the last context
+ | pdu 11 3 1 #16D016D0 0 1 x00000100 svcctl ndr x00 |
+= 7 pipe: a second bind
+bind
+ | pdu 11 3 1 #16D016D0 0 1 x00000100 svcctl ndr |
+= 0 pipe: a bind with an authentication
+no bind by this | hex 05000b031000000018000800010000000000000000000000 | pdu 13 3 1 x0000010500
+= 0 pipe: a bind behind it
+ | hex 05000b031000000018000800010000000000000000000000 | pdu 13 3 1 x0000010500
+bind
+= 7 pipe: an alter_context without a bind
+| pdu 14 3 2 #8980898 7 3 x00000100 ndr64 ndr x07000100 svcctl ndr x09000100 triggers ndr |
+= 7 pipe: a request without a bind
+ | manager - - 0 |
+= 0 pipe: two contexts
+                   | pdu 11 3 1 #16D016D0 0 2 x00000100 svcctl ndr64 x01000100 svcctl ndr |
+                   |  | pdu 12 3 1 #16D016D0 1 x01000000 2 x02000200 nosyntax 0 ndr
+0 was not accepted | manager - - 0                | fault #1C010003
+1 was              | pdu 0 3 9 12 x01000f00 - - 0 | pdu 2 3 9 24 x01000000 h1 0
+= 0 pipe: another context, and one less
+bind
+| pdu 14 3 2 #8980898 7 3 x00000100 ndr64 ndr x07000100 svcctl ndr x09000100 triggers ndr |
+                             |  | pdu 15 3 2 #16D016D0 1 0 3 x02000100 nosyntax 0 ndr 0 ndr
+0 is accepted no more        | manager - - 0                  | fault #1C010003
+7 is                         | pdu 0 3 7 12 x07000f00 - - 0   | pdu 2 3 7 24 x07000000 h1 0
+9 has no call that is served | pdu 0 3 8 16 x09000000 0 0 0 0 | pdu 3 3 8 0 9 #1C010002 0
+= 0 pipe: a request in two fragments
+bind
+the front of a request | pdu 0 1 2 4 x00000f00 -   |
+its back               | pdu 0 2 2 8 x00000f00 - 0 | pdu 2 3 2 24 0 h1 0
+the next request       | close h1                  | h0 0
+= 6 pipe: its front alone
+bind
+the front of a request | pdu 0 1 2 4 x00000f00 - |
+= 7 pipe: its front, and the back of another call
+bind
+the front of a request | pdu 0 1 2 4 x00000f00 -   |
+                       | pdu 0 2 9 8 x00000f00 - 0 |
+= 7 pipe: its back alone
+bind
+ | pdu 0 2 2 8 x00000f00 - 0 |
+= 0 pipe: faults
+bind
+a call that there is not        | 9                             | fault #1C010002
+a call that is not served yet   | 14 h1 0 0 0 0                 | fault #1C010002
+                                | manager - - 0                 | h1 0
+a name whose last unit is not 0 | open h1 3 0 3 x440062000100 4 | fault #6F7
+= 0 pipe: a handle that there is not
+bind
+                           | manager - - 0 | h1 0
+a handle that there is not | close h7      | h7 6
+= 0 pipe: a right that the manager has not
+bind
+a right that a manager has not   | manager - - #100000 | h0 5
+so its first handle is not there | close h1            | h1 6
+= 0 pipe: names that are free and not
+bind
+manager
+a service is made           | create h1 'Spooler' - own '/bin/true' plain | - h2 0
+a name is there in any case | create h1 'SPOOLER' - own '/bin/true' plain | - h0 1073
+it was never started        | status h2                                   | 16 1 0 1077 0 0 0 0
+it is marked                | delete h2                                   | 0
+it is marked already        | delete h2                                   | 1072
+a marked one has its name   | create h1 'SPOOLER' - own '/bin/true' plain | - h0 1072
+its last handle closes      | close h2                                    | h0 0
+and the name is free        | create h1 'SPOOLER' - own '/bin/true' plain | - h3 0
+= 0 pipe: names of services
+bind
+manager
+256 units | create h1 'a^256' - own '/bin/true' plain | - h2 0
+257       | create h1 'a^257' - own '/bin/true' plain | - h0 123
+a slash   | create h1 'a/b' - own '/bin/true' plain   | - h0 123
+no unit   | create h1 '' - own '/bin/true' plain      | - h0 123
+= 0 pipe: rights of a handle
+bind
+manager
+                             | create h1 'Db' - own '/bin/true' plain | - h2 0
+a handle with no rights      | open h1 'Db' 0                         | h3 0
+tells no status              | status h3                              | 0 0 0 0 0 0 0 5
+a service that there is not  | open h1 'Lan' 4                        | h0 1060
+a handle that may not delete | delete h3                              | 5
+= 0 pipe: sizes of a configuration
+bind
+manager
+                  | create h1 'A' - own '/a' plain | - h2 0
+a byte too little | config h2 73                   | 0 0 0 - - 0 - - - 74 122
+just enough       | config h2 74 | 16 3 1 * * 0 * * * '/a' '' '' 'LocalSystem' 'A' 74 0
+too great a size  | config h2 8193                 | fault #6F7
+the manager's     | config h1 8192                 | 0 0 0 - - 0 - - - 0 6
+                  | open h1 'a' #20004             | h3 0
+without the right | config h3 8192                 | 0 0 0 - - 0 - - - 0 5
+= 0 pipe: tags count within a group
+bind
+manager
+the first of a group              | create h1 'A' - own '/a' * 'G' * 7 - 0 - - 0 | * 1 h2 0
+the second, in any case           | create h1 'B' - own '/a' * 'g' * 7 - 0 - - 0 | * 2 h3 0
+the first of another              | create h1 'C' - own '/a' * 'H' * 7 - 0 - - 0 | * 1 h4 0
+without a group: the tag as asked | create h1 'D' - own '/a' - * 9 - 0 - - 0     | * 9 h0 87
+none is asked for                 | create h1 'E' - own '/a' * 'G' - - 0 - - 0   | - h5 0
+= 0 pipe: changes that are refused
+bind
+manager
+                              | create h1 'A' - own '/a' plain           | - h2 0
+                              | create h1 'B' * 'Bee' own '/a' plain     | - h3 0
+a display name that is a name | change h3 kept nothing * 'a'             | - 1078
+another's display name        | change h2 kept nothing * 'BEE'           | - 1078
+an account                    | change h2 kept - - - - 0 * 'Guest' - 0 - | - 1057
+a tag without a group         | change h2 kept - - * 4 - 0 - - 0 -       | * 4 87
+a path without a word         | change h2 kept * '_' - - - 0 - - 0 -     | - 87
+a display name of 257 units   | change h2 kept nothing * 'd^257'         | - 123
+                              | open h1 'A' 1                            | h4 0
+                              | delete h2                                | 0
+a handle that may not change  | change h4 kept nothing * 'a'             | - 5
+a service that is marked      | change h2 kept nothing * 'a'             | - 1072
+a handle of the manager       | change h1 kept nothing -                 | - 6
+= 0 pipe: changes that are seen
+bind
+manager
+                       | create h1 'A' * 'Alpha' own '/a' plain | - h2 0
+the first of the group | change h2 32 2 keep * '/b' * 'G' * 0 - 0 - - 0 * '' | * 1 0
+its display name is A  | config h2 8192 | 32 2 1 * * 1 * * * '/b' 'G' '' 'LocalSystem' 'A' 76 0
+the type in the status | status h2                              | 32 1 0 1077 0 0 0 0
+LocalSystem            | change h2 keep keep 0 - - - - 0 * 'localsystem' - 0 * 'Aleph' | - 0
+and no more            | config h2 84 | 32 2 0 * * 1 * * * '/b' 'G' '' 'LocalSystem' 'Aleph' 84 0
+nothing is asked       | change h2 kept nothing -               | - 0
+a byte too little      | config h2 83                           | 0 0 0 - - 0 - - - 84 122
+= 0 pipe: names by names
+bind
+manager
+                           | create h1 'Db' * 'Data_base' own '/a' plain | - h2 0
+the size with the 0        | display h1 'db' 10                          | 'Data_base' 9 0
+the size without it        | display h1 'Db' 9                           | '' 9 122
+the other way, in any case | key h1 'DATA_BASE' 3                        | 'Db' 2 0
+the size without the 0     | key h1 'Data_base' 2                        | '' 2 122
+a display name is no name  | display h1 'Data_base' 64                   | '' 0 1060
+a name is no display name  | key h1 'Db' 64                              | '' 0 1060
+a handle of a service      | display h2 'Db' 64                          | '' 0 6
+= 0 pipe: starts where no process is run
+bind
+manager
+                        | create h1 'Db' - own '/a' plain | - h2 0
+no process is run       | start h2 0 -                    | 1054
+                        | status h2                       | 16 1 0 1054 0 0 0 0
+with words              | start h2 2 * 2 * * 'a' 'b_c'    | 1054
+                        | status h2                       | 16 1 0 1054 0 0 0 0
+a word and no list      | start h2 1 -                    | 87
+a word that is absent   | start h2 1 * 1 -                | 87
+a handle of the manager | start h1 0 -                    | 6
+= 0 pipe: starts with needs
+bind
+manager
+                            | create h1 'A' - own '/a' - - * [B] 6 - - 0 | - h2 0
+an absent need              | start h2 0 -                               | 1075
+                            | create h1 'B' - #F01FF 16 4 1 '/a' plain   | - h3 0
+it is disabled              | start h3 0 -                               | 1058
+                            | change h3 keep 3 keep - - - - 0 - - 0 -    | - 0
+a need that is not launched | start h2 0 -                               | 1068
+was tried                   | status h3                                  | 16 1 0 1054 0 0 0 0
+and what needs it was not   | status h2                                  | 16 1 0 1077 0 0 0 0
+an empty list of needs      | change h2 kept - - - * [] 2 - - 0 -        | - 0
+is launched itself          | start h2 0 -                               | 1054
+                            | status h2                                  | 16 1 0 1054 0 0 0 0
+= 0 pipe: the lock of the database
+bind
+manager
+a byte too little                    | locked h1 13                    | 0 - 0 14 122
+nobody holds the lock                | locked h1 14                    | 0 * 0 '' 14 0
+it is taken                          | lock h1                         | h2 0
+                                     | create h1 'Db' - own '/a' plain | - h3 0
+no start while it is held            | start h3 0 -                    | 1055
+it is taken once                     | lock h1                         | h0 1055
+the manager's handle unlocks nothing | unlock h1                       | h1 1071
+the lock's handle is not closed      | close h2                        | h2 6
+a byte too little for the owner      | locked h1 23                    | 0 - 0 24 122
+the owner, and seconds               | locked h1 24                    | 1 * 0 'admin' 24 0
+it is free                           | unlock h2                       | h0 0
+it is free already                   | unlock h2                       | h2 1071
+                                     | locked h1 4096                  | 0 * 0 '' 14 0
+a start again                        | start h3 0 -                    | 1054
+a handle of a service                | locked h3 4096                  | 0 - 0 0 6
+= 0 pipe: needs in a circle
+bind
+manager
+a need to come  | create h1 'A' - own '/a' - - * [B] 6 - - 0         | - h2 0
+                | create h1 'B' - own '/a' plain                     | - h3 0
+a circle of two | change h3 kept - - - * [a] 6 - - 0 -               | - 1059
+its own group   | create h1 'C' - own '/a' * 'G' - * [+G] 8 - - 0    | - h0 1059
+an open name    | change h3 kept - - - * 2 x4100 2 - - 0 -           | - 87
+half a unit     | change h3 kept - - - * 7 x41000000000000 7 - - 0 - | - 87
+a service       | config h2 8192 | 16 3 1 * * 0 * * * '/a' '' 'B/' 'LocalSystem' 'A' 78 0
+                | change h2 kept - - - * [C/+g] 12 - - 0 -           | - 0
+and a group     | config h2 8192 | 16 3 1 * * 0 * * * '/a' '' 'C/+g/' 'LocalSystem' 'A' 84 0
+no circle now   | change h3 kept - - - * [A] 6 - - 0 -               | - 0
+= 0 pipe --as user: a user
+bind
+user
+= 0 pipe --as=user: the words as one
+bind
+user
+= 0 pipe --as=admin: an administrator
+bind
+manager
 ";
 
-#[test]
-fn a_control_that_there_is_not(rt: HostRuntime) -> Result<(), Fail> {
-    replays(
-        &rt,
-        CONTROL_THAT_THERE_IS_NOT,
-        CONTROL_THAT_THERE_IS_NOT_ANSWERS,
-    )
-}
-
-const PAUSE_THAT_IS_NOT_ACCEPTED: &str = "0 join admin
-0 call 1 15 00000000000000003f000f00
-0 call 1 12 00000000010000000000000000000000000000000200000000000000020000004100000000000000ff010f001000000003000000010000000700000000000000070000002f00620069006e002f0061000000000000000000000000000000000000000000000000000000000000000000
-0 call 1 19 00000000020000000000000000000000000000000000000000000000
-0 take
-0 launched 1 101
-0 end 1 1
-0 report 1 16 4 1 0 0 0 0
-0 call 1 1 000000000200000000000000000000000000000002000000
+/// Replays.
+pub const REPLAYS: &str = "
+= 0 replay: the manager is opened and closed
+with no right | join admin; call 1 manager - - 0 | caller 1; reply h1 0
+              | call 1 close h1; gone 1          | reply h0 0; done
+= 0 replay: a control that there is not
+administrator
+A
+ | call 1 control h2 5 | reply 0 0 0 0 0 0 0 87
+= 0 replay: a pause that is not accepted
+administrator
+A
+runs
+ | call 1 control h2 2 | reply 16 4 1 0 0 0 0 1052
+= 0 replay: sixteen controls wait
+administrator
+A
+runs
+so many wait   | 16 times call 1 control h2 4 | reply 16 4 1 0 0 0 0 0
+and no more    | call 1 control h2 4          | reply 16 4 1 0 0 0 0 1061
+they are taken | 16 times control 1           | control 4
+and no more    | control 1                    | empty
+= 0 replay: no stop of a service that is needed
+administrator
+                       | call 1 create h1 'B' - own '/bin/b' plain     | reply - h2 0
+A needs B              | call 1 create h1 'A' - own '/bin/a' - - * [B] 6 - - 0 | reply - h3 0
+B is started first     | call 1 start h3 0 -                           | plan 1
+B is launched and runs | take; launched 1 101; report 1 16 4 1 0 0 0 0 | launch 1; done; done
+then A is launched     | take; launched 2 102; end 1 1                 | launch 2; done; reply 0
+B is needed: no stop   | call 1 control h2 1                           | reply 0 0 0 0 0 0 0 1051
+and none waits         | control 1                                     | empty
+A's process ends       | ended 2                                       | done
+B is stopped           | call 1 control h2 1                           | reply 16 4 1 0 0 0 0 0
+                       | control 1; control 1                          | control 1; empty
+A stopped with no stop | call 1 status h3                              | reply 16 1 0 1067 0 0 0 0
+= 0 replay: an old process stops no new run
+administrator
+A
+runs
+it stops                    | report 1 16 1 0 0 0 0 0                   | done
+                            | call 1 status h2                          | reply 16 1 0 0 0 0 0 0
+and runs by another process | call 1 start h2 0 -; take; launched 2 102 | plan 2; launch 2; done
+                            | end 1 2                                   | reply 0
+                            | report 2 16 4 1 0 0 0 0                   | done
+the first one's end         | ended 1                                   | stale
+changes nothing             | call 1 status h2                          | reply 16 4 1 0 0 0 0 0
+the second one's            | report 2 16 4 3 0 0 0 0; ended 2          | done; done
+stops it                    | call 1 status h2                          | reply 16 1 0 1067 0 0 0 0
+                            | control 2                                 | over
+= 0 replay: a stopping service does not run again
+administrator
+with the right to report | call 1 create h1 'A' - #F81FF 16 3 1 '/bin/a' plain | reply - h2 0
+runs
+it is stopping              | report 1 16 3 0 0 0 0 0      | done
+and does not run again      | report 1 16 4 1 0 0 0 0      | refused 13
+                            | call 1 status h2             | reply 16 3 0 0 0 0 0 0
+by the call neither         | call 1 set h2 16 4 1 0 0 0 0 | reply 13
+it stopped with an error    | call 1 set h2 16 1 0 5 0 0 0 | reply 0
+                            | call 1 status h2             | reply 16 1 0 5 0 0 0 0
+its process reports nothing | report 1 16 4 1 0 0 0 0      | stale
+by the call neither         | call 1 set h2 16 4 1 0 0 0 0 | reply 13
+nor gets a control          | call 1 control h2 1          | reply 16 1 0 5 0 0 0 1062
+= 0 replay: a group with one running member is enough
+administrator
+group
+one member runs  | take; launched 3 103; end 1 1                 | launch 3; done; again
+so T is launched | report 3 16 4 0 0 0 0 0; take; launched 4 104 | done; launch 4; done
+                 | end 1 1                                       | reply 0
+= 0 replay: a group without one is not
+administrator
+group
+the third fails      | take; unlaunched 3 2 | launch 3; done
+so T is not launched | take; end 1 1        | empty; reply 1068
+= 0 replay: a need that is deleted and made anew
+administrator
+                 | call 1 create h1 'D' - own '/bin/d' plain        | reply - h2 0
+                 | call 1 create h1 'E' - own '/bin/e' plain        | reply - h3 0
+T needs D, E     | call 1 create h1 'T' - own '/bin/t' - - * [D/E] 10 - - 0 | reply - h4 0
+                 | call 1 close h2                                  | reply h0 0
+another caller   | join admin; call 2 manager - - #F003F            | caller 2; reply h5 0
+                 | call 2 open h5 'D' #F01FF                        | reply h6 0
+T is started     | call 1 start h4 0 -; take; launched 1 101        | plan 1; launch 1; done
+D is deleted     | call 2 delete h6; call 2 close h6                | reply 0; reply h0 0
+and ends         | ended 1; take; launched 2 102                    | done; launch 2; done
+D is gone        | call 2 open h5 'D' #F01FF                        | reply h0 1060
+and is made anew | call 2 create h5 'D' - own '/bin/d' plain        | reply - h7 0
+it is started    | call 2 start h7 0 -; take; launched 3 103        | plan 2; launch 3; done
+                 | end 2 2                                          | reply 0
+D and E run      | report 3 16 4 0 0 0 0 0; report 2 16 4 0 0 0 0 0 | done; done
+so T is launched | take; launched 4 104; end 1 1                    | launch 4; done; reply 0
+= 0 replay: a start waits for the lock of another
+administrator
+                    | call 1 create h1 'D' - own '/bin/d' plain | reply - h2 0
+T needs D           | call 1 create h1 'T' - own '/bin/t' - - * [D] 6 - - 0 | reply - h3 0
+another caller      | join admin; call 2 manager - - #F003F     | caller 2; reply h4 0
+holds the lock      | call 2 lock h4                            | reply h5 0
+no start            | call 1 start h3 0 -                       | reply 1055
+no second lock      | call 1 lock h1                            | reply h0 1055
+it is another's     | call 1 unlock h5                          | reply h5 1071
+it is free          | call 2 unlock h5                          | reply h0 0
+T is started        | call 1 start h3 0 -; take; launched 1 101 | plan 1; launch 1; done
+it is taken again   | call 2 lock h4                            | reply h6 0
+D runs, and T waits | report 1 16 4 0 0 0 0 0; take; end 1 1    | done; empty; again
+its holder goes     | gone 2                                    | done
+so T is launched    | take; launched 2 102; end 1 1             | launch 2; done; reply 0
+= 0 replay: a change that can't be kept
+administrator
+a change that can't be kept | failcall 1 create h1 'A' - own '/bin/a' plain | reply - h0 1013
+is not made                 | call 1 create h1 'A' - own '/bin/a' plain | reply - h2 0
+no change                   | failcall 1 status h2                      | reply 16 1 0 1077 0 0 0 0
+nothing is due              | tick                                      | idle
+= 0 replay: a start is given up after two minutes
+administrator
+A
+                   | 5 call 1 start h2 0 - | plan 1
+before two minutes | 120004 tick           | idle
+after them         | 120005 tick; end 1 1  | done; reply 1053
 ";
 
-const PAUSE_THAT_IS_NOT_ACCEPTED_ANSWERS: &str = "caller 1
-reply 000000000100000000000000000000000000000000000000
-reply 00000000000000000200000000000000000000000000000000000000
-plan 1
-launch 1
-done
-reply 00000000
-done
-reply 100000000400000001000000000000000000000000000000000000001c040000
+/// Jobs by their words, and words that are none.
+pub const JOBS: &str = "
+= 11 replay: nothing is read behind a bad line
+| join admin; ended 9; join admin | caller 1; bad line 2
+= 6 replay: a line without its line feed
+| join admin           | caller 1
+| hex 3020676f6e652031 |
+= 0 generate 1: one service
+|| steps 11; services 1; launches 1; running 0
+= 0 generate 2: two, with their needs
+|| steps 24; services 2; launches 3; running 0
+= 5 generate 0: too few
+= 5 generate 513: too many
+= 5 generate 02: no number
+= 5 pip: no job
+| hex 05 |
+= 5 pipe pipe: a word too many
+| hex 05 |
+= 5 pipe --as: nobody
+| hex 05 |
+= 5 pipe --as root: a stranger
+| hex 05 |
+= 5 pipe --as=: nobody
+| hex 05 |
+= 5 pipe --as user --as=user: twice
+| hex 05 |
 ";
 
-#[test]
-fn a_pause_that_is_not_accepted_tells_the_status(rt: HostRuntime) -> Result<(), Fail> {
-    replays(
-        &rt,
-        PAUSE_THAT_IS_NOT_ACCEPTED,
-        PAUSE_THAT_IS_NOT_ACCEPTED_ANSWERS,
-    )
-}
-
-const SEVENTEENTH_CONTROL: &str = "0 join admin
-0 call 1 15 00000000000000003f000f00
-0 call 1 12 00000000010000000000000000000000000000000200000000000000020000004100000000000000ff010f001000000003000000010000000700000000000000070000002f00620069006e002f0061000000000000000000000000000000000000000000000000000000000000000000
-0 call 1 19 00000000020000000000000000000000000000000000000000000000
-0 take
-0 launched 1 101
-0 end 1 1
-0 report 1 16 4 1 0 0 0 0
-0 call 1 1 000000000200000000000000000000000000000004000000
-0 call 1 1 000000000200000000000000000000000000000004000000
-0 call 1 1 000000000200000000000000000000000000000004000000
-0 call 1 1 000000000200000000000000000000000000000004000000
-0 call 1 1 000000000200000000000000000000000000000004000000
-0 call 1 1 000000000200000000000000000000000000000004000000
-0 call 1 1 000000000200000000000000000000000000000004000000
-0 call 1 1 000000000200000000000000000000000000000004000000
-0 call 1 1 000000000200000000000000000000000000000004000000
-0 call 1 1 000000000200000000000000000000000000000004000000
-0 call 1 1 000000000200000000000000000000000000000004000000
-0 call 1 1 000000000200000000000000000000000000000004000000
-0 call 1 1 000000000200000000000000000000000000000004000000
-0 call 1 1 000000000200000000000000000000000000000004000000
-0 call 1 1 000000000200000000000000000000000000000004000000
-0 call 1 1 000000000200000000000000000000000000000004000000
-0 call 1 1 000000000200000000000000000000000000000004000000
-0 control 1
-0 control 1
-0 control 1
-0 control 1
-0 control 1
-0 control 1
-0 control 1
-0 control 1
-0 control 1
-0 control 1
-0 control 1
-0 control 1
-0 control 1
-0 control 1
-0 control 1
-0 control 1
-0 control 1
+pub const GREATEST: &str = "0 generate 512: as many services as there may be
+|| steps 22074; services 512; launches 4107; running 0
 ";
 
-const SEVENTEENTH_CONTROL_ANSWERS: &str = "caller 1
-reply 000000000100000000000000000000000000000000000000
-reply 00000000000000000200000000000000000000000000000000000000
-plan 1
-launch 1
-done
-reply 00000000
-done
-reply 1000000004000000010000000000000000000000000000000000000000000000
-reply 1000000004000000010000000000000000000000000000000000000000000000
-reply 1000000004000000010000000000000000000000000000000000000000000000
-reply 1000000004000000010000000000000000000000000000000000000000000000
-reply 1000000004000000010000000000000000000000000000000000000000000000
-reply 1000000004000000010000000000000000000000000000000000000000000000
-reply 1000000004000000010000000000000000000000000000000000000000000000
-reply 1000000004000000010000000000000000000000000000000000000000000000
-reply 1000000004000000010000000000000000000000000000000000000000000000
-reply 1000000004000000010000000000000000000000000000000000000000000000
-reply 1000000004000000010000000000000000000000000000000000000000000000
-reply 1000000004000000010000000000000000000000000000000000000000000000
-reply 1000000004000000010000000000000000000000000000000000000000000000
-reply 1000000004000000010000000000000000000000000000000000000000000000
-reply 1000000004000000010000000000000000000000000000000000000000000000
-reply 1000000004000000010000000000000000000000000000000000000000000000
-reply 1000000004000000010000000000000000000000000000000000000025040000
-control 4
-control 4
-control 4
-control 4
-control 4
-control 4
-control 4
-control 4
-control 4
-control 4
-control 4
-control 4
-control 4
-control 4
-control 4
-control 4
-empty
-";
+/// The first 1,024 bytes of a request, as many of it again, and one byte.
+pub const FIRST_KILOBYTE: &str = "| pdu 0 1 2 1024 x00000f00 x00^1024 |\n";
 
-#[test]
-fn a_seventeenth_control_does_not_wait(rt: HostRuntime) -> Result<(), Fail> {
-    replays(&rt, SEVENTEENTH_CONTROL, SEVENTEENTH_CONTROL_ANSWERS)
-}
+pub const KILOBYTE: &str = "| pdu 0 0 2 1024 x00000f00 x00^1024 |\n";
 
-const STOP_OF_A_SERVICE_THAT_IS_NEEDED: &str = "0 join admin
-0 call 1 15 00000000000000003f000f00
-0 call 1 12 00000000010000000000000000000000000000000200000000000000020000004200000000000000ff010f001000000003000000010000000700000000000000070000002f00620069006e002f0062000000000000000000000000000000000000000000000000000000000000000000
-0 call 1 12 00000000010000000000000000000000000000000200000000000000020000004100000000000000ff010f001000000003000000010000000700000000000000070000002f00620069006e002f0061000000000000000000000000000000020006000000420000000000000006000000000000000000000000000000
-0 call 1 19 00000000030000000000000000000000000000000000000000000000
-0 take
-0 launched 1 101
-0 report 1 16 4 1 0 0 0 0
-0 take
-0 launched 2 102
-0 end 1 1
-0 call 1 1 000000000200000000000000000000000000000001000000
-0 control 1
-0 ended 2
-0 call 1 1 000000000200000000000000000000000000000001000000
-0 control 1
-0 control 1
-0 call 1 6 0000000003000000000000000000000000000000
-";
-
-const STOP_OF_A_SERVICE_THAT_IS_NEEDED_ANSWERS: &str = "caller 1
-reply 000000000100000000000000000000000000000000000000
-reply 00000000000000000200000000000000000000000000000000000000
-reply 00000000000000000300000000000000000000000000000000000000
-plan 1
-launch 1
-done
-done
-launch 2
-done
-reply 00000000
-reply 000000000000000000000000000000000000000000000000000000001b040000
-empty
-done
-reply 1000000004000000010000000000000000000000000000000000000000000000
-control 1
-empty
-reply 1000000001000000000000002b04000000000000000000000000000000000000
-";
-
-#[test]
-fn a_service_that_is_needed_is_not_stopped(rt: HostRuntime) -> Result<(), Fail> {
-    replays(
-        &rt,
-        STOP_OF_A_SERVICE_THAT_IS_NEEDED,
-        STOP_OF_A_SERVICE_THAT_IS_NEEDED_ANSWERS,
-    )
-}
-
-const END_OF_AN_OLD_PROCESS: &str = "0 join admin
-0 call 1 15 00000000000000003f000f00
-0 call 1 12 00000000010000000000000000000000000000000200000000000000020000004100000000000000ff010f001000000003000000010000000700000000000000070000002f00620069006e002f0061000000000000000000000000000000000000000000000000000000000000000000
-0 call 1 19 00000000020000000000000000000000000000000000000000000000
-0 take
-0 launched 1 101
-0 end 1 1
-0 report 1 16 4 1 0 0 0 0
-0 report 1 16 1 0 0 0 0 0
-0 call 1 6 0000000002000000000000000000000000000000
-0 call 1 19 00000000020000000000000000000000000000000000000000000000
-0 take
-0 launched 2 102
-0 end 1 2
-0 report 2 16 4 1 0 0 0 0
-0 ended 1
-0 call 1 6 0000000002000000000000000000000000000000
-0 report 2 16 4 3 0 0 0 0
-0 ended 2
-0 call 1 6 0000000002000000000000000000000000000000
-0 control 2
-";
-
-const END_OF_AN_OLD_PROCESS_ANSWERS: &str = "caller 1
-reply 000000000100000000000000000000000000000000000000
-reply 00000000000000000200000000000000000000000000000000000000
-plan 1
-launch 1
-done
-reply 00000000
-done
-done
-reply 1000000001000000000000000000000000000000000000000000000000000000
-plan 2
-launch 2
-done
-reply 00000000
-done
-stale
-reply 1000000004000000010000000000000000000000000000000000000000000000
-done
-done
-reply 1000000001000000000000002b04000000000000000000000000000000000000
-over
-";
-
-#[test]
-fn an_old_process_stops_no_new_run(rt: HostRuntime) -> Result<(), Fail> {
-    replays(&rt, END_OF_AN_OLD_PROCESS, END_OF_AN_OLD_PROCESS_ANSWERS)
-}
-
-const STOPPING_SERVICE_THAT_REPORTS_RUNNING: &str = "0 join admin
-0 call 1 15 00000000000000003f000f00
-0 call 1 12 00000000010000000000000000000000000000000200000000000000020000004100000000000000ff810f001000000003000000010000000700000000000000070000002f00620069006e002f0061000000000000000000000000000000000000000000000000000000000000000000
-0 call 1 19 00000000020000000000000000000000000000000000000000000000
-0 take
-0 launched 1 101
-0 end 1 1
-0 report 1 16 4 1 0 0 0 0
-0 report 1 16 3 0 0 0 0 0
-0 report 1 16 4 1 0 0 0 0
-0 call 1 6 0000000002000000000000000000000000000000
-0 call 1 7 000000000200000000000000000000000000000010000000040000000100000000000000000000000000000000000000
-0 call 1 7 000000000200000000000000000000000000000010000000010000000000000005000000000000000000000000000000
-0 call 1 6 0000000002000000000000000000000000000000
-0 report 1 16 4 1 0 0 0 0
-0 call 1 7 000000000200000000000000000000000000000010000000040000000100000000000000000000000000000000000000
-0 call 1 1 000000000200000000000000000000000000000001000000
-";
-
-const STOPPING_SERVICE_THAT_REPORTS_RUNNING_ANSWERS: &str = "caller 1
-reply 000000000100000000000000000000000000000000000000
-reply 00000000000000000200000000000000000000000000000000000000
-plan 1
-launch 1
-done
-reply 00000000
-done
-done
-refused 13
-reply 1000000003000000000000000000000000000000000000000000000000000000
-reply 0d000000
-reply 00000000
-reply 1000000001000000000000000500000000000000000000000000000000000000
-stale
-reply 0d000000
-reply 1000000001000000000000000500000000000000000000000000000026040000
-";
-
-#[test]
-fn a_stopping_service_does_not_run_again(rt: HostRuntime) -> Result<(), Fail> {
-    replays(
-        &rt,
-        STOPPING_SERVICE_THAT_REPORTS_RUNNING,
-        STOPPING_SERVICE_THAT_REPORTS_RUNNING_ANSWERS,
-    )
-}
-
-const GROUP_OF_WHICH_ONE_MEMBER_RUNS: &str = "0 join admin
-0 call 1 15 00000000000000003f000f00
-0 call 1 12 00000000010000000000000000000000000000000300000000000000030000004d0031000000000000000000ff010f001000000003000000010000000800000000000000080000002f00620069006e002f006d00310000000000020002000000000000000200000047000000000000000000000000000000000000000000000000000000
-0 call 1 12 00000000010000000000000000000000000000000300000000000000030000004d0032000000000000000000ff010f001000000003000000010000000800000000000000080000002f00620069006e002f006d00320000000000020002000000000000000200000047000000000000000000000000000000000000000000000000000000
-0 call 1 12 00000000010000000000000000000000000000000300000000000000030000004d0033000000000000000000ff010f001000000003000000010000000800000000000000080000002f00620069006e002f006d00330000000000020002000000000000000200000047000000000000000000000000000000000000000000000000000000
-0 call 1 12 00000000010000000000000000000000000000000200000000000000020000005400000000000000ff010f001000000003000000010000000700000000000000070000002f00620069006e002f00740000000000000000000000000000000200080000002b0047000000000008000000000000000000000000000000
-0 call 1 19 00000000050000000000000000000000000000000000000000000000
-0 take
-0 unlaunched 1 2
-0 take
-0 unlaunched 2 2
-0 take
-0 launched 3 103
-0 end 1 1
-0 report 3 16 4 0 0 0 0 0
-0 take
-0 launched 4 104
-0 end 1 1
-";
-
-const GROUP_OF_WHICH_ONE_MEMBER_RUNS_ANSWERS: &str = "caller 1
-reply 000000000100000000000000000000000000000000000000
-reply 00000000000000000200000000000000000000000000000000000000
-reply 00000000000000000300000000000000000000000000000000000000
-reply 00000000000000000400000000000000000000000000000000000000
-reply 00000000000000000500000000000000000000000000000000000000
-plan 1
-launch 1
-done
-launch 2
-done
-launch 3
-done
-again
-done
-launch 4
-done
-reply 00000000
-";
-
-#[test]
-fn a_group_with_one_running_member_is_enough(rt: HostRuntime) -> Result<(), Fail> {
-    replays(
-        &rt,
-        GROUP_OF_WHICH_ONE_MEMBER_RUNS,
-        GROUP_OF_WHICH_ONE_MEMBER_RUNS_ANSWERS,
-    )
-}
-
-const GROUP_OF_WHICH_NO_MEMBER_RUNS: &str = "0 join admin
-0 call 1 15 00000000000000003f000f00
-0 call 1 12 00000000010000000000000000000000000000000300000000000000030000004d0031000000000000000000ff010f001000000003000000010000000800000000000000080000002f00620069006e002f006d00310000000000020002000000000000000200000047000000000000000000000000000000000000000000000000000000
-0 call 1 12 00000000010000000000000000000000000000000300000000000000030000004d0032000000000000000000ff010f001000000003000000010000000800000000000000080000002f00620069006e002f006d00320000000000020002000000000000000200000047000000000000000000000000000000000000000000000000000000
-0 call 1 12 00000000010000000000000000000000000000000300000000000000030000004d0033000000000000000000ff010f001000000003000000010000000800000000000000080000002f00620069006e002f006d00330000000000020002000000000000000200000047000000000000000000000000000000000000000000000000000000
-0 call 1 12 00000000010000000000000000000000000000000200000000000000020000005400000000000000ff010f001000000003000000010000000700000000000000070000002f00620069006e002f00740000000000000000000000000000000200080000002b0047000000000008000000000000000000000000000000
-0 call 1 19 00000000050000000000000000000000000000000000000000000000
-0 take
-0 unlaunched 1 2
-0 take
-0 unlaunched 2 2
-0 take
-0 unlaunched 3 2
-0 take
-0 end 1 1
-";
-
-const GROUP_OF_WHICH_NO_MEMBER_RUNS_ANSWERS: &str = "caller 1
-reply 000000000100000000000000000000000000000000000000
-reply 00000000000000000200000000000000000000000000000000000000
-reply 00000000000000000300000000000000000000000000000000000000
-reply 00000000000000000400000000000000000000000000000000000000
-reply 00000000000000000500000000000000000000000000000000000000
-plan 1
-launch 1
-done
-launch 2
-done
-launch 3
-done
-empty
-reply 2c040000
-";
-
-#[test]
-fn a_group_without_a_running_member_is_not(rt: HostRuntime) -> Result<(), Fail> {
-    replays(
-        &rt,
-        GROUP_OF_WHICH_NO_MEMBER_RUNS,
-        GROUP_OF_WHICH_NO_MEMBER_RUNS_ANSWERS,
-    )
-}
-
-const NEED_THAT_IS_DELETED: &str = "0 join admin
-0 call 1 15 00000000000000003f000f00
-0 call 1 12 00000000010000000000000000000000000000000200000000000000020000004400000000000000ff010f001000000003000000010000000700000000000000070000002f00620069006e002f0064000000000000000000000000000000000000000000000000000000000000000000
-0 call 1 12 00000000010000000000000000000000000000000200000000000000020000004500000000000000ff010f001000000003000000010000000700000000000000070000002f00620069006e002f0065000000000000000000000000000000000000000000000000000000000000000000
-0 call 1 12 00000000010000000000000000000000000000000200000000000000020000005400000000000000ff010f001000000003000000010000000700000000000000070000002f00620069006e002f007400000000000000000000000000000002000a0000004400000045000000000000000a000000000000000000000000000000
-0 call 1 0 0000000002000000000000000000000000000000
-0 join admin
-0 call 2 15 00000000000000003f000f00
-0 call 2 16 000000000500000000000000000000000000000002000000000000000200000044000000ff010f00
-0 call 1 19 00000000040000000000000000000000000000000000000000000000
-0 take
-0 launched 1 101
-0 call 2 2 0000000006000000000000000000000000000000
-0 call 2 0 0000000006000000000000000000000000000000
-0 ended 1
-0 take
-0 launched 2 102
-0 call 2 16 000000000500000000000000000000000000000002000000000000000200000044000000ff010f00
-0 call 2 12 00000000050000000000000000000000000000000200000000000000020000004400000000000000ff010f001000000003000000010000000700000000000000070000002f00620069006e002f0064000000000000000000000000000000000000000000000000000000000000000000
-0 call 2 19 00000000070000000000000000000000000000000000000000000000
-0 take
-0 launched 3 103
-0 end 2 2
-0 report 3 16 4 0 0 0 0 0
-0 report 2 16 4 0 0 0 0 0
-0 take
-0 launched 4 104
-0 end 1 1
-";
-
-const NEED_THAT_IS_DELETED_ANSWERS: &str = "caller 1
-reply 000000000100000000000000000000000000000000000000
-reply 00000000000000000200000000000000000000000000000000000000
-reply 00000000000000000300000000000000000000000000000000000000
-reply 00000000000000000400000000000000000000000000000000000000
-reply 000000000000000000000000000000000000000000000000
-caller 2
-reply 000000000500000000000000000000000000000000000000
-reply 000000000600000000000000000000000000000000000000
-plan 1
-launch 1
-done
-reply 00000000
-reply 000000000000000000000000000000000000000000000000
-done
-launch 2
-done
-reply 000000000000000000000000000000000000000024040000
-reply 00000000000000000700000000000000000000000000000000000000
-plan 2
-launch 3
-done
-reply 00000000
-done
-done
-launch 4
-done
-reply 00000000
-";
-
-#[test]
-fn a_need_that_is_deleted_and_made_anew(rt: HostRuntime) -> Result<(), Fail> {
-    replays(&rt, NEED_THAT_IS_DELETED, NEED_THAT_IS_DELETED_ANSWERS)
-}
-
-const LOCK_THAT_ANOTHER_HOLDS: &str = "0 join admin
-0 call 1 15 00000000000000003f000f00
-0 call 1 12 00000000010000000000000000000000000000000200000000000000020000004400000000000000ff010f001000000003000000010000000700000000000000070000002f00620069006e002f0064000000000000000000000000000000000000000000000000000000000000000000
-0 call 1 12 00000000010000000000000000000000000000000200000000000000020000005400000000000000ff010f001000000003000000010000000700000000000000070000002f00620069006e002f0074000000000000000000000000000000020006000000440000000000000006000000000000000000000000000000
-0 join admin
-0 call 2 15 00000000000000003f000f00
-0 call 2 3 0000000004000000000000000000000000000000
-0 call 1 19 00000000030000000000000000000000000000000000000000000000
-0 call 1 3 0000000001000000000000000000000000000000
-0 call 1 8 0000000005000000000000000000000000000000
-0 call 2 8 0000000005000000000000000000000000000000
-0 call 1 19 00000000030000000000000000000000000000000000000000000000
-0 take
-0 launched 1 101
-0 call 2 3 0000000004000000000000000000000000000000
-0 report 1 16 4 0 0 0 0 0
-0 take
-0 end 1 1
-0 gone 2
-0 take
-0 launched 2 102
-0 end 1 1
-";
-
-const LOCK_THAT_ANOTHER_HOLDS_ANSWERS: &str = "caller 1
-reply 000000000100000000000000000000000000000000000000
-reply 00000000000000000200000000000000000000000000000000000000
-reply 00000000000000000300000000000000000000000000000000000000
-caller 2
-reply 000000000400000000000000000000000000000000000000
-reply 000000000500000000000000000000000000000000000000
-reply 1f040000
-reply 00000000000000000000000000000000000000001f040000
-reply 00000000050000000000000000000000000000002f040000
-reply 000000000000000000000000000000000000000000000000
-plan 1
-launch 1
-done
-reply 000000000600000000000000000000000000000000000000
-done
-empty
-again
-done
-launch 2
-done
-reply 00000000
-";
-
-#[test]
-fn a_start_waits_for_the_lock_of_another(rt: HostRuntime) -> Result<(), Fail> {
-    replays(
-        &rt,
-        LOCK_THAT_ANOTHER_HOLDS,
-        LOCK_THAT_ANOTHER_HOLDS_ANSWERS,
-    )
-}
-
-const APPEND_THAT_FAILS: &str = "0 join admin
-0 call 1 15 00000000000000003f000f00
-0 failcall 1 12 00000000010000000000000000000000000000000200000000000000020000004100000000000000ff010f001000000003000000010000000700000000000000070000002f00620069006e002f0061000000000000000000000000000000000000000000000000000000000000000000
-0 call 1 12 00000000010000000000000000000000000000000200000000000000020000004100000000000000ff010f001000000003000000010000000700000000000000070000002f00620069006e002f0061000000000000000000000000000000000000000000000000000000000000000000
-0 failcall 1 6 0000000002000000000000000000000000000000
-0 tick
-";
-
-const APPEND_THAT_FAILS_ANSWERS: &str = "caller 1
-reply 000000000100000000000000000000000000000000000000
-reply 000000000000000000000000000000000000000000000000f5030000
-reply 00000000000000000200000000000000000000000000000000000000
-reply 1000000001000000000000003504000000000000000000000000000000000000
-idle
-";
-
-#[test]
-fn a_change_that_cannot_be_kept(rt: HostRuntime) -> Result<(), Fail> {
-    replays(&rt, APPEND_THAT_FAILS, APPEND_THAT_FAILS_ANSWERS)
-}
-
-const START_THAT_IS_GIVEN_UP: &str = "0 join admin
-0 call 1 15 00000000000000003f000f00
-0 call 1 12 00000000010000000000000000000000000000000200000000000000020000004100000000000000ff010f001000000003000000010000000700000000000000070000002f00620069006e002f0061000000000000000000000000000000000000000000000000000000000000000000
-5 call 1 19 00000000020000000000000000000000000000000000000000000000
-120004 tick
-120005 tick
-0 end 1 1
-";
-
-const START_THAT_IS_GIVEN_UP_ANSWERS: &str = "caller 1
-reply 000000000100000000000000000000000000000000000000
-reply 00000000000000000200000000000000000000000000000000000000
-plan 1
-idle
-done
-reply 1d040000
-";
-
-#[test]
-fn a_start_is_given_up_after_two_minutes(rt: HostRuntime) -> Result<(), Fail> {
-    replays(&rt, START_THAT_IS_GIVEN_UP, START_THAT_IS_GIVEN_UP_ANSWERS)
-}
+pub const ONE_BYTE: &str = "| pdu 0 2 2 1 x00000f00 x00 |\n";

@@ -3,7 +3,7 @@ ghost use Rattle.scm_model.specs.Rows.{is_caller};
 ghost use Rattle.scm_pipe.specs.Connection.{IsCaused};
 ghost use Rattle.scmd.specs.Joining.{HasJoined};
 ghost use Rattle.scm_replay.specs.Replay.{IsReplayed, IsCaused as IsCausedReplay};
-ghost use Rattle.scmd.specs.Jobs.{HasAllDone, HasRun, program_opening, status_of_generate, status_of_replay};
+ghost use Rattle.scmd.specs.Jobs.{HasAllDone, HasRun, program_start, status_of_generate, status_of_replay};
 ghost use Rattle.scmd.specs.Pipe.{IsPiped, program_limits, status_of};
 ghost use Rattle.scmd.specs.Words.{job_of};
 
@@ -120,7 +120,7 @@ fn status_of_replay(how: Replayed) -> u8
 
 /// Answers the lines of the input, over a manager in which nobody and nothing is there at moment 0.
 fn answer_lines<I: Source, O: Sink>(alloc: Global, input: &mut I, output: &mut O) -> Replayed
-    ensures replayed { IsReplayed program_limits program_opening
+    ensures replayed { IsReplayed program_limits program_start
         (I.left input.old) (I.left input.new) (O.held output.old) (O.held output.new) result }
     ensures input { I.faults input.old ≤ I.faults input.new }
     ensures output { O.faults output.old ≤ O.faults output.new }

@@ -1,5 +1,5 @@
 use Rattle.std.proofs.Common.{◌∙◌, sym}
-use Rattle.scm_calls.specs.Replies.{reply_bytes as body_of}
+use Rattle.scm_bodies.specs.Replies.{reply_bytes as body_of}
 use Rattle.scm_pipe.specs.Bodies.{response}
 use Rattle.scm_pipe.proofs.Talking.{answered_by, talks_fault, talks_call, written_at}
 use Rattle.scm_pipe.proofs.answering.answer_request.Goals as goal

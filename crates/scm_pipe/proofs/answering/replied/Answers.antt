@@ -1,5 +1,5 @@
 use Rattle.std.proofs.Common.{ap, ◌∙◌, ◌++◌, arith}
-use Rattle.scm_calls.specs.Replies.{reply_bytes as body_of}
+use Rattle.scm_bodies.specs.Replies.{reply_bytes as body_of}
 use Rattle.scm_pipe.proofs.Calls.{answers_called}
 use Rattle.scm_pipe.proofs.answering.replied.Goals as goal
 

@@ -1,4 +1,5 @@
 use Rattle.std.proofs.Common.{◌+◌, ◌≤◌, take}
+use Rattle.scm_replay.specs.Outcomes.{standing}
 use Rattle.scm_replay.specs.Along.{GoesOn, Keeps}
 use Rattle.scm_replay.proofs.feeding.feed.Given as goal
 
@@ -6,8 +7,8 @@ use Rattle.scm_replay.proofs.feeding.feed.Given as goal
 abbrev pub invariant-loop-byte : goal.invariant-loop-byte
 invariant-loop-byte g l = record {
   on : GoesOn l.fn.manager.limits (take l.byte-index l.piece)
-      (record { flat = l.fn.manager.flat; number = l.fn.reading.number; pending = l.fn.reading.pending.items; held = g.O.Sink.held l.fn.output })
-      (record { flat = l.manager.flat; number = l.reading.number; pending = l.reading.pending.items; held = g.O.Sink.held l.output });
+      (record { at = standing l.fn.manager; number = l.fn.reading.number; pending = l.fn.reading.pending.items; held = g.O.Sink.held l.fn.output })
+      (record { at = standing l.manager; number = l.reading.number; pending = l.reading.pending.items; held = g.O.Sink.held l.output });
   keeps : Keeps l.fn.manager l.manager l.byte-index;
   number : l.reading.number ≤ l.fn.reading.number + l.byte-index;
   grows : g.O.Sink.faults l.fn.output ≤ g.O.Sink.faults l.output;

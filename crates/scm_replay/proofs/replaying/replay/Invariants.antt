@@ -1,5 +1,6 @@
 use Rattle.std.proofs.Common.{ℕ, ◌≡◌, ◌+◌, ◌-◌, ◌≤◌, ◌^◌, List, length}
 use Rattle.std.specs.Io.KnownBytes.{Consumes}
+use Rattle.scm_replay.specs.Outcomes.{standing}
 use Rattle.scm_replay.specs.Along.{GoesOn, Keeps}
 use Rattle.scm_replay.proofs.Ends.{beginning}
 use Rattle.scm_replay.proofs.replaying.replay.Given as goal
@@ -11,8 +12,8 @@ invariant-loop-read g l = record {
   consumed : Consumes (g.I.Source.left l.fn.input) (g.I.Source.left l.input) bytes;
   count : length bytes ≡ l.read;
   most : l.read ≤ 2 ^ 40;
-  on : GoesOn l.fn.manager.limits bytes (beginning l.fn.manager.flat (g.O.Sink.held l.fn.output))
-      (record { flat = l.manager.flat; number = l.reading.number; pending = l.reading.pending.items; held = g.O.Sink.held l.output });
+  on : GoesOn l.fn.manager.limits bytes (beginning (standing l.fn.manager) (g.O.Sink.held l.fn.output))
+      (record { at = standing l.manager; number = l.reading.number; pending = l.reading.pending.items; held = g.O.Sink.held l.output });
   keeps : Keeps l.fn.manager l.manager l.read;
   number : l.reading.number ≤ 1 + l.read;
   input : g.I.Source.faults l.fn.input ≤ g.I.Source.faults l.input;
