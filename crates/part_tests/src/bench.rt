@@ -1,0 +1,268 @@
+//! Services in memory as a field.
+ghost use Rattle.std.specs.Prelude.{◌≡◌, ◌==◌, Some, false, find, filter, is_some, map};
+ghost use Rattle.std.specs.Option.{option_copied};
+ghost use Rattle.std.specs.List.{list_any};
+ghost use Rattle.scm_model.specs.Rows.{named};
+ghost use Rattle.scm_text.specs.Fold.{same_text};
+ghost use Rattle.start_plan.specs.Entered.{started_if, HasNumbers};
+ghost use Rattle.start_plan.specs.Moves.{cause_at, entering_at};
+ghost use Rattle.scm_model.specs.Ready.{is_fulfilled, is_ready, is_running, is_up};
+
+use scm_model::{LockRow, Need, Phase, Process, Service, Status, Wanted};
+use scm_text::{Items, OutOfMemory, WText, same};
+use start_plan::{Entering, Field};
+use std::alloc::Global;
+use std::marker::Model;
+
+const STOPPED: u32 = 1;
+
+const START_PENDING: u32 = 2;
+
+const RUNNING: u32 = 4;
+
+const DISABLED: u32 = 4;
+
+/// Services, their processes and the lock.
+#[derive(Drop)]
+pub struct Bench {
+    services: Vec<Service>,
+    processes: Vec<Process>,
+    wanted: Vec<Wanted>,
+    lock: Option<LockRow>,
+    next: u64,
+    limit: u32,
+    alloc: Global,
+}
+
+impl Model for Bench {
+    ghost use Rattle.std.specs.Prelude.{◌≤◌, ◌+◌, ◌^◌, [], vec_len, vec_capacity};
+    ghost use Rattle.scm_model.specs.declared.flat.Flat.{Flat};
+    ghost use Rattle.scm_model.specs.declared.flat.Limits.{Limits};
+
+    ghost Value = { Flat × Limits };
+
+    ghost view = { λ b. (
+      record {
+        services = b.services.items;
+        handles = [];
+        processes = b.processes.items;
+        wanted = b.wanted.items;
+        plans = [];
+        registrations = [];
+        dues = [];
+        callers = [];
+        lock = b.lock;
+        moment = 0;
+        next = record { service = 0; handle = 0; process = b.next; plan = 0; registration = 0; due = 0; caller = 0 };
+        reboots = 0;
+      },
+      record { services = 0; handles = 0; registrations = 0; callers = 0; processes = b.limit; controls = 0; steps = 0; text = 0 },
+    ) };
+
+    ghost invariant = { λ b. record {
+      processes : b.limit ≤ vec_capacity b.processes;
+      wanted : b.limit ≤ vec_capacity b.wanted;
+      each : vec_len b.wanted ≤ vec_len b.processes;
+      numbers : b.next + b.limit ≤ 2 ^ 63 + vec_len b.processes;
+    } };
+}
+
+/// The service with a number.
+fn row_with(rows: &[Service], number: u64) -> Option<&Service>
+    ensures { option_copied result ≡ find (λ row. row.number == number) rows.now }
+{
+    rows.iter().find(|row| row.number == number)
+}
+
+/// The service with the same name.
+fn named<'a>(rows: &'a [Service], name: &WText) -> Option<&'a Service>
+    ensures { option_copied result ≡ find (λ row. same_text row.config.name name.now) rows.now }
+{
+    rows.iter().find(|row| same(&row.config.name, name))
+}
+
+/// Whether a service is there, unmarked and RUNNING.
+fn is_up(service: Option<&Service>) -> bool
+    ensures { result ≡ is_up (option_copied service.entry) }
+{
+    match service {
+        Some(row) => !row.marked && row.status.state == RUNNING,
+        None => false,
+    }
+}
+
+/// Whether a group has a RUNNING member.
+fn has_running(rows: &[Service], group: &WText) -> bool
+    ensures { result ≡ list_any is_running (filter (λ row. same_text row.config.group group.now) rows.now) }
+{
+    rows.iter()
+        .filter(|row| same(&row.config.group, group))
+        .any(|row| row.status.state == RUNNING)
+}
+
+/// The service with this number is started where it is STOPPED, by this process.
+fn start_row(row: &mut Service, number: u64, process: u64)
+    ensures { row.new ≡ started_if number process row.old }
+{
+    if row.number == number && row.status.state == STOPPED {
+        row.status = status(row.status.kind, START_PENDING);
+        row.process = process;
+    }
+}
+
+fn start_in(rows: &mut Vec<Service>, number: u64, process: u64)
+    ensures { rows.new.items ≡ map (started_if number process) rows.old.items }
+{
+    for row in rows.iter_mut() {
+        start_row(row, number, process);
+    }
+}
+
+/// A status of this type in a state.
+pub fn status(kind: u32, state: u32) -> Status
+    ensures { result ≡ record { kind = kind; state = state; accepted = 0; win32 = 0; specific = 0; checkpoint = 0; hint = 0 } }
+{
+    Status {
+        kind,
+        state,
+        accepted: 0,
+        win32: 0,
+        specific: 0,
+        checkpoint: 0,
+        hint: 0,
+    }
+}
+
+impl Bench {
+    /// These services, with no process yet and the lock free.
+    pub fn new(alloc: Global, services: Vec<Service>, limit: u32) -> Result<Bench, OutOfMemory> {
+        match (
+            Vec::with_capacity(alloc, limit as usize),
+            Vec::with_capacity(alloc, limit as usize),
+        ) {
+            (Ok(processes), Ok(wanted)) => Ok(Bench {
+                services,
+                processes,
+                wanted,
+                lock: None,
+                next: 1,
+                limit,
+                alloc,
+            }),
+            _ => Err(OutOfMemory),
+        }
+    }
+
+    /// There are numbers for all processes that may be listed.
+    pub fn has_numbers(&self)
+        ensures { HasNumbers self.now.1 self.now.0 }
+    {
+        let _ = &self.next;
+    }
+
+    pub fn set_lock(&mut self, lock: Option<LockRow>) {
+        self.lock = lock;
+    }
+
+    /// Puts a service into a state.
+    pub fn put(&mut self, place: usize, state: u32) {
+        if place < self.services.len() {
+            let row = &mut self.services[place];
+            row.status = status(row.status.kind, state);
+        }
+    }
+
+    /// The states of services 1 and 2.
+    pub fn states(&self) -> [u32; 2] {
+        [self.state_of(1), self.state_of(2)]
+    }
+
+    pub fn wanted(&self) -> &[Wanted] {
+        self.wanted.as_slice()
+    }
+
+    /// Whether the service with the same name is up.
+    fn is_named_up(&self, name: &WText) -> bool
+        ensures { result ≡ is_up (named self.now.0 name.now) }
+    {
+        is_up(named(self.services.as_slice(), name))
+    }
+
+    fn is_fulfilled(&self, need: &Need) -> bool
+        ensures { result ≡ is_fulfilled self.now.0 need.now }
+    {
+        match need {
+            Need::Service(name) => self.is_named_up(name),
+            Need::Group(group) => has_running(self.services.as_slice(), group),
+        }
+    }
+
+    fn is_ready(&self, row: &Service) -> bool
+        ensures { result ≡ is_ready self.now.0 row.now }
+    {
+        row.config
+            .needs
+            .as_slice()
+            .iter()
+            .all(|need| self.is_fulfilled(need))
+    }
+
+    fn entering(&self, row: &Service) -> Entering
+        ensures { result ≡ entering_at (cause_at self.now.1 self.now.0 false (Some row.now)) (is_some self.now.0.lock) }
+    {
+        if row.marked {
+            return Entering::No(1072);
+        }
+        if row.config.start == DISABLED {
+            return Entering::No(1058);
+        }
+        if !self.is_ready(row) || row.status.state != STOPPED {
+            return Entering::No(1068);
+        }
+        if self.limit as usize <= self.processes.len() {
+            return Entering::No(1054);
+        }
+        match self.lock {
+            Some(_) => Entering::Locked,
+            None => Entering::Yes,
+        }
+    }
+}
+
+impl Field for Bench {
+    ghost flat = { λ b. b.0 };
+
+    ghost limits = { λ b. b.1 };
+
+    fn state_of(&self, service: u64) -> u32 {
+        match row_with(self.services.as_slice(), service) {
+            Some(row) => row.status.state,
+            None => 0,
+        }
+    }
+
+    fn may_enter(&self, service: u64) -> Entering {
+        match row_with(self.services.as_slice(), service) {
+            Some(row) => self.entering(row),
+            None => Entering::No(1072),
+        }
+    }
+
+    fn enter(&mut self, service: u64, words: Items<WText>) {
+        let number = self.next;
+        start_in(&mut self.services, service, number);
+        self.processes.push_reserved(Process {
+            number,
+            service,
+            phase: Phase::Wanted,
+            pid: 0,
+            controls: Items::new(self.alloc),
+        });
+        self.wanted.push_reserved(Wanted {
+            process: number,
+            command: false,
+            words,
+        });
+        self.next += 1;
+    }
+}

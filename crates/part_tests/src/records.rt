@@ -1,0 +1,218 @@
+use crate::texts::{add, text, text_and};
+use scm_model::{Action, Config, Need};
+use scm_text::{Items, OutOfMemory, WText};
+use service_record::{
+    RecordFault, check_change, check_new, is_bad_name, read_record, record_bytes,
+};
+use std::alloc::Global;
+use std::test::Fail;
+
+/// The configuration of a service `x` that runs `y z`, needs the group `g` and is restarted a
+/// second after a failure.
+const RECORD: [u8; 80] = [
+    1, 0, 0, 0, 0x78, 0, // name
+    0, 0, 0, 0, // display name
+    0x10, 0, 0, 0, // type
+    3, 0, 0, 0, // start
+    1, 0, 0, 0, // error control
+    3, 0, 0, 0, 0x79, 0, 0x20, 0, 0x7A, 0, // path
+    1, 0, 0, 0, 0x68, 0, // group
+    5, 1, 0, 0, // tag
+    1, 0, 0, 0, 1, 1, 0, 0, 0, 0x67, 0, // needs
+    0, 0, 0, 0, // description
+    0xFF, 0xFF, 0xFF, 0xFF, // reset period
+    1, 0, 0, 0, 1, 0, 0, 0, 0xE8, 3, 0, 0, // actions
+    1, 0, 0, 0, 0x63, 1, // command
+    1, // whether a stop with an error is a failure
+];
+
+fn needs(alloc: Global) -> Result<Items<Need>, OutOfMemory> {
+    let mut needs = Items::new(alloc);
+    add(&mut needs, Need::Group(text(alloc, "g")?))?;
+    Ok(needs)
+}
+
+fn actions(alloc: Global) -> Result<Items<Action>, OutOfMemory> {
+    let mut actions = Items::new(alloc);
+    let restart = Action {
+        what: 1,
+        delay: 1000,
+    };
+    add(&mut actions, restart)?;
+    Ok(actions)
+}
+
+/// The same configuration.
+fn sample(alloc: Global) -> Result<Config, OutOfMemory> {
+    match (
+        text(alloc, "x"),
+        text(alloc, "y z"),
+        text(alloc, "h"),
+        text_and(alloc, "", &[0x163]),
+        needs(alloc),
+        actions(alloc),
+    ) {
+        (Ok(name), Ok(path), Ok(group), Ok(command), Ok(needs), Ok(actions)) => Ok(Config {
+            name,
+            display: WText::new(alloc),
+            kind: 0x10,
+            start: 3,
+            error: 1,
+            path,
+            group,
+            tag: 0x105,
+            needs,
+            description: WText::new(alloc),
+            reset: 0xFFFF_FFFF,
+            actions,
+            command,
+            on_exit: true,
+            delayed: false,
+            triggers: Items::new(alloc),
+        }),
+        _ => Err(OutOfMemory),
+    }
+}
+
+/// Whether a configuration has the stated bytes.
+fn is_stated(alloc: Global, config: &Config) -> bool {
+    match record_bytes(alloc, config) {
+        Ok(bytes) => bytes.as_slice() == RECORD.as_slice(),
+        Err(_) => false,
+    }
+}
+
+fn is_written(alloc: Global) -> bool {
+    match sample(alloc) {
+        Ok(config) => is_stated(alloc, &config),
+        Err(_) => false,
+    }
+}
+
+fn is_read(alloc: Global) -> bool {
+    match read_record(alloc, &RECORD) {
+        Ok(config) => is_stated(alloc, &config),
+        Err(_) => false,
+    }
+}
+
+#[test]
+fn a_configuration_has_the_stated_bytes_and_they_are_read(rt: HostRuntime) {
+    assert!(rt; is_written(rt.alloc()));
+    assert!(rt; is_read(rt.alloc()));
+}
+
+/// Where the item is wrong that is the first one in a record of so many bytes, of which one is
+/// another.
+fn wrong(alloc: Global, length: usize, place: usize, byte: u8) -> Result<Option<usize>, Fail> {
+    let mut bytes = RECORD.to_vec(alloc)?;
+    bytes.resize(length, 0)?;
+    if place < bytes.len() {
+        bytes[place] = byte;
+    }
+    match read_record(alloc, bytes.as_slice()).err() {
+        Some(RecordFault::Bad(place)) => Ok(Some(place)),
+        _ => Ok(None),
+    }
+}
+
+#[test]
+fn the_first_wrong_item_is_told(rt: HostRuntime) -> Result<(), Fail> {
+    // How many bytes, a byte that is another, and where the wrong item begins.
+    let rows = [
+        (80, 0, 1, None),
+        (79, 0, 1, Some(79)),
+        (78, 0, 1, Some(73)),
+        (81, 0, 1, Some(80)),
+        // A 0 in the name, and a third kind of need.
+        (80, 4, 0, Some(0)),
+        (80, 46, 2, Some(46)),
+    ];
+    for (length, place, byte, want) in rows {
+        assert_eq!(rt; wrong(rt.alloc(), length, place, byte)?, want, "{length}");
+    }
+    Ok(())
+}
+
+/// A name, a path, units behind that and an account, and what they are refused with.
+type Row = (
+    &'static str,
+    &'static str,
+    &'static [u16],
+    &'static str,
+    u32,
+);
+
+const REFUSED: [Row; 9] = [
+    ("x", "y z", &[], "", 0),
+    // Accounts are compared after folding.
+    ("x", "y z", &[], "localsystem", 0),
+    ("x", "y z", &[], "x", 1057),
+    // A backslash is no part of a name, which is looked at before the account.
+    ("a\\b", "y z", &[], "", 123),
+    ("a\\b", "y z", &[], "x", 123),
+    // A path has a first word, which may be quoted.
+    ("x", "\"\" x", &[], "", 87),
+    ("x", " \" \"", &[], "", 0),
+    // A first half of a pair needs its second.
+    ("x", "x", &[0xD800], "", 87),
+    ("x", "x", &[0xD83D, 0xDE00], "", 0),
+];
+
+/// What a configuration is refused with that gets this name and path.
+fn refusal(alloc: Global, config: &mut Config, row: Row) -> Result<u32, OutOfMemory> {
+    let (name, path, behind, account, _) = row;
+    config.name = text(alloc, name)?;
+    config.path = text_and(alloc, path, behind)?;
+    let account = text(alloc, account)?;
+    Ok(check_new(config, Some(&account)))
+}
+
+fn are_refused(alloc: Global, config: &mut Config) -> Result<(), Fail> {
+    for row in REFUSED {
+        if refusal(alloc, config, row)? != row.4 {
+            return Err("another code".into());
+        }
+    }
+    Ok(())
+}
+
+#[test]
+fn configurations_are_refused_with_their_codes(rt: HostRuntime) -> Result<(), Fail> {
+    let mut config = sample(rt.alloc())?;
+    are_refused(rt.alloc(), &mut config)
+}
+
+/// A configuration whose name has a backslash.
+fn misnamed(alloc: Global) -> Result<Config, OutOfMemory> {
+    let mut config = sample(alloc)?;
+    config.name = text(alloc, "a\\b")?;
+    Ok(config)
+}
+
+/// Whether changes between a configuration and one with a bad name are judged by what they lead to.
+fn are_judged(alloc: Global, good: &Config) -> bool {
+    match misnamed(alloc) {
+        Ok(bad) => {
+            let names = (is_bad_name(&good.name), is_bad_name(&bad.name));
+            let changes = (
+                check_change(good, &bad, None),
+                check_change(&bad, good, None),
+            );
+            names == (false, true) && changes == (123, 0)
+        }
+        Err(_) => false,
+    }
+}
+
+fn are_judged_from_the_sample(alloc: Global) -> bool {
+    match sample(alloc) {
+        Ok(good) => are_judged(alloc, &good),
+        Err(_) => false,
+    }
+}
+
+#[test]
+fn a_change_is_judged_by_what_it_leads_to(rt: HostRuntime) {
+    assert!(rt; are_judged_from_the_sample(rt.alloc()));
+}
