@@ -1,2 +1,4 @@
 pub mod Causes
 pub mod Written
+pub mod Fates
+pub mod InMemory

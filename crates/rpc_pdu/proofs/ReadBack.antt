@@ -20,17 +20,17 @@ use Rattle.rpc_pdu.specs.declared.pdu.Pdu.{Pdu}
 use Rattle.rpc_pdu.specs.declared.pdu.Pdu.TheVariants as pdus
 use Rattle.rpc_pdu.specs.declared.pdu.PduRead.TheVariants.{Whole}
 use Rattle.rpc_pdu.specs.declared.pdu.PduKind.TheVariants as kinds
-use Rattle.rpc_pdu.specs.Header.{type_of, whole_fault, has}
-use Rattle.rpc_pdu.specs.Pdu.{bind_at, ack_at, results_place, pdu_at, header_of, body_at, IsSettled}
-use Rattle.rpc_pdu.specs.Written.{header, written, flags_of, object_bytes, fault_bytes, nak_bytes, bytes_16, bytes_32, zeros, Fits, request_bytes, request_front, response_bytes, response_front, bind_bytes, bind_front, ack_bytes, ack_front, ack_size, padding, counted}
-use Rattle.rpc_pdu.specs.ReadBack.{IsRequest, IsResponse, IsFault, IsBind, IsAck, IsNak, IsExact, IsReadBack, reader_of}
+use Rattle.rpc_pdu.specs.Header.{type_of, whole_fault, has_flag}
+use Rattle.rpc_pdu.specs.Pdu.{bind_at, ack_at, results_place, pdu_at, header_of, pdu_body, IsSettled}
+use Rattle.rpc_pdu.specs.Written.{pdu_header, written, flags_of, object_bytes, fault_bytes, nak_bytes, bytes_16, bytes_32, zeros, IsWritable, request_pdu_bytes, request_front, response_bytes, response_front, bind_bytes, bind_front, ack_bytes, ack_front, ack_size, address_padding, result_count}
+use Rattle.rpc_pdu.specs.ReadBack.{IsRequest, IsResponse, IsFault, IsBind, IsAck, IsNak, IsExactPdu, IsReadBack, reader_of}
 use Rattle.rpc_pdu.proofs.Settled.{settled}
 
 -- a header that is written
 abbrev made : ℕ → ℕ → ℕ → ℕ → Header
 made kind flags size call = record { version = 5; minor = 0; kind = kind; flags = flags; drep = 16; length = size; auth = 0; call = call }
 
-header_back : (kind flags size call : ℕ) (rest : List ℕ) → size < 2 ^ 16 → call < 2 ^ 32 → header_of (header kind flags size call ++ rest) ≡ made kind flags size call
+header_back : (kind flags size call : ℕ) (rest : List ℕ) → size < 2 ^ 16 → call < 2 ^ 32 → header_of (pdu_header kind flags size call ++ rest) ≡ made kind flags size call
 unfolding header_of
 header_back kind flags size call rest s c =
     ap (λ n. made kind flags n (from_le_bytes w32 (to_le_bytes w32 call))) (from_le_bytes-to_le_bytes_2 size s)
@@ -39,9 +39,9 @@ header_back kind flags size call rest s c =
 -- bytes that begin with a header of their own length, and whose body is read
 module _ (end : End) (kind : ℕ) (type : PduType) (flags size call : ℕ) (rest : List ℕ) (pdu : Pdu (List ℕ)) where
   abbrev bytes : List ℕ
-  bytes = header kind flags size call ++ rest
+  bytes = pdu_header kind flags size call ++ rest
 
-  read_whole : type_of end kind ≡ Some type → whole_fault type (made kind flags size call) ≡ None → 16 + length rest ≡ size → size < 2 ^ 16 → call < 2 ^ 32 → body_at type (made kind flags size call) bytes ≡ Some pdu → pdu_at end bytes ≡ Whole pdu (length bytes)
+  read_whole : type_of end kind ≡ Some type → whole_fault type (made kind flags size call) ≡ None → 16 + length rest ≡ size → size < 2 ^ 16 → call < 2 ^ 32 → pdu_body type (made kind flags size call) bytes ≡ Some pdu → pdu_at end bytes ≡ Whole pdu (length bytes)
   unfolding pdu_at
   read_whole t w l s c b =
       let long : nat_lt (length bytes) 16 ≡ false = le-ltb (length bytes) 16 (omega arith) in
@@ -52,13 +52,13 @@ module _ (end : End) (kind : ℕ) (type : PduType) (flags size call : ℕ) (rest
       rw (long, header_back kind flags size call rest s c, t, some, enough, all, w, b) (ap (Whole pdu) own)
 
 -- the flags of a fragment say what they were made of
-first_flag : (first last : Bool) → has 1 (flags_of first last) ≡ first
+first_flag : (first last : Bool) → has_flag 1 (flags_of first last) ≡ first
 first_flag true true = refl
 first_flag true false = refl
 first_flag false true = refl
 first_flag false false = refl
 
-last_flag : (first last : Bool) → has 2 (flags_of first last) ≡ last
+last_flag : (first last : Bool) → has_flag 2 (flags_of first last) ≡ last
 last_flag true true = refl
 last_flag true false = refl
 last_flag false true = refl
@@ -66,17 +66,17 @@ last_flag false false = refl
 
 -- a request or a response may be any fragment
 any_fragment : (flags size call : ℕ) → whole_fault types.Response (made 2 flags size call) ≡ None
-any_fragment flags size call = either (has 1 flags && has 2 flags) where
+any_fragment flags size call = either (has_flag 1 flags && has_flag 2 flags) where
   either : (b : Bool) → cond (not b && false) (Some kinds.Flags) None ≡ None
   either true = refl
   either false = refl
 
 module _ (first last : Bool) (call hint context size : ℕ) (stub : List ℕ) where
   abbrev response : List ℕ
-  response = header 2 (flags_of first last) size call ++ bytes_32 hint ++ bytes_16 context ++ zeros 2 ++ stub
+  response = pdu_header 2 (flags_of first last) size call ++ bytes_32 hint ++ bytes_16 context ++ zeros 2 ++ stub
 
   response_body : hint < 2 ^ 32 → context < 2 ^ 16 →
-      body_at types.Response (made 2 (flags_of first last) size call) response
+      pdu_body types.Response (made 2 (flags_of first last) size call) response
       ≡ Some (pdus.Response (record { call = call; first = first; last = last; hint = hint; context = context; stub = stub }))
   response_body h c =
       let long : nat_lt (length response) 24 ≡ false = le-ltb (length response) 24 (omega arith) in
@@ -91,25 +91,25 @@ response_back r s x =
 
 -- ---- requests
 
-object_first : (first last : Bool) → has 1 (flags_of first last + 128) ≡ first
+object_first : (first last : Bool) → has_flag 1 (flags_of first last + 128) ≡ first
 object_first true true = refl
 object_first true false = refl
 object_first false true = refl
 object_first false false = refl
 
-object_last : (first last : Bool) → has 2 (flags_of first last + 128) ≡ last
+object_last : (first last : Bool) → has_flag 2 (flags_of first last + 128) ≡ last
 object_last true true = refl
 object_last true false = refl
 object_last false true = refl
 object_last false false = refl
 
-object_told : (first last : Bool) → has 128 (flags_of first last + 128) ≡ true
+object_told : (first last : Bool) → has_flag 128 (flags_of first last + 128) ≡ true
 object_told true true = refl
 object_told true false = refl
 object_told false true = refl
 object_told false false = refl
 
-no_object_told : (first last : Bool) → has 128 (flags_of first last) ≡ false
+no_object_told : (first last : Bool) → has_flag 128 (flags_of first last) ≡ false
 no_object_told true true = refl
 no_object_told true false = refl
 no_object_told false true = refl
@@ -120,19 +120,19 @@ plus_none n = omega arith
 
 module _ (first last : Bool) (call hint context opnum size : ℕ) where
   abbrev request_start : ℕ → List ℕ
-  request_start flags = header 0 flags size call ++ bytes_32 hint ++ bytes_16 context ++ bytes_16 opnum
+  request_start flags = pdu_header 0 flags size call ++ bytes_32 hint ++ bytes_16 context ++ bytes_16 opnum
 
   abbrev request_is : Option (List ℕ) → List ℕ → Option (Pdu (List ℕ))
   request_is object stub = Some (pdus.Request (record { call = call; first = first; last = last; hint = hint; context = context; opnum = opnum; object = object; stub = stub }))
 
   plain_body : (stub : List ℕ) → hint < 2 ^ 32 → context < 2 ^ 16 → opnum < 2 ^ 16 →
-      body_at types.Request (made 0 (flags_of first last) size call) (request_start (flags_of first last) ++ stub) ≡ request_is None stub
+      pdu_body types.Request (made 0 (flags_of first last) size call) (request_start (flags_of first last) ++ stub) ≡ request_is None stub
   plain_body stub h c o =
       let long : nat_lt (length (request_start (flags_of first last) ++ stub)) 24 ≡ false = le-ltb (length (request_start (flags_of first last) ++ stub)) 24 (omega arith) in
       rw (no_object_told first last, long, first_flag first last, last_flag first last, from_le_bytes-to_le_bytes_4 hint h, from_le_bytes-to_le_bytes_2 context c, from_le_bytes-to_le_bytes_2 opnum o) refl
 
   object_body : (object stub : List ℕ) → length object ≡ 16 → hint < 2 ^ 32 → context < 2 ^ 16 → opnum < 2 ^ 16 →
-      body_at types.Request (made 0 (flags_of first last + 128) size call) (request_start (flags_of first last + 128) ++ (object ++ stub)) ≡ request_is (Some object) stub
+      pdu_body types.Request (made 0 (flags_of first last + 128) size call) (request_start (flags_of first last + 128) ++ (object ++ stub)) ≡ request_is (Some object) stub
   object_body object stub l h c o =
       let long : nat_lt (length (request_start (flags_of first last + 128) ++ (object ++ stub))) 40 ≡ false =
       le-ltb (length (request_start (flags_of first last + 128) ++ (object ++ stub))) 40 (omega (arith, l, length-append object stub)) in
@@ -142,11 +142,11 @@ any_request : (flags size call : ℕ) → whole_fault types.Request (made 0 flag
 any_request flags size call = any_fragment flags size call
 
 abbrev RequestBack : RequestPdu (List ℕ) → Type 0
-RequestBack r = 24 + length (object_bytes r.object) + length r.stub < 2 ^ 16 → IsRequest r → pdu_at Server (request_bytes r) ≡ Whole (pdus.Request r) (length (request_bytes r))
+RequestBack r = 24 + length (object_bytes r.object) + length r.stub < 2 ^ 16 → IsRequest r → pdu_at Server (request_pdu_bytes r) ≡ Whole (pdus.Request r) (length (request_pdu_bytes r))
 
 request_back : (first last : Bool) (call hint context opnum : ℕ) (object : Option (List ℕ)) (stub : List ℕ) →
     RequestBack (record { call = call; first = first; last = last; hint = hint; context = context; opnum = opnum; object = object; stub = stub })
-unfolding request_bytes request_front
+unfolding request_pdu_bytes request_front
 request_back first last call hint context opnum None stub s x =
     let size = 24 + length stub in
     let plain : flags_of first last + 0 ≡ flags_of first last = plus_none (flags_of first last) in
@@ -176,7 +176,7 @@ nak_back n x =
 -- ---- binds and alter_contexts
 
 abbrev bind_start : ℕ → ℕ → Bind (List ℕ) → List ℕ
-bind_start kind size b = header kind 3 size b.call ++ bytes_16 b.transmit ++ bytes_16 b.receive ++ bytes_32 b.group ++ (b.count ∷ zeros 3)
+bind_start kind size b = pdu_header kind 3 size b.call ++ bytes_16 b.transmit ++ bytes_16 b.receive ++ bytes_32 b.group ++ (b.count ∷ zeros 3)
 
 abbrev with_auth : Bind (List ℕ) → ℕ → Option (Bind (List ℕ))
 with_auth b n = Some (record { call = b.call; auth = n; transmit = b.transmit; receive = b.receive; group = b.group; count = b.count; contexts = b.contexts })
@@ -204,21 +204,21 @@ alter_back b s a x =
 -- ---- answers to binds
 
 abbrev ack_start : ℕ → ℕ → Ack (List ℕ) → List ℕ
-ack_start kind size a = header kind 3 size a.call ++ bytes_16 a.transmit ++ bytes_16 a.receive ++ bytes_32 a.group ++ bytes_16 (length a.address)
+ack_start kind size a = pdu_header kind 3 size a.call ++ bytes_16 a.transmit ++ bytes_16 a.receive ++ bytes_32 a.group ++ bytes_16 (length a.address)
 
 -- what stands behind an address
 abbrev ack_tail : Ack (List ℕ) → List ℕ
-ack_tail a = counted (padding (length a.address)) a.count ++ a.results
+ack_tail a = result_count (address_padding (length a.address)) a.count ++ a.results
 
-pad_length : (n : ℕ) → length (zeros (padding n)) ≡ padding n
-pad_length n = length-take-le (padding n) (0 ∷ 0 ∷ 0 ∷ 0 ∷ []) (omega arith)
+pad_length : (n : ℕ) → length (zeros (address_padding n)) ≡ address_padding n
+pad_length n = length-take-le (address_padding n) (0 ∷ 0 ∷ 0 ∷ 0 ∷ []) (omega arith)
 
 module _ (kind size : ℕ) (a : Ack (List ℕ)) where
   abbrev place : ℕ
   place = results_place (length a.address)
 
   abbrev ahead : List ℕ
-  ahead = (ack_start kind size a ++ a.address) ++ zeros (padding (length a.address))
+  ahead = (ack_start kind size a ++ a.address) ++ zeros (address_padding (length a.address))
 
   abbrev counts : List ℕ
   counts = a.count ∷ 0 ∷ 0 ∷ 0 ∷ []
@@ -227,7 +227,7 @@ module _ (kind size : ℕ) (a : Ack (List ℕ)) where
   answer = ahead ++ (counts ++ a.results)
 
   place_is : length ahead ≡ place
-  place_is = omega (arith, length-append (ack_start kind size a ++ a.address) (zeros (padding (length a.address))), length-append (ack_start kind size a) a.address, pad_length (length a.address))
+  place_is = omega (arith, length-append (ack_start kind size a ++ a.address) (zeros (address_padding (length a.address))), length-append (ack_start kind size a) a.address, pad_length (length a.address))
 
   count_is : slice_index answer place ≡ a.count
   count_is = ap (slice_index answer) (sym place_is ∙ sym (plus_none (length ahead))) ∙ get_or-append-add ahead (counts ++ a.results) 0 0
@@ -237,8 +237,8 @@ module _ (kind size : ℕ) (a : Ack (List ℕ)) where
 
   address_is : take (length a.address) (drop 26 answer) ≡ a.address
   address_is =
-      ap (take (length a.address)) (append_assoc a.address (zeros (padding (length a.address))) (counts ++ a.results))
-      ∙ take_at a.address (zeros (padding (length a.address)) ++ (counts ++ a.results)) (length a.address) refl
+      ap (take (length a.address)) (append_assoc a.address (zeros (address_padding (length a.address))) (counts ++ a.results))
+      ∙ take_at a.address (zeros (address_padding (length a.address)) ++ (counts ++ a.results)) (length a.address) refl
 
   answer_length : length answer ≡ place + 4 + length a.results
   answer_length = omega (arith, place_is, length-append ahead (counts ++ a.results))
@@ -264,17 +264,17 @@ module _ (kind size : ℕ) (a : Ack (List ℕ)) where
       ) refl
 
 ack_parts : (kind : ℕ) (a : Ack (List ℕ)) → ack_bytes kind a ≡ answer kind (ack_size a) a
-unfolding ack_bytes ack_front counted
+unfolding ack_bytes ack_front result_count
 ack_parts kind a =
     let start = ack_start kind (ack_size a) a ++ a.address in
-    let zeros_in = zeros (padding (length a.address)) in
+    let zeros_in = zeros (address_padding (length a.address)) in
     ap (λ t. start ++ t) (append_assoc zeros_in (counts kind (ack_size a) a) a.results)
     ∙ sym (append_assoc start zeros_in (counts kind (ack_size a) a ++ a.results))
 
 -- what stands behind the header of an answer
 abbrev behind_header : Ack (List ℕ) → List ℕ
 behind_header a =
-    (((bytes_16 a.transmit ++ bytes_16 a.receive ++ bytes_32 a.group ++ bytes_16 (length a.address)) ++ a.address) ++ zeros (padding (length a.address)))
+    (((bytes_16 a.transmit ++ bytes_16 a.receive ++ bytes_32 a.group ++ bytes_16 (length a.address)) ++ a.address) ++ zeros (address_padding (length a.address)))
     ++ ((a.count ∷ 0 ∷ 0 ∷ 0 ∷ []) ++ a.results)
 
 sized : (kind : ℕ) (a : Ack (List ℕ)) → 16 + length (behind_header a) ≡ ack_size a
@@ -291,7 +291,7 @@ module _ (a : Ack (List ℕ)) (s : ack_size a < 2 ^ 16) (x : IsAck a) where
 
 -- ---- all of them
 
-read_alone : (pdu : Pdu (List ℕ)) → Fits pdu → IsExact pdu → pdu_at (reader_of pdu) (written pdu) ≡ Whole pdu (length (written pdu))
+read_alone : (pdu : Pdu (List ℕ)) → IsWritable pdu → IsExactPdu pdu → pdu_at (reader_of pdu) (written pdu) ≡ Whole pdu (length (written pdu))
 read_alone (pdus.Request r) s x = request_back r.first r.last r.call r.hint r.context r.opnum r.object r.stub s x
 read_alone (pdus.Response r) s x = response_back r s x
 read_alone (pdus.Fault f) s x = fault_back f x
@@ -301,7 +301,7 @@ read_alone (pdus.BindAck a) s x = bind_ack_back a s x
 read_alone (pdus.AlterAck a) s x = alter_ack_back a s x
 read_alone (pdus.BindNak n) s x = nak_back n x
 
-pub read_back : (pdu : Pdu (List ℕ)) → Fits pdu → IsExact pdu → IsReadBack pdu
+pub read_back : (pdu : Pdu (List ℕ)) → IsWritable pdu → IsExactPdu pdu → IsReadBack pdu
 read_back pdu s x more =
     let alone = read_alone pdu s x in
     settled (reader_of pdu) (written pdu) more (subst IsSettled (sym alone) tt) ∙ alone

@@ -18,15 +18,15 @@ use Rattle.rpc_pdu.specs.declared.pdu.Pdu.TheVariants as pdus
 use Rattle.rpc_pdu.specs.declared.pdu.PduRead.{PduRead}
 use Rattle.rpc_pdu.specs.declared.pdu.PduRead.TheVariants.{Whole, Short, Bad}
 use Rattle.rpc_pdu.specs.Number.{number_16, number_32}
-use Rattle.rpc_pdu.specs.Header.{header_at, header_fault, whole_fault, has}
+use Rattle.rpc_pdu.specs.Header.{header_at, header_fault, whole_fault, has_flag}
 use Rattle.rpc_pdu.specs.Contexts.{are_contexts}
 
-abbrev pub request_from : ℕ → Option (List ℕ) → Header → List ℕ → Option (RequestPdu (List ℕ))
-request_from stub object h pdu =
+abbrev pub request_pdu_from : ℕ → Option (List ℕ) → Header → List ℕ → Option (RequestPdu (List ℕ))
+request_pdu_from stub object h pdu =
     if nat_lt (length pdu) stub then None else Some (record {
       call = h.call;
-      first = has 1 h.flags;
-      last = has 2 h.flags;
+      first = has_flag 1 h.flags;
+      last = has_flag 2 h.flags;
       hint = number_32 pdu 16;
       context = number_16 pdu 20;
       opnum = number_16 pdu 22;
@@ -34,16 +34,16 @@ request_from stub object h pdu =
       stub = drop stub pdu;
     })
 
-abbrev pub request_at : Header → List ℕ → Option (RequestPdu (List ℕ))
-request_at h pdu =
-    if has 128 h.flags then request_from 40 (Some (take 16 (drop 24 pdu))) h pdu else request_from 24 None h pdu
+abbrev pub request_pdu_at : Header → List ℕ → Option (RequestPdu (List ℕ))
+request_pdu_at h pdu =
+    if has_flag 128 h.flags then request_pdu_from 40 (Some (take 16 (drop 24 pdu))) h pdu else request_pdu_from 24 None h pdu
 
 abbrev pub response_at : Header → List ℕ → Option (ResponsePdu (List ℕ))
 response_at h pdu =
     if nat_lt (length pdu) 24 then None else Some (record {
       call = h.call;
-      first = has 1 h.flags;
-      last = has 2 h.flags;
+      first = has_flag 1 h.flags;
+      last = has_flag 2 h.flags;
       hint = number_32 pdu 16;
       context = number_16 pdu 20;
       stub = drop 24 pdu;
@@ -104,15 +104,15 @@ ack_at h pdu =
 abbrev pub nak_at : Header → List ℕ → Option Nak
 nak_at h pdu = if nat_lt (length pdu) 21 then None else Some (record { call = h.call; reason = number_16 pdu 16 })
 
-abbrev pub body_at : PduType → Header → List ℕ → Option (Pdu (List ℕ))
-body_at types.Request h pdu = option_map pdus.Request (request_at h pdu)
-body_at types.Response h pdu = option_map pdus.Response (response_at h pdu)
-body_at types.Fault h pdu = option_map pdus.Fault (fault_at h pdu)
-body_at types.Bind h pdu = option_map pdus.Bind (bind_at h pdu)
-body_at types.Alter h pdu = option_map pdus.Alter (bind_at h pdu)
-body_at types.BindAck h pdu = option_map pdus.BindAck (ack_at h pdu)
-body_at types.AlterAck h pdu = option_map pdus.AlterAck (ack_at h pdu)
-body_at types.BindNak h pdu = option_map pdus.BindNak (nak_at h pdu)
+abbrev pub pdu_body : PduType → Header → List ℕ → Option (Pdu (List ℕ))
+pdu_body types.Request h pdu = option_map pdus.Request (request_pdu_at h pdu)
+pdu_body types.Response h pdu = option_map pdus.Response (response_at h pdu)
+pdu_body types.Fault h pdu = option_map pdus.Fault (fault_at h pdu)
+pdu_body types.Bind h pdu = option_map pdus.Bind (bind_at h pdu)
+pdu_body types.Alter h pdu = option_map pdus.Alter (bind_at h pdu)
+pdu_body types.BindAck h pdu = option_map pdus.BindAck (ack_at h pdu)
+pdu_body types.AlterAck h pdu = option_map pdus.AlterAck (ack_at h pdu)
+pdu_body types.BindNak h pdu = option_map pdus.BindNak (nak_at h pdu)
 
 abbrev pub or_bad : Option PduKind → PduRead (List ℕ) → PduRead (List ℕ)
 or_bad (Some kind) read = Bad kind
@@ -124,7 +124,7 @@ of_body used (Some pdu) = Whole pdu used
 
 -- what a whole PDU is
 abbrev pub whole_at : PduType → Header → List ℕ → PduRead (List ℕ)
-whole_at kind h pdu = or_bad (whole_fault kind h) (of_body h.length (body_at kind h pdu))
+whole_at kind h pdu = or_bad (whole_fault kind h) (of_body h.length (pdu_body kind h pdu))
 
 -- what stands behind a header
 abbrev pub after_header : Header → List ℕ → Result PduType PduKind → PduRead (List ℕ)

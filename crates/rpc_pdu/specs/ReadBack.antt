@@ -65,15 +65,15 @@ pub record IsNak (n : Nak) : Type 0 where
   pub reason : n.reason < 2 ^ 16
 
 -- each number is within its field, and each count says how many there are
-abbrev pub IsExact : Pdu (List ℕ) → Type 0
-IsExact (pdus.Request r) = IsRequest r
-IsExact (pdus.Response r) = IsResponse r
-IsExact (pdus.Fault f) = IsFault f
-IsExact (pdus.Bind b) = IsBind b
-IsExact (pdus.Alter b) = IsBind b
-IsExact (pdus.BindAck a) = IsAck a
-IsExact (pdus.AlterAck a) = IsAck a
-IsExact (pdus.BindNak n) = IsNak n
+abbrev pub IsExactPdu : Pdu (List ℕ) → Type 0
+IsExactPdu (pdus.Request r) = IsRequest r
+IsExactPdu (pdus.Response r) = IsResponse r
+IsExactPdu (pdus.Fault f) = IsFault f
+IsExactPdu (pdus.Bind b) = IsBind b
+IsExactPdu (pdus.Alter b) = IsBind b
+IsExactPdu (pdus.BindAck a) = IsAck a
+IsExactPdu (pdus.AlterAck a) = IsAck a
+IsExactPdu (pdus.BindNak n) = IsNak n
 
 -- the bytes of a PDU are read as it, whatever comes behind them
 abbrev pub IsReadBack : Pdu (List ℕ) → Type 0

@@ -1,6 +1,6 @@
 ghost use Rattle.std.specs.Prelude.{List, ℕ, ◌++◌, ◌≡◌, ◌≤◌, ◌*◌, ◌+◌, length, option_map};
 ghost use Rattle.rpc_pdu.specs.declared.pdu.End.TheVariants.{Server, Client};
-ghost use Rattle.rpc_pdu.specs.Pdu.{header_of as header_of_front, request_at, response_at, fault_at, bind_at, ack_at, nak_at, body_at, whole_at, pdu_at, seen_request, seen_response, seen_bind, seen_ack, seen_pdu, seen_read, IsSettled, IfWhole};
+ghost use Rattle.rpc_pdu.specs.Pdu.{header_of as header_of_front, request_pdu_at, response_at, fault_at, bind_at, ack_at, nak_at, pdu_body, whole_at, pdu_at, seen_request, seen_response, seen_bind, seen_ack, seen_pdu, seen_read, IsSettled, IfWhole};
 
 use crate::context::{are_contexts, u16_at, u32_at};
 use crate::header::{HEADER_BYTES, Header, header_of};
@@ -9,7 +9,7 @@ use crate::pdu::{
 };
 
 fn request_of<'a>(header: &Header, pdu: &'a [u8]) -> Option<RequestPdu<&'a [u8]>>
-    ensures { option_map seen_request result ≡ request_at header.now pdu.now }
+    ensures { option_map seen_request result ≡ request_pdu_at header.now pdu.now }
 {
     let stub = if header.has_object() { 40 } else { 24 };
     if pdu.len() < stub {
@@ -137,7 +137,7 @@ fn nak_of(header: &Header, pdu: &[u8]) -> Option<Nak>
 }
 
 fn body_of<'a>(kind: PduType, header: &Header, pdu: &'a [u8]) -> Option<Pdu<&'a [u8]>>
-    ensures { option_map seen_pdu result ≡ body_at kind header.now pdu.now }
+    ensures { option_map seen_pdu result ≡ pdu_body kind header.now pdu.now }
 {
     match kind {
         PduType::Request => Some(Pdu::Request(request_of(header, pdu)?)),

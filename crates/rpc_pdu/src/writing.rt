@@ -1,7 +1,7 @@
 ghost use Rattle.std.specs.Prelude.{ℕ, ◌≡◌, ◌++◌, ◌+◌, ◌<◌, ◌≤◌, ◌^◌, [], ◌∷◌, length, OnOk, OnErr};
 ghost use Rattle.rpc_pdu.specs.Pdu.{seen_request, seen_response, seen_bind, seen_ack, seen_pdu};
-ghost use Rattle.rpc_pdu.specs.ReadBack.{IsExact, IsReadBack};
-ghost use Rattle.rpc_pdu.specs.Written.{flags_of, padding, zeros, object_bytes, object_flag, header, response_front, request_front, bind_front, ack_front, ack_size, request_bytes, response_bytes, fault_bytes, bind_bytes, ack_bytes, nak_bytes, counted, written, Fits};
+ghost use Rattle.rpc_pdu.specs.ReadBack.{IsExactPdu, IsReadBack};
+ghost use Rattle.rpc_pdu.specs.Written.{flags_of, address_padding, zeros, object_bytes, object_flag, pdu_header, response_front, request_front, bind_front, ack_front, ack_size, request_pdu_bytes, response_bytes, fault_bytes, bind_bytes, ack_bytes, nak_bytes, result_count, written, IsWritable};
 
 use crate::pdu::{Ack, Bind, FaultPdu, Nak, Pdu, RequestPdu, ResponsePdu};
 use scm_text::{Items, OutOfMemory};
@@ -115,10 +115,10 @@ fn nak_pdu(n: &Nak) -> [u8; 21]
     ]
 }
 
-#[tactic(auto, unfolding(crate::specs::Written::request_bytes))]
+#[tactic(auto, unfolding(crate::specs::Written::request_pdu_bytes))]
 fn write_request(r: &RequestPdu<&[u8]>, out: &mut Items<u8>) -> Result<(), OutOfMemory>
     requires { 24 + length (object_bytes r.now.object) + length r.now.stub.now < 2 ^ 16 }
-    ensures ok { OnOk result (out.new ≡ out.old ++ request_bytes (seen_request r.now)) }
+    ensures ok { OnOk result (out.new ≡ out.old ++ request_pdu_bytes (seen_request r.now)) }
     ensures err { OnErr result (out.new ≡ out.old) }
 {
     let start = out.len();
@@ -136,10 +136,10 @@ fn write_request(r: &RequestPdu<&[u8]>, out: &mut Items<u8>) -> Result<(), OutOf
 }
 
 /// The padding behind an address of this length, and what stands behind three zeros.
-#[tactic(auto, unfolding(crate::specs::Written::counted))]
+#[tactic(auto, unfolding(crate::specs::Written::result_count))]
 fn behind_padding(padded: &[u8; 7], address: usize) -> &[u8]
     requires { address < 2 ^ 16 }
-    ensures { (count : ℕ) → padded.now ≡ 0 ∷ 0 ∷ 0 ∷ count ∷ 0 ∷ 0 ∷ 0 ∷ [] → result.now ≡ counted (padding address) count }
+    ensures { (count : ℕ) → padded.now ≡ 0 ∷ 0 ∷ 0 ∷ count ∷ 0 ∷ 0 ∷ 0 ∷ [] → result.now ≡ result_count (address_padding address) count }
 {
     match address % 4 {
         0 => &padded[1..],
@@ -170,7 +170,7 @@ fn write_ack(kind: u8, a: &Ack<&[u8]>, out: &mut Items<u8>) -> Result<(), OutOfM
 /// Appends the bytes of a PDU, or nothing.
 #[tactic(auto, unfolding(crate::specs::Written::bind_bytes, crate::specs::Written::response_bytes))]
 fn append_pdu(pdu: &Pdu<&[u8]>, out: &mut Items<u8>) -> Result<(), OutOfMemory>
-    requires { Fits (seen_pdu pdu.now) }
+    requires { IsWritable (seen_pdu pdu.now) }
     ensures ok { OnOk result (out.new ≡ out.old ++ written (seen_pdu pdu.now)) }
     ensures err { OnErr result (out.new ≡ out.old) }
 {
@@ -188,11 +188,11 @@ fn append_pdu(pdu: &Pdu<&[u8]>, out: &mut Items<u8>) -> Result<(), OutOfMemory>
 
 /// Appends the bytes of a PDU (C706, chapter 12), or nothing. A bind with an authentication isn't written.
 pub fn write_pdu(pdu: &Pdu<&[u8]>, out: &mut Items<u8>) -> Result<(), OutOfMemory>
-    requires { Fits (seen_pdu pdu.now) }
+    requires { IsWritable (seen_pdu pdu.now) }
     ensures ok { OnOk result (out.new ≡ out.old ++ written (seen_pdu pdu.now)) }
     ensures err { OnErr result (out.new ≡ out.old) }
     // What is written is read again as the PDU, whatever comes behind it.
-    ensures read_back { IsExact (seen_pdu pdu.now) → IsReadBack (seen_pdu pdu.now) }
+    ensures read_back { IsExactPdu (seen_pdu pdu.now) → IsReadBack (seen_pdu pdu.now) }
 {
     append_pdu(pdu, out)
 }

@@ -10,7 +10,7 @@ use Rattle.rpc_session.specs.declared.state.Terms.{Terms}
 use Rattle.rpc_session.specs.declared.state.State.{State}
 use Rattle.rpc_session.specs.declared.state.Unfinished.{Unfinished}
 use Rattle.rpc_session.specs.declared.state.Incoming.{Incoming}
-use Rattle.rpc_session.specs.Moves.{Gives, Joins, OutOfOrder, Passes, move_of, limit, joined, begun, continued, continues, fragment_move, alter_by, with_unfinished, item_of, HasGrown, HasJoined, Moved}
+use Rattle.rpc_session.specs.Moves.{Gives, Joins, OutOfOrder, Passes, session_move, limit, joined, unfinished_of, continued, continues, fragment_move, alter_by, with_unfinished, item_of, HasGrown, HasJoined, Moved}
 use Rattle.rpc_session.specs.Items.{StepJoins}
 use Rattle.rpc_session.specs.Held.{Held, further}
 
@@ -34,7 +34,7 @@ by_fragment true old s last u t is grown e = since old s u t is grown (joins s l
 by_fragment false old s last u t is grown e = absurd cc
 
 fragment_joins : (old : Option Unfinished) (s : State) (r : RequestPdu (List ℕ)) (t : State) → s.unfinished ≡ old → fragment_move old s r ≡ Joins t → HasJoined s t
-fragment_joins None s r t is e = by_fragment r.first None s r.last (begun r) t is tt e
+fragment_joins None s r t is e = by_fragment r.first None s r.last (unfinished_of r) t is tt e
 fragment_joins (Some u) s r t is e = by_fragment (continues u r) (Some u) s r.last (continued u r) t is (r.stub, refl) e
 
 request_joins : (bound : Bool) (s : State) (r : RequestPdu (List ℕ)) (t : State) → cond bound (fragment_move s.unfinished s r) OutOfOrder ≡ Joins t → HasJoined s t
@@ -51,8 +51,8 @@ alter_joins None held s b t e = absurd cc
 alter_joins (Some terms) true s b t e = absurd cc
 alter_joins (Some terms) false s b t e = absurd cc
 
-pub move_joins : (s : State) (pdu : Pdu (List ℕ)) (t : State) → move_of s pdu ≡ Joins t → HasJoined s t
-unfolding move_of
+pub move_joins : (s : State) (pdu : Pdu (List ℕ)) (t : State) → session_move s pdu ≡ Joins t → HasJoined s t
+unfolding session_move
 move_joins s (pdus.Request r) t e = request_joins (is_some s.terms) s r t e
 move_joins s (pdus.Bind b) t e = bind_joins (is_some s.terms || is_some s.unfinished) (not (b.auth == 0)) _ _ s _ t e
 move_joins s (pdus.Alter b) t e = alter_joins s.terms (is_some s.unfinished) s b t e
@@ -62,6 +62,6 @@ move_joins s (pdus.AlterAck a) t e = absurd cc
 move_joins s (pdus.Response a) t e = absurd cc
 move_joins s (pdus.Fault a) t e = absurd cc
 
-pub step_joins : (s t : State) (item : Option Incoming) (pdu : Pdu (List ℕ)) → Moved s t (Ok item) (move_of s pdu) → StepJoins s t (Ok (Some item))
+pub step_joins : (s t : State) (item : Option Incoming) (pdu : Pdu (List ℕ)) → Moved s t (Ok item) (session_move s pdu) → StepJoins s t (Ok (Some item))
 step_joins s t (Some item) pdu m = tt
 step_joins s t None pdu m = move_joins s pdu t m

@@ -17,7 +17,7 @@ use Rattle.rpc_session.specs.declared.contexts.TheConstants.{NDR}
 use Rattle.rpc_session.specs.declared.contexts.Interface.{Interface}
 use Rattle.rpc_session.specs.declared.contexts.Answer.{Answer}
 use Rattle.rpc_session.specs.declared.contexts.Answer.TheVariants as answers
-use Rattle.rpc_session.specs.Contexts.{same_syntax, offers, with_answer, answer_to, known_after, results_of, result_bytes, listed, listed_from, accepted_by, AreBelow, Interfaces}
+use Rattle.rpc_session.specs.Contexts.{same_syntax, offers, with_answer, context_answer, known_after, results_of, result_bytes, listed, listed_from, accepted_by, AreBelow, Interfaces}
 
 offers_step : (n k : ℕ) → (s : List ℕ) → k < n → offers (n - k) s ≡ (same_syntax (take 20 s) NDR || offers (n - (k + 1)) (drop 20 s))
 unfolding offers
@@ -49,14 +49,14 @@ contexts_none n k s h is = contexts_step n k s h ∙ ap (first_and (contexts_of 
 pub contexts_next : (n k : ℕ) (s : List ℕ) (x : Context (Bor (List ℕ)) × Bor (List ℕ)) → k < n → option_map seen_context (Some x) ≡ context_at s → contexts_of (n - k) s ≡ (seen_context x).0 ∷ contexts_of (n - (k + 1)) x.1.now
 contexts_next n k s x h is = contexts_step n k s h ∙ ap (first_and (contexts_of (n - (k + 1)))) (sym is)
 
-pub known_next : (known more : Interfaces) (c : Context (List ℕ)) (list cs : List (Context (List ℕ))) → list ≡ c ∷ cs → more ≡ with_answer known c.id (answer_to c) → known_after more cs ≡ known_after known list
+pub known_next : (known more : Interfaces) (c : Context (List ℕ)) (list cs : List (Context (List ℕ))) → list ≡ c ∷ cs → more ≡ with_answer known c.id (context_answer c) → known_after more cs ≡ known_after known list
 unfolding known_after
 known_next known more c list cs is now = ap (λ m. known_after m cs) now ∙ ap (known_after known) (sym is)
 
-pub results_next : (results more : List ℕ) (c : Context (List ℕ)) (list cs : List (Context (List ℕ))) → list ≡ c ∷ cs → more ≡ results ++ result_bytes (answer_to c) → more ++ results_of cs ≡ results ++ results_of list
+pub results_next : (results more : List ℕ) (c : Context (List ℕ)) (list cs : List (Context (List ℕ))) → list ≡ c ∷ cs → more ≡ results ++ result_bytes (context_answer c) → more ++ results_of cs ≡ results ++ results_of list
 unfolding results_of
 results_next results more c list cs is now =
-    ap (λ m. m ++ results_of cs) now ∙ append_assoc results (result_bytes (answer_to c)) (results_of cs) ∙ ap (λ l. results ++ results_of l) (sym is)
+    ap (λ m. m ++ results_of cs) now ∙ append_assoc results (result_bytes (context_answer c)) (results_of cs) ∙ ap (λ l. results ++ results_of l) (sym is)
 
 pub no_results : (results : List ℕ) (list : List (Context (List ℕ))) → list ≡ [] → results ++ results_of list ≡ results
 unfolding results_of

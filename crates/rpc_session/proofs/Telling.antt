@@ -17,9 +17,9 @@ use Rattle.rpc_session.specs.declared.session.SessionFault.{SessionFault}
 use Rattle.rpc_session.specs.declared.session.SessionFault.TheVariants as faults
 use Rattle.rpc_pdu.specs.declared.pdu.PduKind.TheVariants.{Order}
 use Rattle.rpc_pdu.proofs.Settled.{settled}
-use Rattle.rpc_session.specs.Moves.{Move, Gives, Joins, OutOfOrder, Passes, move_of, Moved, HasPlace}
+use Rattle.rpc_session.specs.Moves.{Move, Gives, Joins, OutOfOrder, Passes, session_move, Moved, HasPlace}
 use Rattle.rpc_session.specs.Pdus.{Part, BadAt, no_more, onto, by_read, pdus_behind, pdus_from}
-use Rattle.rpc_session.specs.Items.{Told, StreamEnd, AtRest, Unfinished, BadPdu, TooLong, ends, before, after, told_by, told_of, Seen, to_come, IsOpen, Ends, StepComes, fault_by, TellSame, Comes, Gave, Says, given_by, items, unbound, open_end, front_fault, fault_of_read, fault_of_move, IsStuck, TellsAgain}
+use Rattle.rpc_session.specs.Items.{Told, StreamEnd, AtRest, Unfinished, BadPdu, TooLong, ends_stream, before, told_after, told_of_pdus, told_of, Seen, to_come, IsOpen, TellsEnd, StepComes, fault_by, TellSame, Comes, Gave, Says, given_by, items, unbound, open_end, front_fault, fault_of_read, fault_of_move, IsStuck, TellsAgain}
 use Rattle.rpc_session.specs.Held.{with_more}
 
 -- the bytes of a PDU are passed
@@ -53,8 +53,8 @@ abbrev seen : State → ℕ → List ℕ → Seen
 seen s place rest = record { state = s; held = record { place = place; rest = rest } }
 
 -- a whole PDU comes first, whatever comes behind it
-pub came : (s : State) (place : ℕ) (rest : List ℕ) (pdu : Pdu (List ℕ)) (u : ℕ) (more : List ℕ) → pdu_at Server rest ≡ Whole pdu u → pdu_at Server (rest ++ more) ≡ pdu_at Server rest → 16 ≤ u → u ≤ length rest → to_come (seen s place rest) more ≡ after (λ t. to_come (seen t (place + u) (drop u rest)) more) place (move_of s pdu)
-unfolding to_come told_by
+pub came : (s : State) (place : ℕ) (rest : List ℕ) (pdu : Pdu (List ℕ)) (u : ℕ) (more : List ℕ) → pdu_at Server rest ≡ Whole pdu u → pdu_at Server (rest ++ more) ≡ pdu_at Server rest → 16 ≤ u → u ≤ length rest → to_come (seen s place rest) more ≡ told_after (λ t. to_come (seen t (place + u) (drop u rest)) more) place (session_move s pdu)
+unfolding to_come told_of_pdus
 came s place rest pdu u more is stays low high =
     let far : u ≤ length (rest ++ more) = omega (arith, high, length-append rest more) in
     let cut = whole_first Server place (rest ++ more) pdu u (stays ∙ is) low far in
@@ -65,34 +65,34 @@ module _ (place : ℕ) (rest : List ℕ) (pdu : Pdu (List ℕ)) (u : ℕ) (is : 
   abbrev later : List ℕ → State → Told
   later more t = to_come (seen t (place + u) (drop u rest)) more
 
-  moves : (s : State) (more : List ℕ) (move : Move) → move_of s pdu ≡ move → to_come (seen s place rest) more ≡ after (later more) place move
-  moves s more move m = came s place rest pdu u more is (stays more) low high ∙ ap (after (later more) place) m
+  moves : (s : State) (more : List ℕ) (move : Move) → session_move s pdu ≡ move → to_come (seen s place rest) more ≡ told_after (later more) place move
+  moves s more move m = came s place rest pdu u more is (stays more) low high ∙ ap (told_after (later more) place) m
 
-  pub taken : (s t : State) (item : Option Incoming) → Moved s t (Ok item) (move_of s pdu) → StepComes (seen s place rest) (seen t (place + u) (drop u rest)) (Ok (Some item))
+  pub taken : (s t : State) (item : Option Incoming) → Moved s t (Ok item) (session_move s pdu) → StepComes (seen s place rest) (seen t (place + u) (drop u rest)) (Ok (Some item))
   taken s t (Some item) m = λ more. moves s more (Gives item t) m
   taken s t None m = λ more. moves s more (Joins t) m
 
-  pub refused : (s t : State) (refusal : Refusal) → Moved s t (Err refusal) (move_of s pdu) → StepComes (seen s place rest) (seen t place rest) (Err (fault_by place refusal))
+  pub refused : (s t : State) (refusal : Refusal) → Moved s t (Err refusal) (session_move s pdu) → StepComes (seen s place rest) (seen t place rest) (Err (fault_by place refusal))
   refused s t refusals.Order m = (λ more. moves s more OutOfOrder m.0, λ more. ap (λ x. to_come (seen x place rest) more) m.1)
   refused s t (refusals.TooLong length) m = (λ more. moves s more (Passes length) m.0, λ more. ap (λ x. to_come (seen x place rest) more) m.1)
   refused s t refusals.OutOfMemory m = λ more. ap (λ x. to_come (seen x place rest) more) m.1
 
-nothing_held : (b : Bool) → ends (cond b Unfinished AtRest) ≡ ends (cond (not b) AtRest Unfinished)
+nothing_held : (b : Bool) → ends_stream (cond b Unfinished AtRest) ≡ ends_stream (cond (not b) AtRest Unfinished)
 nothing_held true = refl
 nothing_held false = refl
 
 -- less than a PDU stands first
 pub open_at : (s : State) (place : ℕ) (rest : List ℕ) (needed : ℕ) → pdu_at Server rest ≡ Short needed → IsOpen (seen s place rest)
-unfolding to_come told_by pdus_behind
+unfolding to_come told_of_pdus pdus_behind
 open_at s place [] needed is = nothing_held (is_some s.unfinished)
 open_at s place (b ∷ rest) needed is =
     let held : (length (b ∷ rest) == 0) ≡ false = grind arith in
     ap (λ c. told_of c s) (ap (pdus_from Server place) (append-nil (b ∷ rest)) ∙ short_first Server place b rest needed is)
-    ∙ ap (λ t. ends (cond (t && not (is_some s.unfinished)) AtRest Unfinished)) (sym held)
+    ∙ ap (λ t. ends_stream (cond (t && not (is_some s.unfinished)) AtRest Unfinished)) (sym held)
 
 -- a bad PDU stands first
-pub bad_at : (s : State) (place : ℕ) (rest : List ℕ) (kind : PduKind) → pdu_at Server rest ≡ Bad kind → ((more : List ℕ) → pdu_at Server (rest ++ more) ≡ pdu_at Server rest) → Ends (seen s place rest) (BadPdu place kind)
-unfolding to_come told_by
+pub bad_at : (s : State) (place : ℕ) (rest : List ℕ) (kind : PduKind) → pdu_at Server rest ≡ Bad kind → ((more : List ℕ) → pdu_at Server (rest ++ more) ≡ pdu_at Server rest) → TellsEnd (seen s place rest) (BadPdu place kind)
+unfolding to_come told_of_pdus
 bad_at s place rest kind is stays = λ more. ap (λ c. told_of c s) (bad_first Server place (rest ++ more) kind (stays more ∙ is))
 
 -- where the last PDU ends the search for an item, the first session and the last are tied
@@ -134,7 +134,7 @@ gave_next old new (Err (faults.TooLong length)) m stream given g = still stream 
 gave_next old new (Err faults.OutOfMemory) m stream given g = still stream given old new g m
 
 -- the items of a stream whose items were given, where what is to come is an end alone
-ended : (stream : List ℕ) (given : List Incoming) (s : Seen) (more : List ℕ) (ending : StreamEnd) → Gave stream given s → to_come s more ≡ ends ending → items (stream ++ more) ≡ record { items = given; ending = ending }
+ended : (stream : List ℕ) (given : List Incoming) (s : Seen) (more : List ℕ) (ending : StreamEnd) → Gave stream given s → to_come s more ≡ ends_stream ending → items (stream ++ more) ≡ record { items = given; ending = ending }
 ended stream given s more ending g e = g more ∙ ap (before given) e ∙ ap (λ items. record { items = items; ending = ending }) (append-nil given)
 
 pub says_next : (old new : Seen) (result : Result (Option Incoming) SessionFault) → Comes old new result → (stream : List ℕ) (given : List Incoming) → Gave stream given old → Says stream given new result
@@ -170,22 +170,22 @@ no_fault_placed place (Passes n) h = absurd h
 
 -- a whole PDU stands first
 module _ (place : ℕ) (rest : List ℕ) (pdu : Pdu (List ℕ)) (u : ℕ) (is : pdu_at Server rest ≡ Whole pdu u) (s t : State) where
-  pub taken_again : (new : Seen) (item : Option Incoming) → Moved s t (Ok item) (move_of s pdu) → TellsAgain (seen s place rest) new (Ok (Some item))
-  taken_again new item m = none_again (seen s place rest) new (Ok (Some item)) (front_is s place rest (Whole pdu u) is ∙ no_fault_given place s t item (move_of s pdu) m)
+  pub taken_again : (new : Seen) (item : Option Incoming) → Moved s t (Ok item) (session_move s pdu) → TellsAgain (seen s place rest) new (Ok (Some item))
+  taken_again new item m = none_again (seen s place rest) new (Ok (Some item)) (front_is s place rest (Whole pdu u) is ∙ no_fault_given place s t item (session_move s pdu) m)
 
   same_seen : t ≡ s → seen t place rest ≡ seen s place rest
   same_seen e = ap (λ x. seen x place rest) e
 
-  moved_front : (move : Move) → move_of s pdu ≡ move → front_fault (seen s place rest) ≡ fault_of_move place move
+  moved_front : (move : Move) → session_move s pdu ≡ move → front_fault (seen s place rest) ≡ fault_of_move place move
   moved_front move m = front_is s place rest (Whole pdu u) is ∙ ap (fault_of_move place) m
 
-  pub refused_again : (A : Type 0) (refusal : Refusal) → Moved s t (Err refusal) (move_of s pdu) → TellsAgain {A = A} (seen s place rest) (seen t place rest) (Err (fault_by place refusal))
+  pub refused_again : (A : Type 0) (refusal : Refusal) → Moved s t (Err refusal) (session_move s pdu) → TellsAgain {A = A} (seen s place rest) (seen t place rest) (Err (fault_by place refusal))
   refused_again A refusals.Order m = some_again A (seen s place rest) (seen t place rest) (faults.BadPdu place Order) (moved_front OutOfOrder m.0) (same_seen m.1)
   refused_again A (refusals.TooLong length) m = some_again A (seen s place rest) (seen t place rest) (faults.TooLong length) (moved_front (Passes length) m.0) (same_seen m.1)
   refused_again A refusals.OutOfMemory m =
-      none_again (seen s place rest) (seen t place rest) (Err faults.OutOfMemory) (front_is s place rest (Whole pdu u) is ∙ no_fault_placed place (move_of s pdu) m.0)
+      none_again (seen s place rest) (seen t place rest) (Err faults.OutOfMemory) (front_is s place rest (Whole pdu u) is ∙ no_fault_placed place (session_move s pdu) m.0)
 
-  pub refused_stuck : (refusal : Refusal) → Moved s t (Err refusal) (move_of s pdu) → IsStuck (seen t place rest) (fault_by place refusal)
+  pub refused_stuck : (refusal : Refusal) → Moved s t (Err refusal) (session_move s pdu) → IsStuck (seen t place rest) (fault_by place refusal)
   refused_stuck refusals.Order m = ap front_fault (same_seen m.1) ∙ moved_front OutOfOrder m.0
   refused_stuck (refusals.TooLong length) m = ap front_fault (same_seen m.1) ∙ moved_front (Passes length) m.0
   refused_stuck refusals.OutOfMemory m = tt

@@ -40,12 +40,12 @@ unfoldable pub offers : ℕ → List ℕ → Bool
 offers zero syntaxes = false
 offers (suc n) syntaxes = same_syntax (take 20 syntaxes) NDR || offers n (drop 20 syntaxes)
 
-abbrev pub by_interface : Option Interface → Bool → Answer
-by_interface None ndr = NotServed
-by_interface (Some interface) ndr = if ndr then Accepted interface else NoTransferSyntax
+abbrev pub answer_by : Option Interface → Bool → Answer
+answer_by None ndr = NotServed
+answer_by (Some interface) ndr = if ndr then Accepted interface else NoTransferSyntax
 
-abbrev pub answer_to : Context (List ℕ) → Answer
-answer_to c = by_interface (interface_of c.abstract_syntax) (offers (length c.transfer_syntaxes / 20) c.transfer_syntaxes)
+abbrev pub context_answer : Context (List ℕ) → Answer
+context_answer c = answer_by (interface_of c.abstract_syntax) (offers (length c.transfer_syntaxes / 20) c.transfer_syntaxes)
 
 -- a context without where its bytes lie in memory
 abbrev pub seen : Context (Bor (List ℕ)) → Context (List ℕ)
@@ -75,11 +75,11 @@ with_answer known id _ = map.remove known id
 
 unfoldable pub known_after : Interfaces → List (Context (List ℕ)) → Interfaces
 known_after known [] = known
-known_after known (c ∷ cs) = known_after (with_answer known c.id (answer_to c)) cs
+known_after known (c ∷ cs) = known_after (with_answer known c.id (context_answer c)) cs
 
 unfoldable pub results_of : List (Context (List ℕ)) → List ℕ
 results_of [] = []
-results_of (c ∷ cs) = result_bytes (answer_to c) ++ results_of cs
+results_of (c ∷ cs) = result_bytes (context_answer c) ++ results_of cs
 
 -- the interfaces that a table lists from an id on
 unfoldable pub listed_from : ℕ → List (Option Interface) → Interfaces

@@ -15,7 +15,7 @@ use Rattle.rpc_session.specs.declared.state.Refusal.TheVariants as refusals
 use Rattle.rpc_session.specs.declared.session.SessionFault.{SessionFault}
 use Rattle.rpc_session.specs.declared.session.SessionFault.TheVariants as faults
 use Rattle.rpc_session.specs.Held.{Held, further}
-use Rattle.rpc_session.specs.Moves.{Move, Gives, Joins, OutOfOrder, Passes, move_of, HasJoined}
+use Rattle.rpc_session.specs.Moves.{Move, Gives, Joins, OutOfOrder, Passes, session_move, HasJoined}
 use Rattle.rpc_session.specs.Pdus.{Cut, CutEnd, Nothing, Part, BadAt, pdus, pdus_from}
 
 pub data StreamEnd : Type 0 where
@@ -29,31 +29,31 @@ pub record Told : Type 0 where
   pub items : List Incoming
   pub ending : StreamEnd
 
-abbrev pub ends : StreamEnd → Told
-ends ending = record { items = []; ending = ending }
+abbrev pub ends_stream : StreamEnd → Told
+ends_stream ending = record { items = []; ending = ending }
 
 -- items, and then what is told
 abbrev pub before : List Incoming → Told → Told
 before given told = record { items = given ++ told.items; ending = told.ending }
 
-abbrev pub after : (State → Told) → ℕ → Move → Told
-after more place (Gives item s) = before (item ∷ []) (more s)
-after more place (Joins s) = more s
-after more place OutOfOrder = ends (BadPdu place Order)
-after more place (Passes length) = ends (TooLong length)
+abbrev pub told_after : (State → Told) → ℕ → Move → Told
+told_after more place (Gives item s) = before (item ∷ []) (more s)
+told_after more place (Joins s) = more s
+told_after more place OutOfOrder = ends_stream (BadPdu place Order)
+told_after more place (Passes length) = ends_stream (TooLong length)
 
-abbrev pub end_of : State → CutEnd → StreamEnd
-end_of s Nothing = if is_some s.unfinished then Unfinished else AtRest
-end_of s Part = Unfinished
-end_of s (BadAt place kind) = BadPdu place kind
+abbrev pub stream_end : State → CutEnd → StreamEnd
+stream_end s Nothing = if is_some s.unfinished then Unfinished else AtRest
+stream_end s Part = Unfinished
+stream_end s (BadAt place kind) = BadPdu place kind
 
 -- what PDUs tell a session in this state
-unfoldable pub told_by : List (ℕ × Pdu (List ℕ)) → CutEnd → State → Told
-told_by [] ending s = ends (end_of s ending)
-told_by (pdu ∷ pdus) ending s = after (told_by pdus ending) pdu.0 (move_of s pdu.1)
+unfoldable pub told_of_pdus : List (ℕ × Pdu (List ℕ)) → CutEnd → State → Told
+told_of_pdus [] ending s = ends_stream (stream_end s ending)
+told_of_pdus (pdu ∷ pdus) ending s = told_after (told_of_pdus pdus ending) pdu.0 (session_move s pdu.1)
 
 abbrev pub told_of : Cut → State → Told
-told_of cut s = told_by cut.pdus cut.ending s
+told_of cut s = told_of_pdus cut.pdus cut.ending s
 
 abbrev pub unbound : State
 unbound = record { terms = None; known = map.empty; unfinished = None }
@@ -85,18 +85,18 @@ open_end s = if is_at_rest s then AtRest else Unfinished
 
 -- it tells no item now, and its end is open
 abbrev pub IsOpen : Seen → Type 0
-IsOpen s = to_come s [] ≡ ends (open_end s)
+IsOpen s = to_come s [] ≡ ends_stream (open_end s)
 
 -- it tells this end and nothing else, whatever comes
-abbrev pub Ends : Seen → StreamEnd → Type 0
-Ends s ending = (more : List ℕ) → to_come s more ≡ ends ending
+abbrev pub TellsEnd : Seen → StreamEnd → Type 0
+TellsEnd s ending = (more : List ℕ) → to_come s more ≡ ends_stream ending
 
 -- what the next item was
 abbrev pub Comes : Seen → Seen → Result (Option Incoming) SessionFault → Type 0
 Comes old new (Ok (Some item)) = (more : List ℕ) → to_come old more ≡ before (item ∷ []) (to_come new more)
 Comes old new (Ok None) = IsOpen new × TellSame new old
-Comes old new (Err (faults.BadPdu place kind)) = Ends old (BadPdu place kind) × TellSame new old
-Comes old new (Err (faults.TooLong length)) = Ends old (TooLong length) × TellSame new old
+Comes old new (Err (faults.BadPdu place kind)) = TellsEnd old (BadPdu place kind) × TellSame new old
+Comes old new (Err (faults.TooLong length)) = TellsEnd old (TooLong length) × TellSame new old
 Comes old new (Err faults.OutOfMemory) = TellSame new old
 
 -- A session that was fed this stream gave these items: whatever comes, they and what it will tell are the items.
@@ -119,8 +119,8 @@ abbrev pub StepComes : Seen → Seen → Result (Option (Option Incoming)) Sessi
 StepComes old new (Ok (Some (Some item))) = (more : List ℕ) → to_come old more ≡ before (item ∷ []) (to_come new more)
 StepComes old new (Ok (Some None)) = TellSame old new
 StepComes old new (Ok None) = IsOpen new × TellSame new old
-StepComes old new (Err (faults.BadPdu place kind)) = Ends old (BadPdu place kind) × TellSame new old
-StepComes old new (Err (faults.TooLong length)) = Ends old (TooLong length) × TellSame new old
+StepComes old new (Err (faults.BadPdu place kind)) = TellsEnd old (BadPdu place kind) × TellSame new old
+StepComes old new (Err (faults.TooLong length)) = TellsEnd old (TooLong length) × TellSame new old
 StepComes old new (Err faults.OutOfMemory) = TellSame new old
 
 abbrev pub fault_by : ℕ → Refusal → SessionFault
@@ -135,7 +135,7 @@ fault_of_move place _ = None
 
 abbrev pub fault_of_read : State → ℕ → PduRead (List ℕ) → Option SessionFault
 fault_of_read s place (Bad kind) = Some (faults.BadPdu place kind)
-fault_of_read s place (Whole pdu used) = fault_of_move place (move_of s pdu)
+fault_of_read s place (Whole pdu used) = fault_of_move place (session_move s pdu)
 fault_of_read s place (Short needed) = None
 
 -- the fault of the PDU that stands first, where it is whole and has one

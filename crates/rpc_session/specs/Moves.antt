@@ -119,8 +119,8 @@ joined s last u =
     if nat_lt limit (length u.body) then Passes (length u.body) else
     if last then Gives (item_of s u) (with_unfinished s None) else Joins (with_unfinished s (Some u))
 
-abbrev pub begun : RequestPdu (List ℕ) → Unfinished
-begun r = record { call = r.call; context = r.context; opnum = r.opnum; body = r.stub }
+abbrev pub unfinished_of : RequestPdu (List ℕ) → Unfinished
+unfinished_of r = record { call = r.call; context = r.context; opnum = r.opnum; body = r.stub }
 
 abbrev pub continued : Unfinished → RequestPdu (List ℕ) → Unfinished
 continued u r = with_body u (u.body ++ r.stub)
@@ -133,7 +133,7 @@ joined_onto None s r = OutOfOrder
 joined_onto (Some u) s r = joined s r.last (continued u r)
 
 abbrev pub fragment_move : Option Unfinished → State → RequestPdu (List ℕ) → Move
-fragment_move None s r = if r.first then joined s r.last (begun r) else OutOfOrder
+fragment_move None s r = if r.first then joined s r.last (unfinished_of r) else OutOfOrder
 fragment_move (Some u) s r = if continues u r then joined s r.last (continued u r) else OutOfOrder
 
 -- a further fragment of the unfinished request
@@ -143,11 +143,11 @@ going_on s r = joined_onto s.unfinished s r
 abbrev pub request_move : State → RequestPdu (List ℕ) → Move
 request_move s r = if is_some s.terms then fragment_move s.unfinished s r else OutOfOrder
 
-unfoldable pub move_of : State → Pdu (List ℕ) → Move
-move_of s (pdus.Request r) = request_move s r
-move_of s (pdus.Bind b) = bind_move s b
-move_of s (pdus.Alter b) = alter_move s b
-move_of s _ = OutOfOrder
+unfoldable pub session_move : State → Pdu (List ℕ) → Move
+session_move s (pdus.Request r) = request_move s r
+session_move s (pdus.Bind b) = bind_move s b
+session_move s (pdus.Alter b) = alter_move s b
+session_move s _ = OutOfOrder
 
 -- the PDU is in order, and no longer than it may be
 abbrev pub HasPlace : Move → Type 0

@@ -26,8 +26,8 @@ fragments (suc n) transmit call context first (b ∷ rest) =
     fragment transmit call context first (b ∷ rest) ++ fragments n transmit call context false (drop (room_of transmit) (b ∷ rest))
 
 -- a body in fragments, of which each takes a byte at least
-abbrev pub reply_bytes : ℕ → ℕ → ℕ → List ℕ → List ℕ
-reply_bytes transmit call context body = fragments (length body) transmit call context true body
+abbrev pub reply_fragments : ℕ → ℕ → ℕ → List ℕ → List ℕ
+reply_fragments transmit call context body = fragments (length body) transmit call context true body
 
 -- a bind_ack's transmit size is held between two bounds
 abbrev pub HasRoom : Option Terms → Type 0

@@ -1,12 +1,11 @@
 ghost use Rattle.std.specs.Prelude.{◌≡◌, ◌≤◌, ◌<◌, ◌+◌, ◌^◌, ℕ, List, length, take, drop};
 ghost use Rattle.rpc_pdu.specs.Pdu.{seen_response};
 ghost use Rattle.rpc_pdu.specs.Written.{response_bytes, fault_bytes};
-ghost use Rattle.rpc_session.specs.Replies.{room_of, fragment, reply_bytes};
+ghost use Rattle.rpc_session.specs.Replies.{room_of, fragment, reply_fragments};
 ghost use Rattle.outside.specs.Causes.{HasCause};
 ghost use Rattle.outside.specs.Written.{Writes};
 
-use crate::sink::{Sink, write_all};
-use outside::Failed;
+use outside::{Failed, Sink, write_all};
 use rpc_pdu::{FaultPdu, ResponsePdu, fault_pdu, response_header};
 
 /// Lays a response at the front of a buffer, and answers its length.
@@ -86,7 +85,7 @@ pub fn write_reply<T: Sink>(
     requires low { 1432 ≤ transmit }
     requires high { transmit ≤ 5840 }
     requires size { length body.now < 2 ^ 32 }
-    ensures written { Writes (T.held sink.old) (T.held sink.new) result (reply_bytes transmit call context body.now) }
+    ensures written { Writes (T.held sink.old) (T.held sink.new) result (reply_fragments transmit call context body.now) }
     ensures cause { HasCause (T.faults sink.old) (T.faults sink.new) result }
 {
     let mut buffer = [0; 5840];
@@ -104,7 +103,7 @@ fn write_fragments<T: Sink>(
     requires low { 1432 ≤ transmit }
     requires high { transmit ≤ length buffer.old }
     requires size { length body.now < 2 ^ 32 }
-    ensures written { Writes (T.held sink.old) (T.held sink.new) result (reply_bytes transmit call context body.now) }
+    ensures written { Writes (T.held sink.old) (T.held sink.new) result (reply_fragments transmit call context body.now) }
     ensures cause { HasCause (T.faults sink.old) (T.faults sink.new) result }
 {
     let mut rest = body;

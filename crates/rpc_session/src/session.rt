@@ -2,7 +2,7 @@ ghost use Rattle.std.specs.Prelude.{◌≡◌, ◌<◌, ◌++◌, List, ℕ, [],
 ghost use Rattle.rpc_session.specs.declared.state.Incoming.{Incoming};
 ghost use Rattle.rpc_session.specs.declared.session.SessionFault.{SessionFault};
 ghost use Rattle.rpc_pdu.specs.Written.{fault_bytes};
-ghost use Rattle.rpc_session.specs.Replies.{HasRoom, reply_bytes};
+ghost use Rattle.rpc_session.specs.Replies.{HasRoom, reply_fragments};
 ghost use Rattle.rpc_session.specs.Moves.{IsFor, HasJoined};
 ghost use Rattle.outside.specs.Causes.{HasCause};
 ghost use Rattle.outside.specs.Written.{Writes};
@@ -11,10 +11,9 @@ ghost use Rattle.rpc_session.specs.Items.{Seen, unbound, OnWant, ahead_by, StepJ
 
 use crate::known::Known;
 use crate::replies::{write_fault, write_reply};
-use crate::sink::Sink;
 use crate::state::{Incoming, Refusal, State};
 use crate::stream::Stream;
-use outside::Failed;
+use outside::{Failed, Sink};
 use rpc_pdu::{PduKind, PduRead, read_pdu};
 use scm_text::{Items, OutOfMemory};
 use std::alloc::Global;
@@ -251,7 +250,7 @@ impl Session {
     ) -> Result<(), Failed>
         requires bound { IsSome self.now.state.terms }
         requires size { length body.now < 2 ^ 32 }
-        ensures written { IfSome self.now.state.terms (λ terms. Writes (T.held sink.old) (T.held sink.new) result (reply_bytes terms.transmit call context body.now)) }
+        ensures written { IfSome self.now.state.terms (λ terms. Writes (T.held sink.old) (T.held sink.new) result (reply_fragments terms.transmit call context body.now)) }
         ensures cause { HasCause (T.faults sink.old) (T.faults sink.new) result }
     {
         match self.state.terms {

@@ -3,7 +3,7 @@ ghost use Rattle.rpc_pdu.specs.Pdu.{seen_bind, seen_request, seen_pdu, seen_ack}
 ghost use Rattle.rpc_pdu.specs.Written.{nak_bytes, ack_bytes, fault_bytes, ack_size};
 ghost use Rattle.rpc_session.specs.Replies.{HasRoom};
 ghost use Rattle.rpc_session.specs.Contexts.{results_of};
-ghost use Rattle.rpc_session.specs.Moves.{held_size, terms_of, ack_to, bind_move, alter_move, request_move, move_of, is_served, verdict_of, item_by, transmit_of, IsFor, Moved, Grown, body_length, cut_to, with_unfinished, going_on, with_body, continues, joined, begun, accepted};
+ghost use Rattle.rpc_session.specs.Moves.{held_size, terms_of, ack_to, bind_move, alter_move, request_move, session_move, is_served, verdict_of, item_by, transmit_of, IsFor, Moved, Grown, body_length, cut_to, with_unfinished, going_on, with_body, continues, joined, unfinished_of, accepted};
 ghost use Rattle.rpc_session.specs.declared.state.Refusal.TheVariants.{OutOfMemory};
 
 use crate::contexts::{Interface, answer_all};
@@ -298,7 +298,7 @@ impl State {
     fn begin(&mut self, alloc: Global, r: &RequestPdu<&[u8]>) -> Result<Option<Incoming>, Refusal>
         requires bound { IsSome self.old.terms }
         requires free { self.old.unfinished ≡ None }
-        ensures moved { Moved self.old self.new result (joined self.old r.now.last (begun (seen_request r.now))) }
+        ensures moved { Moved self.old self.new result (joined self.old r.now.last (unfinished_of (seen_request r.now))) }
         ensures room { HasRoom self.old.terms → HasRoom self.new.terms }
         ensures kept { IfSome self.old.terms (λ terms. self.new.terms ≡ Some terms) }
         ensures transmit { IfOk result (IsFor self.new.terms) }
@@ -385,9 +385,9 @@ impl State {
     }
 
     /// Takes a PDU: an item comes, or a fragment is joined. An `Err` leaves the state.
-    #[tactic(auto, unfolding(crate::specs::Moves::move_of))]
+    #[tactic(auto, unfolding(crate::specs::Moves::session_move))]
     pub fn take(&mut self, alloc: Global, pdu: &Pdu<&[u8]>) -> Result<Option<Incoming>, Refusal>
-        ensures moved { Moved self.old self.new result (move_of self.old (seen_pdu pdu.now)) }
+        ensures moved { Moved self.old self.new result (session_move self.old (seen_pdu pdu.now)) }
         ensures room { HasRoom self.old.terms → HasRoom self.new.terms }
         ensures kept { IfSome self.old.terms (λ terms. self.new.terms ≡ Some terms) }
         ensures transmit { IfOk result (IsFor self.new.terms) }

@@ -1,4 +1,4 @@
-use crate::bytes::{bytes, text};
+use crate::bytes::{bytes, text, units};
 use ndr_body::{BodyFault, NdrReader, NdrWriter};
 use scm_text::Buffer;
 use std::alloc::Global;
@@ -37,59 +37,121 @@ fn write(alloc: Global, writer: &mut NdrWriter, item: Item) -> Result<(), Fail> 
     Ok(())
 }
 
+/// Whether this text is read next.
+fn reads_text(alloc: Global, reader: &mut NdrReader, name: &str) -> Result<bool, Fail> {
+    let found = reader.text(alloc)?;
+    Ok(found.units() == units(alloc, name)?.as_slice())
+}
+
+/// Whether a pointer to this text is read next, or to none.
+fn reads_some_text(
+    alloc: Global,
+    reader: &mut NdrReader,
+    name: Option<&str>,
+) -> Result<bool, Fail> {
+    let found = reader.some_text(alloc)?;
+    match (found, name) {
+        (Some(found), Some(name)) => Ok(found.units() == units(alloc, name)?.as_slice()),
+        (None, None) => Ok(true),
+        _ => Ok(false),
+    }
+}
+
+/// Whether a pointer to these bytes is read next, or to none.
+fn reads_some_bytes(
+    alloc: Global,
+    reader: &mut NdrReader,
+    bytes: Option<&[u8]>,
+) -> Result<bool, Fail> {
+    let found = reader.some_bytes(alloc)?;
+    Ok(match (found, bytes) {
+        (Some(found), Some(bytes)) => found.as_slice() == bytes,
+        (None, None) => true,
+        _ => false,
+    })
+}
+
 /// Whether this item is read next.
 fn is_read(alloc: Global, reader: &mut NdrReader, item: Item) -> Result<bool, Fail> {
-    Ok(match item {
-        Item::Handle(handle) => reader.handle() == Ok(handle),
-        Item::Number(number) => reader.number() == Ok(number),
-        Item::Name(name) => reader.text(alloc)?.units() == text(alloc, name)?.units(),
-        Item::SomeName(name) => match reader.some_text(alloc)? {
-            Some(found) => found.units() == text(alloc, name)?.units(),
-            None => false,
-        },
-        Item::NoName => reader.some_text(alloc)?.is_none(),
-        Item::SomeNumber(number) => reader.some_number() == Ok(Some(number)),
-        Item::NoNumber => reader.some_number() == Ok(None),
-        Item::SomeBytes => match reader.some_bytes(alloc)? {
-            Some(found) => found.as_slice() == [9, 8, 0].as_slice(),
-            None => false,
-        },
-        Item::NoBytes => reader.some_bytes(alloc)?.is_none(),
-    })
+    match item {
+        Item::Handle(handle) => Ok(reader.handle() == Ok(handle)),
+        Item::Number(number) => Ok(reader.number() == Ok(number)),
+        Item::Name(name) => reads_text(alloc, reader, name),
+        Item::SomeName(name) => reads_some_text(alloc, reader, Some(name)),
+        Item::NoName => reads_some_text(alloc, reader, None),
+        Item::SomeNumber(number) => Ok(reader.some_number() == Ok(Some(number))),
+        Item::NoNumber => Ok(reader.some_number() == Ok(None)),
+        Item::SomeBytes => reads_some_bytes(alloc, reader, Some(&[9, 8, 0])),
+        Item::NoBytes => reads_some_bytes(alloc, reader, None),
+    }
+}
+
+/// Each item with its bytes, its padding before them. The first three are the body of
+/// ROpenServiceW.
+const ROWS: &[(Item, &str)] = &[
+    (
+        Item::Handle(1),
+        "00000000 0100000000000000 0000000000000000",
+    ),
+    (Item::Name("Db"), "03000000 00000000 03000000 440062000000"),
+    (Item::Number(4), "0000 04000000"),
+    (
+        Item::SomeName("A"),
+        "00000200 02000000 00000000 02000000 41000000",
+    ),
+    (Item::NoName, "00000000"),
+    (Item::SomeNumber(7), "04000200 07000000"),
+    (Item::NoNumber, "00000000"),
+    (Item::SomeBytes, "08000200 03000000 090800"),
+    (Item::NoBytes, "00 00000000"),
+];
+
+/// The bytes of the rows.
+fn stated(alloc: Global) -> Result<Vec<u8>, Fail> {
+    let mut body = Vec::new(alloc);
+    for (_, digits) in ROWS {
+        body.extend_from_slice(bytes(alloc, digits)?.as_slice())?;
+    }
+    Ok(body)
+}
+
+fn write_rows(alloc: Global, writer: &mut NdrWriter) -> Result<(), Fail> {
+    for (item, _) in ROWS {
+        write(alloc, writer, *item)?;
+    }
+    Ok(())
+}
+
+/// The items of the rows, as they are written.
+fn written(alloc: Global) -> Result<Buffer<u8>, Fail> {
+    let mut writer = NdrWriter::new(Buffer::with_room(alloc, 0)?);
+    match write_rows(alloc, &mut writer) {
+        Ok(()) => Ok(writer.end()),
+        Err(fault) => Err(fault),
+    }
+}
+
+/// Whether the rows are written as these bytes.
+fn are_written(alloc: Global, body: &[u8]) -> Result<bool, Fail> {
+    Ok(written(alloc)?.as_slice() == body)
+}
+
+/// How many of the rows are read one after another.
+fn count_read(alloc: Global, reader: &mut NdrReader) -> Result<usize, Fail> {
+    for (i, (item, _)) in ROWS.iter().enumerate() {
+        if !is_read(alloc, reader, *item)? {
+            return Ok(i);
+        }
+    }
+    Ok(ROWS.len())
 }
 
 #[test]
 fn items_are_written_and_read(rt: HostRuntime) -> Result<(), Fail> {
-    // Each item with its bytes, its padding before them. The first three are the body of
-    // ROpenServiceW.
-    let rows = [
-        (
-            Item::Handle(1),
-            "00000000 0100000000000000 0000000000000000",
-        ),
-        (Item::Name("Db"), "03000000 00000000 03000000 440062000000"),
-        (Item::Number(4), "0000 04000000"),
-        (
-            Item::SomeName("A"),
-            "00000200 02000000 00000000 02000000 41000000",
-        ),
-        (Item::NoName, "00000000"),
-        (Item::SomeNumber(7), "04000200 07000000"),
-        (Item::NoNumber, "00000000"),
-        (Item::SomeBytes, "08000200 03000000 090800"),
-        (Item::NoBytes, "00 00000000"),
-    ];
-    let mut writer = NdrWriter::new(Buffer::with_room(rt.alloc(), 0)?);
-    let mut body = Vec::new(rt.alloc());
-    for (item, digits) in rows {
-        write(rt.alloc(), &mut writer, item)?;
-        body.extend_from_slice(bytes(rt.alloc(), digits)?.as_slice())?;
-    }
-    assert_eq!(rt; writer.end().as_slice(), body.as_slice());
+    let body = stated(rt.alloc())?;
+    assert!(rt; are_written(rt.alloc(), body.as_slice())?);
     let mut reader = NdrReader::new(body.as_slice());
-    for (item, digits) in rows {
-        assert!(rt; is_read(rt.alloc(), &mut reader, item)?, "{digits}");
-    }
+    assert_eq!(rt; count_read(rt.alloc(), &mut reader)?, 9);
     assert_eq!(rt; reader.finish(), Ok(()));
     Ok(())
 }
@@ -108,6 +170,13 @@ fn fault(alloc: Global, item: Item, body: &[u8]) -> Result<String, Fail> {
         Some(fault) => Ok(format!(in alloc; "{fault}")?),
         None => Ok(String::new(alloc)),
     }
+}
+
+/// The same of a body in hex that stands behind a handle.
+fn fault_in(alloc: Global, item: Item, digits: &str) -> Result<String, Fail> {
+    let mut body = bytes(alloc, "00000000 0100000000000000 0000000000000000")?;
+    body.extend_from_slice(bytes(alloc, digits)?.as_slice())?;
+    fault(alloc, item, body.as_slice())
 }
 
 #[test]
@@ -136,9 +205,7 @@ fn faults_tell_their_places(rt: HostRuntime) -> Result<(), Fail> {
         ),
     ];
     for (item, digits, want) in rows {
-        let mut body = bytes(rt.alloc(), "00000000 0100000000000000 0000000000000000")?;
-        body.extend_from_slice(bytes(rt.alloc(), digits)?.as_slice())?;
-        assert_eq!(rt; fault(rt.alloc(), item, body.as_slice())?.as_str(), want);
+        assert_eq!(rt; fault_in(rt.alloc(), item, digits)?.as_str(), want);
     }
     Ok(())
 }

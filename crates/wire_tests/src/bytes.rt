@@ -3,16 +3,15 @@ use scm_text::WText;
 use std::alloc::Global;
 use std::test::Fail;
 
-/// Bytes of hex digits, with spaces between them.
+/// Bytes of hex digits, in groups of at most 16 bytes.
 pub fn bytes(alloc: Global, digits: &str) -> Result<Vec<u8>, Fail> {
-    let mut close = String::new(alloc);
-    for part in digits.split(' ') {
-        close.push_str(part)?;
+    let mut bytes = Vec::new(alloc);
+    for group in digits.split(' ') {
+        let number = u128::from_str_radix(group, 16).unwrap_or(0).to_be_bytes();
+        let front = 16usize.saturating_sub(group.len() / 2);
+        bytes.extend_from_slice(number.get(front..).unwrap_or(&[]))?;
     }
-    match hex::decode(alloc, close.as_str()) {
-        Ok(bytes) => Ok(bytes),
-        Err(_) => Err("hex".into()),
-    }
+    Ok(bytes)
 }
 
 /// The units of a text in ASCII.

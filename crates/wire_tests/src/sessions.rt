@@ -1,10 +1,10 @@
 ghost use Rattle.std.specs.Prelude.{◌≡◌, ◌<◌, ◌^◌, IfOk, length};
 
 use crate::bytes::bytes;
-use rpc_session::{
-    Incoming, MemorySink, MemorySource, ReadSource, Session, Sink, SliceSource, Source, WriteSink,
-    write_all,
+use outside::{
+    MemorySink, MemorySource, ReadSource, Sink, SliceSource, Source, WriteSink, write_all,
 };
+use rpc_session::{Incoming, Session};
 use std::alloc::Global;
 use std::test::Fail;
 
@@ -22,13 +22,12 @@ fn feed(alloc: Global, session: &mut Session, digits: &str) -> Result<(), Fail> 
     Ok(())
 }
 
-/// A session that was bound and asked.
-fn asked(alloc: Global) -> Result<Session, Fail> {
-    let mut session = Session::new(alloc);
-    feed(alloc, &mut session, BIND)?;
-    let _ack = session.next(alloc).ok().ok_or("a bind_ack")?;
-    feed(alloc, &mut session, REQUEST)?;
-    Ok(session)
+/// Binds a session, and asks it. Whether it told its bind_ack.
+fn asks(alloc: Global, session: &mut Session) -> Result<bool, Fail> {
+    feed(alloc, session, BIND)?;
+    let told = session.next(alloc).is_ok();
+    feed(alloc, session, REQUEST)?;
+    Ok(told)
 }
 
 /// So many bytes of 9.
@@ -54,18 +53,30 @@ fn replies(alloc: Global, session: &mut Session, body: &[u8], sink: &mut MemoryS
     }
 }
 
+/// Whether a session of its own answers a request by this body.
+fn is_answered(alloc: Global, body: &[u8], sink: &mut MemorySink) -> Result<bool, Fail>
+    requires { length body.now < 2 ^ 16 }
+{
+    let mut session = Session::new(alloc);
+    match asks(alloc, &mut session) {
+        Ok(asked) => Ok(asked && replies(alloc, &mut session, body, sink)),
+        Err(fault) => Err(fault),
+    }
+}
+
+/// Whether these bytes stand at a place.
+fn stands_at(alloc: Global, all: &[u8], place: usize, digits: &str) -> Result<bool, Fail> {
+    let front = bytes(alloc, digits)?;
+    Ok(
+        all.get(place..)
+            .is_some_and(|rest| rest.starts_with(front.as_slice())),
+    )
+}
+
 #[test]
 fn a_long_reply_goes_in_fragments(rt: HostRuntime) -> Result<(), Fail> {
-    let mut session = asked(rt.alloc())?;
     let mut sink = MemorySink::in_pieces(rt.alloc(), 1000, Vec::new(rt.alloc()));
-    assert!(rt;
-        replies(
-            rt.alloc(),
-            &mut session,
-            &nines(rt.alloc(), 3000)?,
-            &mut sink
-        )
-    );
+    assert!(rt; is_answered(rt.alloc(), [9; 3000].as_slice(), &mut sink)?);
     assert_eq!(rt; sink.bytes().len(), 3072);
     let rows = [
         (0, "05000201 10000000 98050000 02000000 b80b0000 00000000"),
@@ -79,9 +90,8 @@ fn a_long_reply_goes_in_fragments(rt: HostRuntime) -> Result<(), Fail> {
         ),
     ];
     for (place, front) in rows {
-        let rest = sink.bytes().get(place..).ok_or("a place")?;
         assert!(rt;
-            rest.starts_with(bytes(rt.alloc(), front)?.as_slice()),
+            stands_at(rt.alloc(), sink.bytes(), place, front)?,
             "at {place}"
         );
     }
@@ -90,30 +100,25 @@ fn a_long_reply_goes_in_fragments(rt: HostRuntime) -> Result<(), Fail> {
 
 #[test]
 fn a_sink_that_fails_holds_the_fragments_before(rt: HostRuntime) -> Result<(), Fail> {
-    let mut session = asked(rt.alloc())?;
-    let mut sink = MemorySink::new(rt.alloc(), vec![in rt.alloc(); true, false]?);
-    assert!(rt;
-        !replies(
-            rt.alloc(),
-            &mut session,
-            &nines(rt.alloc(), 3000)?,
-            &mut sink
-        )
-    );
+    let fails = vec![in rt.alloc(); true, false]?;
+    let mut sink = MemorySink::new(rt.alloc(), fails);
+    assert!(rt; !is_answered(rt.alloc(), [9; 3000].as_slice(), &mut sink)?);
     assert_eq!(rt; sink.bytes().len(), 1432);
     Ok(())
 }
 
+/// Whether a session writes a fault of call 4.
+fn tells_fault(alloc: Global, sink: &mut MemorySink) -> bool {
+    Session::new(alloc).fault(4, 0, 0x1C010002, sink).is_ok()
+}
+
 #[test]
 fn a_fault_is_written(rt: HostRuntime) -> Result<(), Fail> {
-    let session = Session::new(rt.alloc());
-    let mut sink = MemorySink::new(rt.alloc(), Vec::new(rt.alloc()));
-    session
-        .fault(4, 0, 0x1C010002, &mut sink)
-        .ok()
-        .ok_or("written")?;
     let want = "05000303 10000000 20000000 04000000 00000000 00000000 0200011c 00000000";
-    assert_eq!(rt; sink.bytes(), bytes(rt.alloc(), want)?.as_slice());
+    let mut sink = MemorySink::new(rt.alloc(), Vec::new(rt.alloc()));
+    assert!(rt; tells_fault(rt.alloc(), &mut sink));
+    assert!(rt; stands_at(rt.alloc(), sink.bytes(), 0, want)?);
+    assert_eq!(rt; sink.bytes().len(), 32);
     Ok(())
 }
 

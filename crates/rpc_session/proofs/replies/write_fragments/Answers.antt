@@ -1,7 +1,8 @@
 use Rattle.std.proofs.Common.{arith, rules, ap, eqb-true, List, ℕ, [], ◌∷◌, ◌-◌, ◌<◌, ◌≡◌, length, false, sym, ◌∙◌, drop, nat_eq, refl}
 use Rattle.std.proofs.lemmas.List.{length-drop}
 use Rattle.rpc_session.specs.Replies.{room_of}
-use Rattle.rpc_session.proofs.Sending.{sent_more, sent_failed, sent_all, no_fragments, spent, fragments_step}
+use Rattle.outside.proofs.Sending.{sent_all, sent_failed, sent_more}
+use Rattle.rpc_session.proofs.Sending.{no_fragments, spent, fragments_step}
 use Rattle.rpc_session.proofs.replies.write_fragments.Goals as goal
 
 some_left : (xs : List ℕ) → false ≡ nat_eq (length xs) 0 → 0 < length xs

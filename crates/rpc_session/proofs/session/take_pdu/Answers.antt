@@ -5,7 +5,7 @@ use Rattle.rpc_session.specs.declared.session.SessionFault.TheVariants as faults
 use Rattle.rpc_pdu.specs.declared.pdu.End.TheVariants.{Server}
 use Rattle.rpc_pdu.specs.declared.pdu.PduRead.TheVariants.{Short, Bad}
 use Rattle.rpc_pdu.specs.Pdu.{pdu_at, seen_read, seen_pdu, IsSettled}
-use Rattle.rpc_session.specs.Items.{StepComes, Ends, BadPdu, fault_by, TellsAgain, IsStuck, ahead_by}
+use Rattle.rpc_session.specs.Items.{StepComes, TellsEnd, BadPdu, fault_by, TellsAgain, IsStuck, ahead_by}
 use Rattle.rpc_session.proofs.Telling.{taken, refused, open_at, bad_at, front_is, none_again, some_again, taken_again, refused_again, refused_stuck}
 use Rattle.rpc_session.proofs.Joining.{further_on, step_joins}
 use Rattle.rpc_session.proofs.session.take_pdu.Goals as goal
@@ -23,7 +23,7 @@ returns-in-Bad-clause-comes c =
     let rest = drop c.args.ahead.now c.args.stream.now.rest in
     let is = ap (pdu_at Server) (sym c.ahead.ensures.rest) ∙ sym c.read_pdu.ensures.value ∙ ap seen_read c.in-Bad.is in
     let stays = settled c.ahead.result.now rest c.ahead.ensures.rest c.read_pdu.ensures.settled (subst IsSettled (sym is) tt) in (
-      subst (λ p. Ends (ahead_by c.args.state.now c.args.stream.now c.args.ahead.now) (BadPdu p c.in-Bad.kind)) (sym c.place.ensures)
+      subst (λ p. TellsEnd (ahead_by c.args.state.now c.args.stream.now c.args.ahead.now) (BadPdu p c.in-Bad.kind)) (sym c.place.ensures)
           (bad_at c.args.state.now (c.args.stream.now.place + c.args.ahead.now) rest c.in-Bad.kind is stays),
       λ more. refl,
     )

@@ -1,6 +1,6 @@
 use Rattle.std.proofs.Common.{arith}
-use Rattle.rpc_session.proofs.Sending.{sent_part}
-use Rattle.rpc_session.proofs.sink.write_all.Goals as goal
+use Rattle.outside.proofs.Sending.{sent_part}
+use Rattle.outside.proofs.sink.write_all.Goals as goal
 
 pub loop-rest-preserved : goal.loop-rest-preserved
 loop-rest-preserved g c = (
