@@ -18,15 +18,15 @@ rights_of User true = 0x20015
 rights_of User false = 0x2008D
 
 -- whether the mask has each of the bits
-abbrev pub has : ℕ → ℕ → Bool
-has mask bits = bit_and mask bits == bits
+abbrev pub has_bits : ℕ → ℕ → Bool
+has_bits mask bits = bit_and mask bits == bits
 
 abbrev pub without : ℕ → ℕ → ℕ
 without mask bits = bit_and mask (2 ^ 32 - 1 - bits)
 
 -- what a generic bit stands for, where it is asked for
 abbrev pub mapped : ℕ → ℕ → ℕ → ℕ
-mapped desired generic mapping = if has desired generic then mapping else 0
+mapped desired generic mapping = if has_bits desired generic then mapping else 0
 
 abbrev pub map_by : Mapping → ℕ → ℕ
 map_by mapping desired =
@@ -41,11 +41,11 @@ map_generic manager desired = map_by (mapping_of manager) desired
 
 -- whether each bit but that one is among the rights
 abbrev pub is_allowed : ℕ → ℕ → Bool
-is_allowed mask rights = has rights (without mask MAXIMUM_ALLOWED)
+is_allowed mask rights = has_bits rights (without mask MAXIMUM_ALLOWED)
 
 -- all rights where they are asked for, else those that are asked for
 abbrev pub chosen : ℕ → ℕ → ℕ
-chosen mask rights = if has mask MAXIMUM_ALLOWED then rights else mask
+chosen mask rights = if has_bits mask MAXIMUM_ALLOWED then rights else mask
 
 -- a handle of the manager can connect besides
 abbrev pub connected : Bool → ℕ → ℕ

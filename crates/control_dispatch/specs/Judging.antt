@@ -5,18 +5,18 @@ use Rattle.scm_model.specs.declared.flat.Status.{Status}
 use Rattle.scm_model.specs.declared.codes.TheConstants.{ERROR_ACCESS_DENIED, ERROR_DEPENDENT_SERVICES_RUNNING, ERROR_INVALID_HANDLE, ERROR_INVALID_PARAMETER, ERROR_INVALID_SERVICE_CONTROL, ERROR_SERVICE_CANNOT_ACCEPT_CTRL, ERROR_SERVICE_NOT_ACTIVE, FIRST_USER_CONTROL, LAST_USER_CONTROL, SERVICE_ACCEPT_NETBINDCHANGE, SERVICE_ACCEPT_PARAMCHANGE, SERVICE_ACCEPT_PAUSE_CONTINUE, SERVICE_ACCEPT_STOP, SERVICE_CONTROL_CONTINUE, SERVICE_CONTROL_INTERROGATE, SERVICE_CONTROL_NETBINDADD, SERVICE_CONTROL_NETBINDDISABLE, SERVICE_CONTROL_PARAMCHANGE, SERVICE_CONTROL_PAUSE, SERVICE_CONTROL_STOP, SERVICE_INTERROGATE, SERVICE_PAUSE_CONTINUE, SERVICE_START_PENDING, SERVICE_STOP, SERVICE_STOPPED, SERVICE_STOP_PENDING, SERVICE_USER_DEFINED_CONTROL}
 use Rattle.control_dispatch.specs.declared.judging.Control.{Control}
 
-abbrev pub needing : ℕ → ℕ → Control
-needing right accept = record { right = right; accept = accept }
+abbrev pub control_rule : ℕ → ℕ → Control
+control_rule right accept = record { right = right; accept = accept }
 
 -- the controls that there are, from a code to a code: the right that sending one needs, and the bit by which a service accepts it, or 0
 abbrev pub controls : List (ℕ × ℕ × Control)
 controls =
-    (SERVICE_CONTROL_STOP, SERVICE_CONTROL_STOP, needing SERVICE_STOP SERVICE_ACCEPT_STOP)
-    ∷ (SERVICE_CONTROL_PAUSE, SERVICE_CONTROL_CONTINUE, needing SERVICE_PAUSE_CONTINUE SERVICE_ACCEPT_PAUSE_CONTINUE)
-    ∷ (SERVICE_CONTROL_INTERROGATE, SERVICE_CONTROL_INTERROGATE, needing SERVICE_INTERROGATE 0)
-    ∷ (SERVICE_CONTROL_PARAMCHANGE, SERVICE_CONTROL_PARAMCHANGE, needing SERVICE_PAUSE_CONTINUE SERVICE_ACCEPT_PARAMCHANGE)
-    ∷ (SERVICE_CONTROL_NETBINDADD, SERVICE_CONTROL_NETBINDDISABLE, needing SERVICE_PAUSE_CONTINUE SERVICE_ACCEPT_NETBINDCHANGE)
-    ∷ (FIRST_USER_CONTROL, LAST_USER_CONTROL, needing SERVICE_USER_DEFINED_CONTROL 0)
+    (SERVICE_CONTROL_STOP, SERVICE_CONTROL_STOP, control_rule SERVICE_STOP SERVICE_ACCEPT_STOP)
+    ∷ (SERVICE_CONTROL_PAUSE, SERVICE_CONTROL_CONTINUE, control_rule SERVICE_PAUSE_CONTINUE SERVICE_ACCEPT_PAUSE_CONTINUE)
+    ∷ (SERVICE_CONTROL_INTERROGATE, SERVICE_CONTROL_INTERROGATE, control_rule SERVICE_INTERROGATE 0)
+    ∷ (SERVICE_CONTROL_PARAMCHANGE, SERVICE_CONTROL_PARAMCHANGE, control_rule SERVICE_PAUSE_CONTINUE SERVICE_ACCEPT_PARAMCHANGE)
+    ∷ (SERVICE_CONTROL_NETBINDADD, SERVICE_CONTROL_NETBINDDISABLE, control_rule SERVICE_PAUSE_CONTINUE SERVICE_ACCEPT_NETBINDCHANGE)
+    ∷ (FIRST_USER_CONTROL, LAST_USER_CONTROL, control_rule SERVICE_USER_DEFINED_CONTROL 0)
     ∷ []
 
 abbrev pub is_within : ℕ → ℕ × ℕ × Control → Bool
@@ -26,17 +26,17 @@ abbrev pub control_of : ℕ → Option Control
 control_of code = option_map (λ (row : ℕ × ℕ × Control). row.2) (find (is_within code) controls)
 
 -- whether one of the bits is missing
-abbrev pub lacks : ℕ → ℕ → Bool
-lacks mask bits = not (bit_and mask bits == bits)
+abbrev pub lacks_bits : ℕ → ℕ → Bool
+lacks_bits mask bits = not (bit_and mask bits == bits)
 
 abbrev pub lacks_right : Option ℕ → Option Control → Bool
 lacks_right None control = true
 lacks_right (Some granted) None = true
-lacks_right (Some granted) (Some control) = lacks granted control.right
+lacks_right (Some granted) (Some control) = lacks_bits granted control.right
 
 abbrev pub does_not_accept : Status → Option Control → Bool
 does_not_accept status None = true
-does_not_accept status (Some control) = lacks status.accepted control.accept
+does_not_accept status (Some control) = lacks_bits status.accepted control.accept
 
 -- the code of a control: of the rights granted by the handle, which is none where it is no handle of a service, the services that
 -- need this one and aren't stopped, the controls that wait, and how many may

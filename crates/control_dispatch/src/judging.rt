@@ -1,5 +1,5 @@
 ghost use Rattle.std.specs.Prelude.{◌≡◌};
-ghost use Rattle.control_dispatch.specs.Judging.{control_of, judge, lacks};
+ghost use Rattle.control_dispatch.specs.Judging.{control_of, judge, lacks_bits};
 
 use scm_model::Status;
 use scm_model::codes::{
@@ -44,7 +44,7 @@ fn control_of(code: u32) -> Option<Control>
 
 /// Whether one of the bits is missing.
 fn lacks(mask: u32, bits: u32) -> bool
-    ensures { result ≡ lacks mask bits }
+    ensures { result ≡ lacks_bits mask bits }
 {
     mask & bits != bits
 }

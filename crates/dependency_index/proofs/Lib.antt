@@ -12,3 +12,4 @@ pub mod Depending
 pub mod Sifted
 pub mod Reaching
 pub mod Cycles
+pub mod Closing

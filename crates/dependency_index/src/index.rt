@@ -7,7 +7,7 @@ ghost use Rattle.scm_model.specs.Needs.{has, needs_of, numbers_of, with_row};
 ghost use Rattle.scm_model.specs.Order.{is_cyclic, order_in};
 ghost use Rattle.scm_model.specs.Walks.{IsAcyclic};
 
-use super::graph::{Graph, NewRow, is_listed};
+use super::graph::{Listed, NewRow, is_listed};
 use super::naming::{StateLook, active, row_of};
 use super::steps::Steps;
 use super::visit::StateOf;
@@ -153,6 +153,7 @@ impl DependencyIndex {
         take_out(&mut self.rows, service);
     }
 
+    #[tactic(auto, using(crate::proofs::Cycles::free, crate::proofs::Cycles::looped))]
     /// Whether the need graph with this row put in has a cycle: a service that needs its own group is one. The list is used as
     /// room. It takes no memory.
     pub fn would_cycle(
@@ -175,11 +176,10 @@ impl DependencyIndex {
             group,
             needs: needs.as_slice(),
         };
-        let graph = Graph {
+        let listed = Listed {
             rows: self.rows.as_slice(),
-            new: Some(new),
         };
-        order::has_cycle(&graph, room)
+        order::makes_cycle(&listed, new, room)
     }
 
     /// Writes the order in which a service and what it needs are started. It takes no memory.
@@ -190,7 +190,10 @@ impl DependencyIndex {
         ensures order { room.new.items ≡ order_in self.now.rows (S.state_of states.now) target }
         ensures few { length room.new.items ≤ length self.now.rows }
     {
-        order::order_of(self.rows.as_slice(), target, states, room);
+        let listed = Listed {
+            rows: self.rows.as_slice(),
+        };
+        order::order_of(&listed, target, states, room);
     }
 
     /// Writes the order in which the services are stopped that need a service by name, directly or through named needs: each before

@@ -11,8 +11,12 @@ mod steps;
 mod visit;
 
 pub use dependents::{dependents_follow_their_rule, dependents_need_it_by_name};
+pub use graph::{Graph, NeedRows, NewRow};
 pub use index::DependencyIndex;
 pub use naming::{StateLook, is_named};
-pub use order::{cycles_are_told, order_follows_its_rule};
+pub use order::{
+    closes_cycle, cycles_are_told, has_cycle, makes_cycle, order_follows_its_rule, order_of,
+};
+pub use rows::meets;
 pub use steps::Steps;
 pub use visit::StateOf;

@@ -1,4 +1,4 @@
-use control_dispatch::{Controls, judge};
+use control_dispatch::judge;
 use scm_model::Status;
 
 // From winsvc.h.
@@ -47,6 +47,9 @@ fn status(state: u32, accepted: u32) -> Status {
 #[test]
 fn controls_are_let_through_or_refused(rt: HostRuntime) {
     let all = Some(SERVICE_ALL_ACCESS);
+    let looks = Some(SERVICE_INTERROGATE);
+    let its_own = Some(SERVICE_USER_DEFINED_CONTROL);
+    let pauses = Some(SERVICE_PAUSE_CONTINUE);
     let stops = SERVICE_ACCEPT_STOP;
     let changes = SERVICE_ACCEPT_PARAMCHANGE;
     // The rights of the handle, the control, the state and what is accepted; how many active
@@ -54,45 +57,13 @@ fn controls_are_let_through_or_refused(rt: HostRuntime) {
     // how many controls wait, of 16 that may; the answer.
     let rows = [
         (Some(SERVICE_STOP), STOP, RUNNING, stops, 0, 0, 0),
-        (
-            Some(SERVICE_INTERROGATE),
-            INTERROGATE,
-            RUNNING,
-            stops,
-            0,
-            0,
-            0,
-        ),
-        (
-            Some(SERVICE_USER_DEFINED_CONTROL),
-            255,
-            RUNNING,
-            stops,
-            0,
-            0,
-            0,
-        ),
-        (
-            Some(SERVICE_PAUSE_CONTINUE),
-            PARAMCHANGE,
-            RUNNING,
-            changes,
-            0,
-            0,
-            0,
-        ),
-        (
-            Some(SERVICE_PAUSE_CONTINUE),
-            PARAMCHANGE,
-            RUNNING,
-            stops,
-            0,
-            0,
-            1052,
-        ),
+        (looks, INTERROGATE, RUNNING, stops, 0, 0, 0),
+        (its_own, 255, RUNNING, stops, 0, 0, 0),
+        (pauses, PARAMCHANGE, RUNNING, changes, 0, 0, 0),
+        (pauses, PARAMCHANGE, RUNNING, stops, 0, 0, 1052),
         (all, STOP, RUNNING, changes, 0, 0, 1052),
         (None, STOP, RUNNING, stops, 0, 0, 6),
-        (Some(SERVICE_PAUSE_CONTINUE), STOP, RUNNING, stops, 0, 0, 5),
+        (pauses, STOP, RUNNING, stops, 0, 0, 5),
         (all, 5, RUNNING, stops, 0, 0, 87),
         (all, 127, RUNNING, stops, 0, 0, 87),
         (all, 256, RUNNING, stops, 0, 0, 87),
@@ -107,23 +78,5 @@ fn controls_are_let_through_or_refused(rt: HostRuntime) {
     for (rights, control, state, accepted, active, waiting, want) in rows {
         let status = status(state, accepted);
         assert_eq!(rt; judge(rights, control, &status, active, waiting, 16), want);
-    }
-}
-
-#[test]
-fn controls_wait_in_their_order(rt: HostRuntime) {
-    let mut controls = Controls::new();
-    assert!(rt; controls.is_empty() && controls.len() < 15);
-    controls.enqueue(PAUSE);
-    controls.enqueue(INTERROGATE);
-    // How many wait, the first of them, and which is taken.
-    let rows = [
-        (2, Some(PAUSE), Some(PAUSE)),
-        (1, Some(INTERROGATE), Some(INTERROGATE)),
-        (0, None, None),
-    ];
-    for (waiting, first, taken) in rows {
-        assert_eq!(rt; (controls.len(), controls.first()), (waiting, first));
-        assert_eq!(rt; controls.take_next(), taken);
     }
 }

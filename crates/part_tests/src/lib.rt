@@ -9,8 +9,6 @@ mod bench;
 #[cfg(test)]
 mod controls;
 #[cfg(test)]
-mod lock;
-#[cfg(test)]
 mod moves;
 #[cfg(test)]
 mod needs;

@@ -5,7 +5,7 @@ ghost use Rattle.scm_model.specs.Walks.{IsAcyclic};
 use crate::texts::{add, text};
 use dependency_index::{DependencyIndex, StateLook, StateOf, Steps};
 use scm_model::Need;
-use scm_text::{Buffer, Items, OutOfMemory};
+use scm_text::{Buffer, Items, OutOfMemory, WText};
 use std::alloc::Global;
 use std::marker::Brand;
 use std::sync::ledger::{Blank, Ledger};
@@ -43,14 +43,50 @@ const CHAINED: [Row; 4] = [
     (4, "c", "", "d b"),
 ];
 
-fn put(alloc: Global, index: &mut DependencyIndex, row: Row) -> Result<(), Fail> {
-    let (number, name, group, needed) = row;
-    let name = text(alloc, name)?;
-    let group = text(alloc, group)?;
-    let needs = needs(alloc, needed)?;
-    index.reserve(alloc, &name, &group, &needs)?;
-    index.set_needs(number, &name, &group, &needs);
+/// The texts and the needs of a row in memory.
+#[derive(Drop)]
+struct Parts {
+    name: WText,
+    group: WText,
+    needs: Items<Need>,
+}
+
+fn in_memory(alloc: Global, name: &str, group: &str, needed: &str) -> Result<Parts, OutOfMemory> {
+    match (text(alloc, name), text(alloc, group), needs(alloc, needed)) {
+        (Ok(name), Ok(group), Ok(needs)) => Ok(Parts { name, group, needs }),
+        _ => Err(OutOfMemory),
+    }
+}
+
+/// Puts a service in, unless it would close a cycle.
+fn put_parts(
+    alloc: Global,
+    index: &mut DependencyIndex,
+    number: u64,
+    parts: &Parts,
+) -> Result<(), Fail>
+    ensures { OnOk result (IsAcyclic (needs_of index.new.rows)) }
+{
+    index.reserve(alloc, &parts.name, &parts.group, &parts.needs)?;
+    let mut room = Buffer::with_room(alloc, 8)?;
+    if 7 < index.len()
+        || index.would_cycle(number, &parts.name, &parts.group, &parts.needs, &mut room)
+    {
+        return Err("a cycle".into());
+    }
+    index.set_needs(number, &parts.name, &parts.group, &parts.needs);
     Ok(())
+}
+
+/// Puts a row in, unless it would close a cycle.
+fn put(alloc: Global, index: &mut DependencyIndex, row: Row) -> Result<(), Fail>
+    ensures { OnOk result (IsAcyclic (needs_of index.new.rows)) }
+{
+    let (number, name, group, needed) = row;
+    match in_memory(alloc, name, group, needed) {
+        Ok(parts) => put_parts(alloc, index, number, &parts),
+        Err(_) => Err("memory".into()),
+    }
 }
 
 fn grouped(alloc: Global) -> Result<DependencyIndex, Fail> {
@@ -125,6 +161,20 @@ fn what_a_service_needs_is_started_before_it(rt: HostRuntime) -> Result<(), Fail
     are_ordered(rt.alloc(), &mut index)
 }
 
+/// Whether a service would close a cycle.
+fn would_cycle(
+    alloc: Global,
+    index: &DependencyIndex,
+    number: u64,
+    parts: &Parts,
+) -> Result<bool, Fail> {
+    let mut room = Buffer::with_room(alloc, 8)?;
+    if 7 < index.len() {
+        return Err("many services".into());
+    }
+    Ok(index.would_cycle(number, &parts.name, &parts.group, &parts.needs, &mut room))
+}
+
 /// Whether a service of the group with these needs would close a cycle.
 fn closes(
     alloc: Global,
@@ -133,14 +183,10 @@ fn closes(
     name: &str,
     needed: &str,
 ) -> Result<bool, Fail> {
-    let name = text(alloc, name)?;
-    let group = text(alloc, "g")?;
-    let needs = needs(alloc, needed)?;
-    let mut room = Buffer::with_room(alloc, 8)?;
-    if 7 < index.len() {
-        return Err("many services".into());
+    match in_memory(alloc, name, "g", needed) {
+        Ok(parts) => would_cycle(alloc, index, number, &parts),
+        Err(_) => Err("memory".into()),
     }
-    Ok(index.would_cycle(number, &name, &group, &needs, &mut room))
 }
 
 fn are_cycles(alloc: Global, index: &DependencyIndex) -> Result<(), Fail> {
@@ -186,30 +232,13 @@ fn only_who_names_a_service_counts(rt: HostRuntime) -> Result<(), Fail> {
     Ok(())
 }
 
-/// Puts a row in, unless it would close a cycle.
-fn put_if_acyclic(alloc: Global, index: &mut DependencyIndex, row: Row) -> Result<(), Fail>
-    ensures { OnOk result (IsAcyclic (needs_of index.new.rows)) }
-{
-    let (number, name, group, needed) = row;
-    let name = text(alloc, name)?;
-    let group = text(alloc, group)?;
-    let needs = needs(alloc, needed)?;
-    index.reserve(alloc, &name, &group, &needs)?;
-    let mut room = Buffer::with_room(alloc, 8)?;
-    if 7 < index.len() || index.would_cycle(number, &name, &group, &needs, &mut room) {
-        return Err("a cycle".into());
-    }
-    index.set_needs(number, &name, &group, &needs);
-    Ok(())
-}
-
 fn chain(alloc: Global, index: &mut DependencyIndex) -> Result<(), Fail>
     ensures { OnOk result (IsAcyclic (needs_of index.new.rows)) }
 {
-    put_if_acyclic(alloc, index, CHAINED[0])?;
-    put_if_acyclic(alloc, index, CHAINED[1])?;
-    put_if_acyclic(alloc, index, CHAINED[2])?;
-    put_if_acyclic(alloc, index, CHAINED[3])
+    put(alloc, index, CHAINED[0])?;
+    put(alloc, index, CHAINED[1])?;
+    put(alloc, index, CHAINED[2])?;
+    put(alloc, index, CHAINED[3])
 }
 
 fn are_dependents(alloc: Global, index: &DependencyIndex) -> Result<(), Fail>

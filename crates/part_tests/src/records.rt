@@ -1,9 +1,7 @@
-use crate::texts::{add, text, text_and};
+use crate::texts::{text, text_and};
 use scm_model::{Action, Config, Need};
 use scm_text::{Items, OutOfMemory, WText};
-use service_record::{
-    RecordFault, check_change, check_new, is_bad_name, read_record, record_bytes,
-};
+use service_record::{RecordFault, check_change, check_new, read_record, record_bytes};
 use std::alloc::Global;
 use std::test::Fail;
 
@@ -27,32 +25,33 @@ const RECORD: [u8; 80] = [
 ];
 
 fn needs(alloc: Global) -> Result<Items<Need>, OutOfMemory> {
-    let mut needs = Items::new(alloc);
-    add(&mut needs, Need::Group(text(alloc, "g")?))?;
-    Ok(needs)
+    match Vec::from_array(alloc, [Need::Group(text(alloc, "g")?)]) {
+        Ok(needs) => Ok(Items::from_vec(needs)),
+        Err(_) => Err(OutOfMemory),
+    }
 }
 
 fn actions(alloc: Global) -> Result<Items<Action>, OutOfMemory> {
-    let mut actions = Items::new(alloc);
     let restart = Action {
         what: 1,
         delay: 1000,
     };
-    add(&mut actions, restart)?;
-    Ok(actions)
+    match Vec::from_array(alloc, [restart]) {
+        Ok(actions) => Ok(Items::from_vec(actions)),
+        Err(_) => Err(OutOfMemory),
+    }
 }
 
-/// The same configuration.
-fn sample(alloc: Global) -> Result<Config, OutOfMemory> {
+/// The configuration of a service with this name that runs this path, and else the same.
+fn configured(alloc: Global, name: &str, path: WText) -> Result<Config, OutOfMemory> {
     match (
-        text(alloc, "x"),
-        text(alloc, "y z"),
+        text(alloc, name),
         text(alloc, "h"),
         text_and(alloc, "", &[0x163]),
         needs(alloc),
         actions(alloc),
     ) {
-        (Ok(name), Ok(path), Ok(group), Ok(command), Ok(needs), Ok(actions)) => Ok(Config {
+        (Ok(name), Ok(group), Ok(command), Ok(needs), Ok(actions)) => Ok(Config {
             name,
             display: WText::new(alloc),
             kind: 0x10,
@@ -74,6 +73,11 @@ fn sample(alloc: Global) -> Result<Config, OutOfMemory> {
     }
 }
 
+/// The same configuration, but for its name.
+fn sample(alloc: Global, name: &str) -> Result<Config, OutOfMemory> {
+    configured(alloc, name, text(alloc, "y z")?)
+}
+
 /// Whether a configuration has the stated bytes.
 fn is_stated(alloc: Global, config: &Config) -> bool {
     match record_bytes(alloc, config) {
@@ -83,7 +87,7 @@ fn is_stated(alloc: Global, config: &Config) -> bool {
 }
 
 fn is_written(alloc: Global) -> bool {
-    match sample(alloc) {
+    match sample(alloc, "x") {
         Ok(config) => is_stated(alloc, &config),
         Err(_) => false,
     }
@@ -159,60 +163,42 @@ const REFUSED: [Row; 9] = [
     ("x", "x", &[0xD83D, 0xDE00], "", 0),
 ];
 
-/// What a configuration is refused with that gets this name and path.
-fn refusal(alloc: Global, config: &mut Config, row: Row) -> Result<u32, OutOfMemory> {
-    let (name, path, behind, account, _) = row;
-    config.name = text(alloc, name)?;
-    config.path = text_and(alloc, path, behind)?;
-    let account = text(alloc, account)?;
-    Ok(check_new(config, Some(&account)))
+fn refusal(config: &Config, account: &WText) -> u32 {
+    check_new(config, Some(account))
 }
 
-fn are_refused(alloc: Global, config: &mut Config) -> Result<(), Fail> {
-    for row in REFUSED {
-        if refusal(alloc, config, row)? != row.4 {
-            return Err("another code".into());
-        }
+/// What such a configuration is refused with. Nothing is told without memory.
+fn refusal_of(alloc: Global, row: Row) -> Option<u32> {
+    let (name, path, behind, account, _) = row;
+    let Ok(path) = text_and(alloc, path, behind) else {
+        return None;
+    };
+    match (configured(alloc, name, path), text(alloc, account)) {
+        (Ok(config), Ok(account)) => Some(refusal(&config, &account)),
+        _ => None,
     }
-    Ok(())
 }
 
 #[test]
-fn configurations_are_refused_with_their_codes(rt: HostRuntime) -> Result<(), Fail> {
-    let mut config = sample(rt.alloc())?;
-    are_refused(rt.alloc(), &mut config)
-}
-
-/// A configuration whose name has a backslash.
-fn misnamed(alloc: Global) -> Result<Config, OutOfMemory> {
-    let mut config = sample(alloc)?;
-    config.name = text(alloc, "a\\b")?;
-    Ok(config)
-}
-
-/// Whether changes between a configuration and one with a bad name are judged by what they lead to.
-fn are_judged(alloc: Global, good: &Config) -> bool {
-    match misnamed(alloc) {
-        Ok(bad) => {
-            let names = (is_bad_name(&good.name), is_bad_name(&bad.name));
-            let changes = (
-                check_change(good, &bad, None),
-                check_change(&bad, good, None),
-            );
-            names == (false, true) && changes == (123, 0)
-        }
-        Err(_) => false,
+fn configurations_are_refused_with_their_codes(rt: HostRuntime) {
+    for row in REFUSED {
+        assert_eq!(rt; refusal_of(rt.alloc(), row), Some(row.4));
     }
 }
 
-fn are_judged_from_the_sample(alloc: Global) -> bool {
-    match sample(alloc) {
-        Ok(good) => are_judged(alloc, &good),
-        Err(_) => false,
+/// What changes from a configuration to one with a bad name and back are answered.
+fn judged(good: &Config, bad: &Config) -> (u32, u32) {
+    (check_change(good, bad, None), check_change(bad, good, None))
+}
+
+fn judged_from_the_sample(alloc: Global) -> Option<(u32, u32)> {
+    match (sample(alloc, "x"), sample(alloc, "a\\b")) {
+        (Ok(good), Ok(bad)) => Some(judged(&good, &bad)),
+        _ => None,
     }
 }
 
 #[test]
 fn a_change_is_judged_by_what_it_leads_to(rt: HostRuntime) {
-    assert!(rt; are_judged_from_the_sample(rt.alloc()));
+    assert_eq!(rt; judged_from_the_sample(rt.alloc()), Some((123, 0)));
 }

@@ -4,9 +4,9 @@ use Rattle.scm_model.specs.declared.flat.Flat.{Flat}
 use Rattle.scm_model.specs.declared.flat.LockRow.{LockRow}
 use Rattle.scm_model.specs.declared.flat.Principal.{Principal}
 use Rattle.scm_model.specs.declared.flat.Principal.TheVariants.{Admin, User}
-use Rattle.scm_rules.specs.Locks.{lock_owner, name_of, owner_of}
+use Rattle.scm_rules.specs.Locks.{lock_owner, principal_name, owner_of}
 
-short_name : (principal : Principal) → length (name_of principal) < 2 ^ 16
+short_name : (principal : Principal) → length (principal_name principal) < 2 ^ 16
 short_name Admin = omega arith
 short_name User = omega arith
 

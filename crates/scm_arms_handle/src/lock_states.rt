@@ -1,5 +1,6 @@
-ghost use Rattle.std.specs.Prelude.{◌≡◌, ◌<◌, ◌^◌, ◌==◌, Some, codes, length, IfOk, if◌then◌else◌};
-ghost use Rattle.scm_rules.specs.Locks.{is_held, lock_owner, lock_size, name_of, query_lock_reply, query_lock_verdict, seconds_at};
+ghost use Rattle.std.specs.Prelude.{◌≡◌, ◌<◌, ◌^◌, ◌==◌, Some, codes, length, option_and_then, IfOk, if◌then◌else◌};
+ghost use Rattle.scm_model.specs.Rows.{caller_of, owner_at, principal_in};
+ghost use Rattle.scm_rules.specs.Locks.{is_held, lock_owner, lock_size, principal_name, query_lock_reply, query_lock_verdict, seconds_at};
 
 use scm_model::codes::{ERROR_ACCESS_DENIED, ERROR_INSUFFICIENT_BUFFER, ERROR_INVALID_HANDLE};
 use scm_model::{LockRow, Principal, Reply};
@@ -26,11 +27,21 @@ fn text_of(units: &[u16], alloc: Global) -> Result<WText, OutOfMemory>
 
 /// The name of a principal.
 fn name_of(principal: Principal, alloc: Global) -> Result<WText, OutOfMemory>
-    ensures { IfOk result (λ text. text ≡ name_of principal) }
+    ensures { IfOk result (λ text. text ≡ principal_name principal) }
 {
     match principal {
         Principal::Admin => text_of(&ADMIN, alloc),
         Principal::User => text_of(&USER, alloc),
+    }
+}
+
+/// Who the caller is whose handle holds the lock. Nobody has a user's rights.
+fn holder(tables: &Tables, held: LockRow) -> Principal
+    ensures { result ≡ principal_in (option_and_then (caller_of tables.now.flat) (owner_at tables.now.flat.handles held)) }
+{
+    match tables.owner_at(held) {
+        Some(caller) => tables.principal_of(caller),
+        None => Principal::User,
     }
 }
 
@@ -39,7 +50,7 @@ pub fn lock_owner(tables: &Tables, alloc: Global) -> Result<WText, OutOfMemory>
     ensures { IfOk result (λ owner. owner ≡ lock_owner tables.now.flat) }
 {
     match tables.lock() {
-        Some(held) => name_of(tables.principal_of(tables.owner_at(held)), alloc),
+        Some(held) => name_of(holder(tables, held), alloc),
         None => Ok(WText::new(alloc)),
     }
 }

@@ -1,8 +1,7 @@
-ghost use Rattle.std.specs.Prelude.{◌≡◌, ◌≤◌, ◌<◌, ◌^◌, option_copied};
+ghost use Rattle.std.specs.Prelude.{◌≡◌, ◌≤◌, ◌<◌, ◌^◌};
 ghost use Rattle.scm_model.specs.Refused.{outcome};
-ghost use Rattle.scm_model.specs.Rows.{named};
 ghost use Rattle.scm_model.specs.declared.calls.Request.TheVariants as request;
-ghost use Rattle.scm_rules.specs.OpenService.{number_in, open_service_done, open_service_verdict, service_granted, open_service_outcome};
+ghost use Rattle.scm_rules.specs.OpenService.{open_service_done, open_service_verdict, service_granted, open_service_outcome};
 
 use access_mask::granted;
 use scm_model::codes::{
@@ -19,16 +18,6 @@ fn service_granted(tables: &Tables, caller: u64, access: u32) -> Option<u32>
     ensures { result ≡ service_granted tables.now.flat caller access }
 {
     granted(tables.principal_of(caller), false, access)
-}
-
-/// The number of the service with a name, or 0.
-fn number_of(tables: &Tables, name: &WText) -> u64
-    ensures { result ≡ number_in (named tables.now.flat name.now) }
-{
-    match tables.named(name) {
-        Some(row) => row.number,
-        None => 0,
-    }
 }
 
 /// What `ROpenServiceW` is refused with, or 0: `ERROR_INVALID_HANDLE` (6), `ERROR_INVALID_NAME` (123),
@@ -81,7 +70,10 @@ pub fn open_service(
         return Reply::Handle { handle: 0, code };
     }
     let rights = service_granted(tables, caller, access).unwrap_or(0);
-    let service = number_of(tables, name);
-    let handle = tables.add_handle(caller, HandleKind::Service(service), rights);
+    let handle = tables.next_handle();
+    if let Some(row) = tables.named(name) {
+        let service = row.number;
+        let _handle = tables.add_handle(caller, HandleKind::Service(service), rights);
+    }
     Reply::Handle { handle, code: 0 }
 }

@@ -1,15 +1,13 @@
 ghost use Rattle.std.specs.Prelude.{◌≡◌, ◌≤◌, option_copied};
 ghost use Rattle.scm_model.specs.Refused.{answered};
-ghost use Rattle.scm_model.specs.Rows.{service_of};
 ghost use Rattle.scm_rules.specs.Controls.{control_done, control_taken, control_told, control_verdict, granted_in, status_told, tells_status, waiting_for};
 
-use super::reporting::process_in;
 use control_dispatch::judge;
 use scm_model::codes::{
     ERROR_INVALID_SERVICE_CONTROL, ERROR_SERVICE_CANNOT_ACCEPT_CTRL, ERROR_SERVICE_NOT_ACTIVE,
 };
 use scm_model::{Answer, Opened, Reply, Service, Status, zero_status};
-use scm_tables::Tables;
+use scm_tables::{Tables, status_in};
 
 /// The rights of a handle, where it is one of a service.
 fn granted_in(handle: Option<Opened>) -> Option<u32>
@@ -25,7 +23,10 @@ fn granted_in(handle: Option<Opened>) -> Option<u32>
 fn waiting_for(tables: &Tables, service: Option<&Service>) -> u32
     ensures { result ≡ waiting_for tables.now.flat (option_copied service.entry) }
 {
-    tables.waiting(process_in(service)).unwrap_or(0)
+    match service {
+        Some(row) => tables.waiting(row.process).unwrap_or(0),
+        None => 0,
+    }
 }
 
 /// What `RControlService` is refused with, or 0: `ERROR_INVALID_HANDLE` (6), `ERROR_INVALID_PARAMETER` (87), `ERROR_ACCESS_DENIED` (5),
@@ -34,13 +35,12 @@ fn waiting_for(tables: &Tables, service: Option<&Service>) -> u32
 pub fn control_verdict(tables: &Tables, caller: u64, handle: u64, control: u32) -> u32
     ensures { result ≡ control_verdict tables.now.limits tables.now.flat caller handle control }
 {
-    let number = tables.opened_service(caller, handle);
-    let service = tables.service(number);
+    let service = tables.held_service(caller, handle);
     judge(
         granted_in(tables.opened(caller, handle)),
         control,
-        &tables.status_of(number),
-        tables.active_needing(number),
+        &status_in(service),
+        tables.active_needing(service),
         waiting_for(tables, service),
         tables.limits().controls,
     )
@@ -56,11 +56,11 @@ fn tells_status(code: u32) -> bool
 }
 
 /// The status of a service that is told with a code that refuses a control.
-fn status_told(tables: &Tables, code: u32, service: u64) -> Status
-    ensures { result ≡ status_told code (service_of tables.now.flat service) }
+fn status_told(code: u32, service: Option<&Service>) -> Status
+    ensures { result ≡ status_told code (option_copied service.entry) }
 {
     if tells_status(code) {
-        tables.status_of(service)
+        status_in(service)
     } else {
         zero_status()
     }
@@ -74,16 +74,18 @@ pub fn control(tables: &mut Tables, caller: u64, handle: u64, control: u32) -> R
     ensures limits { tables.new.limits ≡ tables.old.limits }
 {
     let code = control_verdict(tables, caller, handle, control);
-    let service = tables.opened_service(caller, handle);
+    let service = tables.held_service(caller, handle);
     if code != 0 {
         return Reply::State {
-            status: status_told(tables, code, service),
+            status: status_told(code, service),
             code,
         };
     }
-    let status = tables.status_of(service);
-    let process = process_in(tables.service(service));
-    tables.control(process, control);
+    let status = status_in(service);
+    if let Some(row) = service {
+        let process = row.process;
+        tables.control(process, control);
+    }
     Reply::State { status, code: 0 }
 }
 
@@ -95,5 +97,8 @@ pub fn take_control(tables: &mut Tables, process: u64) -> Answer
 {
     let code = tables.first_control(process);
     tables.take_control(process);
-    Answer::Control(code)
+    match code {
+        Some(code) => Answer::Control(code),
+        None => Answer::Done,
+    }
 }

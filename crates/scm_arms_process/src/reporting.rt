@@ -1,8 +1,7 @@
 ghost use Rattle.std.specs.Prelude.{◌≡◌, ◌&&◌, option_copied};
 ghost use Rattle.scm_model.specs.declared.calls.Request.TheVariants as request;
 ghost use Rattle.scm_model.specs.Refused.{outcome};
-ghost use Rattle.scm_model.specs.Rows.{service_of};
-ghost use Rattle.scm_rules.specs.Reports.{may_report, process_in, report_answer, report_told, reported, set_status_done, set_status_verdict, set_status_outcome};
+ghost use Rattle.scm_rules.specs.Reports.{may_report, report_answer, report_told, reported, set_status_done, set_status_verdict, set_status_outcome};
 ghost use Rattle.scm_rules.specs.Ends.{end_told, process_ended};
 ghost use Rattle.status_machine.specs.Moves.{takes};
 
@@ -67,16 +66,6 @@ pub fn end(tables: &mut Tables, process: u64) -> Answer
     answer
 }
 
-/// The current process of a service, or 0.
-pub fn process_in(service: Option<&Service>) -> u64
-    ensures { result ≡ process_in (option_copied service.entry) }
-{
-    match service {
-        Some(row) => row.process,
-        None => 0,
-    }
-}
-
 /// Whether a report is one that may be made after a status.
 fn takes(now: &Status, report: &Status) -> bool
     ensures { result ≡ takes now.now report.now }
@@ -121,7 +110,9 @@ pub fn set_status(tables: &mut Tables, caller: u64, handle: u64, report: &Status
     if code != 0 {
         return Reply::Code(code);
     }
-    let process = process_in(tables.service(tables.opened_service(caller, handle)));
-    tables.report(process, report);
+    if let Some(row) = tables.held_service(caller, handle) {
+        let process = row.process;
+        tables.report(process, report);
+    }
     Reply::Code(0)
 }

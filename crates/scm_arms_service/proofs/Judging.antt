@@ -18,11 +18,12 @@ use Rattle.scm_model.specs.Outcomes.{Done}
 use Rattle.service_record.specs.Checks.{check_new, has_bad_lists, has_bad_names, has_bad_numbers, is_bad_account, is_bad_line, is_longer}
 use Rattle.service_record.specs.Words.{has_word}
 use Rattle.std.specs.Char.Utf16.{has_unpaired_surrogate}
-use Rattle.scm_rules.specs.Change.{asked_refusals, clash_refusals, row_refusals, asked_config, change_done, change_refusals, change_verdict, changed_service, checked, new_config, tags_no_group}
-use Rattle.scm_rules.specs.Create.{config_refusals, place_refusals, right_refusals, config_of, create_done, create_refusals, create_verdict, tags_nothing}
+use Rattle.scm_rules.specs.Change.{asked_refusals, clash_refusals, row_refusals, asked_config, change_done, change_refusals, change_verdict, checked, new_config, tags_no_group}
+use Rattle.scm_rules.specs.Create.{config_refusals, place_refusals, right_refusals, created_config, create_done, create_refusals, create_verdict, tags_nothing}
 use Rattle.scm_rules.specs.Delete.{is_failed}
 use Rattle.scm_rules.specs.Needs.{are_unreadable}
 use Rattle.scm_arms_service.specs.Judged.{code_once_kept}
+use Rattle.scm_model.specs.Rows.{held_service}
 
 -- ## Refusals
 
@@ -76,6 +77,10 @@ stops (row ∷ rows) more other =
 refused_outcome : (told code : ℕ) (asked : Request) (f : Flat) (done : Done) → told ≡ code → (code ≡ 0 → ⊥) → outcome told asked f done ≡ record { reply = refused asked code; flat = f }
 refused_outcome told code asked f done is other = rw (is, ne_eqb code 0 other) refl
 
+-- one that isn't makes its change
+done_outcome : (told code : ℕ) (asked : Request) (f : Flat) (done : Done) → told ≡ code → code ≡ 0 → outcome told asked f done ≡ done
+done_outcome told code asked f done is zero = rw (is, zero) refl
+
 -- ## Checks
 
 -- a path that is too long is refused
@@ -114,10 +119,10 @@ created_once_kept l f caller new append =
     last_refusal (take 10 (create_refusals l f caller new append)) (refl, (refl, (refl, (refl, (refl, (refl, (refl, (refl, (refl, (refl, tt)))))))))) (is_failed append)
 
 -- a creation that isn't refused has a path that isn't too long
-created_path : (l : Limits) (f : Flat) (caller : ℕ) (new : NewService) (append : Kept) → create_verdict l f caller new append ≡ 0 → length (config_of f new).path ≤ 2048
+created_path : (l : Limits) (f : Flat) (caller : ℕ) (new : NewService) (append : Kept) → create_verdict l f caller new append ≡ 0 → length (created_config f new).path ≤ 2048
 created_path l f caller new append e =
     let all : ArePassed (create_refusals l f caller new append) = passed (create_refusals l f caller new append) (refl, (refl, (refl, (refl, (refl, (refl, (refl, (refl, (refl, (refl, (refl, tt))))))))))) e in
-    short_path (config_of f new) new.account all.1.1.0 (first_false (check_new (config_of f new) new.account == 87) (tags_nothing new) (are_unreadable new.needs) all.1.1.1.0)
+    short_path (created_config f new) new.account all.1.1.0 (first_false (check_new (created_config f new) new.account == 87) (tags_nothing new) (are_unreadable new.needs) all.1.1.1.0)
 
 -- what the rights deny is a creation's code
 pub create_denied : (l : Limits) (f : Flat) (caller : ℕ) (new : NewService) (denied : ℕ) → denied ≡ first_refusal (right_refusals f caller new) → (denied ≡ 0 → ⊥)
@@ -128,18 +133,18 @@ create_denied l f caller new denied denied_is other =
 
 -- what the rights allow
 allowed : (l : Limits) (f : Flat) (caller : ℕ) (new : NewService) (denied : ℕ) → denied ≡ first_refusal (right_refusals f caller new) → denied ≡ 0
-    → create_verdict l f caller new appended.Kept ≡ first_refusal (config_refusals new (config_of f new) ++ drop 5 (create_refusals l f caller new appended.Kept))
+    → create_verdict l f caller new appended.Kept ≡ first_refusal (config_refusals new (created_config f new) ++ drop 5 (create_refusals l f caller new appended.Kept))
 allowed l f caller new denied denied_is may =
     let rows : Refusals = create_refusals l f caller new appended.Kept in
     goes_on (take 2 rows) (drop 2 rows) (refl, (refl, tt)) (sym denied_is ∙ may)
 
 -- the code for what is asked, of the configuration that was made
-wrong_of : (f : Flat) (new : NewService) (config : Config) (wrong : ℕ) → config ≡ config_of f new → wrong ≡ first_refusal (config_refusals new config)
-    → wrong ≡ first_refusal (config_refusals new (config_of f new))
+wrong_of : (f : Flat) (new : NewService) (config : Config) (wrong : ℕ) → config ≡ created_config f new → wrong ≡ first_refusal (config_refusals new config)
+    → wrong ≡ first_refusal (config_refusals new (created_config f new))
 wrong_of f new config wrong is wrong_is = wrong_is ∙ ap (λ (c : Config). first_refusal (config_refusals new c)) is
 
 -- what is asked wrongly is a creation's code where the rights allow it
-pub create_wrong : (l : Limits) (f : Flat) (caller : ℕ) (new : NewService) (config : Config) (denied wrong : ℕ) → config ≡ config_of f new
+pub create_wrong : (l : Limits) (f : Flat) (caller : ℕ) (new : NewService) (config : Config) (denied wrong : ℕ) → config ≡ created_config f new
     → denied ≡ first_refusal (right_refusals f caller new) → denied ≡ 0 → wrong ≡ first_refusal (config_refusals new config) → (wrong ≡ 0 → ⊥)
     → wrong ≡ create_verdict l f caller new appended.Kept
 create_wrong l f caller new config denied wrong is denied_is may wrong_is other =
@@ -147,17 +152,17 @@ create_wrong l f caller new config denied wrong is denied_is may wrong_is other 
     told
     ∙ sym
     (allowed l f caller new denied denied_is may
-    ∙ stops (config_refusals new (config_of f new)) (drop 5 (create_refusals l f caller new appended.Kept)) (λ z. other (told ∙ z)))
+    ∙ stops (config_refusals new (created_config f new)) (drop 5 (create_refusals l f caller new appended.Kept)) (λ z. other (told ∙ z)))
 
 -- else the services that there are decide
-pub create_goes_on : (l : Limits) (f : Flat) (caller : ℕ) (new : NewService) (config : Config) (denied wrong : ℕ) → config ≡ config_of f new
+pub create_goes_on : (l : Limits) (f : Flat) (caller : ℕ) (new : NewService) (config : Config) (denied wrong : ℕ) → config ≡ created_config f new
     → denied ≡ first_refusal (right_refusals f caller new) → denied ≡ 0 → wrong ≡ first_refusal (config_refusals new config) → wrong ≡ 0
     → first_refusal (place_refusals l f caller config) ≡ create_verdict l f caller new appended.Kept
 create_goes_on l f caller new config denied wrong is denied_is may wrong_is right =
     ap (λ (c : Config). first_refusal (place_refusals l f caller c)) is
     ∙ sym
     (allowed l f caller new denied denied_is may
-    ∙ goes_on (config_refusals new (config_of f new)) (drop 5 (create_refusals l f caller new appended.Kept)) (refl, (refl, (refl, tt)))
+    ∙ goes_on (config_refusals new (created_config f new)) (drop 5 (create_refusals l f caller new appended.Kept)) (refl, (refl, (refl, tt)))
     (sym (wrong_of f new config wrong is wrong_is) ∙ right))
 
 -- the code of a creation once it is kept
@@ -173,9 +178,15 @@ pub create_refused : (l : Limits) (f : Flat) (caller : ℕ) (new : NewService) (
 create_refused l f caller new append code result is made other =
     sym (refused_outcome (create_verdict l f caller new append) result (request.Create new) f (create_done f caller new) (create_code l f caller new append code result is made) other)
 
+-- one that isn't creates the service
+pub create_allowed : (l : Limits) (f : Flat) (caller : ℕ) (new : NewService) (append : Kept) (code result : ℕ) → code ≡ create_verdict l f caller new appended.Kept → result ≡ code_once_kept code append
+    → result ≡ 0 → create_done f caller new ≡ outcome (create_verdict l f caller new append) (request.Create new) f (create_done f caller new)
+create_allowed l f caller new append code result is made zero =
+    sym (done_outcome (create_verdict l f caller new append) result (request.Create new) f (create_done f caller new) (create_code l f caller new append code result is made) zero)
+
 -- a creation that is done has a path that isn't too long
 pub create_fits : (l : Limits) (f : Flat) (caller : ℕ) (new : NewService) (append : Kept) (code result : ℕ) → code ≡ create_verdict l f caller new appended.Kept → result ≡ code_once_kept code append
-    → result ≡ 0 → length (config_of f new).path ≤ 2048
+    → result ≡ 0 → length (created_config f new).path ≤ 2048
 create_fits l f caller new append code result is made zero = created_path l f caller new append (create_code l f caller new append code result is made ∙ zero)
 
 -- ## Changes
@@ -213,11 +224,11 @@ changed_once_kept f caller change append =
 changed_path : (f : Flat) (caller : ℕ) (change : ChangeService) (append : Kept) (config : Config) → change_verdict f caller change append ≡ 0 → asked_config f caller change ≡ Some config → length config.path ≤ 2048
 changed_path f caller change append config e asked =
     let all : ArePassed (change_refusals f caller change append) = passed (change_refusals f caller change append) (refl, (refl, (refl, (refl, (refl, (refl, (refl, (refl, (refl, tt))))))))) e in
-    elim (changed_service f caller change) as (λ service. (checked f change service == 123) ≡ false → (checked f change service == 87) ≡ false
+    elim (held_service f caller change.handle) as (λ service. (checked f change service == 123) ≡ false → (checked f change service == 87) ≡ false
     → option_map (new_config f change) service ≡ Some config → length config.path ≤ 2048) [
       | None ↦ λ names texts is. absurd cc
       | Some row ↦ λ names texts is. subst (λ (new : Config). length new.path ≤ 2048) (some_of (new_config f change row) config is) (short_path (new_config f change row) change.account names texts)
-    ] all.1.1.1.0 (first_false (checked f change (changed_service f caller change) == 87) (tags_no_group change (changed_service f caller change)) (are_unreadable change.needs) all.1.1.1.1.0) asked
+    ] all.1.1.1.0 (first_false (checked f change (held_service f caller change.handle) == 87) (tags_no_group change (held_service f caller change.handle)) (are_unreadable change.needs) all.1.1.1.1.0) asked
 
 -- the code of a change once it is kept
 change_code : (f : Flat) (caller : ℕ) (change : ChangeService) (append : Kept) (code result : ℕ) → code ≡ change_verdict f caller change appended.Kept → result ≡ code_once_kept code append

@@ -1,8 +1,8 @@
-ghost use Rattle.std.specs.Prelude.{◌≡◌, IfOk, is_some, option_copied, Some, if◌then◌else◌};
+ghost use Rattle.std.specs.Prelude.{◌≡◌, IfOk, option_copied, false, Some, if◌then◌else◌};
 ghost use Rattle.scm_model.specs.Refused.{first_refusal, outcome};
 ghost use Rattle.scm_model.specs.declared.calls.Request.TheVariants as request;
 ghost use Rattle.scm_model.specs.declared.steps.Kept.TheVariants as appended;
-ghost use Rattle.scm_rules.specs.Change.{asked_refusals, clash_refusals, row_refusals, asked_config, change_change, change_done, change_verdict, changed_row, changed_service, new_config, tag_in, tags_no_group, takes_name, change_outcome};
+ghost use Rattle.scm_rules.specs.Change.{asked_refusals, clash_refusals, row_refusals, asked_config, change_change, change_done, change_verdict, changed_from, changed_row, new_config, new_tag, tags_no_group, takes_name, change_outcome};
 ghost use Rattle.scm_rules.specs.Needs.{are_unreadable};
 ghost use Rattle.scm_rules.specs.Verdicts.{unless_refused};
 
@@ -20,17 +20,6 @@ use scm_tables::{Tables, mask_lacks};
 use scm_text::OutOfMemory;
 use service_record::check_change;
 use std::alloc::Global;
-
-/// The service that a change is of.
-fn changed_service<'a>(
-    tables: &'a Tables,
-    caller: u64,
-    change: &ChangeService,
-) -> Option<&'a Service>
-    ensures { option_copied result ≡ changed_service tables.now.flat caller change.now }
-{
-    tables.service(tables.opened_service(caller, change.handle))
-}
 
 /// The new configuration of a service.
 fn new_config(
@@ -54,7 +43,7 @@ pub fn asked_config(
 ) -> Result<Option<Config>, OutOfMemory>
     ensures { IfOk result (λ config. config ≡ asked_config tables.now.flat caller change.now) }
 {
-    match changed_service(tables, caller, change) {
+    match tables.held_service(caller, change.handle) {
         Some(row) => Ok(Some(new_config(tables, change, row, alloc)?)),
         None => Ok(None),
     }
@@ -122,6 +111,25 @@ fn clash_verdict(
     Ok(0)
 }
 
+/// What a change of a service that isn't marked is refused with, or 0, where the caller may change it.
+fn unmarked_verdict(
+    tables: &Tables,
+    change: &ChangeService,
+    service: &Service,
+    new: &Config,
+    alloc: Global,
+) -> Result<u32, OutOfMemory>
+    requires made { new.now ≡ new_config tables.now.flat change.now service.now }
+    requires unmarked { service.now.marked ≡ false }
+    ensures { IfOk result (λ code. code ≡ first_refusal (row_refusals tables.now.flat change.now (Some service.now))) }
+{
+    let wrong = asked_verdict(tables, change, service, new, alloc)?;
+    if wrong != 0 {
+        return Ok(wrong);
+    }
+    clash_verdict(tables, change, service, new, alloc)
+}
+
 /// What a change of a service that is there is refused with, or 0, where the caller may change it.
 fn row_verdict(
     tables: &Tables,
@@ -135,11 +143,7 @@ fn row_verdict(
         return Ok(ERROR_SERVICE_MARKED_FOR_DELETE);
     }
     let new = new_config(tables, change, service, alloc)?;
-    let wrong = asked_verdict(tables, change, service, &new, alloc)?;
-    if wrong != 0 {
-        return Ok(wrong);
-    }
-    clash_verdict(tables, change, service, &new, alloc)
+    unmarked_verdict(tables, change, service, &new, alloc)
 }
 
 /// The same of a service that isn't there.
@@ -169,10 +173,20 @@ pub fn change_verdict(
     if mask_lacks(opened.granted, SERVICE_CHANGE_CONFIG) {
         return Ok(ERROR_ACCESS_DENIED);
     }
-    match changed_service(tables, caller, change) {
+    match tables.held_service(caller, change.handle) {
         Some(row) => row_verdict(tables, change, row, alloc),
         None => absent_verdict(change, alloc),
     }
+}
+
+/// The change from one configuration to another, if they are kept as different bytes.
+fn changed_from(old: &Config, new: &Config, alloc: Global) -> Result<Option<Change>, OutOfMemory>
+    ensures { IfOk result (λ told. told ≡ changed_from old.now new.now) }
+{
+    if are_kept_alike(old, new, alloc)? {
+        return Ok(None);
+    }
+    Ok(Some(Change::Changed(new.copy(alloc)?)))
 }
 
 /// The change of a service's configuration, if it is one.
@@ -185,10 +199,7 @@ fn changed_row(
     ensures { IfOk result (λ told. told ≡ changed_row tables.now.flat change.now service.now) }
 {
     let config = new_config(tables, change, service, alloc)?;
-    if are_kept_alike(&service.config, &config, alloc)? {
-        return Ok(None);
-    }
-    Ok(Some(Change::Changed(config)))
+    changed_from(&service.config, &config, alloc)
 }
 
 /// The change of the configurations that a call makes, unless it is refused.
@@ -204,41 +215,41 @@ pub fn changed(
     if code != 0 {
         return Ok(None);
     }
-    match changed_service(tables, caller, change) {
+    match tables.held_service(caller, change.handle) {
         Some(row) => changed_row(tables, change, row, alloc),
         None => Ok(None),
     }
 }
 
-/// Whether a call whose configuration and code were made changes what is kept.
-pub fn changes(
+/// The change of the configurations that a call makes whose configuration and code were made, unless it is refused.
+pub fn judged(
     tables: &Tables,
     caller: u64,
     change: &ChangeService,
     code: u32,
     config: &Option<Config>,
     alloc: Global,
-) -> Result<bool, OutOfMemory>
+) -> Result<Option<Change>, OutOfMemory>
     requires verdict { code ≡ change_verdict tables.now.flat caller change.now appended.Kept }
     requires made { config.now ≡ asked_config tables.now.flat caller change.now }
-    ensures { IfOk result (λ changes. changes ≡ is_some (unless_refused (change_verdict tables.now.flat caller change.now appended.Kept) (change_change tables.now.flat caller change.now))) }
+    ensures { IfOk result (λ told. told ≡ unless_refused (change_verdict tables.now.flat caller change.now appended.Kept) (change_change tables.now.flat caller change.now)) }
 {
     if code != 0 {
-        return Ok(false);
+        return Ok(None);
     }
-    match (changed_service(tables, caller, change), config) {
-        (Some(row), Some(config)) => Ok(!are_kept_alike(&row.config, config, alloc)?),
-        (Some(_), None) | (None, _) => Ok(false),
+    match (tables.held_service(caller, change.handle), config) {
+        (Some(row), Some(config)) => changed_from(&row.config, config, alloc),
+        (Some(_), None) | (None, _) => Ok(None),
     }
 }
 
-/// The tag of a new configuration.
-fn tag_in(config: &Option<Config>) -> u32
-    ensures { result ≡ tag_in config.now }
+/// The tag of a new configuration, where one was asked for.
+fn new_tag(change: &ChangeService, config: &Option<Config>) -> Option<u32>
+    ensures { result ≡ new_tag change.now config.now }
 {
     match config {
-        Some(config) => config.tag,
-        None => 0,
+        Some(config) => told_tag(config.tag, change.tag),
+        None => None,
     }
 }
 
@@ -265,10 +276,11 @@ pub fn change(
             code,
         };
     }
-    let service = tables.opened_service(caller, change.handle);
-    let tag = told_tag(tag_in(&config), change.tag);
-    if let Some(config) = config {
-        tables.configure(service, config);
+    let tag = new_tag(change, &config);
+    let service = tables.held_service(caller, change.handle);
+    if let (Some(row), Some(config)) = (service, config) {
+        let number = row.number;
+        tables.configure(number, config);
     }
     Reply::Tag { tag, code: 0 }
 }

@@ -1,9 +1,11 @@
 ghost use Rattle.std.specs.Prelude.{◌≡◌, ◌<◌, ◌≤◌, ◌^◌, ◌||◌, Some, nat_le, length, IfOk, is_some};
 ghost use Rattle.scm_model.specs.Refused.{first_refusal, outcome};
+ghost use Rattle.scm_model.specs.Changes.{with_handle, with_service};
 ghost use Rattle.scm_model.specs.Rows.{held_by};
 ghost use Rattle.scm_model.specs.declared.calls.Request.TheVariants as request;
+ghost use Rattle.scm_model.specs.declared.flat.HandleKind.TheVariants as kinds;
 ghost use Rattle.scm_model.specs.declared.steps.Kept.TheVariants as appended;
-ghost use Rattle.scm_rules.specs.Create.{config_refusals, place_refusals, right_refusals, config_of, create_change, create_done, create_verdict, tags_nothing, create_outcome};
+ghost use Rattle.scm_rules.specs.Create.{config_refusals, new_status, place_refusals, right_refusals, created_config, create_change, create_done, create_verdict, tags_nothing, create_outcome};
 ghost use Rattle.scm_rules.specs.OpenService.{service_granted};
 ghost use Rattle.scm_rules.specs.Verdicts.{unless_refused};
 
@@ -123,7 +125,7 @@ pub fn create_verdict(
     config: &Config,
     alloc: Global,
 ) -> Result<u32, OutOfMemory>
-    requires { config.now ≡ config_of tables.now.flat new.now }
+    requires { config.now ≡ created_config tables.now.flat new.now }
     ensures { IfOk result (λ code. code ≡ create_verdict limits.now tables.now.flat caller new.now appended.Kept) }
 {
     let denied = right_verdict(tables, caller, new);
@@ -155,6 +157,43 @@ pub fn created(
     Ok(Some(Change::Created(config)))
 }
 
+/// Adds a service that has this configuration, and opens a handle of it with these rights, whose number it answers.
+fn add_opened(tables: &mut Tables, caller: u64, config: Config, kind: u32, rights: u32) -> u64
+    requires path { length config.path ≤ 2048 }
+    requires services { 1 ≤ tables.old.spare.services }
+    requires handles { 1 ≤ tables.old.spare.handles }
+    requires next_service { tables.old.flat.next.service < 2 ^ 63 }
+    requires next_handle { tables.old.flat.next.handle < 2 ^ 63 }
+    ensures number { result ≡ tables.old.flat.next.handle }
+    ensures flat { tables.new.flat ≡ with_handle (with_service tables.old.flat config (new_status kind)) caller (kinds.Service tables.old.flat.next.service) rights }
+    ensures limits { tables.new.limits ≡ tables.old.limits }
+{
+    let service = tables.add_service(config, new_status(kind));
+    tables.add_handle(caller, HandleKind::Service(service), rights)
+}
+
+/// Creates a service that has the configuration that was made for it, and opens a handle of it.
+fn create_done(tables: &mut Tables, caller: u64, new: &NewService, config: Config) -> Reply
+    requires made { config ≡ created_config tables.old.flat new.now }
+    requires path { length config.path ≤ 2048 }
+    requires services { 1 ≤ tables.old.spare.services }
+    requires handles { 1 ≤ tables.old.spare.handles }
+    requires next_service { tables.old.flat.next.service < 2 ^ 63 }
+    requires next_handle { tables.old.flat.next.handle < 2 ^ 63 }
+    ensures reply { result ≡ (create_done tables.old.flat caller new.now).reply }
+    ensures flat { tables.new.flat ≡ (create_done tables.old.flat caller new.now).flat }
+    ensures limits { tables.new.limits ≡ tables.old.limits }
+{
+    let rights = service_granted(tables, caller, new.access).unwrap_or(0);
+    let tag = told_tag(config.tag, new.tag);
+    let handle = add_opened(tables, caller, config, new.kind, rights);
+    Reply::Made {
+        tag,
+        handle,
+        code: 0,
+    }
+}
+
 /// Creates a service that has the configuration that was made for it, and opens a handle of it. The code is what the call is refused
 /// with before anything is kept; where that fails it is `ERROR_CANTWRITE` (1013). It takes no memory.
 pub fn create(
@@ -167,7 +206,7 @@ pub fn create(
     kept: Kept,
 ) -> Reply
     requires verdict { code ≡ create_verdict limits.now tables.old.flat caller new appended.Kept }
-    requires made { config ≡ Some (config_of tables.old.flat new) }
+    requires made { config ≡ Some (created_config tables.old.flat new) }
     requires services { 1 ≤ tables.old.spare.services }
     requires handles { 1 ≤ tables.old.spare.handles }
     requires next_service { tables.old.flat.next.service < 2 ^ 63 }
@@ -184,14 +223,5 @@ pub fn create(
             code,
         };
     }
-    let rights = service_granted(tables, caller, new.access).unwrap_or(0);
-    let config = config.unwrap();
-    let tag = told_tag(config.tag, new.tag);
-    let service = tables.add_service(config, new_status(new.kind));
-    let handle = tables.add_handle(caller, HandleKind::Service(service), rights);
-    Reply::Made {
-        tag,
-        handle,
-        code: 0,
-    }
+    create_done(tables, caller, &new, config.unwrap())
 }

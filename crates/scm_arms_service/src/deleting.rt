@@ -1,7 +1,7 @@
-ghost use Rattle.std.specs.Prelude.{◌≡◌, IfOk, is_some, option_copied};
+ghost use Rattle.std.specs.Prelude.{◌≡◌, IfOk, option_copied, option_map};
 ghost use Rattle.scm_model.specs.Refused.{outcome};
 ghost use Rattle.scm_model.specs.declared.calls.Request.TheVariants as request;
-ghost use Rattle.scm_rules.specs.Delete.{delete_change, delete_done, delete_verdict, is_failed, is_marked, delete_outcome};
+ghost use Rattle.scm_rules.specs.Delete.{delete_change, delete_done, delete_verdict, is_failed, is_marked, delete_outcome, removed};
 ghost use Rattle.scm_model.specs.declared.steps.Kept.TheVariants as appended;
 ghost use Rattle.scm_rules.specs.Verdicts.{unless_refused};
 ghost use Rattle.scm_arms_service.specs.Judged.{code_once_kept};
@@ -63,29 +63,29 @@ pub fn delete_verdict(tables: &Tables, caller: u64, handle: u64, kept: Kept) -> 
     0
 }
 
-/// Whether a call marks a service if that is kept.
-pub fn removes(tables: &Tables, caller: u64, handle: u64) -> bool
-    ensures { result ≡ is_some (unless_refused (delete_verdict tables.now.flat caller handle appended.Kept) (delete_change tables.now.flat caller handle)) }
+/// The change of the configurations that the removal of a service is.
+fn removal(service: Option<&Service>, alloc: Global) -> Result<Option<Change>, OutOfMemory>
+    ensures { IfOk result (λ change. change ≡ option_map removed (option_copied service.entry)) }
 {
-    delete_verdict(tables, caller, handle, Kept::Kept) == 0
-        && tables
-            .service(tables.opened_service(caller, handle))
-            .is_some()
+    match service {
+        Some(row) => Ok(Some(Change::Removed(row.config.name.copy(alloc)?))),
+        None => Ok(None),
+    }
 }
 
-/// The change of the configurations that a call asks for where it isn't refused.
+/// The change of the configurations that a call makes, unless it is refused.
 pub fn removed(
     tables: &Tables,
     caller: u64,
     handle: u64,
     alloc: Global,
 ) -> Result<Option<Change>, OutOfMemory>
-    ensures { IfOk result (λ change. change ≡ delete_change tables.now.flat caller handle) }
+    ensures { IfOk result (λ change. change ≡ unless_refused (delete_verdict tables.now.flat caller handle appended.Kept) (delete_change tables.now.flat caller handle)) }
 {
-    match tables.service(tables.opened_service(caller, handle)) {
-        Some(row) => Ok(Some(Change::Removed(row.config.name.copy(alloc)?))),
-        None => Ok(None),
+    if delete_verdict(tables, caller, handle, Kept::Kept) != 0 {
+        return Ok(None);
     }
+    removal(tables.held_service(caller, handle), alloc)
 }
 
 /// Marks a service. It leaves once it is STOPPED and no handle names it.
@@ -98,7 +98,9 @@ pub fn delete(tables: &mut Tables, caller: u64, handle: u64, kept: Kept) -> Repl
     if code != 0 {
         return Reply::Code(code);
     }
-    let service = tables.opened_service(caller, handle);
-    tables.mark(service);
+    if let Some(row) = tables.held_service(caller, handle) {
+        let number = row.number;
+        tables.mark(number);
+    }
     Reply::Code(0)
 }

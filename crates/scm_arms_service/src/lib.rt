@@ -11,9 +11,9 @@ mod querying;
 mod replacing;
 mod showing;
 
-pub use changing::{asked_config, change, change_verdict, changed, changes};
+pub use changing::{asked_config, change, change_verdict, changed, judged};
 pub use creating::{create, create_verdict, created};
-pub use deleting::{delete, delete_verdict, removed, removes};
+pub use deleting::{delete, delete_verdict, removed};
 pub use making::config_of;
 pub use naming::{display_name, key_name};
 pub use needing::{are_unreadable, needs_in};

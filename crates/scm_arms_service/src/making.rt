@@ -1,5 +1,5 @@
 ghost use Rattle.std.specs.Prelude.{◌≡◌, [], unwrap_or, IfOk};
-ghost use Rattle.scm_rules.specs.Create.{config_of, display_of, tag_of, told_tag};
+ghost use Rattle.scm_rules.specs.Create.{created_config, display_of, tag_of, told_tag};
 
 use super::needing::needs_or;
 use scm_model::{Config, NewService};
@@ -61,7 +61,7 @@ pub fn told_tag(tag: u32, asked: Option<u32>) -> Option<u32>
 
 /// The configuration that a new service is to have. Needs that can't be read are left out of it.
 pub fn config_of(tables: &Tables, new: &NewService, alloc: Global) -> Result<Config, OutOfMemory>
-    ensures { IfOk result (λ config. config ≡ config_of tables.now.flat new.now) }
+    ensures { IfOk result (λ config. config ≡ created_config tables.now.flat new.now) }
 {
     Ok(Config {
         name: new.name.copy(alloc)?,

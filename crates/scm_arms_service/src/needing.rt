@@ -1,6 +1,6 @@
 ghost use Rattle.std.specs.Prelude.{◌≡◌, ◌+◌, ◌*◌, List, ℕ, map, option_and_then, option_map, IfOk};
 ghost use Rattle.scm_text.specs.Multi.{names_of};
-ghost use Rattle.scm_rules.specs.Needs.{are_unreadable, need_of, needs_in, needs_or, needs_read, units_in};
+ghost use Rattle.scm_rules.specs.Needs.{are_unreadable, need_named, needs_in_bytes, needs_or, needs_read, units_in_bytes};
 
 use scm_model::{Need, copy_needs};
 use scm_text::{Items, MultiFault, OutOfMemory, WText, read_multi};
@@ -18,7 +18,7 @@ fn unit_of(low: u8, high: u8) -> u16
 
 /// Units of two bytes each, or none where a byte is left over.
 fn units_in(bytes: &[u8], alloc: Global) -> Result<Option<Items<u16>>, OutOfMemory>
-    ensures { IfOk result (λ units. units ≡ units_in bytes.now) }
+    ensures { IfOk result (λ units. units ≡ units_in_bytes bytes.now) }
 {
     let mut units = Items::new(alloc);
     let mut rest = bytes;
@@ -48,7 +48,7 @@ fn text_of(units: &[u16], alloc: Global) -> Result<WText, OutOfMemory>
 
 /// The need that a name tells: a name behind `+` is a group's.
 fn need_of(name: &WText, alloc: Global) -> Result<Need, OutOfMemory>
-    ensures { IfOk result (λ need. need ≡ need_of name.now) }
+    ensures { IfOk result (λ need. need ≡ need_named name.now) }
 {
     match name.units() {
         [MARK, group @ ..] => Ok(Need::Group(text_of(group, alloc)?)),
@@ -58,7 +58,7 @@ fn need_of(name: &WText, alloc: Global) -> Result<Need, OutOfMemory>
 
 /// The needs that names tell.
 fn needs_of(names: &[WText], alloc: Global) -> Result<Items<Need>, OutOfMemory>
-    ensures { IfOk result (λ needs. needs ≡ map need_of names.now) }
+    ensures { IfOk result (λ needs. needs ≡ map need_named names.now) }
 {
     let mut needs = Items::new(alloc);
     for name in names {
@@ -84,7 +84,7 @@ fn needs_read(units: &[u16], alloc: Global) -> Result<Option<Items<Need>>, OutOf
 /// The needs that bytes name: 16-bit units, each name ended by a 0 and all by one more, `+` before a group's. None where they can't
 /// be read.
 pub fn needs_in(bytes: &[u8], alloc: Global) -> Result<Option<Items<Need>>, OutOfMemory>
-    ensures { IfOk result (λ needs. needs ≡ needs_in bytes.now) }
+    ensures { IfOk result (λ needs. needs ≡ needs_in_bytes bytes.now) }
 {
     match units_in(bytes, alloc)? {
         Some(units) => needs_read(units.as_slice(), alloc),
@@ -94,7 +94,7 @@ pub fn needs_in(bytes: &[u8], alloc: Global) -> Result<Option<Items<Need>>, OutO
 
 /// The needs that are asked for and can be read.
 fn asked_needs(asked: &Option<Items<u8>>, alloc: Global) -> Result<Option<Items<Need>>, OutOfMemory>
-    ensures { IfOk result (λ needs. needs ≡ option_and_then needs_in asked.now) }
+    ensures { IfOk result (λ needs. needs ≡ option_and_then needs_in_bytes asked.now) }
 {
     match asked {
         Some(bytes) => needs_in(bytes.as_slice(), alloc),

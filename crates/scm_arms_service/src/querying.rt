@@ -5,7 +5,7 @@ ghost use Rattle.scm_rules.specs.Query.{query_done, query_verdict, query_outcome
 
 use scm_model::codes::{ERROR_INVALID_HANDLE, SERVICE_QUERY_STATUS};
 use scm_model::{Reply, zero_status};
-use scm_tables::{Tables, mask_lacks};
+use scm_tables::{Tables, mask_lacks, status_in};
 
 /// What `RQueryServiceStatus` is refused with, or 0: `ERROR_INVALID_HANDLE` (6) or `ERROR_ACCESS_DENIED` (5).
 pub fn query_verdict(tables: &Tables, caller: u64, handle: u64) -> u32
@@ -35,9 +35,8 @@ pub fn query(tables: &Tables, caller: u64, handle: u64) -> Reply
             code,
         };
     }
-    let service = tables.opened_service(caller, handle);
     Reply::State {
-        status: tables.status_of(service),
+        status: status_in(tables.held_service(caller, handle)),
         code: 0,
     }
 }

@@ -1,12 +1,13 @@
 ghost use Rattle.std.specs.Prelude.{◌≡◌, unwrap_or, IfOk};
+ghost use Rattle.scm_arms_service.specs.Replaced.{parts_of, with_parts};
 ghost use Rattle.scm_rules.specs.Change.{config_with, display_or, is_kept_alike, number_or, tag_or};
 
 use super::making::shown;
 use super::needing::needs_or;
 use scm_model::codes::{SERVICE_AUTO_START, SERVICE_NO_CHANGE};
-use scm_model::{ChangeService, Config};
+use scm_model::{ChangeService, Config, Need};
 use scm_tables::Tables;
-use scm_text::{OutOfMemory, WText};
+use scm_text::{Items, OutOfMemory, WText};
 use service_record::record_bytes;
 use std::alloc::Global;
 
@@ -51,7 +52,62 @@ pub fn tag_or(tables: &Tables, old: &Config, change: &ChangeService) -> u32
     }
 }
 
-/// The new configuration. Needs that can't be read leave the old ones.
+/// What a change puts in place of what was there.
+#[derive(Drop)]
+struct Parts {
+    display: WText,
+    kind: u32,
+    start: u32,
+    error: u32,
+    path: WText,
+    group: WText,
+    tag: u32,
+    needs: Items<Need>,
+    delayed: bool,
+}
+
+/// What is asked for, or what was there, apart from the tag. Needs that can't be read leave the old ones.
+fn parts_of(
+    old: &Config,
+    change: &ChangeService,
+    tag: u32,
+    alloc: Global,
+) -> Result<Parts, OutOfMemory>
+    ensures { IfOk result (λ parts. parts ≡ parts_of tag old.now change.now) }
+{
+    let start = number_or(old.start, change.start);
+    Ok(Parts {
+        display: display_or(old, &change.display).copy(alloc)?,
+        kind: number_or(old.kind, change.kind),
+        start,
+        error: number_or(old.error, change.error),
+        path: text_or(&old.path, &change.path).copy(alloc)?,
+        group: text_or(&old.group, &change.group).copy(alloc)?,
+        tag,
+        needs: needs_or(old.needs.as_slice(), &change.needs, alloc)?,
+        delayed: old.delayed && start == SERVICE_AUTO_START,
+    })
+}
+
+/// A configuration with other parts.
+fn with_parts(old: Config, parts: Parts) -> Config
+    ensures { result ≡ with_parts old parts }
+{
+    Config {
+        display: parts.display,
+        kind: parts.kind,
+        start: parts.start,
+        error: parts.error,
+        path: parts.path,
+        group: parts.group,
+        tag: parts.tag,
+        needs: parts.needs,
+        delayed: parts.delayed,
+        ..old
+    }
+}
+
+/// The new configuration.
 pub fn config_with(
     old: &Config,
     change: &ChangeService,
@@ -60,23 +116,9 @@ pub fn config_with(
 ) -> Result<Config, OutOfMemory>
     ensures { IfOk result (λ config. config ≡ config_with tag old.now change.now) }
 {
-    let display = display_or(old, &change.display).copy(alloc)?;
-    let path = text_or(&old.path, &change.path).copy(alloc)?;
-    let group = text_or(&old.group, &change.group).copy(alloc)?;
-    let needs = needs_or(old.needs.as_slice(), &change.needs, alloc)?;
-    let start = number_or(old.start, change.start);
-    Ok(Config {
-        display,
-        kind: number_or(old.kind, change.kind),
-        start,
-        error: number_or(old.error, change.error),
-        path,
-        group,
-        tag,
-        needs,
-        delayed: old.delayed && start == SERVICE_AUTO_START,
-        ..old.copy(alloc)?
-    })
+    let parts = parts_of(old, change, tag, alloc)?;
+    let old = old.copy(alloc)?;
+    Ok(with_parts(old, parts))
 }
 
 /// Whether two configurations are kept as the same bytes.

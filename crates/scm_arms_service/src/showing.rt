@@ -164,7 +164,7 @@ pub fn query_config(
 ) -> Result<Reply, OutOfMemory>
     ensures { IfOk result (λ reply. reply ≡ query_config_reply tables.now.flat caller handle size) }
 {
-    let config = shown_in(tables.service(tables.opened_service(caller, handle)), alloc)?;
+    let config = shown_in(tables.held_service(caller, handle), alloc)?;
     let needed = size_in(&config);
     let code = query_config_verdict(tables, caller, handle, size, needed);
     Ok(told(config, needed, code))

@@ -1,7 +1,8 @@
 ghost use Rattle.std.specs.Prelude.{◌≡◌, unwrap_or};
 ghost use Rattle.scm_model.specs.declared.steps.Answer.TheVariants as answer;
 ghost use Rattle.scm_model.specs.declared.calls.Reply.TheVariants as reply;
-ghost use Rattle.scm_rules.specs.Start.{ended, ticked};
+ghost use Rattle.scm_rules.specs.Due.{ticked};
+ghost use Rattle.scm_rules.specs.Start.{ended};
 ghost use Rattle.scm_rules.specs.Steps.{finished};
 ghost use Rattle.start_plan.specs.Decided.{code_of};
 

@@ -1,19 +1,23 @@
 ghost use Rattle.std.specs.Prelude.{◌≡◌};
 ghost use Rattle.scm_model.specs.declared.steps.Answer.TheVariants as answer;
-ghost use Rattle.scm_rules.specs.Launches.{first_wanted, launch_failed, launch_taken, launched};
+ghost use Rattle.scm_rules.specs.Launches.{launch_failed, launch_taken, launched};
 
 use scm_model::Answer;
 use scm_tables::Tables;
 
 /// The launch that is wanted first is taken in hand.
 pub fn take_launch(tables: &mut Tables) -> Answer
-    ensures answer { result ≡ answer.Launch (first_wanted tables.old.flat.wanted) }
-    ensures flat { tables.new.flat ≡ launch_taken tables.old.flat }
+    ensures answer { result ≡ (launch_taken tables.old.flat).answer }
+    ensures flat { tables.new.flat ≡ (launch_taken tables.old.flat).flat }
     ensures limits { tables.new.limits ≡ tables.old.limits }
 {
-    let process = tables.first_wanted();
-    tables.take_launch(process);
-    Answer::Launch(process)
+    match tables.first_wanted() {
+        Some(process) => {
+            tables.take_launch(process);
+            Answer::Launch(process)
+        }
+        None => Answer::Done,
+    }
 }
 
 /// A process is launched, and the starts of its service succeed.

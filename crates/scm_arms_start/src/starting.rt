@@ -1,11 +1,12 @@
-ghost use Rattle.std.specs.Prelude.{◌≡◌, ◌≤◌, ◌<◌, ◌==◌, ◌^◌, Some, IfOk, [], length, option_copied, unwrap_or};
+ghost use Rattle.std.specs.Prelude.{◌≡◌, ◌≤◌, ◌<◌, ◌==◌, ◌^◌, Some, IfOk, [], length, option_copied, option_map, unwrap_or};
 ghost use Rattle.std.specs.List.{list_any};
 ghost use Rattle.std.specs.Char.Utf16.{has_unpaired_surrogate};
 ghost use Rattle.scm_model.specs.Refused.{first_refusal, outcome};
 ghost use Rattle.scm_model.specs.declared.calls.Request.TheVariants as request;
+ghost use Rattle.scm_model.specs.Rows.{held_service};
 ghost use Rattle.scm_rules.specs.Delete.{is_marked};
-ghost use Rattle.scm_rules.specs.Start.{service_refusals, are_bad_words, is_disabled, is_missing, lacks_need, new_plan, start_done, start_verdict, start_outcome};
-ghost use Rattle.scm_rules.specs.Steps.{answer_of};
+ghost use Rattle.scm_rules.specs.Start.{service_refusals, are_bad_words, is_aimed_at, is_disabled, is_missing, lacks_need, new_plan, start_done, start_verdict, start_outcome};
+ghost use Rattle.scm_rules.specs.Steps.{call_answer};
 ghost use Rattle.scm_model.specs.Ready.{state_in};
 ghost use Rattle.scm_arms_start.specs.Entries.{start_entries};
 
@@ -105,24 +106,33 @@ fn lacks_need(tables: &Tables, service: Option<&Service>) -> bool
     }
 }
 
-/// What a start of a service is refused with for how the service stands, or 0.
-fn service_verdict(tables: &Tables, service: u64) -> u32
-    ensures { result ≡ first_refusal (service_refusals tables.now.flat service) }
+/// Whether an undecided plan aims at a service that is there.
+fn is_aimed_at(tables: &Tables, service: Option<&Service>) -> bool
+    ensures { result ≡ is_aimed_at tables.now.flat (option_copied service.entry) }
 {
-    let row = tables.service(service);
-    if is_marked(row) {
+    match service {
+        Some(row) => tables.is_target(row.number),
+        None => false,
+    }
+}
+
+/// What a start of a service is refused with for how the service stands, or 0.
+fn service_verdict(tables: &Tables, service: Option<&Service>) -> u32
+    ensures { result ≡ first_refusal (service_refusals tables.now.flat (option_copied service.entry)) }
+{
+    if is_marked(service) {
         return ERROR_SERVICE_MARKED_FOR_DELETE;
     }
     if tables.lock().is_some() {
         return ERROR_SERVICE_DATABASE_LOCKED;
     }
-    if state_in(row) != SERVICE_STOPPED || tables.is_target(service) {
+    if state_in(service) != SERVICE_STOPPED || is_aimed_at(tables, service) {
         return ERROR_SERVICE_ALREADY_RUNNING;
     }
-    if is_disabled(row) {
+    if is_disabled(service) {
         return ERROR_SERVICE_DISABLED;
     }
-    if lacks_need(tables, row) {
+    if lacks_need(tables, service) {
         return ERROR_SERVICE_DEPENDENCY_DELETED;
     }
     0
@@ -143,7 +153,7 @@ pub fn start_verdict(tables: &Tables, caller: u64, handle: u64, words: &Option<I
     if mask_lacks(opened.granted, SERVICE_START) {
         return ERROR_ACCESS_DENIED;
     }
-    service_verdict(tables, opened.service)
+    service_verdict(tables, tables.service(opened.service))
 }
 
 /// The services that a start goes by, in order, where it isn't refused.
@@ -159,7 +169,10 @@ pub fn start_entries(
     if start_verdict(tables, caller, handle, words) != 0 {
         return Ok(Items::new(alloc));
     }
-    tables.start_order(tables.opened_service(caller, handle), alloc)
+    match tables.held_service(caller, handle) {
+        Some(row) => tables.start_order(row.number, alloc),
+        None => Ok(Items::new(alloc)),
+    }
 }
 
 /// The words, or none.
@@ -169,6 +182,16 @@ fn words_or_none(words: Option<Items<WText>>, alloc: Global) -> Items<WText>
     match words {
         Some(words) => words,
         None => Items::new(alloc),
+    }
+}
+
+/// The number of the service that a caller's handle is of.
+fn held_number(tables: &Tables, caller: u64, handle: u64) -> Option<u64>
+    ensures { result ≡ option_map (λ row. row.number) (held_service tables.now.flat caller handle) }
+{
+    match tables.held_service(caller, handle) {
+        Some(row) => Some(row.number),
+        None => None,
     }
 }
 
@@ -187,7 +210,7 @@ pub fn start(
     requires tried { length (start_entries tables.old.flat caller handle words) ≤ tables.old.spare.tried }
     requires next_plan { tables.old.flat.next.plan < 2 ^ 63 }
     requires next_due { tables.old.flat.next.due < 2 ^ 63 }
-    ensures answer { result ≡ answer_of (start_verdict tables.old.flat caller handle words == 0) tables.old.flat.next.plan (start_outcome tables.old.flat caller handle words).reply }
+    ensures answer { result ≡ call_answer (start_verdict tables.old.flat caller handle words == 0) tables.old.flat.next.plan (start_outcome tables.old.flat caller handle words).reply }
     ensures flat { tables.new.flat ≡ (start_outcome tables.old.flat caller handle words).flat }
     ensures limits { tables.new.limits ≡ tables.old.limits }
 {
@@ -196,10 +219,13 @@ pub fn start(
         return Answer::Reply(Reply::Code(code));
     }
     let number = tables.next_plan();
+    let Some(target) = held_number(tables, caller, handle) else {
+        return Answer::Begun(number);
+    };
     let plan = Plan {
         number,
         caller,
-        target: tables.opened_service(caller, handle),
+        target,
         entries: entries.unwrap(),
         tried: Items::new(alloc),
         words: words_or_none(words, alloc),

@@ -1,5 +1,5 @@
 -- What is made for a step, and its room, don't hang on the moment.
-use Rattle.std.proofs.Common.{ℕ, ◌≡◌, ◌≤◌, ◌==◌, ◌∙◌, Bool, true, false, cond, List, Option, Some, ap, refl, subst, sym}
+use Rattle.std.proofs.Common.{ℕ, ◌≡◌, ◌≤◌, ◌==◌, ◌∙◌, true, false, cond, List, Option, Some, ap, refl, subst, sym}
 use Rattle.std.specs.Prelude.{is_some}
 use Rattle.scm_model.specs.Changes.{with_moment}
 use Rattle.scm_model.specs.declared.calls.Request.{Request}
@@ -18,11 +18,12 @@ use Rattle.scm_rules.specs.QueryConfig.{query_config_done, query_config_told, qu
 use Rattle.scm_rules.specs.Steps.{at_moment, keeps_right}
 use Rattle.scm_rules.specs.Verdicts.{change_of, change_of_call, tells_right}
 use Rattle.scm_core.specs.Inside.{KeepsMade}
-use Rattle.scm_core.specs.Judged.{changes_in, told_in}
+use Rattle.scm_core.specs.Judged.{told_in, change_in}
 use Rattle.scm_core.specs.Managed.{WasMadeFor}
 use Rattle.scm_tables.specs.Tabled.{Spare, Tabled}
 use Rattle.scm_core.specs.declared.made.Made.{Made}
 use Rattle.scm_core.specs.Room.{HasRoomFor, IsMadeFor, made_for, nothing_made}
+use Rattle.scm_model.specs.declared.steps.Change.{Change}
 
 -- the reply of a call that changes nothing
 told_at : (code : ℕ) (told done : Reply) (f g : Flat) → (answered code told f (record { reply = done; flat = f })).reply ≡ (answered code told g (record { reply = done; flat = g })).reply
@@ -139,20 +140,20 @@ has_room_unkept t Tick has = tt
 has_room_unkept t (Gone caller) has = tt
 has_room_unkept t (NoMemory caller) has = tt
 
--- what was made for a call tells whether it makes a change
-changes_made : (l : Limits) (f : Flat) (caller : ℕ) (asked : Request) → (made_for l f caller asked).changes ≡ is_some (change_of_call l f caller asked)
-changes_made l f caller (request.Change change) = refl
-changes_made l f caller (request.Create new) = refl
-changes_made l f caller (request.Delete handle) = refl
-changes_made l f caller _ = refl
+-- what was made for a call has the change that it makes
+change_made : (l : Limits) (f : Flat) (caller : ℕ) (asked : Request) → (made_for l f caller asked).change ≡ change_of_call l f caller asked
+change_made l f caller (request.Change change) = refl
+change_made l f caller (request.Create new) = refl
+change_made l f caller (request.Delete handle) = refl
+change_made l f caller _ = refl
 
--- so does what is kept for a step that room was made for
-pub makes_change_made : (l : Limits) (f : Flat) (made : Made) (room : Option Step) (step : Step) → KeepsMade l f made room → WasMadeFor room step → changes_in made step ≡ is_some (change_of l f step)
-makes_change_made l f made room (Call caller asked append) keeps was =
-    ap (λ (m : Made). m.changes) (subst (KeepsMade l f made) was keeps) ∙ changes_made l f caller asked
-makes_change_made l f made room _ keeps was = refl
+-- so has what is kept for a step that room was made for
+pub made_before : (l : Limits) (f : Flat) (made : Made) (room : Option Step) (step : Step) → KeepsMade l f made room → WasMadeFor room step → change_in made step ≡ change_of l f step
+made_before l f made room (Call caller asked append) keeps was =
+    ap (λ (m : Made). m.change) (subst (KeepsMade l f made) was keeps) ∙ change_made l f caller asked
+made_before l f made room _ keeps was = refl
 
 pub told_made : (l : Limits) (f : Flat) (made : Made) (room : Option Step) (step : Step) → KeepsMade l f made room → WasMadeFor room step → told_in made step ≡ keeps_right l f step
 told_made l f made room (Call caller asked append) keeps was =
-    ap (λ (changes : Bool). tells_right changes append) (makes_change_made l f made room (Call caller asked append) keeps was)
+    ap (λ (change : Option Change). tells_right (is_some change) append) (made_before l f made room (Call caller asked append) keeps was)
 told_made l f made room _ keeps was = refl

@@ -1,8 +1,6 @@
 -- A step gives few numbers.
 use Rattle.std.proofs.Common.{ℕ, ◌≡◌, ◌+◌, ◌<◌, ◌≤◌, ◌^◌, ◌==◌, true, false, cond, [], ◌∷◌, Option, None, Some, length, length-append, refl, sym, subst, ap, arith}
 use Rattle.std.proofs.lemmas.Bool.Decides.{nat_tests}
-use Rattle.scm_model.specs.Rows.{opened}
-use Rattle.scm_model.specs.declared.flat.Config.{Config}
 use Rattle.scm_model.specs.declared.flat.Flat.{Flat}
 use Rattle.scm_model.specs.declared.flat.Limits.{Limits}
 use Rattle.scm_model.specs.declared.flat.Next.{Next}
@@ -22,11 +20,15 @@ use Rattle.start_plan.specs.Moves.{is_full}
 use Rattle.start_plan.specs.Settle.{settled}
 use Rattle.start_plan.proofs.Enterings.{all_units}
 use Rattle.start_plan.proofs.Keeps.{Keeps, keeps_all}
-use Rattle.scm_rules.specs.Change.{asked_config, with_new_config}
-use Rattle.scm_rules.specs.Query.{service_in}
 use Rattle.scm_rules.specs.Steps.{at_moment, effect_of, finished, left_by, step_of}
 use Rattle.scm_rules.specs.Verdicts.{call_of, done_of, told_refused, verdict}
 use Rattle.scm_core.specs.Room.{HasNumbers}
+use Rattle.scm_model.proofs.Found.{found_keeps}
+use Rattle.scm_model.specs.Rows.{held_service, named}
+use Rattle.scm_rules.specs.OpenService.{service_granted, with_opened}
+use Rattle.scm_rules.specs.Start.{with_start}
+use Rattle.std.specs.Prelude.{unwrap_or}
+use Rattle.scm_rules.proofs.Dues.{ticked_apart}
 
 -- each next number rises by one at most, but for those of processes, which stay
 pub record NumbersRise (old new : Flat) : Type 0 where
@@ -46,10 +48,6 @@ same old new e = subst (λ n. NumbersRise old (record new { next = n })) (sym e)
 of_answered : (code : ℕ) (told : Reply) (f : Flat) (done : Done) → NumbersRise f done.flat → NumbersRise f (answered code told f done).flat
 of_answered code told f done rises = elim (code == 0) as (λ b. NumbersRise f (cond {A = Done} b done (record { reply = told; flat = f })).flat) [ true ↦ rises | false ↦ same f f refl ]
 
-of_new_config : (f : Flat) (number : ℕ) (config : Option Config) → NumbersRise f (with_new_config f number config)
-of_new_config f number None = same f f refl
-of_new_config f number (Some config) = same f (with_new_config f number (Some config)) refl
-
 of_done : (l : Limits) (f : Flat) (caller : ℕ) (asked : Request) → NumbersRise f (done_of l f caller asked).flat
 of_done l f caller (request.Close handle) = same f (done_of l f caller (request.Close handle)).flat refl
 of_done l f caller (request.Control handle control) = same f (done_of l f caller (request.Control handle control)).flat refl
@@ -58,13 +56,17 @@ of_done l f caller (request.Lock handle) = record { handle = omega arith; caller
 of_done l f caller (request.SetStatus handle status) = same f (done_of l f caller (request.SetStatus handle status)).flat refl
 of_done l f caller (request.Unlock handle) = same f (done_of l f caller (request.Unlock handle)).flat refl
 of_done l f caller (request.QueryStatus handle) = same f f refl
-of_done l f caller (request.Change change) = of_new_config f (service_in (opened f caller change.handle)) (asked_config f caller change)
+of_done l f caller (request.Change change) = same f (done_of l f caller (request.Change change)).flat refl
 of_done l f caller (request.Create new) = record { handle = omega arith; caller = omega arith; service = omega arith; plan = omega arith; due = omega arith; process = refl }
 of_done l f caller (request.OpenManager database access) = record { handle = omega arith; caller = omega arith; service = omega arith; plan = omega arith; due = omega arith; process = refl }
-of_done l f caller (request.OpenService handle name access) = record { handle = omega arith; caller = omega arith; service = omega arith; plan = omega arith; due = omega arith; process = refl }
+of_done l f caller (request.OpenService handle name access) =
+    found_keeps (NumbersRise f) (with_opened caller (unwrap_or (service_granted f caller access) 0)) (named f name) f (same f f refl)
+    (λ row is. record { handle = omega arith; caller = omega arith; service = omega arith; plan = omega arith; due = omega arith; process = refl })
 of_done l f caller (request.QueryConfig handle size) = same f f refl
 of_done l f caller (request.QueryLock handle size) = same f f refl
-of_done l f caller (request.Start handle words) = record { handle = omega arith; caller = omega arith; service = omega arith; plan = omega arith; due = omega arith; process = refl }
+of_done l f caller (request.Start handle words) =
+    found_keeps (NumbersRise f) (with_start caller (unwrap_or words [])) (held_service f caller handle) f (same f f refl)
+    (λ row is. record { handle = omega arith; caller = omega arith; service = omega arith; plan = omega arith; due = omega arith; process = refl })
 of_done l f caller (request.DisplayName handle name size) = same f f refl
 of_done l f caller (request.KeyName handle name size) = same f f refl
 
@@ -83,7 +85,7 @@ of_effect l f (LaunchFailed process code) = same f (effect_of l f (LaunchFailed 
 of_effect l f (Report process status) = same f (effect_of l f (Report process status)).flat refl
 of_effect l f (Ended process) = same f (effect_of l f (Ended process)).flat refl
 of_effect l f (ControlTaken process) = same f (effect_of l f (ControlTaken process)).flat refl
-of_effect l f Tick = same f (effect_of l f Tick).flat refl
+of_effect l f Tick = same f (effect_of l f Tick).flat (ticked_apart (λ (g : Flat). g.next ≡ f.next) (λ g plans rows e. e) f refl)
 of_effect l f (Gone caller) = same f (effect_of l f (Gone caller)).flat refl
 of_effect l f (NoMemory caller) = same f f refl
 

@@ -1,5 +1,5 @@
 -- A launch that is taken leaves no words behind.
-use Rattle.std.proofs.Common.{ℕ, ◌≡◌, ◌∙◌, ◌+◌, Option, None, List, [], ◌∷◌, refl, ap, eq-eqb}
+use Rattle.std.proofs.Common.{ℕ, ◌≡◌, ◌∙◌, ◌+◌, Option, None, List, [], ◌∷◌, refl, ap, eq-eqb, true, Some}
 use Rattle.scm_model.specs.declared.flat.Flat.{Flat}
 use Rattle.scm_model.specs.declared.flat.Limits.{Limits}
 use Rattle.scm_model.specs.declared.flat.Wanted.{Wanted}
@@ -8,16 +8,18 @@ use Rattle.scm_model.specs.declared.steps.Step.TheVariants.{LaunchTaken}
 use Rattle.scm_model.specs.Changes.{with_moment}
 use Rattle.scm_model.specs.Purge.{purged}
 use Rattle.scm_rules.specs.Launches.{first_wanted, launch_taken, wanted_of_others}
-use Rattle.scm_rules.specs.Steps.{is_wanted, step_of}
+use Rattle.scm_rules.specs.Steps.{wants_launch, step_of, finished}
 use Rattle.start_plan.specs.Settle.{settled}
 use Rattle.scm_tables.specs.Listed.{without_words}
 use Rattle.scm_core.specs.Managed.{Managed}
+use Rattle.scm_model.specs.Found.{if_found}
+use Rattle.scm_model.specs.Outcomes.{Told}
 
 -- the state without the words of the launch that is wanted first
 abbrev pub emptied : Flat → Flat
 emptied f = record f { wanted = without_words f.wanted }
 
-pub still_wanted : (rows : List Wanted) → is_wanted (without_words rows) ≡ is_wanted rows
+pub still_wanted : (rows : List Wanted) → wants_launch (without_words rows) ≡ wants_launch rows
 still_wanted [] = refl
 still_wanted (row ∷ rows) = refl
 
@@ -25,15 +27,21 @@ same_first : (rows : List Wanted) → first_wanted (without_words rows) ≡ firs
 same_first [] = refl
 same_first (row ∷ rows) = refl
 
-same_others : (rows : List Wanted) → wanted_of_others (first_wanted rows) (without_words rows) ≡ wanted_of_others (first_wanted rows) rows
+-- whoever is first is wanted
+pub is_first : (rows : List Wanted) (process : ℕ) → first_wanted rows ≡ Some process → wants_launch rows ≡ true
+is_first [] process e = absurd cc
+is_first (row ∷ rows) process e = refl
+
+same_others : (rows : List Wanted) → if_found wanted_of_others (first_wanted rows) (without_words rows) ≡ if_found wanted_of_others (first_wanted rows) rows
 same_others [] = refl
 same_others (row ∷ rows) = rw (eq-eqb row.process row.process refl) refl
 
 same_taken : (f : Flat) → launch_taken (emptied f) ≡ launch_taken f
-same_taken f = rw (same_first f.wanted) (ap (λ (ws : List Wanted). record (launch_taken f) { wanted = ws }) (same_others f.wanted))
+same_taken f =
+    rw (same_first f.wanted) (ap (λ (ws : List Wanted). record { answer = (launch_taken f).answer; flat = record (launch_taken f).flat { wanted = ws } }) (same_others f.wanted))
 
 pub same_step : (l : Limits) (f : Flat) (moment : ℕ) → (step_of l (emptied f) moment LaunchTaken).flat ≡ (step_of l f moment LaunchTaken).flat
-same_step l f moment = ap (λ (g : Flat). purged (settled l g)) (same_taken (with_moment f moment))
+same_step l f moment = ap (λ (done : Told). purged (finished (settled l done.flat) done.answer).flat) (same_taken (with_moment f moment))
 
 -- ## The manager
 

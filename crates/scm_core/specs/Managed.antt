@@ -1,5 +1,5 @@
 -- What contracts see of a manager.
-use Rattle.std.specs.Prelude.{ℕ, ◌≡◌, ◌≤◌, ◌+◌, false, List, Option, None, Some}
+use Rattle.std.specs.Prelude.{ℕ, ◌≡◌, ◌≤◌, ◌+◌, List, Option, None, Some}
 use Rattle.scm_text.specs.TextWithRoom.{TextWithRoom}
 use Rattle.scm_model.specs.declared.flat.Flat.{Flat}
 use Rattle.scm_model.specs.declared.flat.Limits.{Limits}
@@ -7,7 +7,7 @@ use Rattle.scm_model.specs.declared.steps.Step.{Step}
 use Rattle.scm_model.specs.declared.steps.Step.TheVariants.{Joined, Call, LaunchTaken}
 use Rattle.scm_model.specs.Entries.{unkept}
 use Rattle.scm_rules.specs.Launches.{first_wanted}
-use Rattle.scm_rules.specs.Steps.{is_wanted, step_of}
+use Rattle.scm_rules.specs.Steps.{step_of}
 use Rattle.scm_tables.specs.Lines.{first_line}
 
 -- the flat state, the limits, how many steps were made and how much text they had, and the step that room was made for
@@ -39,9 +39,9 @@ pub record AreSmall (limits : Limits) : Type 0 where
 
 -- nothing is wanted, and nothing changes; or the launch that is wanted first is taken in a step, and its line handed out
 abbrev pub TakesLaunch : Managed → Managed → ℕ → TextWithRoom → TextWithRoom → Option (ℕ × List (List ℕ)) → Type 0
-TakesLaunch old new moment path path_now None = (is_wanted old.flat.wanted ≡ false) × (new ≡ old) × (path_now ≡ path)
+TakesLaunch old new moment path path_now None = (first_wanted old.flat.wanted ≡ None) × (new ≡ old) × (path_now ≡ path)
 TakesLaunch old new moment path path_now (Some taken) =
-    (taken.0 ≡ first_wanted old.flat.wanted)
+    (first_wanted old.flat.wanted ≡ Some taken.0)
     × (path_now ≡ record { units = (first_line old.flat old.flat.wanted).0; room = path.room })
     × (taken.1 ≡ (first_line old.flat old.flat.wanted).1)
     × (new ≡ record old { flat = (step_of old.limits old.flat moment LaunchTaken).flat; steps = old.steps + 1; room = None })

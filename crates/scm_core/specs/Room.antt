@@ -1,5 +1,5 @@
 -- The room that a step uses.
-use Rattle.std.specs.Prelude.{ℕ, ◌≡◌, ◌≤◌, ◌<◌, ◌^◌, false, length, is_some, None, Some}
+use Rattle.std.specs.Prelude.{ℕ, ◌≡◌, ◌≤◌, ◌<◌, ◌^◌, length, None, Some}
 use Rattle.scm_model.specs.declared.flat.Flat.{Flat}
 use Rattle.scm_model.specs.declared.calls.Request.{Request}
 use Rattle.scm_model.specs.declared.calls.Request.TheVariants as request
@@ -8,7 +8,7 @@ use Rattle.scm_model.specs.declared.steps.Step.TheVariants.{Joined, Call}
 use Rattle.scm_model.specs.declared.flat.Limits.{Limits}
 use Rattle.scm_model.specs.declared.steps.Kept.TheVariants as appended
 use Rattle.scm_rules.specs.Change.{asked_config, change_verdict}
-use Rattle.scm_rules.specs.Create.{config_of, create_verdict}
+use Rattle.scm_rules.specs.Create.{created_config, create_verdict}
 use Rattle.scm_rules.specs.QueryConfig.{query_config_reply}
 use Rattle.scm_rules.specs.Locks.{lock_owner}
 use Rattle.scm_rules.specs.Verdicts.{change_of_call}
@@ -35,14 +35,14 @@ HasRoomFor t step = Unit {0}
 -- ## What is made beforehand, so that the step takes no memory
 
 abbrev pub nothing_made : Made
-nothing_made = record { name = None; config = None; code = 0; changes = false; entries = None; reply = None }
+nothing_made = record { name = None; config = None; code = 0; change = None; entries = None; reply = None }
 
 -- for a creation and a change the new configuration, and what they are refused with if they are kept; for what may change the
--- configurations whether it does; for a start the services that it goes by; for a query of the lock the owner's name; for another call that has texts in its reply the reply
+-- configurations the change; for a start the services that it goes by; for a query of the lock the owner's name; for another call that has texts in its reply the reply
 abbrev pub made_for : Limits → Flat → ℕ → Request → Made
-made_for l f caller (request.Change change) = record nothing_made { config = asked_config f caller change; code = change_verdict f caller change appended.Kept; changes = is_some (change_of_call l f caller (request.Change change)) }
-made_for l f caller (request.Create new) = record nothing_made { config = Some (config_of f new); code = create_verdict l f caller new appended.Kept; changes = is_some (change_of_call l f caller (request.Create new)) }
-made_for l f caller (request.Delete handle) = record nothing_made { changes = is_some (change_of_call l f caller (request.Delete handle)) }
+made_for l f caller (request.Change change) = record nothing_made { config = asked_config f caller change; code = change_verdict f caller change appended.Kept; change = change_of_call l f caller (request.Change change) }
+made_for l f caller (request.Create new) = record nothing_made { config = Some (created_config f new); code = create_verdict l f caller new appended.Kept; change = change_of_call l f caller (request.Create new) }
+made_for l f caller (request.Delete handle) = record nothing_made { change = change_of_call l f caller (request.Delete handle) }
 made_for l f caller (request.QueryConfig handle size) = record nothing_made { reply = Some (query_config_reply f caller handle size) }
 made_for l f caller (request.QueryLock handle size) = record nothing_made { name = Some (lock_owner f) }
 made_for l f caller (request.Start handle words) = record nothing_made { entries = Some (start_entries f caller handle words) }

@@ -1,10 +1,10 @@
-ghost use Rattle.std.specs.Prelude.{◌≡◌, IfOk};
+ghost use Rattle.std.specs.Prelude.{◌≡◌, IfOk, option_copied};
 ghost use Rattle.scm_rules.specs.Steps.{may_come};
-ghost use Rattle.scm_core.specs.Judged.{changes_in, told_in};
+ghost use Rattle.scm_core.specs.Judged.{change_in, told_in};
 ghost use Rattle.scm_rules.specs.Verdicts.{change_of, change_of_call, tells_right};
 
 use super::made::Made;
-use scm_arms_service::{changed, created, delete_verdict, removed};
+use scm_arms_service::{changed, created, removed};
 use scm_model::{Change, Kept, Request, Step};
 use scm_tables::Tables;
 use scm_text::OutOfMemory;
@@ -36,23 +36,13 @@ pub fn may_come(tables: &Tables, moment: u64, step: &Step) -> bool
     }
 }
 
-/// Whether a step for which this was made changes the configurations, if it is kept.
-pub fn makes_change(step: &Step, made: &Made) -> bool
-    ensures { result ≡ changes_in made.now step.now }
+/// The change of the configurations that a step for which this was made makes, if it is kept.
+pub fn change_in<'a>(step: &Step, made: &'a Made) -> Option<&'a Change>
+    ensures { option_copied result ≡ change_in made.now step.now }
 {
     match step {
-        Step::Call { .. } => made.changes,
-        Step::Joined { .. }
-        | Step::EndStart { .. }
-        | Step::LaunchTaken
-        | Step::Launched { .. }
-        | Step::LaunchFailed { .. }
-        | Step::Report { .. }
-        | Step::Ended { .. }
-        | Step::ControlTaken { .. }
-        | Step::Tick
-        | Step::Gone { .. }
-        | Step::NoMemory { .. } => false,
+        Step::Call { .. } => made.change.as_ref(),
+        _ => None,
     }
 }
 
@@ -75,18 +65,8 @@ pub fn is_told(step: &Step, made: &Made) -> bool
             caller: _,
             request: _,
             kept,
-        } => tells_right(made.changes, *kept),
-        Step::Joined { .. }
-        | Step::EndStart { .. }
-        | Step::LaunchTaken
-        | Step::Launched { .. }
-        | Step::LaunchFailed { .. }
-        | Step::Report { .. }
-        | Step::Ended { .. }
-        | Step::ControlTaken { .. }
-        | Step::Tick
-        | Step::Gone { .. }
-        | Step::NoMemory { .. } => true,
+        } => tells_right(made.change.is_some(), *kept),
+        _ => true,
     }
 }
 
@@ -101,27 +81,9 @@ fn change_of_call(
 {
     match request {
         Request::Create(new) => created(tables, &tables.limits(), caller, new, alloc),
-        Request::Delete { handle } => {
-            if delete_verdict(tables, caller, *handle, Kept::Kept) == 0 {
-                removed(tables, caller, *handle, alloc)
-            } else {
-                Ok(None)
-            }
-        }
+        Request::Delete { handle } => removed(tables, caller, *handle, alloc),
         Request::Change(change) => changed(tables, caller, change, alloc),
-        Request::Close { .. }
-        | Request::Control { .. }
-        | Request::Lock { .. }
-        | Request::QueryStatus { .. }
-        | Request::SetStatus { .. }
-        | Request::Unlock { .. }
-        | Request::OpenManager { .. }
-        | Request::OpenService { .. }
-        | Request::QueryConfig { .. }
-        | Request::QueryLock { .. }
-        | Request::Start { .. }
-        | Request::DisplayName { .. }
-        | Request::KeyName { .. } => Ok(None),
+        _ => Ok(None),
     }
 }
 
@@ -135,16 +97,6 @@ pub fn change_of(tables: &Tables, step: &Step, alloc: Global) -> Result<Option<C
             request,
             kept: _,
         } => change_of_call(tables, *caller, request, alloc),
-        Step::Joined { .. }
-        | Step::EndStart { .. }
-        | Step::LaunchTaken
-        | Step::Launched { .. }
-        | Step::LaunchFailed { .. }
-        | Step::Report { .. }
-        | Step::Ended { .. }
-        | Step::ControlTaken { .. }
-        | Step::Tick
-        | Step::Gone { .. }
-        | Step::NoMemory { .. } => Ok(None),
+        _ => Ok(None),
     }
 }

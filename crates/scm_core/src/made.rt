@@ -1,14 +1,16 @@
 ghost use Rattle.std.specs.Prelude.{◌≡◌, IfOk, Some};
 ghost use Rattle.scm_model.specs.declared.calls.Request.TheVariants as request;
+ghost use Rattle.scm_model.specs.declared.steps.Change.TheVariants.{Created};
+ghost use Rattle.scm_rules.specs.Verdicts.{unless_refused};
 ghost use Rattle.scm_core.specs.Room.{IsMadeFor, made_for, nothing_made};
 
 use scm_arms_handle::lock_owner;
 use scm_arms_service::{
-    asked_config, change_verdict, changes, config_of, create_verdict, display_name, key_name,
-    query_config, removes,
+    asked_config, change_verdict, config_of, create_verdict, display_name, judged, key_name,
+    query_config, removed,
 };
 use scm_arms_start::start_entries;
-use scm_model::{ChangeService, Config, NewService, Reply, Request, Step};
+use scm_model::{Change, ChangeService, Config, NewService, Reply, Request, Step};
 use scm_tables::Tables;
 use scm_text::{Items, OutOfMemory, WText};
 use std::alloc::Global;
@@ -22,8 +24,8 @@ pub struct Made {
     pub config: Option<Config>,
     /// What a creation or a change is refused with if it is kept, or 0.
     pub code: u32,
-    /// Whether the call changes the configurations if it is kept.
-    pub changes: bool,
+    /// The change of the configurations that the call makes if it is kept.
+    pub change: Option<Change>,
     /// The services that a start goes by.
     pub entries: Option<Items<u64>>,
     /// The reply to a call that only reads.
@@ -37,7 +39,7 @@ pub fn nothing_made() -> Made
         name: None,
         config: None,
         code: 0,
-        changes: false,
+        change: None,
         entries: None,
         reply: None,
     }
@@ -48,37 +50,27 @@ fn made_of_name(name: WText) -> Made
 {
     Made {
         name: Some(name),
-        config: None,
-        code: 0,
-        changes: false,
-        entries: None,
-        reply: None,
+        ..nothing_made()
     }
 }
 
-fn made_of_config(config: Option<Config>, code: u32, changes: bool) -> Made
-    ensures { result ≡ record nothing_made { config = config; code = code; changes = changes } }
+fn made_of_config(config: Option<Config>, code: u32, change: Option<Change>) -> Made
+    ensures { result ≡ record nothing_made { config = config; code = code; change = change } }
 {
     Made {
-        name: None,
         config,
         code,
-        changes,
-        entries: None,
-        reply: None,
+        change,
+        ..nothing_made()
     }
 }
 
-fn made_of_removal(changes: bool) -> Made
-    ensures { result ≡ record nothing_made { changes = changes } }
+fn made_of_removal(change: Option<Change>) -> Made
+    ensures { result ≡ record nothing_made { change = change } }
 {
     Made {
-        name: None,
-        config: None,
-        code: 0,
-        changes,
-        entries: None,
-        reply: None,
+        change,
+        ..nothing_made()
     }
 }
 
@@ -86,12 +78,8 @@ fn made_of_entries(entries: Items<u64>) -> Made
     ensures { result ≡ record nothing_made { entries = Some entries } }
 {
     Made {
-        name: None,
-        config: None,
-        code: 0,
-        changes: false,
         entries: Some(entries),
-        reply: None,
+        ..nothing_made()
     }
 }
 
@@ -99,13 +87,19 @@ fn made_of_reply(reply: Reply) -> Made
     ensures { result ≡ record nothing_made { reply = Some reply } }
 {
     Made {
-        name: None,
-        config: None,
-        code: 0,
-        changes: false,
-        entries: None,
         reply: Some(reply),
+        ..nothing_made()
     }
+}
+
+/// The change that a creation makes, unless it is refused.
+fn creation(code: u32, config: &Config, alloc: Global) -> Result<Option<Change>, OutOfMemory>
+    ensures { IfOk result (λ change. change ≡ unless_refused code (Some (Created config.now))) }
+{
+    if code != 0 {
+        return Ok(None);
+    }
+    Ok(Some(Change::Created(config.copy(alloc)?)))
 }
 
 /// Makes what a creation needs.
@@ -119,7 +113,8 @@ fn make_for_create(
 {
     let config = config_of(tables, new, alloc)?;
     let code = create_verdict(tables, &tables.limits(), caller, new, &config, alloc)?;
-    Ok(made_of_config(Some(config), code, code == 0))
+    let change = creation(code, &config, alloc)?;
+    Ok(made_of_config(Some(config), code, change))
 }
 
 /// Makes what a change needs.
@@ -133,8 +128,8 @@ fn make_for_change(
 {
     let config = asked_config(tables, caller, change, alloc)?;
     let code = change_verdict(tables, caller, change, alloc)?;
-    let changes = changes(tables, caller, change, code, &config, alloc)?;
-    Ok(made_of_config(config, code, changes))
+    let told = judged(tables, caller, change, code, &config, alloc)?;
+    Ok(made_of_config(config, code, told))
 }
 
 /// Makes what a call needs.
@@ -148,7 +143,9 @@ fn make_for_call(
 {
     match request {
         Request::Create(new) => make_for_create(tables, caller, new, alloc),
-        Request::Delete { handle } => Ok(made_of_removal(removes(tables, caller, *handle))),
+        Request::Delete { handle } => {
+            Ok(made_of_removal(removed(tables, caller, *handle, alloc)?))
+        }
         Request::QueryLock { .. } => Ok(made_of_name(lock_owner(tables, alloc)?)),
         Request::Change(change) => make_for_change(tables, caller, change, alloc),
         Request::QueryConfig { handle, size } => Ok(made_of_reply(query_config(
@@ -163,14 +160,7 @@ fn make_for_call(
         Request::KeyName { handle, name, size } => Ok(made_of_reply(key_name(
             tables, caller, *handle, name, *size, alloc,
         )?)),
-        Request::Close { .. }
-        | Request::Control { .. }
-        | Request::Lock { .. }
-        | Request::QueryStatus { .. }
-        | Request::SetStatus { .. }
-        | Request::Unlock { .. }
-        | Request::OpenManager { .. }
-        | Request::OpenService { .. } => Ok(nothing_made()),
+        _ => Ok(nothing_made()),
     }
 }
 
@@ -184,16 +174,6 @@ pub fn make_for(tables: &Tables, step: &Step, alloc: Global) -> Result<Made, Out
             request,
             kept: _,
         } => make_for_call(tables, *caller, request, alloc),
-        Step::Joined { .. }
-        | Step::EndStart { .. }
-        | Step::LaunchTaken
-        | Step::Launched { .. }
-        | Step::LaunchFailed { .. }
-        | Step::Report { .. }
-        | Step::Ended { .. }
-        | Step::ControlTaken { .. }
-        | Step::Tick
-        | Step::Gone { .. }
-        | Step::NoMemory { .. } => Ok(nothing_made()),
+        _ => Ok(nothing_made()),
     }
 }

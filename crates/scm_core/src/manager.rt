@@ -1,10 +1,10 @@
-ghost use Rattle.std.specs.Prelude.{◌≡◌, ◌+◌, ◌<◌, ◌≤◌, ◌==◌, ◌^◌, max, nat_le, IsTrue, OnOk, OnErr, IfOk, None, Some, length, filter, is_some, []};
+ghost use Rattle.std.specs.Prelude.{◌≡◌, ◌+◌, ◌<◌, ◌≤◌, ◌==◌, ◌^◌, max, nat_le, IsTrue, OnOk, OnErr, IfOk, None, Some, length, filter, is_some, option_copied, []};
 ghost use Rattle.std.specs.List.{list_any};
 ghost use Rattle.scm_rules.specs.Controls.{waiting};
 ghost use Rattle.scm_rules.specs.Opening.{CanOpen, opening};
-ghost use Rattle.scm_rules.specs.Start.{is_due};
-ghost use Rattle.start_plan.specs.Decided.{caller_of, code_of};
-ghost use Rattle.scm_rules.specs.Steps.{is_wanted, may, may_come, step_of};
+ghost use Rattle.scm_rules.specs.Due.{is_due};
+ghost use Rattle.start_plan.specs.Decided.{plan_caller, code_of};
+ghost use Rattle.scm_rules.specs.Steps.{wants_launch, may, may_come, step_of};
 ghost use Rattle.scm_model.specs.Texts.{text_of};
 ghost use Rattle.scm_rules.specs.Verdicts.{change_of};
 ghost use Rattle.scm_model.specs.Entries.{unkept};
@@ -13,7 +13,7 @@ ghost use Rattle.scm_core.specs.Managed.{AreSmall, TakesLaunch, WasMadeFor};
 ghost use Rattle.scm_model.specs.declared.codes.TheConstants.{SERVICE_RUNNING};
 
 use super::effect::act;
-use super::judging::{change_of, is_told, makes_change, may_come};
+use super::judging::{change_in, change_of, is_told, may_come};
 use super::made::{Made, make_for, nothing_made};
 use super::room::reserve;
 use scm_model::{Answer, Change, Config, Limits, Step};
@@ -144,14 +144,14 @@ impl Manager {
 
     /// The caller of a plan, or 0 where no caller began it; none where it is absent. It takes no memory.
     pub fn owner_of(&self, plan: u64) -> Option<u64>
-        ensures { result ≡ caller_of self.now.flat.plans plan }
+        ensures { result ≡ plan_caller self.now.flat.plans plan }
     {
         self.tables.caller_of_plan(plan)
     }
 
     /// Whether a launch is wanted. It takes no memory.
     pub fn wanted(&self) -> bool
-        ensures { result ≡ is_wanted self.now.flat.wanted }
+        ensures { result ≡ wants_launch self.now.flat.wanted }
     {
         self.tables.is_wanted()
     }
@@ -175,7 +175,16 @@ impl Manager {
         requires { WasMadeFor self.now.room step.now }
         ensures { result ≡ is_some (change_of self.now.limits self.now.flat step.now) }
     {
-        makes_change(step, &self.made)
+        change_in(step, &self.made).is_some()
+    }
+
+    /// The change of the configurations that a step that room was made for makes, if it is kept. It was judged when the room was
+    /// made, and takes no memory.
+    pub fn change_made(&self, step: &Step) -> Option<&Change>
+        requires { WasMadeFor self.now.room step.now }
+        ensures { option_copied result ≡ change_of self.now.limits self.now.flat step.now }
+    {
+        change_in(step, &self.made)
     }
 
     /// The change of the configurations that a step makes if it is kept.
@@ -224,10 +233,7 @@ impl Manager {
         requires text { self.old.text < 2 ^ 63 }
         ensures { TakesLaunch self.old self.new moment path.old path.new result }
     {
-        if !self.tables.is_wanted() {
-            return None;
-        }
-        let process = self.tables.first_wanted();
+        let process = self.tables.first_wanted()?;
         self.tables.write_first_path(path);
         forget(&mut self.room);
         let words = self.tables.take_words();

@@ -27,21 +27,7 @@ fn need_of_call(services: u128, request: &Request) -> u128
 {
     match request {
         Request::Start { .. } => need_of_start(services),
-        Request::Close { .. }
-        | Request::Control { .. }
-        | Request::Delete { .. }
-        | Request::Lock { .. }
-        | Request::QueryStatus { .. }
-        | Request::SetStatus { .. }
-        | Request::Unlock { .. }
-        | Request::Change(_)
-        | Request::Create(_)
-        | Request::OpenManager { .. }
-        | Request::OpenService { .. }
-        | Request::QueryConfig { .. }
-        | Request::QueryLock { .. }
-        | Request::DisplayName { .. }
-        | Request::KeyName { .. } => 1,
+        _ => 1,
     }
 }
 
@@ -53,15 +39,7 @@ fn need_with(services: u128, step: &Step) -> u128
         Step::Joined { .. } => 2,
         Step::Call { request, .. } => need_of_call(services, request),
         Step::Tick => need_of_tick(services),
-        Step::EndStart { .. }
-        | Step::LaunchTaken
-        | Step::Launched { .. }
-        | Step::LaunchFailed { .. }
-        | Step::Report { .. }
-        | Step::Ended { .. }
-        | Step::ControlTaken { .. }
-        | Step::Gone { .. }
-        | Step::NoMemory { .. } => 1,
+        _ => 1,
     }
 }
 

@@ -41,17 +41,7 @@ fn reserve_call(
             tables.reserve_handle()
         }
         Request::Start { .. } => reserve_plan(tables, &made.entries),
-        Request::Close { .. }
-        | Request::Control { .. }
-        | Request::Delete { .. }
-        | Request::QueryStatus { .. }
-        | Request::SetStatus { .. }
-        | Request::Unlock { .. }
-        | Request::Change(_)
-        | Request::QueryConfig { .. }
-        | Request::QueryLock { .. }
-        | Request::DisplayName { .. }
-        | Request::KeyName { .. } => Ok(()),
+        _ => Ok(()),
     }
 }
 
@@ -69,15 +59,6 @@ pub fn reserve(tables: &mut Tables, step: &Step, made: &Made) -> Result<(), OutO
             request,
             kept: _,
         } => reserve_call(tables, *caller, request, made),
-        Step::EndStart { .. }
-        | Step::LaunchTaken
-        | Step::Launched { .. }
-        | Step::LaunchFailed { .. }
-        | Step::Report { .. }
-        | Step::Ended { .. }
-        | Step::ControlTaken { .. }
-        | Step::Tick
-        | Step::Gone { .. }
-        | Step::NoMemory { .. } => Ok(()),
+        _ => Ok(()),
     }
 }

@@ -1,1 +1,2 @@
 mod Worded
+pub mod Found

@@ -25,13 +25,13 @@ abbrev pub met_by_all : List NeedRow → List Need → List ℕ
 met_by_all rows [] = []
 met_by_all rows (need ∷ needs) = met_by rows need ++ met_by_all rows needs
 
-abbrev pub needs_in : Option NeedRow → List Need
-needs_in None = []
-needs_in (Some row) = row.needs
+abbrev pub row_needs : Option NeedRow → List Need
+row_needs None = []
+row_needs (Some row) = row.needs
 
 -- the services that a service needs
 abbrev pub needs_of : List NeedRow → ℕ → List ℕ
-needs_of rows number = met_by_all rows (needs_in (find (λ (row : NeedRow). row.number == number) rows))
+needs_of rows number = met_by_all rows (row_needs (find (λ (row : NeedRow). row.number == number) rows))
 
 -- ## A row put in
 

@@ -35,8 +35,8 @@ is_cyclic rows = is_none (try_all (explore (needs_of rows) (λ other. false) (le
 abbrev pub TellsCycles : List NeedRow → Type 0
 TellsCycles rows = (is_cyclic rows ≡ false) ↔ IsAcyclic (needs_of rows)
 
-abbrev pub is_running : (ℕ → ℕ) → ℕ → Bool
-is_running state_of number = state_of number == SERVICE_RUNNING
+abbrev pub runs_in : (ℕ → ℕ) → ℕ → Bool
+runs_in state_of number = state_of number == SERVICE_RUNNING
 
 -- what was done, and what visiting a service adds; no needs without a cycle go deeper than there are services
 abbrev pub visit : List NeedRow → (ℕ → Bool) → List ℕ → ℕ → List ℕ
@@ -48,7 +48,7 @@ visit_all rows skipped done (number ∷ numbers) = visit_all rows skipped (visit
 
 -- the start order
 abbrev pub order_in : List NeedRow → (ℕ → ℕ) → ℕ → List ℕ
-order_in rows state_of target = visit rows (is_running state_of) [] target
+order_in rows state_of target = visit rows (runs_in state_of) [] target
 
 -- where the needs have no cycle: a service that is skipped or done adds nothing, another comes after what its needs add, in order
 abbrev pub FollowsRule : List NeedRow → Type 0

@@ -5,11 +5,11 @@ use Rattle.scm_model.specs.declared.codes.TheConstants.{SERVICE_STOPPED}
 use Rattle.scm_model.specs.declared.flat.Flat.{Flat}
 use Rattle.scm_model.specs.declared.flat.HandleRow.{HandleRow}
 use Rattle.scm_model.specs.declared.flat.Service.{Service}
-use Rattle.scm_model.specs.Rows.{is_of}
+use Rattle.scm_model.specs.Rows.{is_of_service}
 
 -- a service that is marked, STOPPED and named by no handle leaves
 abbrev pub leaves : List HandleRow → Service → Bool
-leaves handles row = row.marked && row.status.state == SERVICE_STOPPED && not (list_any (λ (handle : HandleRow). is_of row.number handle.kind) handles)
+leaves handles row = row.marked && row.status.state == SERVICE_STOPPED && not (list_any (λ (handle : HandleRow). is_of_service row.number handle.kind) handles)
 
 abbrev pub purged : Flat → Flat
 purged f = record f { services = filter (λ (row : Service). not (leaves f.handles row)) f.services }

@@ -16,13 +16,13 @@ state_in (Some row) = row.status.state
 abbrev pub state_of : Flat → ℕ → ℕ
 state_of f number = state_in (service_of f number)
 
-abbrev pub needs_in : Option Service → List Need
-needs_in None = []
-needs_in (Some row) = row.config.needs
+abbrev pub service_needs : Option Service → List Need
+service_needs None = []
+service_needs (Some row) = row.config.needs
 
 -- what a service is configured to need
-abbrev pub needs_of : Flat → ℕ → List Need
-needs_of f number = needs_in (service_of f number)
+abbrev pub configured_needs : Flat → ℕ → List Need
+configured_needs f number = service_needs (service_of f number)
 
 abbrev pub is_running : Service → Bool
 is_running row = row.status.state == SERVICE_RUNNING

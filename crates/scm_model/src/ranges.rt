@@ -24,19 +24,7 @@ impl Request {
             Request::QueryConfig { handle: _, size } => *size <= MAX_CONFIG_SIZE,
             Request::QueryLock { handle: _, size } => *size <= MAX_LOCK_STATUS_SIZE,
             Request::Start { handle: _, words } => are_few(words),
-            Request::Close { .. }
-            | Request::Control { .. }
-            | Request::Delete { .. }
-            | Request::Lock { .. }
-            | Request::QueryStatus { .. }
-            | Request::SetStatus { .. }
-            | Request::Unlock { .. }
-            | Request::Change(_)
-            | Request::Create(_)
-            | Request::OpenManager { .. }
-            | Request::OpenService { .. }
-            | Request::DisplayName { .. }
-            | Request::KeyName { .. } => true,
+            _ => true,
         }
     }
 }

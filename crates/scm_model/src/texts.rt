@@ -106,15 +106,7 @@ fn text_of_call(request: &Request) -> u128
             size: _,
         } => 2 * name.units().len() as u128,
         Request::Start { handle: _, words } => some_words(words),
-        Request::Close { .. }
-        | Request::Control { .. }
-        | Request::Delete { .. }
-        | Request::Lock { .. }
-        | Request::QueryStatus { .. }
-        | Request::SetStatus { .. }
-        | Request::Unlock { .. }
-        | Request::QueryConfig { .. }
-        | Request::QueryLock { .. } => 0,
+        _ => 0,
     }
 }
 
@@ -125,22 +117,8 @@ impl Step {
         ensures { result ≡ min (text_of self.now) (2 ^ 128 - 1) }
     {
         match self {
-            Step::Call {
-                caller: _,
-                request,
-                kept: _,
-            } => text_of_call(request),
-            Step::Joined { .. }
-            | Step::EndStart { .. }
-            | Step::LaunchTaken
-            | Step::Launched { .. }
-            | Step::LaunchFailed { .. }
-            | Step::Report { .. }
-            | Step::Ended { .. }
-            | Step::ControlTaken { .. }
-            | Step::Tick
-            | Step::Gone { .. }
-            | Step::NoMemory { .. } => 0,
+            Step::Call { request, .. } => text_of_call(request),
+            _ => 0,
         }
     }
 }

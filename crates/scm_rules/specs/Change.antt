@@ -1,5 +1,5 @@
 -- RChangeServiceConfigW: a service gets another configuration.
-use Rattle.std.specs.Prelude.{ℕ, Bool, false, ◌||◌, ◌&&◌, ◌==◌, ◌++◌, List, [], ◌∷◌, length, Option, None, Some, is_none, is_some, unwrap_or, option_map, option_and_then, if◌then◌else◌}
+use Rattle.std.specs.Prelude.{ℕ, Bool, false, ◌||◌, ◌&&◌, ◌==◌, ◌++◌, List, [], ◌∷◌, length, Option, None, Some, is_none, is_some, unwrap_or, map, option_map, option_and_then, if◌then◌else◌}
 use Rattle.std.specs.Cmp.Lexicographic.{pointwise}
 use Rattle.scm_model.specs.declared.flat.Flat.{Flat}
 use Rattle.scm_model.specs.declared.flat.Config.{Config}
@@ -9,15 +9,15 @@ use Rattle.scm_model.specs.declared.calls.Reply.TheVariants as reply
 use Rattle.scm_model.specs.declared.steps.Change.{Change}
 use Rattle.scm_model.specs.declared.steps.Change.TheVariants.{Changed}
 use Rattle.scm_model.specs.declared.steps.Kept.{Kept}
-use Rattle.scm_model.specs.Rows.{opened, service_of, is_shown_by_another}
-use Rattle.scm_model.specs.Changes.{with_config}
+use Rattle.scm_model.specs.Found.{if_found}
+use Rattle.scm_model.specs.Rows.{held_service, opened, is_shown_by_another}
+use Rattle.scm_model.specs.Changes.{configured_if}
 use Rattle.scm_model.specs.Refused.{first_refusal, Refusals, outcome}
 use Rattle.scm_model.specs.Outcomes.{Done}
 use Rattle.scm_model.specs.declared.codes.TheConstants.{ERROR_ACCESS_DENIED, ERROR_CIRCULAR_DEPENDENCY, ERROR_DUPLICATE_SERVICE_NAME, ERROR_INVALID_HANDLE, ERROR_INVALID_NAME, ERROR_INVALID_PARAMETER, ERROR_INVALID_SERVICE_ACCOUNT, ERROR_SERVICE_MARKED_FOR_DELETE, SERVICE_AUTO_START, SERVICE_CHANGE_CONFIG, SERVICE_NO_CHANGE}
 use Rattle.service_record.specs.Checks.{check_change}
 use Rattle.service_record.specs.Spelling.{spelling}
 use Rattle.scm_rules.specs.Rights.{lacks}
-use Rattle.scm_rules.specs.Query.{service_in}
 use Rattle.scm_rules.specs.Delete.{is_marked, keeping_refusals}
 use Rattle.scm_rules.specs.Create.{display_of, next_tag, told_tag}
 use Rattle.scm_rules.specs.Needs.{are_unreadable, makes_cycle, needs_or}
@@ -61,10 +61,6 @@ abbrev pub new_config : Flat → ChangeService → Service → Config
 new_config f change row = config_from f change row.config
 
 -- ## Refusals
-
--- the service that the change is of
-abbrev pub changed_service : Flat → ℕ → ChangeService → Option Service
-changed_service f caller change = service_of f (service_in (opened f caller change.handle))
 
 -- what the new configuration is refused with, or 0
 abbrev pub checked : Flat → ChangeService → Option Service → ℕ
@@ -111,32 +107,29 @@ row_refusals f change service = (is_marked service, ERROR_SERVICE_MARKED_FOR_DEL
 
 abbrev pub change_refusals : Flat → ℕ → ChangeService → Kept → Refusals
 change_refusals f caller change append =
-    changing_refusals f caller change ++ row_refusals f change (changed_service f caller change) ++ keeping_refusals append
+    changing_refusals f caller change ++ row_refusals f change (held_service f caller change.handle) ++ keeping_refusals append
 
 abbrev pub change_verdict : Flat → ℕ → ChangeService → Kept → ℕ
 change_verdict f caller change append = first_refusal (change_refusals f caller change append)
 
 -- ## Effect
 
--- the state with a service's new configuration, where there is one
-abbrev pub with_new_config : Flat → ℕ → Option Config → Flat
-with_new_config f number None = f
-with_new_config f number (Some config) = with_config f number config
-
--- the tag of a new configuration
-abbrev pub tag_in : Option Config → ℕ
-tag_in None = 0
-tag_in (Some config) = config.tag
-
 -- the new configuration that is asked for
 abbrev pub asked_config : Flat → ℕ → ChangeService → Option Config
-asked_config f caller change = option_map (new_config f change) (changed_service f caller change)
+asked_config f caller change = option_map (new_config f change) (held_service f caller change.handle)
 
--- the tag is told where one was asked for
+-- the tag of a new configuration, where one was asked for
+abbrev pub new_tag : ChangeService → Option Config → Option ℕ
+new_tag change config = option_and_then (λ (new : Config). told_tag new.tag change.tag) config
+
+-- the services with a new configuration of the one that was found
+abbrev pub configured_in : (Service → Config) → Option Service → List Service → List Service
+configured_in new = if_found (λ row. map (configured_if row.number (new row)))
+
 abbrev pub change_done : Flat → ℕ → ChangeService → Done
 change_done f caller change = record {
-  reply = reply.Tag (told_tag (tag_in (asked_config f caller change)) change.tag) 0;
-  flat = with_new_config f (service_in (opened f caller change.handle)) (asked_config f caller change);
+  reply = reply.Tag (new_tag change (asked_config f caller change)) 0;
+  flat = record f { services = configured_in (new_config f change) (held_service f caller change.handle) f.services };
 }
 
 abbrev pub change_outcome : Flat → ℕ → ChangeService → Kept → Done
@@ -157,4 +150,4 @@ changed_row f change row = changed_from row.config (new_config f change row)
 
 -- the change of a Change that is not refused
 abbrev pub change_change : Flat → ℕ → ChangeService → Option Change
-change_change f caller change = option_and_then (changed_row f change) (changed_service f caller change)
+change_change f caller change = option_and_then (changed_row f change) (held_service f caller change.handle)

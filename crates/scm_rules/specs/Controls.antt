@@ -9,16 +9,17 @@ use Rattle.scm_model.specs.declared.flat.Service.{Service}
 use Rattle.scm_model.specs.declared.flat.Status.{Status}
 use Rattle.scm_model.specs.declared.calls.Reply.{Reply}
 use Rattle.scm_model.specs.declared.calls.Reply.TheVariants as reply
+use Rattle.scm_model.specs.declared.steps.Answer.{Answer}
 use Rattle.scm_model.specs.declared.steps.Answer.TheVariants as answer
-use Rattle.scm_model.specs.Rows.{opened, service_of}
+use Rattle.scm_model.specs.Found.{if_found}
+use Rattle.scm_model.specs.Rows.{held_service, opened}
 use Rattle.scm_model.specs.Refused.{zero_status, answered}
 use Rattle.scm_model.specs.Outcomes.{Done, Told}
 use Rattle.scm_model.specs.declared.codes.TheConstants.{ERROR_INVALID_SERVICE_CONTROL, ERROR_SERVICE_CANNOT_ACCEPT_CTRL, ERROR_SERVICE_NOT_ACTIVE, SERVICE_STOPPED}
 use Rattle.control_dispatch.specs.Judging.{judge}
 use Rattle.dependency_index.specs.Naming.{is_named}
 use Rattle.scm_rules.specs.Launches.{process_of}
-use Rattle.scm_rules.specs.Query.{service_in, status_in}
-use Rattle.scm_rules.specs.Reports.{process_in}
+use Rattle.scm_rules.specs.Query.{status_in}
 
 -- ## Controls that wait
 
@@ -34,10 +35,10 @@ controls_of f process = controls_in (process_of f process)
 abbrev pub waiting : Flat → ℕ → Option ℕ
 waiting f process = option_map (λ (row : Process). length row.controls) (process_of f process)
 
--- the control that waits first, or 0
-abbrev pub first_control : List ℕ → ℕ
-first_control [] = 0
-first_control (code ∷ codes) = code
+-- the control that waits first
+abbrev pub first_control : List ℕ → Option ℕ
+first_control [] = None
+first_control (code ∷ codes) = Some code
 
 -- whether a control waits
 abbrev pub waits : List ℕ → Bool
@@ -57,15 +58,16 @@ relieved_if process row = if row.number == process then record row { controls = 
 abbrev pub with_control_taken : Flat → ℕ → Flat
 with_control_taken f process = record f { processes = map (relieved_if process) f.processes }
 
+-- a control that is taken in hand is told
+abbrev pub control_sent : Option ℕ → Answer
+control_sent None = answer.Done
+control_sent (Some code) = answer.Control code
+
 -- the control that waits first is taken in hand
 abbrev pub control_taken : Flat → ℕ → Told
-control_taken f process = record { answer = answer.Control (first_control (controls_of f process)); flat = with_control_taken f process }
+control_taken f process = record { answer = control_sent (first_control (controls_of f process)); flat = with_control_taken f process }
 
 -- ## The call
-
--- the service that a control is for
-abbrev pub controlled_service : Flat → ℕ → ℕ → Option Service
-controlled_service f caller handle = service_of f (service_in (opened f caller handle))
 
 -- the rights of a handle, where it is one of a service
 abbrev pub granted_in : Option Opened → Option ℕ
@@ -82,12 +84,13 @@ active_among rows (Some target) = min (length (filter (is_active_by target.confi
 
 -- how many controls wait for a service's process
 abbrev pub waiting_for : Flat → Option Service → ℕ
-waiting_for f service = length (controls_of f (process_in service))
+waiting_for f None = 0
+waiting_for f (Some row) = length (controls_of f row.process)
 
 abbrev pub control_verdict : Limits → Flat → ℕ → ℕ → ℕ → ℕ
 control_verdict l f caller handle control =
-    judge (granted_in (opened f caller handle)) control (status_in (controlled_service f caller handle))
-    (active_among f.services (controlled_service f caller handle)) (waiting_for f (controlled_service f caller handle)) l.controls
+    judge (granted_in (opened f caller handle)) control (status_in (held_service f caller handle))
+    (active_among f.services (held_service f caller handle)) (waiting_for f (held_service f caller handle)) l.controls
 
 -- whether the service's status is told with a code that refuses
 abbrev pub tells_status : ℕ → Bool
@@ -97,13 +100,17 @@ abbrev pub status_told : ℕ → Option Service → Status
 status_told code service = if tells_status code then status_in service else zero_status
 
 abbrev pub control_told : Flat → ℕ → ℕ → ℕ → Reply
-control_told f caller handle code = reply.State (status_told code (controlled_service f caller handle)) code
+control_told f caller handle code = reply.State (status_told code (held_service f caller handle)) code
+
+-- the processes with a control more for that of the service that was found
+abbrev pub controlled_in : Limits → ℕ → Option Service → List Process → List Process
+controlled_in l control = if_found (λ row. map (controlled_if l.controls row.process control))
 
 -- the control waits, and the service's status is as it was
 abbrev pub control_done : Limits → Flat → ℕ → ℕ → ℕ → Done
 control_done l f caller handle control = record {
-  reply = reply.State (status_in (controlled_service f caller handle)) 0;
-  flat = with_control l f (process_in (controlled_service f caller handle)) control;
+  reply = reply.State (status_in (held_service f caller handle)) 0;
+  flat = record f { processes = controlled_in l control (held_service f caller handle) f.processes };
 }
 
 abbrev pub control_outcome : Limits → Flat → ℕ → ℕ → ℕ → Done

@@ -42,8 +42,8 @@ tag_of f group None = 0
 tag_of f group (Some asked) = if length group == 0 then 0 else next_tag f group
 
 -- the configuration of a new service, apart from its tag
-abbrev pub config_at : ℕ → NewService → Config
-config_at tag new = record {
+abbrev pub tagged_config : ℕ → NewService → Config
+tagged_config tag new = record {
   name = new.name;
   display = display_of new.name new.display;
   kind = new.kind;
@@ -62,8 +62,8 @@ config_at tag new = record {
   triggers = [];
 }
 
-abbrev pub config_of : Flat → NewService → Config
-config_of f new = config_at (tag_of f (unwrap_or new.group []) new.tag) new
+abbrev pub created_config : Flat → NewService → Config
+created_config f new = tagged_config (tag_of f (unwrap_or new.group []) new.tag) new
 
 -- whether a tag is asked for without a group
 abbrev pub tags_nothing : NewService → Bool
@@ -102,7 +102,7 @@ place_refusals l f caller config =
 
 abbrev pub create_refusals : Limits → Flat → ℕ → NewService → Kept → Refusals
 create_refusals l f caller new append =
-    right_refusals f caller new ++ config_refusals new (config_of f new) ++ place_refusals l f caller (config_of f new) ++ keeping_refusals append
+    right_refusals f caller new ++ config_refusals new (created_config f new) ++ place_refusals l f caller (created_config f new) ++ keeping_refusals append
 
 abbrev pub create_verdict : Limits → Flat → ℕ → NewService → Kept → ℕ
 create_verdict l f caller new append = first_refusal (create_refusals l f caller new append)
@@ -115,13 +115,13 @@ told_tag tag asked = option_map (λ number. tag) asked
 
 abbrev pub create_done : Flat → ℕ → NewService → Done
 create_done f caller new = record {
-  reply = reply.Made (told_tag (config_of f new).tag new.tag) f.next.handle 0;
-  flat = with_handle (with_service f (config_of f new) (new_status new.kind)) caller (kinds.Service f.next.service) (unwrap_or (service_granted f caller new.access) 0);
+  reply = reply.Made (told_tag (created_config f new).tag new.tag) f.next.handle 0;
+  flat = with_handle (with_service f (created_config f new) (new_status new.kind)) caller (kinds.Service f.next.service) (unwrap_or (service_granted f caller new.access) 0);
 }
 
 -- the change of a Create that is not refused
 abbrev pub create_change : Flat → NewService → Option Change
-create_change f new = Some (Created (config_of f new))
+create_change f new = Some (Created (created_config f new))
 
 abbrev pub create_outcome : Limits → Flat → ℕ → NewService → Kept → Done
 create_outcome l f caller new append = outcome (create_verdict l f caller new append) (request.Create new) f (create_done f caller new)

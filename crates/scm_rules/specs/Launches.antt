@@ -1,11 +1,15 @@
 -- Processes: what is launched, and what becomes of it.
-use Rattle.std.specs.Prelude.{ℕ, Bool, false, true, not, ◌==◌, List, [], ◌∷◌, Option, None, Some, find, filter, map, if◌then◌else◌}
+use Rattle.std.specs.Prelude.{ℕ, Bool, false, true, not, ◌==◌, List, [], ◌∷◌, Option, None, Some, find, filter, map, option_and_then, option_map, if◌then◌else◌}
 use Rattle.scm_model.specs.declared.flat.Flat.{Flat}
 use Rattle.scm_model.specs.declared.flat.Phase.{Phase}
 use Rattle.scm_model.specs.declared.flat.Phase.TheVariants as phases
 use Rattle.scm_model.specs.declared.flat.Process.{Process}
 use Rattle.scm_model.specs.declared.flat.Service.{Service}
 use Rattle.scm_model.specs.declared.flat.Wanted.{Wanted}
+use Rattle.scm_model.specs.declared.steps.Answer.{Answer}
+use Rattle.scm_model.specs.declared.steps.Answer.TheVariants as answer
+use Rattle.scm_model.specs.Found.{if_found}
+use Rattle.scm_model.specs.Outcomes.{Told}
 use Rattle.scm_model.specs.Rows.{service_of}
 use Rattle.start_plan.specs.Decided.{aims_at, decided_in}
 use Rattle.status_machine.specs.Moves.{take_end}
@@ -15,13 +19,9 @@ use Rattle.status_machine.specs.Moves.{take_end}
 abbrev pub process_of : Flat → ℕ → Option Process
 process_of f number = find (λ (row : Process). row.number == number) f.processes
 
-abbrev pub service_in_process : Option Process → ℕ
-service_in_process None = 0
-service_in_process (Some row) = row.service
-
--- the service that a process is of, or 0
-abbrev pub service_of_process : Flat → ℕ → ℕ
-service_of_process f number = service_in_process (process_of f number)
+-- the service that a process is of
+abbrev pub service_of_process : Flat → ℕ → Option ℕ
+service_of_process f number = option_map (λ (row : Process). row.service) (process_of f number)
 
 abbrev pub is_taken_phase : Phase → Bool
 is_taken_phase phases.Wanted = false
@@ -38,14 +38,14 @@ is_running_phase phases.Taken = false
 is_running_phase phases.Launched = true
 
 -- whether a process is listed and was launched
-abbrev pub is_running : Option Process → Bool
-is_running None = false
-is_running (Some row) = is_running_phase row.phase
+abbrev pub is_launched : Option Process → Bool
+is_launched None = false
+is_launched (Some row) = is_running_phase row.phase
 
--- the process that is to be launched first, or 0
-abbrev pub first_wanted : List Wanted → ℕ
-first_wanted [] = 0
-first_wanted (row ∷ rows) = row.process
+-- the process that is to be launched first
+abbrev pub first_wanted : List Wanted → Option ℕ
+first_wanted [] = None
+first_wanted (row ∷ rows) = Some row.process
 
 -- ## Changes of processes
 
@@ -80,9 +80,9 @@ fallen_if process code row = if row.process == process then record row { status 
 abbrev pub with_fallen : Flat → ℕ → ℕ → Flat
 with_fallen f process code = record f { services = map (fallen_if process code) f.services }
 
--- the undecided plans with this target are decided
-abbrev pub with_decided : Flat → ℕ → ℕ → Flat
-with_decided f target code = record f { plans = decided_in (aims_at target) code f.plans }
+-- the undecided plans with this target, if any, are decided
+abbrev pub with_decided : Flat → Option ℕ → ℕ → Flat
+with_decided f target code = record f { plans = if_found (λ service. decided_in (aims_at service) code) target f.plans }
 
 -- ## What is launched
 
@@ -90,21 +90,32 @@ abbrev pub path_in : Option Service → List ℕ
 path_in None = []
 path_in (Some row) = row.config.path
 
-abbrev pub first_word : List (List ℕ) → List ℕ
-first_word [] = []
-first_word (word ∷ words) = word
+abbrev pub head_word : List (List ℕ) → List ℕ
+head_word [] = []
+head_word (word ∷ words) = word
 
 -- the path and the words of a launch: of a service's process its path, of a command's the one word as the path
 abbrev pub line_of : Flat → Wanted → List ℕ × List (List ℕ)
 line_of f row =
-    if row.command then (first_word row.words, [])
-    else (path_in (service_of f (service_of_process f row.process)), row.words)
+    if row.command then (head_word row.words, [])
+    else (path_in (option_and_then (service_of f) (service_of_process f row.process)), row.words)
 
 -- ## Steps
 
+-- a launch that is taken in hand is told
+abbrev pub launch_told : Option ℕ → Answer
+launch_told None = answer.Done
+launch_told (Some process) = answer.Launch process
+
 -- the launch that is wanted first is taken in hand
-abbrev pub launch_taken : Flat → Flat
-launch_taken f = with_taken f (first_wanted f.wanted)
+abbrev pub launch_taken : Flat → Told
+launch_taken f = record {
+  answer = launch_told (first_wanted f.wanted);
+  flat = record f {
+    processes = if_found (λ process. map (taken_if process)) (first_wanted f.wanted) f.processes;
+    wanted = if_found wanted_of_others (first_wanted f.wanted) f.wanted;
+  };
+}
 
 -- a process is launched, and the starts of its service succeed
 abbrev pub launched : Flat → ℕ → ℕ → Flat

@@ -11,6 +11,7 @@ pub mod Change
 pub mod QueryConfig
 pub mod OtherName
 pub mod Locks
+pub mod Due
 pub mod Start
 pub mod Verdicts
 pub mod Launches

@@ -1,5 +1,5 @@
 -- RLockServiceDatabase, RUnlockServiceDatabase, RQueryServiceLockStatusW: the lock of the database.
-use Rattle.std.specs.Prelude.{◌^◌, ◌-◌, ℕ, Bool, false, not, ◌+◌, ◌*◌, ◌/◌, ◌==◌, nat_le, nat_lt, codes, length, min, List, [], ◌∷◌, Option, None, Some, is_none, is_some, if◌then◌else◌}
+use Rattle.std.specs.Prelude.{◌^◌, ◌-◌, ℕ, Bool, false, not, ◌+◌, ◌*◌, ◌/◌, ◌==◌, nat_le, nat_lt, codes, length, min, List, [], ◌∷◌, Option, None, Some, is_none, is_some, option_and_then, if◌then◌else◌}
 use Rattle.scm_model.specs.declared.flat.Flat.{Flat}
 use Rattle.scm_model.specs.declared.flat.HandleRow.{HandleRow}
 use Rattle.scm_model.specs.declared.flat.HandleKind.TheVariants as kinds
@@ -9,7 +9,7 @@ use Rattle.scm_model.specs.declared.flat.Principal.{Principal}
 use Rattle.scm_model.specs.declared.flat.Principal.TheVariants.{Admin, User}
 use Rattle.scm_model.specs.declared.calls.Reply.{Reply}
 use Rattle.scm_model.specs.declared.calls.Reply.TheVariants as reply
-use Rattle.scm_model.specs.Rows.{handle_of, held_by, is_lock, manager_mask, owner_at, principal_of}
+use Rattle.scm_model.specs.Rows.{caller_of, handle_of, held_by, is_lock, manager_mask, owner_at, principal_in}
 use Rattle.scm_model.specs.Changes.{with_handle, without_handle}
 use Rattle.scm_model.specs.Refused.{answered, first_refusal, outcome, Refusals}
 use Rattle.scm_model.specs.Outcomes.{Done}
@@ -68,14 +68,14 @@ unlock_outcome f caller handle = outcome (unlock_verdict f caller handle) (reque
 
 -- ## QueryLock
 
-abbrev pub name_of : Principal → List ℕ
-name_of Admin = codes "admin"
-name_of User = codes "user"
+abbrev pub principal_name : Principal → List ℕ
+principal_name Admin = codes "admin"
+principal_name User = codes "user"
 
 -- who holds the lock: the name of the principal, or the empty text
 abbrev pub owner_of : Flat → Option LockRow → List ℕ
 owner_of f None = []
-owner_of f (Some held) = name_of (principal_of f (owner_at f.handles held))
+owner_of f (Some held) = principal_name (principal_in (option_and_then (caller_of f) (owner_at f.handles held)))
 
 abbrev pub lock_owner : Flat → List ℕ
 lock_owner f = owner_of f f.lock

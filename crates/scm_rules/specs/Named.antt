@@ -48,7 +48,7 @@ caller_made f step = None
 
 -- the process that is taken in hand, in the state before
 abbrev pub process_taken : Flat → Step → Option ℕ
-process_taken f LaunchTaken = Some (first_wanted f.wanted)
+process_taken f LaunchTaken = first_wanted f.wanted
 process_taken f step = None
 
 -- the plan of a start that waits, which its answer tells

@@ -14,33 +14,33 @@ use Rattle.scm_model.specs.Ready.{state_of}
 -- ## Needs as a call gives them
 
 -- 16-bit units of two bytes each, the low one first; none where a byte is left over
-abbrev pub units_in : List ℕ → Option (List ℕ)
-units_in [] = Some []
-units_in (low ∷ []) = None
-units_in (low ∷ high ∷ bytes) = option_map (λ units. (low + 256 * high) ∷ units) (units_in bytes)
+abbrev pub units_in_bytes : List ℕ → Option (List ℕ)
+units_in_bytes [] = Some []
+units_in_bytes (low ∷ []) = None
+units_in_bytes (low ∷ high ∷ bytes) = option_map (λ units. (low + 256 * high) ∷ units) (units_in_bytes bytes)
 
 -- a name behind + is a group's
-abbrev pub need_of : List ℕ → Need
-need_of [] = needs.Service []
-need_of (u ∷ name) = if u == 43 then needs.Group name else needs.Service (u ∷ name)
+abbrev pub need_named : List ℕ → Need
+need_named [] = needs.Service []
+need_named (u ∷ name) = if u == 43 then needs.Group name else needs.Service (u ∷ name)
 
 abbrev pub needs_read : Reading → Option (List Need)
-needs_read (Ok names) = Some (map need_of names)
+needs_read (Ok names) = Some (map need_named names)
 needs_read (Err fault) = None
 
 -- the needs that bytes name, or none where they can't be read
-abbrev pub needs_in : List ℕ → Option (List Need)
-needs_in bytes = option_and_then (λ units. needs_read (names_of units)) (units_in bytes)
+abbrev pub needs_in_bytes : List ℕ → Option (List Need)
+needs_in_bytes bytes = option_and_then (λ units. needs_read (names_of units)) (units_in_bytes bytes)
 
 -- whether needs are given that can't be read
 abbrev pub are_unreadable : Option (List ℕ) → Bool
 are_unreadable None = false
-are_unreadable (Some bytes) = is_none (needs_in bytes)
+are_unreadable (Some bytes) = is_none (needs_in_bytes bytes)
 
 -- the needs that are asked for in place of the old ones
 abbrev pub needs_or : List Need → Option (List ℕ) → List Need
 needs_or old None = old
-needs_or old (Some bytes) = unwrap_or (needs_in bytes) old
+needs_or old (Some bytes) = unwrap_or (needs_in_bytes bytes) old
 
 -- ## The graph of needs
 

@@ -1,10 +1,11 @@
 -- ROpenServiceW: a handle of a service, which may be marked.
-use Rattle.std.specs.Prelude.{ℕ, false, nat_le, List, [], ◌∷◌, Option, None, Some, is_none, unwrap_or}
+use Rattle.std.specs.Prelude.{ℕ, false, nat_le, List, [], ◌∷◌, Option, is_none, unwrap_or}
 use Rattle.scm_model.specs.declared.flat.Flat.{Flat}
 use Rattle.scm_model.specs.declared.flat.Service.{Service}
 use Rattle.scm_model.specs.declared.flat.Limits.{Limits}
 use Rattle.scm_model.specs.declared.flat.HandleKind.TheVariants as kinds
 use Rattle.scm_model.specs.declared.calls.Reply.TheVariants as reply
+use Rattle.scm_model.specs.Found.{if_found}
 use Rattle.scm_model.specs.Rows.{held_by, manager_mask, named, principal_of}
 use Rattle.scm_model.specs.Changes.{with_handle}
 use Rattle.scm_model.specs.Refused.{first_refusal, outcome, Refusals}
@@ -17,11 +18,6 @@ use Rattle.scm_model.specs.declared.calls.Request.TheVariants as request
 -- the rights that a caller is granted on a service
 abbrev pub service_granted : Flat → ℕ → ℕ → Option ℕ
 service_granted f caller access = granted (principal_of f caller) false access
-
--- the number of a service that is there
-abbrev pub number_in : Option Service → ℕ
-number_in None = 0
-number_in (Some row) = row.number
 
 -- what it is refused with, in this order
 abbrev pub open_service_refusals : Limits → Flat → ℕ → ℕ → List ℕ → ℕ → Refusals
@@ -36,10 +32,14 @@ open_service_refusals l f caller handle name access =
 abbrev pub open_service_verdict : Limits → Flat → ℕ → ℕ → List ℕ → ℕ → ℕ
 open_service_verdict l f caller handle name access = first_refusal (open_service_refusals l f caller handle name access)
 
+-- a handle more, which is of the service
+abbrev pub with_opened : ℕ → ℕ → Service → Flat → Flat
+with_opened caller granted row f = with_handle f caller (kinds.Service row.number) granted
+
 abbrev pub open_service_done : Flat → ℕ → List ℕ → ℕ → Done
 open_service_done f caller name access = record {
   reply = reply.Handle f.next.handle 0;
-  flat = with_handle f caller (kinds.Service (number_in (named f name))) (unwrap_or (service_granted f caller access) 0);
+  flat = if_found (with_opened caller (unwrap_or (service_granted f caller access) 0)) (named f name) f;
 }
 
 abbrev pub open_service_outcome : Limits → Flat → ℕ → ℕ → List ℕ → ℕ → Done

@@ -3,9 +3,8 @@ use Rattle.std.specs.Prelude.{ℕ, [], ◌∷◌, Option, None, Some, is_none}
 use Rattle.scm_model.specs.declared.flat.Flat.{Flat}
 use Rattle.scm_model.specs.declared.flat.Status.{Status}
 use Rattle.scm_model.specs.declared.flat.Service.{Service}
-use Rattle.scm_model.specs.declared.flat.Opened.{Opened}
 use Rattle.scm_model.specs.declared.calls.Reply.TheVariants as reply
-use Rattle.scm_model.specs.Rows.{opened, service_of}
+use Rattle.scm_model.specs.Rows.{held_service, opened}
 use Rattle.scm_model.specs.Refused.{first_refusal, zero_status, outcome, Refusals}
 use Rattle.scm_model.specs.Outcomes.{Done}
 use Rattle.scm_model.specs.declared.codes.TheConstants.{ERROR_ACCESS_DENIED, ERROR_INVALID_HANDLE, SERVICE_QUERY_STATUS}
@@ -16,11 +15,6 @@ use Rattle.scm_model.specs.declared.calls.Request.TheVariants as request
 abbrev pub status_in : Option Service → Status
 status_in None = zero_status
 status_in (Some row) = row.status
-
--- the service that a handle is of, or 0
-abbrev pub service_in : Option Opened → ℕ
-service_in None = 0
-service_in (Some handle) = handle.service
 
 -- what it is refused with, in this order
 abbrev pub query_refusals : Flat → ℕ → ℕ → Refusals
@@ -33,7 +27,7 @@ abbrev pub query_verdict : Flat → ℕ → ℕ → ℕ
 query_verdict f caller handle = first_refusal (query_refusals f caller handle)
 
 abbrev pub query_done : Flat → ℕ → ℕ → Done
-query_done f caller handle = record { reply = reply.State (status_in (service_of f (service_in (opened f caller handle)))) 0; flat = f }
+query_done f caller handle = record { reply = reply.State (status_in (held_service f caller handle)) 0; flat = f }
 
 abbrev pub query_outcome : Flat → ℕ → ℕ → Done
 query_outcome f caller handle = outcome (query_verdict f caller handle) (request.QueryStatus handle) f (query_done f caller handle)

@@ -9,12 +9,11 @@ use Rattle.scm_model.specs.declared.flat.Need.TheVariants as needs
 use Rattle.scm_model.specs.declared.calls.Shown.{Shown}
 use Rattle.scm_model.specs.declared.calls.Reply.{Reply}
 use Rattle.scm_model.specs.declared.calls.Reply.TheVariants as reply
-use Rattle.scm_model.specs.Rows.{opened, service_of}
+use Rattle.scm_model.specs.Rows.{held_service, opened}
 use Rattle.scm_model.specs.Refused.{answered, first_refusal, Refusals}
 use Rattle.scm_model.specs.Outcomes.{Done}
 use Rattle.scm_model.specs.declared.codes.TheConstants.{ERROR_ACCESS_DENIED, ERROR_INSUFFICIENT_BUFFER, ERROR_INVALID_HANDLE, SERVICE_QUERY_CONFIG}
 use Rattle.scm_rules.specs.Rights.{lacks}
-use Rattle.scm_rules.specs.Query.{service_in}
 
 -- ## What is shown
 
@@ -61,7 +60,7 @@ size_in (Some s) = shown_size s
 
 -- what is shown by a caller's handle
 abbrev pub shown_by : Flat → ℕ → ℕ → Option Shown
-shown_by f caller handle = shown_in (service_of f (service_in (opened f caller handle)))
+shown_by f caller handle = shown_in (held_service f caller handle)
 
 -- ## Refusals and effect
 

@@ -1,18 +1,18 @@
 -- RSetServiceStatus, and what a process tells of its service.
-use Rattle.std.specs.Prelude.{ℕ, Bool, false, not, ◌&&◌, ◌==◌, [], ◌∷◌, Option, None, Some, Result, Ok, Err, find, is_none, map, if◌then◌else◌}
+use Rattle.std.specs.Prelude.{ℕ, Bool, false, not, ◌&&◌, ◌==◌, List, [], ◌∷◌, Option, None, Some, Result, Ok, Err, find, is_none, map, if◌then◌else◌}
 use Rattle.scm_model.specs.declared.flat.Flat.{Flat}
 use Rattle.scm_model.specs.declared.flat.Service.{Service}
 use Rattle.scm_model.specs.declared.flat.Status.{Status}
 use Rattle.scm_model.specs.declared.calls.Reply.TheVariants as reply
 use Rattle.scm_model.specs.declared.steps.Answer.{Answer}
 use Rattle.scm_model.specs.declared.steps.Answer.TheVariants as answer
-use Rattle.scm_model.specs.Rows.{opened, service_of}
+use Rattle.scm_model.specs.Found.{if_found}
+use Rattle.scm_model.specs.Rows.{held_service, opened}
 use Rattle.scm_model.specs.Refused.{first_refusal, outcome, Refusals}
 use Rattle.scm_model.specs.Outcomes.{Done, Told}
 use Rattle.scm_model.specs.declared.codes.TheConstants.{ERROR_ACCESS_DENIED, ERROR_INVALID_DATA, ERROR_INVALID_HANDLE, SERVICE_SET_STATUS, SERVICE_STOPPED}
 use Rattle.status_machine.specs.Moves.{take_report, takes}
-use Rattle.scm_rules.specs.Launches.{is_running, process_of}
-use Rattle.scm_rules.specs.Query.{service_in}
+use Rattle.scm_rules.specs.Launches.{is_launched, process_of}
 use Rattle.scm_rules.specs.Rights.{lacks}
 use Rattle.scm_model.specs.declared.calls.Request.TheVariants as request
 
@@ -53,32 +53,27 @@ reported f process report = record { answer = report_told (current_of f process)
 
 -- ## A report by a call
 
--- the service that a caller's handle is of
-abbrev pub reporting_service : Flat → ℕ → ℕ → Option Service
-reporting_service f caller handle = service_of f (service_in (opened f caller handle))
-
--- the current process of a service, or 0
-abbrev pub process_in : Option Service → ℕ
-process_in None = 0
-process_in (Some row) = row.process
-
 -- whether a service's current process runs and may report so
 abbrev pub may_report : Flat → Option Service → Status → Bool
 may_report f None report = false
-may_report f (Some row) report = is_running (process_of f row.process) && takes row.status report
+may_report f (Some row) report = is_launched (process_of f row.process) && takes row.status report
 
 abbrev pub set_status_refusals : Flat → ℕ → ℕ → Status → Refusals
 set_status_refusals f caller handle report =
     (is_none (opened f caller handle), ERROR_INVALID_HANDLE)
     ∷ (lacks (opened f caller handle) SERVICE_SET_STATUS, ERROR_ACCESS_DENIED)
-    ∷ (not (may_report f (reporting_service f caller handle) report), ERROR_INVALID_DATA)
+    ∷ (not (may_report f (held_service f caller handle) report), ERROR_INVALID_DATA)
     ∷ []
 
 abbrev pub set_status_verdict : Flat → ℕ → ℕ → Status → ℕ
 set_status_verdict f caller handle report = first_refusal (set_status_refusals f caller handle report)
 
+-- the services with a report taken by the one that was found
+abbrev pub reported_in : Status → Option Service → List Service → List Service
+reported_in report = if_found (λ row. map (reported_if row.process report))
+
 abbrev pub set_status_done : Flat → ℕ → ℕ → Status → Done
-set_status_done f caller handle report = record { reply = reply.Code 0; flat = with_report f (process_in (reporting_service f caller handle)) report }
+set_status_done f caller handle report = record { reply = reply.Code 0; flat = record f { services = reported_in report (held_service f caller handle) f.services } }
 
 abbrev pub set_status_outcome : Flat → ℕ → ℕ → Status → Done
 set_status_outcome f caller handle report =

@@ -7,9 +7,9 @@ use Rattle.scm_model.specs.Entries.{Entry}
 use Rattle.scm_rules.specs.Steps.{step_of, may}
 
 -- the state that a run ends in
-abbrev pub state_of : Limits → Flat → List Entry → Flat
-state_of l f [] = f
-state_of l f (e ∷ es) = state_of l (step_of l f e.0 e.1).flat es
+abbrev pub run_state : Limits → Flat → List Entry → Flat
+run_state l f [] = f
+run_state l f (e ∷ es) = run_state l (step_of l f e.0 e.1).flat es
 
 -- each entry may be made in the state before it
 abbrev pub IsLegal : Limits → Flat → List Entry → Type 0

@@ -1,9 +1,7 @@
 -- RStartServiceW: a plan to start a service after what it needs.
-use Rattle.std.specs.Prelude.{ℕ, Bool, true, false, not, ◌||◌, ◌&&◌, ◌==◌, ◌+◌, ◌-◌, ◌^◌, ◌++◌, nat_le, min, List, [], ◌∷◌, Option, None, Some, filter, is_none, is_some, unwrap_or, if◌then◌else◌}
+use Rattle.std.specs.Prelude.{ℕ, Bool, true, false, not, ◌||◌, ◌&&◌, ◌==◌, ◌+◌, ◌-◌, ◌^◌, ◌++◌, min, List, [], ◌∷◌, Option, None, Some, is_none, is_some, unwrap_or, if◌then◌else◌}
 use Rattle.std.specs.List.{list_any}
 use Rattle.std.specs.Char.Utf16.{has_unpaired_surrogate}
-use Rattle.scm_model.specs.declared.flat.Due.{Due}
-use Rattle.scm_model.specs.declared.flat.DueKind.{DueKind}
 use Rattle.scm_model.specs.declared.flat.DueKind.TheVariants as dues
 use Rattle.scm_model.specs.declared.flat.Flat.{Flat}
 use Rattle.scm_model.specs.declared.flat.Need.{Need}
@@ -11,17 +9,18 @@ use Rattle.scm_model.specs.declared.flat.Need.TheVariants as needs
 use Rattle.scm_model.specs.declared.flat.Plan.{Plan}
 use Rattle.scm_model.specs.declared.flat.Service.{Service}
 use Rattle.scm_model.specs.declared.calls.Reply.TheVariants as reply
-use Rattle.scm_model.specs.Rows.{named, opened, service_of}
+use Rattle.scm_model.specs.Found.{if_found}
+use Rattle.scm_model.specs.Rows.{held_service, named, opened}
 use Rattle.scm_model.specs.Refused.{first_refusal, Refusals, outcome}
 use Rattle.scm_model.specs.Outcomes.{Done}
-use Rattle.scm_model.specs.declared.codes.TheConstants.{ERROR_ACCESS_DENIED, ERROR_INVALID_HANDLE, ERROR_INVALID_PARAMETER, ERROR_SERVICE_ALREADY_RUNNING, ERROR_SERVICE_DATABASE_LOCKED, ERROR_SERVICE_DEPENDENCY_DELETED, ERROR_SERVICE_DISABLED, ERROR_SERVICE_MARKED_FOR_DELETE, ERROR_SERVICE_REQUEST_TIMEOUT, SERVICE_DISABLED, SERVICE_START, SERVICE_STOPPED}
-use Rattle.start_plan.specs.Decided.{caller_of, code_of, decided_in, is_numbered, is_target, without_plan}
+use Rattle.scm_model.specs.declared.codes.TheConstants.{ERROR_ACCESS_DENIED, ERROR_INVALID_HANDLE, ERROR_INVALID_PARAMETER, ERROR_SERVICE_ALREADY_RUNNING, ERROR_SERVICE_DATABASE_LOCKED, ERROR_SERVICE_DEPENDENCY_DELETED, ERROR_SERVICE_DISABLED, ERROR_SERVICE_MARKED_FOR_DELETE, SERVICE_DISABLED, SERVICE_START, SERVICE_STOPPED}
+use Rattle.start_plan.specs.Decided.{plan_caller, code_of, is_target, without_plan}
 use Rattle.scm_model.specs.Ready.{state_in}
 use Rattle.scm_rules.specs.Delete.{is_marked}
 use Rattle.scm_rules.specs.Needs.{start_order}
-use Rattle.scm_rules.specs.Query.{service_in}
 use Rattle.scm_rules.specs.Rights.{lacks}
 use Rattle.scm_model.specs.declared.calls.Request.TheVariants as request
+use Rattle.scm_rules.specs.Due.{with_due}
 
 -- ## Refusals
 
@@ -43,10 +42,6 @@ abbrev pub lacks_need : Flat → Option Service → Bool
 lacks_need f None = false
 lacks_need f (Some row) = list_any (is_missing f) row.config.needs
 
--- the service that a start is of
-abbrev pub started_service : Flat → ℕ → ℕ → Option Service
-started_service f caller handle = service_of f (service_in (opened f caller handle))
-
 -- for the handle and the words
 abbrev pub starting_refusals : Flat → ℕ → ℕ → Option (List (List ℕ)) → Refusals
 starting_refusals f caller handle words =
@@ -55,18 +50,23 @@ starting_refusals f caller handle words =
     ∷ (lacks (opened f caller handle) SERVICE_START, ERROR_ACCESS_DENIED)
     ∷ []
 
+-- whether an undecided plan aims at a service that is there
+abbrev pub is_aimed_at : Flat → Option Service → Bool
+is_aimed_at f None = false
+is_aimed_at f (Some row) = is_target f.plans row.number
+
 -- for how a service stands
-abbrev pub service_refusals : Flat → ℕ → Refusals
+abbrev pub service_refusals : Flat → Option Service → Refusals
 service_refusals f service =
-    (is_marked (service_of f service), ERROR_SERVICE_MARKED_FOR_DELETE)
+    (is_marked service, ERROR_SERVICE_MARKED_FOR_DELETE)
     ∷ (is_some f.lock, ERROR_SERVICE_DATABASE_LOCKED)
-    ∷ (not (state_in (service_of f service) == SERVICE_STOPPED) || is_target f.plans service, ERROR_SERVICE_ALREADY_RUNNING)
-    ∷ (is_disabled (service_of f service), ERROR_SERVICE_DISABLED)
-    ∷ (lacks_need f (service_of f service), ERROR_SERVICE_DEPENDENCY_DELETED)
+    ∷ (not (state_in service == SERVICE_STOPPED) || is_aimed_at f service, ERROR_SERVICE_ALREADY_RUNNING)
+    ∷ (is_disabled service, ERROR_SERVICE_DISABLED)
+    ∷ (lacks_need f service, ERROR_SERVICE_DEPENDENCY_DELETED)
     ∷ []
 
 abbrev pub start_refusals : Flat → ℕ → ℕ → Option (List (List ℕ)) → Refusals
-start_refusals f caller handle words = starting_refusals f caller handle words ++ service_refusals f (service_in (opened f caller handle))
+start_refusals f caller handle words = starting_refusals f caller handle words ++ service_refusals f (held_service f caller handle)
 
 abbrev pub start_verdict : Flat → ℕ → ℕ → Option (List (List ℕ)) → ℕ
 start_verdict f caller handle words = first_refusal (start_refusals f caller handle words)
@@ -82,17 +82,16 @@ new_plan f caller target entries words = record { number = f.next.plan; caller =
 
 -- a plan more, which has the next number, and its deadline
 abbrev pub with_plan : Flat → Plan → Flat
-with_plan f plan = record f {
-  plans = f.plans ++ plan ∷ [];
-  dues = f.dues ++ record { moment = deadline_at f.moment; number = f.next.due; kind = dues.Deadline f.next.plan } ∷ [];
-  next = record f.next { plan = f.next.plan + 1; due = f.next.due + 1 };
-}
+with_plan f plan =
+    with_due (record f { plans = f.plans ++ plan ∷ []; next = record f.next { plan = f.next.plan + 1 } }) (deadline_at f.moment) (dues.Deadline f.next.plan)
 
--- a plan begins that goes by the start order; it is not answered until it is decided
+-- a plan to start the service begins, which goes by the start order
+abbrev pub with_start : ℕ → List (List ℕ) → Service → Flat → Flat
+with_start caller words row f = with_plan f (new_plan f caller row.number (start_order f row.number) words)
+
+-- it is not answered until it is decided
 abbrev pub start_done : Flat → ℕ → ℕ → Option (List (List ℕ)) → Done
-start_done f caller handle words =
-    let target = service_in (opened f caller handle) in
-    record { reply = reply.Code 0; flat = with_plan f (new_plan f caller target (start_order f target) (unwrap_or words [])) }
+start_done f caller handle words = record { reply = reply.Code 0; flat = if_found (with_start caller (unwrap_or words [])) (held_service f caller handle) f }
 
 abbrev pub start_outcome : Flat → ℕ → ℕ → Option (List (List ℕ)) → Done
 start_outcome f caller handle words = outcome (start_verdict f caller handle words) (request.Start handle words) f (start_done f caller handle words)
@@ -105,30 +104,8 @@ is_caller_of (Some of) caller = of == caller
 
 -- whether a plan is the caller's and decided
 abbrev pub can_end : Flat → ℕ → ℕ → Bool
-can_end f caller plan = is_caller_of (caller_of f.plans plan) caller && is_some (code_of f.plans plan)
+can_end f caller plan = is_caller_of (plan_caller f.plans plan) caller && is_some (code_of f.plans plan)
 
 -- the plan leaves
 abbrev pub ended : Flat → ℕ → Flat
 ended f plan = record f { plans = without_plan f.plans plan }
-
--- ## What is due
-
-abbrev pub is_due : ℕ → Due → Bool
-is_due moment due = nat_le due.moment moment
-
--- a plan is given up whose deadline comes
-abbrev pub expired : List Plan → DueKind → List Plan
-expired plans (dues.Deadline plan) = decided_in (is_numbered plan) ERROR_SERVICE_REQUEST_TIMEOUT plans
-expired plans kind = plans
-
-abbrev pub fired_by : ℕ → List Plan → Due → List Plan
-fired_by moment plans due = if is_due moment due then expired plans due.kind else plans
-
--- the rows that are due take place, one after another
-abbrev pub fired : ℕ → List Plan → List Due → List Plan
-fired moment plans [] = plans
-fired moment plans (due ∷ dues) = fired moment (fired_by moment plans due) dues
-
--- they take place and leave
-abbrev pub ticked : Flat → Flat
-ticked f = record f { plans = fired f.moment f.plans f.dues; dues = filter (λ (due : Due). not (is_due f.moment due)) f.dues }

@@ -21,10 +21,11 @@ use Rattle.scm_model.specs.Ranges.{in_range}
 use Rattle.start_plan.specs.Decided.{code_of, without_plans_of}
 use Rattle.start_plan.specs.Settle.{settled}
 use Rattle.scm_rules.specs.Controls.{control_taken, controls_of, waits}
-use Rattle.scm_rules.specs.Launches.{first_wanted, is_running, is_taken, launch_failed, launch_taken, launched, process_of}
+use Rattle.scm_rules.specs.Launches.{is_launched, is_taken, launch_failed, launch_taken, launched, process_of}
 use Rattle.scm_rules.specs.Reports.{reported}
 use Rattle.scm_rules.specs.Ends.{process_ended}
-use Rattle.scm_rules.specs.Start.{can_end, ended, is_due, ticked}
+use Rattle.scm_rules.specs.Due.{is_due, ticked}
+use Rattle.scm_rules.specs.Start.{can_end, ended}
 use Rattle.scm_rules.specs.Verdicts.{call_of, change_of_call, tells_right, verdict}
 
 -- a caller's plans leave
@@ -40,8 +41,8 @@ abbrev pub tells_plan : Request → ℕ → Bool
 tells_plan (request.Start handle words) code = code == 0
 tells_plan asked code = false
 
-abbrev pub answer_of : Bool → ℕ → Reply → Answer
-answer_of begins plan told = if begins then answer.Begun plan else answer.Reply told
+abbrev pub call_answer : Bool → ℕ → Reply → Answer
+call_answer begins plan told = if begins then answer.Begun plan else answer.Reply told
 
 -- the state that a step's effect begins in: a call that found no memory moves nothing
 abbrev pub at_moment : Flat → ℕ → Step → Flat
@@ -52,9 +53,9 @@ abbrev pub effect_of : Limits → Flat → Step → Told
 effect_of l f (Joined principal) = record { answer = answer.Caller f.next.caller; flat = with_caller f principal }
 effect_of l f (Call caller asked append) =
     let done = call_of l f caller asked append in
-    record { answer = answer_of (tells_plan asked (verdict l f caller asked append)) f.next.plan done.reply; flat = done.flat }
+    record { answer = call_answer (tells_plan asked (verdict l f caller asked append)) f.next.plan done.reply; flat = done.flat }
 effect_of l f (EndStart caller plan) = record { answer = answer.Reply (reply.Code (unwrap_or (code_of f.plans plan) 0)); flat = ended f plan }
-effect_of l f LaunchTaken = record { answer = answer.Launch (first_wanted f.wanted); flat = launch_taken f }
+effect_of l f LaunchTaken = launch_taken f
 effect_of l f (Launched process pid) = record { answer = answer.Done; flat = launched f process pid }
 effect_of l f (LaunchFailed process code) = record { answer = answer.Done; flat = launch_failed f process code }
 effect_of l f (Report process status) = reported f process status
@@ -103,20 +104,20 @@ stages_of l f moment step = record {
 }
 
 -- whether a launch is wanted
-abbrev pub is_wanted : List Wanted → Bool
-is_wanted [] = false
-is_wanted (row ∷ rows) = true
+abbrev pub wants_launch : List Wanted → Bool
+wants_launch [] = false
+wants_launch (row ∷ rows) = true
 
 -- whether a step may come at a moment, whatever it tells of what was kept
 abbrev pub may_come : Limits → Flat → ℕ → Step → Bool
 may_come l f moment (Joined principal) = nat_lt (length f.callers) l.callers
 may_come l f moment (Call caller asked append) = is_caller f caller && in_range asked
 may_come l f moment (EndStart caller plan) = is_caller f caller && can_end f caller plan
-may_come l f moment LaunchTaken = is_wanted f.wanted
+may_come l f moment LaunchTaken = wants_launch f.wanted
 may_come l f moment (Launched process pid) = is_taken (process_of f process)
 may_come l f moment (LaunchFailed process code) = is_taken (process_of f process) && not (code == 0)
-may_come l f moment (Report process status) = is_running (process_of f process)
-may_come l f moment (Ended process) = is_running (process_of f process)
+may_come l f moment (Report process status) = is_launched (process_of f process)
+may_come l f moment (Ended process) = is_launched (process_of f process)
 may_come l f moment (ControlTaken process) = waits (controls_of f process)
 may_come l f moment Tick = list_any (is_due (max f.moment moment)) f.dues
 may_come l f moment (Gone caller) = is_caller f caller

@@ -29,6 +29,7 @@ use Rattle.start_plan.specs.Settle.{is_due_still, settled, stays}
 use Rattle.start_plan.specs.Started.{TriedOnce}
 use Rattle.scm_rules.specs.Launches.{is_running_phase}
 use Rattle.scm_rules.specs.Needs.{need_rows}
+use Rattle.scm_rules.specs.Due.{is_due_of}
 
 -- numbers are at least 1, rise, and lie below the next one
 pub record AreNumbered {A : Type 0} (number : A → ℕ) (next : ℕ) (rows : List A) : Type 0 where
@@ -96,13 +97,7 @@ pub record IsShortWord (words : List (List ℕ)) : Type 0 where
 abbrev pub HasShortWord : Wanted → Type 0
 HasShortWord row = row.command ≡ true → IsShortWord row.words
 
--- whether a row that becomes due is of a service
-abbrev pub is_due_of : ℕ → DueKind → Bool
-is_due_of service (dues.Deadline plan) = false
-is_due_of service (dues.Start number) = number == service
-is_due_of service (dues.Command number) = number == service
-is_due_of service (dues.Reboot number) = number == service
-
+-- the rows that become due for a service
 abbrev pub dues_of : ℕ → List Due → List Due
 dues_of service rows = filter (λ (due : Due). is_due_of service due.kind) rows
 

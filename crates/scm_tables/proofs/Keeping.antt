@@ -1,6 +1,6 @@
 -- What the changes keep of paths and of the numbers of plans.
-use Rattle.std.proofs.Common.{ℕ, ◌≡◌, ◌≤◌, ◌+◌, ◌==◌, ◌&&◌, Bool, true, false, cond, List, [], ◌∷◌, ◌++◌, filter, map, get_or, length, sym, refl, subst, arith}
-use Rattle.std.specs.Prelude.{All}
+use Rattle.std.proofs.Common.{ℕ, ◌≡◌, ◌≤◌, ◌+◌, ◌==◌, ◌&&◌, Bool, true, false, cond, List, [], ◌∷◌, ◌++◌, filter, map, get_or, length, sym, refl, subst, arith, ◌∙◌}
+use Rattle.std.specs.Prelude.{All, vec_capacity}
 use Rattle.std.specs.List.{AllByRecursion}
 use Rattle.std.proofs.lemmas.List.Elements.{All-map}
 use Rattle.scm_model.specs.declared.flat.Config.{Config}
@@ -10,6 +10,7 @@ use Rattle.scm_model.specs.declared.flat.Plan.{Plan}
 use Rattle.scm_model.specs.declared.flat.Service.{Service}
 use Rattle.scm_model.specs.Changes.{configured_if}
 use Rattle.scm_rules.specs.Launches.{fallen_if}
+use Rattle.scm_rules.specs.Needs.{need_row}
 use Rattle.scm_rules.specs.Reports.{moved_by, reported_if}
 use Rattle.status_machine.specs.Moves.{take_report}
 use Rattle.scm_model.specs.declared.flat.Status.{Status}
@@ -20,11 +21,12 @@ use Rattle.start_plan.specs.Settle.{is_due_still, settle_all, settled, stays, wi
 use Rattle.start_plan.proofs.Plain.{settles_beside}
 use Rattle.start_plan.proofs.Keeps.{all_filter, keeps_all}
 use Rattle.start_plan.proofs.Enterings.{all_units}
-use Rattle.scm_rules.specs.Start.{expired, fired, fired_by, is_due}
+use Rattle.scm_rules.specs.Due.{expired}
 use Rattle.scm_model.specs.declared.flat.Due.{Due}
 use Rattle.scm_model.specs.declared.flat.DueKind.{DueKind}
 use Rattle.scm_model.specs.declared.flat.DueKind.TheVariants as dues
-use Rattle.scm_tables.specs.Inside.{HasShortPath, IsBelow}
+use Rattle.scm_tables.specs.Inside.{HasShortPath, IsBelow, IsKept}
+use Rattle.scm_tables.specs.declared.tables.Tables.TheInside.{Inside}
 
 -- ## Paths
 
@@ -70,6 +72,29 @@ reported_number process report row =
     elim (row.process == process) as (λ b. (cond b (moved_by row (take_report row.status report)) row).number ≡ row.number)
     [ true ↦ moved_number row (take_report row.status report) | false ↦ refl ]
 
+-- ## Needs
+
+pub started_needs : (number process : ℕ) (row : Service) → need_row (started_if number process row) ≡ need_row row
+started_needs number process row =
+    elim (row.number == number && row.status.state == 1) as (λ b. need_row (cond b (record row { status = record { kind = row.status.kind; state = 2; accepted = 0; win32 = 0; specific = 0; checkpoint = 0; hint = 0 }; process = process }) row) ≡ need_row row)
+    [ true ↦ refl | false ↦ refl ]
+
+pub fallen_needs : (process code : ℕ) (row : Service) → need_row (fallen_if process code row) ≡ need_row row
+fallen_needs process code row =
+    elim (row.process == process) as (λ b. need_row (cond b (record row { status = record { kind = row.status.kind; state = 1; accepted = 0; win32 = code; specific = 0; checkpoint = 0; hint = 0 }; process = 0 }) row) ≡ need_row row)
+    [ true ↦ refl | false ↦ refl ]
+
+moved_needs : (row : Service) (told : Result Status ℕ) → need_row (moved_by row told) ≡ need_row row
+moved_needs row (Ok status) = refl
+moved_needs row (Err code) = refl
+
+pub reported_needs : (process : ℕ) (report : Status) (row : Service) → need_row (reported_if process report row) ≡ need_row row
+reported_needs process report row =
+    elim (row.process == process) as (λ b. need_row (cond b (moved_by row (take_report row.status report)) row) ≡ need_row row)
+    [ true ↦ moved_needs row (take_report row.status report) | false ↦ refl ]
+
+-- ## Another configuration
+
 -- another configuration has a short path too
 pub paths_configured : (number : ℕ) (config : Config) (rows : List Service) → length config.path ≤ 2048 → All HasShortPath rows → All HasShortPath (map (configured_if number config) rows)
 paths_configured number config rows short old =
@@ -99,20 +124,27 @@ pub below_more : (n : ℕ) (plans : List Plan) (plan : Plan) → AllByRecursion 
 below_more n [] plan all e = (omega (arith, e), tt)
 below_more n (p ∷ ps) plan all e = (let lt = all.0 in omega arith, below_more n ps plan all.1 e)
 
-expired_below : (n : ℕ) (plans : List Plan) (kind : DueKind) → AllByRecursion (IsBelow n) plans → AllByRecursion (IsBelow n) (expired plans kind)
+pub expired_below : (n : ℕ) (plans : List Plan) (kind : DueKind) → AllByRecursion (IsBelow n) plans → AllByRecursion (IsBelow n) (expired plans kind)
 expired_below n plans (dues.Deadline plan) all = below_decided n _ 1053 plans all
 expired_below n plans (dues.Start service) all = all
 expired_below n plans (dues.Command service) all = all
 expired_below n plans (dues.Reboot service) all = all
-
-pub below_fired : (n moment : ℕ) (plans : List Plan) (rows : List Due) → AllByRecursion (IsBelow n) plans → AllByRecursion (IsBelow n) (fired moment plans rows)
-below_fired n moment plans [] all = all
-below_fired n moment plans (due ∷ rows) all =
-    below_fired n moment (fired_by moment plans due) rows
-    (elim (is_due moment due) as (λ b. AllByRecursion (IsBelow n) (cond b (expired plans due.kind) plans)) [ true ↦ expired_below n plans due.kind all | false ↦ all ])
 
 -- plans that are settled beside the rest of the state, and the deadlines that are left
 pub settles : (l : Limits) (f g : Flat) (plans ended : List Plan) (rows : List Due) → ended ≡ filter stays (settle_all l f plans).1 → g ≡ (settle_all l f plans).0
     → rows ≡ filter (λ (due : Due). is_due_still ended due.kind) g.dues → record g { plans = ended; dues = rows } ≡ settled l (with_plans f plans)
 settles l f g plans ended rows plans_are flat_is rows_are =
     rw (rows_are, flat_is, plans_are) (sym (settles_beside l f plans))
+
+-- lists that differ in plans, due rows and what no list tells are kept where their plans are
+pub other_plans : {t u : Inside} → IsKept t → u.next.service ≡ t.next.service → u.services.items ≡ t.services.items → u.acyclic ≡ t.acyclic
+    → u.limits.processes ≡ t.limits.processes → vec_capacity u.processes ≡ vec_capacity t.processes → u.tried.items ≡ t.tried.items
+    → AllByRecursion (IsBelow u.next.plan) u.plans.plans → IsKept u
+other_plans kept next rows acyclic limit capacity tried plans = record {
+  rising = rw next (rw rows kept.rising);
+  paths = rw rows kept.paths;
+  needs = rw acyclic (rw rows kept.needs);
+  room = rw limit (rw capacity kept.room);
+  plans = plans;
+  untried = tried ∙ kept.untried;
+}

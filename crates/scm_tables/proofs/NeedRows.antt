@@ -1,28 +1,23 @@
--- The rows of an index of needs: which services have one.
-use Rattle.std.proofs.Common.{ℕ, ◌≡◌, ◌<◌, ◌==◌, ◌||◌, true, false, cond, suc, List, [], ◌∷◌, Some, get_or, length, take, refl, sym, subst, eqb, arith}
-use Rattle.std.specs.Prelude.{All, AllPairs, IsSome, find}
-use Rattle.std.proofs.lemmas.Bool.{eq-eqb, eqb-true, false≢true, ne_eqb}
-use Rattle.std.proofs.lemmas.List.{get_or_default, get_or-take, length-take-le}
+-- Services as rows of needs.
+use Rattle.std.proofs.Common.{ℕ, ◌≡◌, ◌∙◌, ◌<◌, ◌≤◌, ◌==◌, ◌||◌, true, false, cond, List, [], ◌∷◌, None, Some, get_or, length, refl, sym, ap, eqb}
+use Rattle.std.specs.Prelude.{Bool, IsSome, IsTrue, find, not, option_map, slice_get}
+use Rattle.std.proofs.lemmas.Bool.{eq-eqb, eqb-true, false≢true}
+use Rattle.std.proofs.lemmas.Option.{slice_get-map, slice_get_past, slice_get_read}
 use Rattle.scm_model.specs.declared.flat.Service.{Service}
-use Rattle.scm_model.specs.Needs.{has, numbers_of}
-use Rattle.scm_rules.specs.Needs.{need_rows}
+use Rattle.scm_model.specs.declared.flat.NeedRow.{NeedRow}
+use Rattle.scm_model.specs.Needs.{has, needs_of, numbers_of}
+use Rattle.scm_model.specs.Order.{is_cyclic}
+use Rattle.scm_model.specs.Walks.{IsAcyclic}
+use Rattle.dependency_index.proofs.Cycles.{ends_acyclic}
+use Rattle.scm_rules.specs.Needs.{need_row, need_rows}
 
--- a number above all has no row
-fresh_above : (rows : List Service) (n : ℕ) → All (λ (row : Service). row.number < n) rows → has (numbers_of (need_rows rows)) n ≡ false
-fresh_above [] n below = refl
-fresh_above (row ∷ rows) n below =
-    let other : eqb n row.number ≡ false = ne_eqb n row.number (λ e. let b = below 0 row (omega arith) in omega arith) in
-    rw other (fresh_above rows n (λ k d lt. below (suc k) d (omega arith)))
+-- the row at a place is that of the service there
+pub row_at : (rows : List Service) (i : ℕ) (row : Service) → i < length rows → row ≡ get_or rows i row → slice_get (need_rows rows) i ≡ Some (need_row row)
+row_at rows i row within is = slice_get-map need_row rows i ∙ ap (option_map need_row) (slice_get_read rows (length rows) i row refl within is)
 
--- where services rise by number, none before a place has the number of the one there
-pub fresh_at : (rows : List Service) (i : ℕ) (row : Service) → AllPairs (λ (a b : Service). a.number < b.number) rows → i < length rows → row ≡ get_or rows i row
-    → has (numbers_of (need_rows (take i rows))) row.number ≡ false
-fresh_at rows i row rising within is =
-    fresh_above (take i rows) row.number (λ k d lt.
-    let shorter : k < i = omega (arith, length-take-le i rows (omega arith)) in
-    subst (λ (r : Service). r.number < row.number) (sym (get_or-take i rows k d shorter))
-    (subst (λ (r : Service). (get_or rows k d).number < r.number) (sym is)
-    (subst (λ (r : Service). (get_or rows k d).number < r.number) (get_or_default rows i d row within) (rising k i d shorter within))))
+-- behind them there is none
+pub row_past : (rows : List Service) (i : ℕ) → length rows ≤ i → slice_get (need_rows rows) i ≡ None
+row_past rows i past = slice_get-map need_row rows i ∙ ap (option_map need_row) (slice_get_past rows i past)
 
 -- a service that is there has a row
 pub has_row : (rows : List Service) (n : ℕ) → IsSome (find (λ (row : Service). row.number == n) rows) → has (numbers_of (need_rows rows)) n ≡ true
@@ -32,3 +27,8 @@ has_row (row ∷ rows) n there =
       | true ↦ λ e t. rw (eq-eqb n row.number (sym (eqb-true row.number n e))) refl
       | false ↦ λ e t. elim (eqb n row.number) as (λ b. (b || has (numbers_of (need_rows rows)) n) ≡ true) [ true ↦ refl | false ↦ has_row rows n t ]
     ] refl there
+
+-- rows that are found to have no cycle
+pub found_free : (cyclic : Bool) (rows : List NeedRow) → cyclic ≡ is_cyclic rows → IsTrue (not cyclic) → IsAcyclic (needs_of rows)
+found_free true rows is free = absurd cc
+found_free false rows is free = ends_acyclic rows (sym is)

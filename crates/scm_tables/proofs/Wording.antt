@@ -1,6 +1,6 @@
 -- The words of the launch that is wanted first.
-use Rattle.std.proofs.Common.{ℕ, ◌≡◌, ◌∙◌, ◌<◌, ◌≤◌, suc, zero, Bool, true, false, cond, List, [], ◌∷◌, None, Some, filter, map, get_or, length, ap, sym, refl, arith}
-use Rattle.std.specs.Prelude.{set, position, IfSome, All, find}
+use Rattle.std.proofs.Common.{ℕ, ◌≡◌, ◌∙◌, ◌<◌, ◌≤◌, suc, zero, Bool, true, false, cond, List, [], ◌∷◌, None, Some, filter, map, get_or, length, ap, sym, refl, arith, Option, ◌==◌}
+use Rattle.std.specs.Prelude.{set, position, IfSome, All, find, option_and_then}
 use Rattle.std.specs.Prelude.{nat_lt}
 use Rattle.std.specs.List.{position_or_len}
 use Rattle.std.proofs.lemmas.Bool.Decides.{nat_tests}
@@ -10,10 +10,10 @@ use Rattle.scm_model.specs.declared.flat.Flat.{Flat}
 use Rattle.scm_model.specs.declared.flat.Service.{Service}
 use Rattle.scm_model.specs.Rows.{service_of}
 use Rattle.scm_rules.specs.Launches.{first_wanted, path_in, service_of_process}
-use Rattle.scm_rules.specs.Steps.{is_wanted as is_any_wanted}
 use Rattle.scm_tables.specs.Lines.{first_line}
 use Rattle.scm_tables.specs.declared.process_rows.ProcessRow.{ProcessRow}
-use Rattle.scm_tables.specs.Listed.{is_wanted, process_of, processes_in, wanted_in, wanted_of, without_words, words_in}
+use Rattle.scm_tables.specs.Listed.{is_wanted_row, process_shown, processes_in, wanted_in, wanted_of, without_words, words_in}
+use Rattle.scm_tables.specs.Inside.{HasShortPath}
 
 -- a row without its words
 abbrev pub emptied : ProcessRow → ProcessRow
@@ -22,84 +22,88 @@ emptied row = record row { words = [] }
 -- the place of the first row that is wanted
 pub record IsFirst (rows : List ProcessRow) (i : ℕ) (d : ProcessRow) : Type 0 where
   pub within : i < length rows
-  pub wanted : is_wanted (get_or rows i d) ≡ true
-  pub none : (k : ℕ) → k < i → is_wanted (get_or rows k d) ≡ false
+  pub wanted : is_wanted_row (get_or rows i d) ≡ true
+  pub none : (k : ℕ) → k < i → is_wanted_row (get_or rows k d) ≡ false
 
-pub first_of : (rows : List ProcessRow) (i : ℕ) (d : ProcessRow) → position is_wanted rows ≡ Some i → IsFirst rows i d
-first_of rows i d e = let p = position-Some is_wanted rows i d e in record { within = p.0; wanted = p.1; none = p.2 }
+pub first_of : (rows : List ProcessRow) (i : ℕ) (d : ProcessRow) → position is_wanted_row rows ≡ Some i → IsFirst rows i d
+first_of rows i d e = let p = position-Some is_wanted_row rows i d e in record { within = p.0; wanted = p.1; none = p.2 }
 
 next_first : (row : ProcessRow) (rows : List ProcessRow) (i : ℕ) (d : ProcessRow) → IsFirst (row ∷ rows) (suc i) d → IsFirst rows i d
 next_first row rows i d f = record { within = (let lt = f.within in omega arith); wanted = f.wanted; none = λ k lt. f.none (suc k) (omega (arith, lt)) }
 
 pub words_at : (rows : List ProcessRow) (i : ℕ) (d : ProcessRow) → IsFirst rows i d → words_in (wanted_in rows) ≡ (get_or rows i d).words
 words_at [] i d f = absurd (let lt = f.within in omega arith)
-words_at (row ∷ rows) zero d f = ap (λ b. words_in (map wanted_of (cond b (row ∷ filter is_wanted rows) (filter is_wanted rows)))) f.wanted
+words_at (row ∷ rows) zero d f = ap (λ b. words_in (map wanted_of (cond b (row ∷ filter is_wanted_row rows) (filter is_wanted_row rows)))) f.wanted
 words_at (row ∷ rows) (suc i) d f =
-    ap (λ b. words_in (map wanted_of (cond b (row ∷ filter is_wanted rows) (filter is_wanted rows)))) (f.none zero (omega arith))
+    ap (λ b. words_in (map wanted_of (cond b (row ∷ filter is_wanted_row rows) (filter is_wanted_row rows)))) (f.none zero (omega arith))
     ∙ words_at rows i d (next_first row rows i d f)
 
 pub without_at : (rows : List ProcessRow) (i : ℕ) (d : ProcessRow) → IsFirst rows i d → wanted_in (set rows i (emptied (get_or rows i d))) ≡ without_words (wanted_in rows)
 without_at [] i d f = absurd (let lt = f.within in omega arith)
 without_at (row ∷ rows) zero d f =
-    ap (λ b. map wanted_of (cond b (emptied row ∷ filter is_wanted rows) (filter is_wanted rows))) f.wanted
-    ∙ sym (ap (λ b. without_words (map wanted_of (cond b (row ∷ filter is_wanted rows) (filter is_wanted rows)))) f.wanted)
+    ap (λ b. map wanted_of (cond b (emptied row ∷ filter is_wanted_row rows) (filter is_wanted_row rows))) f.wanted
+    ∙ sym (ap (λ b. without_words (map wanted_of (cond b (row ∷ filter is_wanted_row rows) (filter is_wanted_row rows)))) f.wanted)
 without_at (row ∷ rows) (suc i) d f =
     let none = f.none zero (omega arith) in
-    ap (λ b. map wanted_of (cond b (row ∷ filter is_wanted (set rows i (emptied (get_or rows i d)))) (filter is_wanted (set rows i (emptied (get_or rows i d)))))) none
+    ap (λ b. map wanted_of (cond b (row ∷ filter is_wanted_row (set rows i (emptied (get_or rows i d)))) (filter is_wanted_row (set rows i (emptied (get_or rows i d)))))) none
     ∙ without_at rows i d (next_first row rows i d f)
-    ∙ sym (ap (λ b. without_words (map wanted_of (cond b (row ∷ filter is_wanted rows) (filter is_wanted rows)))) none)
+    ∙ sym (ap (λ b. without_words (map wanted_of (cond b (row ∷ filter is_wanted_row rows) (filter is_wanted_row rows)))) none)
 
 pub processes_at : (rows : List ProcessRow) (i : ℕ) (d : ProcessRow) → processes_in (set rows i (emptied (get_or rows i d))) ≡ processes_in rows
 processes_at [] i d = refl
 processes_at (row ∷ rows) zero d = refl
-processes_at (row ∷ rows) (suc i) d = ap (λ x. process_of row ∷ x) (processes_at rows i d)
+processes_at (row ∷ rows) (suc i) d = ap (λ x. process_shown row ∷ x) (processes_at rows i d)
 
-none_of : (rs : List ProcessRow) → All (λ (row : ProcessRow). is_wanted row ≡ false) rs → wanted_in rs ≡ []
+none_of : (rs : List ProcessRow) → All (λ (row : ProcessRow). is_wanted_row row ≡ false) rs → wanted_in rs ≡ []
 none_of [] all = refl
 none_of (r ∷ rs) all =
-    ap (λ b. map wanted_of (cond b (r ∷ filter is_wanted rs) (filter is_wanted rs))) (all zero r (omega arith))
+    ap (λ b. map wanted_of (cond b (r ∷ filter is_wanted_row rs) (filter is_wanted_row rs))) (all zero r (omega arith))
     ∙ none_of rs (λ k d lt. all (suc k) d (omega (arith, lt)))
 
-past : (rows : List ProcessRow) → position is_wanted rows ≡ None → length rows ≤ position_or_len is_wanted rows
+past : (rows : List ProcessRow) → position is_wanted_row rows ≡ None → length rows ≤ position_or_len is_wanted_row rows
 past rows e =
-    elim (nat_lt (position_or_len is_wanted rows) (length rows)) as (λ b. nat_lt (position_or_len is_wanted rows) (length rows) ≡ b → cond b (Some (position_or_len is_wanted rows)) None ≡ None → length rows ≤ position_or_len is_wanted rows) [
+    elim (nat_lt (position_or_len is_wanted_row rows) (length rows)) as (λ b. nat_lt (position_or_len is_wanted_row rows) (length rows) ≡ b → cond b (Some (position_or_len is_wanted_row rows)) None ≡ None → length rows ≤ position_or_len is_wanted_row rows) [
       | true ↦ λ t s. absurd cc
       | false ↦ λ t s. grind (arith, nat_tests)
     ] refl e
 
-pub none_wanted : (rows : List ProcessRow) → position is_wanted rows ≡ None → wanted_in rows ≡ []
-none_wanted rows e = none_of rows (λ k d lt. fails_before_first is_wanted rows k d (let p = past rows e in omega (arith, lt, p)))
+pub none_wanted : (rows : List ProcessRow) → position is_wanted_row rows ≡ None → wanted_in rows ≡ []
+none_wanted rows e = none_of rows (λ k d lt. fails_before_first is_wanted_row rows k d (let p = past rows e in omega (arith, lt, p)))
 
 -- a row that is found has what all have
-pub found_has : (P : Service → Type 0) (p : Service → Bool) (rows : List Service) → All P rows → IfSome (find p rows) P
+found_has : (P : Service → Type 0) (p : Service → Bool) (rows : List Service) → All P rows → IfSome (find p rows) P
 found_has P p [] all = tt
 found_has P p (row ∷ rows) all =
     elim (p row) as (λ b. IfSome (cond b (Some row) (find p rows)) P)
     [ true ↦ all zero row (omega arith) | false ↦ found_has P p rows (λ k d lt. all (suc k) d (omega (arith, lt))) ]
 
+pub short_with : (f : Flat) (service : Option ℕ) → All HasShortPath f.services → IfSome (option_and_then (service_of f) service) HasShortPath
+short_with f None all = tt
+short_with f (Some number) all = found_has HasShortPath (λ (row : Service). row.number == number) f.services all
+
 -- ## Lines
 
-no_lines : (f : Flat) (xs : List ProcessRow) → is_any_wanted (map wanted_of xs) ≡ false → (first_line f (map wanted_of xs)).0 ≡ []
+no_lines : (f : Flat) (xs : List ProcessRow) → first_wanted (map wanted_of xs) ≡ None → (first_line f (map wanted_of xs)).0 ≡ []
 no_lines f [] e = refl
 no_lines f (x ∷ xs) e = absurd cc
 
 -- nothing is wanted
-pub no_path : (f : Flat) (rows : List ProcessRow) → is_any_wanted (wanted_in rows) ≡ false → (first_line f (wanted_in rows)).0 ≡ []
-no_path f rows e = no_lines f (filter is_wanted rows) e
+pub no_path : (f : Flat) (rows : List ProcessRow) → first_wanted (wanted_in rows) ≡ None → (first_line f (wanted_in rows)).0 ≡ []
+no_path f rows e = no_lines f (filter is_wanted_row rows) e
 
-one_line : (f : Flat) (xs : List ProcessRow) → is_any_wanted (map wanted_of xs) ≡ true
-    → (first_line f (map wanted_of xs)).0 ≡ path_in (service_of f (service_of_process f (first_wanted (map wanted_of xs))))
-one_line f [] e = absurd cc
-one_line f (x ∷ xs) e = refl
+one_line : (f : Flat) (xs : List ProcessRow) (process : ℕ) → first_wanted (map wanted_of xs) ≡ Some process
+    → (first_line f (map wanted_of xs)).0 ≡ path_in (option_and_then (service_of f) (service_of_process f process))
+one_line f [] process e = absurd cc
+one_line f (x ∷ xs) process e = (let same : x.number ≡ process = cc in ap (λ n. path_in (option_and_then (service_of f) (service_of_process f n))) same)
 
 -- no launch is a command's
-pub first_path : (f : Flat) (rows : List ProcessRow) → is_any_wanted (wanted_in rows) ≡ true
-    → (first_line f (wanted_in rows)).0 ≡ path_in (service_of f (service_of_process f (first_wanted (wanted_in rows))))
-first_path f rows e = one_line f (filter is_wanted rows) e
+pub first_path : (f : Flat) (rows : List ProcessRow) (process : ℕ) → first_wanted (wanted_in rows) ≡ Some process
+    → (first_line f (wanted_in rows)).0 ≡ path_in (option_and_then (service_of f) (service_of_process f process))
+first_path f rows process e = one_line f (filter is_wanted_row rows) process e
 
 words_of_lines : (f : Flat) (xs : List ProcessRow) → words_in (map wanted_of xs) ≡ (first_line f (map wanted_of xs)).1
 words_of_lines f [] = refl
 words_of_lines f (x ∷ xs) = refl
 
 pub first_words : (f : Flat) (rows : List ProcessRow) → words_in (wanted_in rows) ≡ (first_line f (wanted_in rows)).1
-first_words f rows = words_of_lines f (filter is_wanted rows)
+first_words f rows = words_of_lines f (filter is_wanted_row rows)

@@ -6,8 +6,8 @@ use Rattle.scm_model.specs.declared.flat.Phase.TheVariants as phases
 use Rattle.scm_model.specs.declared.flat.Wanted.{Wanted}
 use Rattle.scm_tables.specs.declared.process_rows.ProcessRow.{ProcessRow}
 
-abbrev pub process_of : ProcessRow → Process
-process_of row = record { number = row.number; service = row.service; phase = row.phase; pid = row.pid; controls = row.controls }
+abbrev pub process_shown : ProcessRow → Process
+process_shown row = record { number = row.number; service = row.service; phase = row.phase; pid = row.pid; controls = row.controls }
 
 abbrev pub is_wanted_phase : Phase → Bool
 is_wanted_phase phases.Wanted = true
@@ -15,17 +15,17 @@ is_wanted_phase phases.Taken = false
 is_wanted_phase phases.Launched = false
 
 -- whether a process is still to be launched
-abbrev pub is_wanted : ProcessRow → Bool
-is_wanted row = is_wanted_phase row.phase
+abbrev pub is_wanted_row : ProcessRow → Bool
+is_wanted_row row = is_wanted_phase row.phase
 
 abbrev pub wanted_of : ProcessRow → Wanted
 wanted_of row = record { process = row.number; command = false; words = row.words }
 
 abbrev pub processes_in : List ProcessRow → List Process
-processes_in rows = map process_of rows
+processes_in rows = map process_shown rows
 
 abbrev pub wanted_in : List ProcessRow → List Wanted
-wanted_in rows = map wanted_of (filter is_wanted rows)
+wanted_in rows = map wanted_of (filter is_wanted_row rows)
 
 -- the words of the launch that is wanted first
 abbrev pub words_in : List Wanted → List (List ℕ)
@@ -40,5 +40,5 @@ without_words (row ∷ rows) = record row { words = [] } ∷ rows
 -- a row whose process is changed
 abbrev pub listed_as : (Process → Process) → ProcessRow → ProcessRow
 listed_as change row =
-    let process = change (process_of row) in
+    let process = change (process_shown row) in
     record row { number = process.number; service = process.service; phase = process.phase; pid = process.pid; controls = process.controls }

@@ -1,6 +1,6 @@
 ghost use Rattle.std.specs.Prelude.{◌≡◌, ◌==◌, ◌&&◌, not, find, filter, vec_capacity, length};
 ghost use Rattle.std.specs.List.{list_any};
-ghost use Rattle.scm_model.specs.Rows.{is_held_by, is_of, owner_at};
+ghost use Rattle.scm_model.specs.Rows.{holds_lock, is_of_service, owner_at};
 
 use scm_model::{Caller, HandleKind, HandleRow, LockRow, Registration};
 
@@ -48,7 +48,7 @@ pub fn count_of(rows: &[HandleRow], caller: u64) -> usize
 
 /// Whether one of the handles is of the service.
 pub fn is_open_in(handles: &[HandleRow], service: u64) -> bool
-    ensures { result ≡ list_any (λ handle. is_of service handle.kind) handles.now }
+    ensures { result ≡ list_any (λ handle. is_of_service service handle.kind) handles.now }
 {
     for handle in handles {
         if let HandleKind::Service(number) = handle.kind {
@@ -82,7 +82,7 @@ pub fn drop_caller_row(rows: &mut Vec<Caller>, number: u64)
 
 /// Whether a handle of the caller holds the lock.
 pub fn is_held_by(rows: &[HandleRow], caller: u64, lock: Option<LockRow>) -> bool
-    ensures { result ≡ is_held_by rows.now caller lock }
+    ensures { result ≡ holds_lock rows.now caller lock }
 {
     match lock {
         Some(held) => row_of(rows, caller, held.handle).is_some(),
@@ -102,12 +102,12 @@ fn row_with(rows: &[HandleRow], number: u64) -> Option<HandleRow>
     None
 }
 
-/// The caller of the handle that holds the lock, or 0.
-pub fn owner_at(rows: &[HandleRow], held: LockRow) -> u64
+/// The caller of the handle that holds the lock.
+pub fn owner_at(rows: &[HandleRow], held: LockRow) -> Option<u64>
     ensures { result ≡ owner_at rows.now held }
 {
     match row_with(rows, held.handle) {
-        Some(row) => row.caller,
-        None => 0,
+        Some(row) => Some(row.caller),
+        None => None,
     }
 }

@@ -4,6 +4,7 @@
 mod due_rows;
 mod handle_rows;
 mod indexing;
+mod needing;
 mod opening;
 mod planning;
 mod process_rows;
@@ -16,6 +17,7 @@ ghost use Rattle.std.specs.Prelude.{◌≡◌};
 ghost use Rattle.scm_rules.specs.Rights.{mask_lacks};
 
 pub use opening::new_status;
+pub use running::status_in;
 pub use tables::Tables;
 
 /// Whether a mask lacks one of the rights.

@@ -23,11 +23,10 @@ pub fn new_status(kind: u32) -> Status
     }
 }
 
-/// A service that never ran.
-fn new_service(number: u64, config: Config) -> Service
-    ensures { result ≡ new_service number config (new_status config.kind) }
+/// A service that has no process.
+pub fn new_service(number: u64, config: Config, status: Status) -> Service
+    ensures { result ≡ new_service number config status }
 {
-    let status = new_status(config.kind);
     Service {
         number,
         config,
@@ -39,6 +38,14 @@ fn new_service(number: u64, config: Config) -> Service
     }
 }
 
+/// A service that never ran.
+fn never_run(number: u64, config: Config) -> Service
+    ensures { result ≡ new_service number config (new_status config.kind) }
+{
+    let status = new_status(config.kind);
+    new_service(number, config, status)
+}
+
 /// A service for each configuration, in order, with numbers from 1 on.
 pub fn services_of(alloc: Global, configs: Items<Config>) -> Result<Vec<Service>, OutOfMemory>
     ensures { IfOk result (λ rows. rows.items ≡ services_from 1 configs) }
@@ -46,7 +53,7 @@ pub fn services_of(alloc: Global, configs: Items<Config>) -> Result<Vec<Service>
     let mut rows = Vec::new(alloc);
     for config in configs.into_vec() {
         let number = rows.len() as u64 + 1;
-        if rows.push(new_service(number, config)).is_err() {
+        if rows.push(never_run(number, config)).is_err() {
             return Err(OutOfMemory);
         }
     }

@@ -1,22 +1,23 @@
-ghost use Rattle.std.specs.Prelude.{◌≡◌, ◌≤◌, ◌<◌, ◌-◌, ◌^◌, None, [], length, min, OnOk};
+ghost use Rattle.std.specs.Prelude.{◌≡◌, ◌≤◌, ◌<◌, ◌-◌, ◌^◌, None, [], length, min, option_and_then, option_copied, OnOk};
 ghost use Rattle.std.specs.List.{list_any};
 ghost use Rattle.scm_rules.specs.Launches.{first_wanted, is_taken, path_in, process_of, service_of_process, with_decided, with_fallen, with_launched, with_taken, without_process};
 ghost use Rattle.scm_rules.specs.Owed.{owed};
-ghost use Rattle.scm_rules.specs.Start.{can_end, ended, is_due, ticked, with_plan};
-ghost use Rattle.scm_rules.specs.Steps.{is_wanted, without_plans};
+ghost use Rattle.scm_rules.specs.Due.{fired, first_fired, is_due, ticked};
+ghost use Rattle.scm_rules.specs.Start.{can_end, ended, with_plan};
+ghost use Rattle.scm_rules.specs.Steps.{wants_launch, without_plans};
 ghost use Rattle.scm_model.specs.Rows.{service_of};
-ghost use Rattle.start_plan.specs.Decided.{caller_of, code_of, is_target};
+ghost use Rattle.start_plan.specs.Decided.{plan_caller, code_of, is_target};
 ghost use Rattle.scm_tables.specs.Lines.{first_line};
 ghost use Rattle.scm_tables.specs.Listed.{without_words};
 
-use super::due_rows::{drop_due, fire, is_any_due};
+use super::due_rows::{drop_due, fire, first_due, is_any_due};
 use super::process_rows::{
     drop_process, first_wanted, is_any_wanted, is_taken_in, launch_in, owed_in, service_of,
     take_in, take_words,
 };
 use super::service_rows::fall_in;
 use super::tables::Tables;
-use scm_model::{Due, DueKind, Plan};
+use scm_model::{Due, DueKind, Plan, Service};
 use scm_text::{Items, OutOfMemory, TextRoom, WText};
 use std::mem::replace;
 
@@ -24,8 +25,8 @@ use std::mem::replace;
 const PATIENCE: u64 = 120_000;
 
 impl Tables {
-    /// The process that is to be launched first, or 0.
-    pub fn first_wanted(&self) -> u64
+    /// The process that is to be launched first.
+    pub fn first_wanted(&self) -> Option<u64>
         ensures { result ≡ first_wanted self.now.flat.wanted }
     {
         first_wanted(self.processes.as_slice())
@@ -33,7 +34,7 @@ impl Tables {
 
     /// Whether a launch is wanted.
     pub fn is_wanted(&self) -> bool
-        ensures { result ≡ is_wanted self.now.flat.wanted }
+        ensures { result ≡ wants_launch self.now.flat.wanted }
     {
         is_any_wanted(self.processes.as_slice())
     }
@@ -45,8 +46,8 @@ impl Tables {
         is_taken_in(self.processes.as_slice(), process)
     }
 
-    /// The service that a process is of, or 0.
-    pub fn service_of_process(&self, process: u64) -> u64
+    /// The service that a process is of, which is 0 for a command.
+    pub fn service_of_process(&self, process: u64) -> Option<u64>
         ensures { result ≡ service_of_process self.now.flat process }
     {
         service_of(self.processes.as_slice(), process)
@@ -75,21 +76,30 @@ impl Tables {
         requires { 2048 ≤ path.old.room }
         ensures { path.new ≡ record { units = (first_line self.now.flat self.now.flat.wanted).0; room = path.old.room } }
     {
-        if !self.is_wanted() {
-            path.set(&WText::new(self.alloc));
-            return;
+        match self.first_wanted() {
+            Some(process) => self.write_path(self.service_of_process(process), path),
+            None => path.set(&WText::new(self.alloc)),
         }
-        self.write_path(self.service_of_process(self.first_wanted()), path);
     }
 
     /// Writes the path of a service, or the empty one where there is none. It takes no memory.
-    fn write_path(&self, service: u64, path: &mut TextRoom)
+    fn write_path(&self, service: Option<u64>, path: &mut TextRoom)
         requires { 2048 ≤ path.old.room }
-        ensures { path.new ≡ record { units = path_in (service_of self.now.flat service); room = path.old.room } }
+        ensures { path.new ≡ record { units = path_in (option_and_then (service_of self.now.flat) service); room = path.old.room } }
     {
-        match self.service(service) {
+        match self.service_with(service) {
             Some(row) => path.set(&row.config.path),
             None => path.set(&WText::new(self.alloc)),
+        }
+    }
+
+    /// The service with a number that was found.
+    fn service_with(&self, number: Option<u64>) -> Option<&Service>
+        ensures { option_copied result ≡ option_and_then (service_of self.now.flat) number }
+    {
+        match number {
+            Some(number) => self.service(number),
+            None => None,
         }
     }
 
@@ -117,12 +127,14 @@ impl Tables {
         fall_in(&mut self.services, process, code);
     }
 
-    /// Decides the undecided plans with a target.
-    pub fn decide(&mut self, target: u64, code: u32)
+    /// Decides the undecided plans with a target, if any.
+    pub fn decide(&mut self, target: Option<u64>, code: u32)
         ensures flat { self.new.flat ≡ with_decided self.old.flat target code }
         ensures limits { self.new.limits ≡ self.old.limits }
     {
-        self.plans.failed(target, code);
+        if let Some(target) = target {
+            self.plans.failed(target, code);
+        }
     }
 
     /// The code of a plan; none where it is undecided or absent.
@@ -141,7 +153,7 @@ impl Tables {
 
     /// The caller of a plan, or 0 where no caller began it; none where it is absent.
     pub fn caller_of_plan(&self, plan: u64) -> Option<u64>
-        ensures { result ≡ caller_of self.now.flat.plans plan }
+        ensures { result ≡ plan_caller self.now.flat.plans plan }
     {
         self.plans.caller_of(plan)
     }
@@ -225,13 +237,36 @@ impl Tables {
         is_any_due(self.dues.as_slice(), moment)
     }
 
-    /// The rows that are due take place, and leave.
+    /// A row leaves, and does what it does once it is due.
+    fn fire(&mut self, row: Due)
+        ensures flat { self.new.flat ≡ fired row self.old.flat }
+        ensures limits { self.new.limits ≡ self.old.limits }
+    {
+        drop_due(&mut self.dues, row.number);
+        fire(&mut self.plans, row.kind);
+    }
+
+    /// The row that is due first takes place, if one is due.
+    fn fire_first(&mut self)
+        ensures flat { self.new.flat ≡ first_fired self.old.flat }
+        ensures limits { self.new.limits ≡ self.old.limits }
+    {
+        match first_due(self.dues.as_slice(), self.moment) {
+            Some(row) => self.fire(row),
+            None => {}
+        }
+    }
+
+    /// The rows that are due take place, in the order in which they became due, and leave.
     pub fn tick(&mut self)
         ensures flat { self.new.flat ≡ ticked self.old.flat }
         ensures limits { self.new.limits ≡ self.old.limits }
     {
-        fire(&mut self.plans, self.moment, self.dues.as_slice());
-        drop_due(&mut self.dues, self.moment);
+        let mut left = self.dues.len();
+        while left > 0 {
+            self.fire_first();
+            left -= 1;
+        }
     }
 
     /// How many steps are owed, up to 2^64 - 1.

@@ -1,11 +1,11 @@
 ghost use Rattle.std.specs.Prelude.{◌≡◌, ◌==◌, ◌≤◌, ◌-◌, ◌^◌, [], length, min, nat_le, not, position, map, filter, find, option_copied, option_map, vec_capacity};
 ghost use Rattle.scm_model.specs.declared.flat.Process.{Process};
 ghost use Rattle.scm_rules.specs.Controls.{controlled_if, controls_in, first_control, relieved_if};
-ghost use Rattle.scm_rules.specs.Launches.{first_wanted, is_running, is_taken, launched_if, service_in_process, taken_if};
+ghost use Rattle.scm_rules.specs.Launches.{first_wanted, is_launched, is_taken, launched_if, taken_if};
 ghost use Rattle.scm_rules.specs.Owed.{owed_by_process, owed_in_phase};
-ghost use Rattle.scm_rules.specs.Steps.{is_wanted as is_any_wanted};
+ghost use Rattle.scm_rules.specs.Steps.{wants_launch as is_any_wanted};
 ghost use Rattle.start_plan.specs.Owed.{total};
-ghost use Rattle.scm_tables.specs.Listed.{is_wanted, listed_as, processes_in, wanted_in, without_words, words_in};
+ghost use Rattle.scm_tables.specs.Listed.{is_wanted_row, listed_as, processes_in, wanted_in, without_words, words_in};
 
 use control_dispatch::Controls;
 use scm_model::Phase;
@@ -74,16 +74,16 @@ pub fn drop_process(rows: &mut Vec<ProcessRow>, number: u64)
     rows.retain(|row| !(row.number == number));
 }
 
-/// The service that a process is of, or 0.
-pub fn service_of(rows: &[ProcessRow], number: u64) -> u64
-    ensures { result ≡ service_in_process (find (λ row. row.number == number) (processes_in rows.now)) }
+/// The service that a process is of, which is 0 for a command.
+pub fn service_of(rows: &[ProcessRow], number: u64) -> Option<u64>
+    ensures { result ≡ option_map (λ row. row.service) (find (λ row. row.number == number) (processes_in rows.now)) }
 {
     for row in rows {
         if row.number == number {
-            return row.service;
+            return Some(row.service);
         }
     }
-    0
+    None
 }
 
 /// Whether a process is listed and its launch is taken in hand.
@@ -100,7 +100,7 @@ pub fn is_taken_in(rows: &[ProcessRow], number: u64) -> bool
 
 /// Whether a process is listed and was launched.
 pub fn is_running_in(rows: &[ProcessRow], number: u64) -> bool
-    ensures { result ≡ is_running (find (λ row. row.number == number) (processes_in rows.now)) }
+    ensures { result ≡ is_launched (find (λ row. row.number == number) (processes_in rows.now)) }
 {
     for row in rows {
         if row.number == number {
@@ -122,16 +122,16 @@ pub fn waiting_in(rows: &[ProcessRow], number: u64) -> Option<u32>
     None
 }
 
-/// The control that waits first for a process, or 0.
-pub fn first_control_in(rows: &[ProcessRow], number: u64) -> u32
+/// The control that waits first for a process.
+pub fn first_control_in(rows: &[ProcessRow], number: u64) -> Option<u32>
     ensures { result ≡ first_control (controls_in (find (λ row. row.number == number) (processes_in rows.now))) }
 {
     for row in rows {
         if row.number == number {
-            return row.controls.first().unwrap_or(0);
+            return row.controls.first();
         }
     }
-    0
+    None
 }
 
 /// A control more waits for a process, as long as fewer do than may.
@@ -174,16 +174,16 @@ pub fn relieve_in(rows: &mut Vec<ProcessRow>, number: u64)
     }
 }
 
-/// The process that is to be launched first, or 0.
-pub fn first_wanted(rows: &[ProcessRow]) -> u64
+/// The process that is to be launched first.
+pub fn first_wanted(rows: &[ProcessRow]) -> Option<u64>
     ensures { result ≡ first_wanted (wanted_in rows.now) }
 {
     for row in rows {
         if let Phase::Wanted = row.phase {
-            return row.number;
+            return Some(row.number);
         }
     }
-    0
+    None
 }
 
 /// Whether a launch is wanted.
@@ -200,7 +200,7 @@ pub fn is_any_wanted(rows: &[ProcessRow]) -> bool
 
 /// Where the first process stands that is to be launched.
 fn place_of_wanted(rows: &[ProcessRow]) -> Option<usize>
-    ensures { result ≡ position is_wanted rows.now }
+    ensures { result ≡ position is_wanted_row rows.now }
 {
     rows.iter()
         .position(|row| matches!(row.phase, Phase::Wanted))

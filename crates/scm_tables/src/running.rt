@@ -1,7 +1,6 @@
 ghost use Rattle.std.specs.Prelude.{◌≡◌, ◌≤◌, option_copied};
-ghost use Rattle.scm_model.specs.Rows.{service_of};
 ghost use Rattle.scm_rules.specs.Controls.{active_among, controls_of, first_control, waiting, with_control, with_control_taken};
-ghost use Rattle.scm_rules.specs.Launches.{is_running, process_of};
+ghost use Rattle.scm_rules.specs.Launches.{is_launched, process_of};
 ghost use Rattle.scm_rules.specs.Query.{status_in};
 ghost use Rattle.scm_rules.specs.Reports.{current_of, with_report};
 
@@ -10,10 +9,20 @@ use super::service_rows::{active_in, current_in, report_in};
 use super::tables::Tables;
 use scm_model::{Service, Status, zero_status};
 
+/// The status of a service, or zeros where there is none.
+pub fn status_in(service: Option<&Service>) -> Status
+    ensures { result ≡ status_in (option_copied service.entry) }
+{
+    match service {
+        Some(row) => row.status,
+        None => zero_status(),
+    }
+}
+
 impl Tables {
     /// Whether a process is listed and was launched.
     pub fn is_running(&self, process: u64) -> bool
-        ensures { result ≡ is_running (process_of self.now.flat process) }
+        ensures { result ≡ is_launched (process_of self.now.flat process) }
     {
         is_running_in(self.processes.as_slice(), process)
     }
@@ -25,16 +34,6 @@ impl Tables {
         current_in(self.services.as_slice(), process)
     }
 
-    /// The status of a service, or zeros where there is none.
-    pub fn status_of(&self, service: u64) -> Status
-        ensures { result ≡ status_in (service_of self.now.flat service) }
-    {
-        match self.service(service) {
-            Some(row) => row.status,
-            None => zero_status(),
-        }
-    }
-
     /// The service takes a report whose current process this is.
     pub fn report(&mut self, process: u64, report: &Status)
         ensures flat { self.new.flat ≡ with_report self.old.flat process report.now }
@@ -44,10 +43,10 @@ impl Tables {
     }
 
     /// How many services name a service as a need and aren't STOPPED, in 32 bits.
-    pub fn active_needing(&self, service: u64) -> u32
-        ensures { result ≡ active_among self.now.flat.services (service_of self.now.flat service) }
+    pub fn active_needing(&self, service: Option<&Service>) -> u32
+        ensures { result ≡ active_among self.now.flat.services (option_copied service.entry) }
     {
-        match self.service(service) {
+        match service {
             Some(row) => active_in(self.services.as_slice(), &row.config.name),
             None => 0,
         }
@@ -60,8 +59,8 @@ impl Tables {
         waiting_in(self.processes.as_slice(), process)
     }
 
-    /// The control that waits first for a process, or 0.
-    pub fn first_control(&self, process: u64) -> u32
+    /// The control that waits first for a process.
+    pub fn first_control(&self, process: u64) -> Option<u32>
         ensures { result ≡ first_control (controls_of self.now.flat process) }
     {
         first_control_in(self.processes.as_slice(), process)

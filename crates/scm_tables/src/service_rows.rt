@@ -14,6 +14,7 @@ ghost use Rattle.scm_tables.specs.Tags.{tag_in};
 
 use super::handle_rows::is_open_in;
 use dependency_index::is_named;
+use scm_model::codes::{SERVICE_RUNNING, SERVICE_START_PENDING, SERVICE_STOPPED};
 use scm_model::{Config, HandleRow, Need, Service, Status};
 use scm_text::{WText, same};
 use status_machine::{take_end, take_report};
@@ -104,9 +105,11 @@ pub fn greatest_tag_in(rows: &[Service], group: &WText) -> u32
 
 /// How many services are RUNNING.
 pub fn running_in(rows: &[Service]) -> usize
-    ensures { result ≡ length (filter (λ row. row.status.state == 4) rows.now) }
+    ensures { result ≡ length (filter is_running rows.now) }
 {
-    rows.iter().filter(|row| row.status.state == 4).count()
+    rows.iter()
+        .filter(|row| row.status.state == SERVICE_RUNNING)
+        .count()
 }
 
 /// Marks the services with a number.
@@ -151,7 +154,7 @@ pub fn configure_in(rows: &mut Vec<Service>, number: u64, config: Config)
 fn leaves(handles: &[HandleRow], row: &Service) -> bool
     ensures { result ≡ leaves handles.now row.now }
 {
-    row.marked && row.status.state == 1 && !is_open_in(handles, row.number)
+    row.marked && row.status.state == SERVICE_STOPPED && !is_open_in(handles, row.number)
 }
 
 /// Keeps the services that stay.
@@ -168,7 +171,7 @@ pub fn has_running(rows: &[Service], group: &WText) -> bool
 {
     rows.iter()
         .filter(|row| same(&row.config.group, group))
-        .any(|row| row.status.state == 4)
+        .any(|row| row.status.state == SERVICE_RUNNING)
 }
 
 /// A status with nothing but a type, a state and an exit code.
@@ -190,8 +193,8 @@ fn bare_status(kind: u32, state: u32, win32: u32) -> Status
 fn start_row(row: &mut Service, number: u64, process: u64)
     ensures { row.new ≡ started_if number process row.old }
 {
-    if row.number == number && row.status.state == 1 {
-        row.status = bare_status(row.status.kind, 2, 0);
+    if row.number == number && row.status.state == SERVICE_STOPPED {
+        row.status = bare_status(row.status.kind, SERVICE_START_PENDING, 0);
         row.process = process;
     }
 }
@@ -221,7 +224,7 @@ fn is_among(needs: &[Need], name: &WText) -> bool
 fn is_active_by(row: &Service, name: &WText) -> bool
     ensures { result ≡ is_active_by name.now row.now }
 {
-    is_among(row.config.needs.as_slice(), name) && row.status.state != 1
+    is_among(row.config.needs.as_slice(), name) && row.status.state != SERVICE_STOPPED
 }
 
 /// A count with one more or not, in 32 bits.
@@ -248,7 +251,11 @@ fn report_row(row: &mut Service, process: u64, report: &Status)
 {
     if row.process == process && take_report(&row.status, report).is_ok() {
         row.status = *report;
-        row.process = if report.state == 1 { 0 } else { process };
+        row.process = if report.state == SERVICE_STOPPED {
+            0
+        } else {
+            process
+        };
     }
 }
 

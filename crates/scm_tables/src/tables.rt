@@ -1,17 +1,17 @@
 ghost use Rattle.std.specs.Prelude.{◌≡◌, ◌+◌, ◌^◌, ◌<◌, ◌≤◌, ◌==◌, filter, IfOk, OnOk, length, option_copied, All, []};
 ghost use Rattle.scm_model.specs.Changes.{with_handle, without_handle, without_handles_of, without_registrations_of, with_caller, without_caller, with_config, with_moment, with_service, with_mark, without_lock_of};
 ghost use Rattle.scm_model.specs.Purge.{purged};
-ghost use Rattle.scm_model.specs.Rows.{caller_of, displayed, handle_of, held_by, is_caller, is_shown, is_shown_by_another, manager_mask, named, opened, owner_at, principal_of, service_of};
+ghost use Rattle.scm_model.specs.Rows.{caller_of, displayed, handle_of, held_by, held_service, is_caller, is_shown, is_shown_by_another, manager_mask, named, opened, owner_at, principal_of, service_of};
 ghost use Rattle.scm_rules.specs.Create.{next_tag};
 ghost use Rattle.scm_rules.specs.Locks.{with_lock, without_lock};
 ghost use Rattle.scm_rules.specs.Opening.{empty_at, opening};
-ghost use Rattle.scm_rules.specs.Query.{service_in};
 ghost use Rattle.scm_model.specs.declared.codes.TheConstants.{SERVICE_RUNNING};
 
 use super::handle_rows::{
     caller_in, count_of, drop_caller, drop_caller_row, drop_number, drop_registrations, is_held_by,
     owner_at, row_of,
 };
+use super::needing::{is_acyclic, reserve_search, stays_acyclic};
 use super::opening::services_of;
 use super::process_rows::ProcessRow;
 use super::service_rows::{
@@ -23,7 +23,7 @@ use scm_model::{
     Caller, Config, Due, HandleKind, HandleRow, Limits, LockRow, Next, Opened, Principal,
     Registration, Service, Status,
 };
-use scm_text::{Items, OutOfMemory, WText};
+use scm_text::{Buffer, Items, OutOfMemory, WText};
 use start_plan::Plans;
 use std::alloc::Global;
 use std::marker::Model;
@@ -32,6 +32,10 @@ use std::marker::Model;
 #[derive(Drop)]
 pub struct Tables {
     pub(crate) services: Vec<Service>,
+    /// Whether the services' needs are known to have no cycle.
+    pub(crate) acyclic: bool,
+    /// For the services that a search through the needs comes by.
+    searched: Buffer<u64>,
     handles: Vec<HandleRow>,
     pub(crate) processes: Vec<ProcessRow>,
     pub(crate) plans: Plans,
@@ -92,8 +96,12 @@ impl Tables {
         };
         let count = configs.len() as u64;
         let services = services_of(alloc, configs)?;
+        let mut searched = Buffer::with_room(alloc, services.len() + 1)?;
+        let acyclic = is_acyclic(services.as_slice(), &mut searched);
         Ok(Tables {
             services,
+            acyclic,
+            searched,
             handles: Vec::new(alloc),
             processes,
             plans: Plans::none(alloc),
@@ -153,13 +161,13 @@ impl Tables {
         }
     }
 
-    /// The service that a caller's handle is of, or 0.
-    pub fn opened_service(&self, caller: u64, number: u64) -> u64
-        ensures { result ≡ service_in (opened self.now.flat caller number) }
+    /// The service that a caller's handle is of.
+    pub fn held_service(&self, caller: u64, number: u64) -> Option<&Service>
+        ensures { option_copied result ≡ held_service self.now.flat caller number }
     {
         match self.opened(caller, number) {
-            Some(opened) => opened.service,
-            None => 0,
+            Some(opened) => self.service(opened.service),
+            None => None,
         }
     }
 
@@ -202,6 +210,13 @@ impl Tables {
         number
     }
 
+    /// The number of the next handle.
+    pub fn next_handle(&self) -> u64
+        ensures { result ≡ self.now.flat.next.handle }
+    {
+        self.next.handle
+    }
+
     /// Takes a handle away.
     pub fn remove_handle(&mut self, number: u64)
         ensures flat { self.new.flat ≡ without_handle self.old.flat number }
@@ -233,8 +248,8 @@ impl Tables {
         self.lock.holder()
     }
 
-    /// The caller of the handle that holds the lock, or 0.
-    pub fn owner_at(&self, held: LockRow) -> u64
+    /// The caller of the handle that holds the lock.
+    pub fn owner_at(&self, held: LockRow) -> Option<u64>
         ensures { result ≡ owner_at self.now.flat.handles held }
     {
         owner_at(self.handles.as_slice(), held)
@@ -421,10 +436,10 @@ impl Tables {
         ensures others { self.new.spare.handles ≡ self.old.spare.handles }
         ensures limits { self.new.limits ≡ self.old.limits }
     {
-        match self.services.reserve(1) {
-            Ok(()) => Ok(()),
-            Err(_) => Err(OutOfMemory),
+        if self.services.reserve(1).is_err() {
+            return Err(OutOfMemory);
         }
+        reserve_search(&mut self.searched, self.services.len())
     }
 
     /// Adds a service, and answers its number. It takes no memory.
@@ -438,6 +453,13 @@ impl Tables {
         ensures limits { self.new.limits ≡ self.old.limits }
     {
         let number = self.next.service;
+        self.acyclic = stays_acyclic(
+            self.services.as_slice(),
+            self.acyclic,
+            number,
+            &config,
+            &mut self.searched,
+        );
         self.services.push_reserved(Service {
             number,
             config,
@@ -457,6 +479,13 @@ impl Tables {
         ensures flat { self.new.flat ≡ with_config self.old.flat number config }
         ensures limits { self.new.limits ≡ self.old.limits }
     {
+        self.acyclic = stays_acyclic(
+            self.services.as_slice(),
+            self.acyclic,
+            number,
+            &config,
+            &mut self.searched,
+        );
         configure_in(&mut self.services, number, config);
     }
 

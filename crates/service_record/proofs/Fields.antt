@@ -4,8 +4,8 @@ use Rattle.std.specs.Int.{w32, from_le_bytes}
 use Rattle.std.proofs.lemmas.Bool.{cases_lt, ltb-false, le-ltb}
 use Rattle.std.proofs.lemmas.List.{take-append-drop, length-take, get_or-drop, get_or-take, get_or_past}
 use Rattle.std.proofs.lemmas.Nat.{le_bytes_4, from_le_bytes-to_le_bytes_4}
-use Rattle.service_record.specs.Spelling.{number, flag, IsNumber}
-use Rattle.service_record.specs.Reading.{◌>>=◌, Item, number_at, flag_at}
+use Rattle.service_record.specs.Spelling.{number, flag, FitsNumber}
+use Rattle.service_record.specs.Reading.{◌>>=◌, Item, take_number, take_flag}
 
 abbrev pub IsBytes : List ℕ → Type 0
 IsBytes bytes = (i : ℕ) → get_or bytes i 0 < 256
@@ -63,22 +63,22 @@ step {A} {B} {read} field next bytes y fits e {P} goes_on =
 number_below : (bytes : List ℕ) → IsBytes bytes → from_le_bytes w32 bytes < 2 ^ 32
 number_below bytes fits = omega (arith, fits 0, fits 1, fits 2, fits 3)
 
-number_takes : (bytes : List ℕ) (x : ℕ × List ℕ) → IsBytes bytes → number_at bytes ≡ Ok x → Takes bytes (number x.0) x.1 × IsNumber x.0
+number_takes : (bytes : List ℕ) (x : ℕ × List ℕ) → IsBytes bytes → take_number bytes ≡ Ok x → Takes bytes (number x.0) x.1 × FitsNumber x.0
 number_takes bytes x fits e =
     let g = guard_ok (ltb (length bytes) 4) (length bytes) (from_le_bytes w32 (take 4 bytes), drop 4 bytes) x e in
     let long : 4 ≤ length bytes = ltb-false _ _ g.0 in
     let front : number (from_le_bytes w32 (take 4 bytes)) ≡ take 4 bytes = le_bytes_4 (take 4 bytes) _ (omega (arith, length-take 4 bytes)) (IsBytes-take 4 bytes fits) refl in
     let parts : bytes ≡ number (from_le_bytes w32 (take 4 bytes)) ++ drop 4 bytes = sym (ap (λ (t : List ℕ). t ++ drop 4 bytes) front ∙ take-append-drop 4 bytes) in
     let taken : Takes bytes (number (from_le_bytes w32 (take 4 bytes))) (drop 4 bytes) = record { parts = parts; rest_fits = IsBytes-drop 4 bytes fits } in
-    subst (λ (p : ℕ × List ℕ). Takes bytes (number p.0) p.1 × IsNumber p.0) g.1 (taken, number_below (take 4 bytes) (IsBytes-take 4 bytes fits))
+    subst (λ (p : ℕ × List ℕ). Takes bytes (number p.0) p.1 × FitsNumber p.0) g.1 (taken, number_below (take 4 bytes) (IsBytes-take 4 bytes fits))
 
-number_again : (n : ℕ) (rest : List ℕ) → IsNumber n → number_at (number n ++ rest) ≡ Ok (n, rest)
+number_again : (n : ℕ) (rest : List ℕ) → FitsNumber n → take_number (number n ++ rest) ≡ Ok (n, rest)
 number_again n rest lt =
     let long : ltb (length (number n ++ rest)) 4 ≡ false = le-ltb _ _ (omega arith) in
     ap (λ (b : Bool). cond b (Err (length (number n ++ rest))) (Ok (from_le_bytes w32 (take 4 (number n ++ rest)), drop 4 (number n ++ rest)))) long
     ∙ ap (λ (m : ℕ). Ok (m, rest)) (from_le_bytes-to_le_bytes_4 n lt)
 
-pub a_number : IsField ℕ number_at number IsNumber
+pub a_number : IsField ℕ take_number number FitsNumber
 a_number = record { takes = number_takes; again = number_again }
 
 -- ## Flags
@@ -89,8 +89,8 @@ IsBytes-rest b bytes h i = h (suc i)
 abbrev pub IsFlag : Bool → Type 0
 IsFlag b = Unit {0}
 
-flag_takes : (bytes : List ℕ) (x : Bool × List ℕ) → IsBytes bytes → flag_at bytes ≡ Ok x → Takes bytes (flag x.0) x.1 × IsFlag x.0
-unfolding flag_at
+flag_takes : (bytes : List ℕ) (x : Bool × List ℕ) → IsBytes bytes → take_flag bytes ≡ Ok x → Takes bytes (flag x.0) x.1 × IsFlag x.0
+unfolding take_flag
 flag_takes [] x fits e = absurd cc
 flag_takes (zero ∷ bytes) x fits e =
     subst (λ (y : Bool × List ℕ). Takes (0 ∷ bytes) (flag y.0) y.1 × IsFlag y.0) (ok_is (false, bytes) x e) (record { parts = refl; rest_fits = IsBytes-rest 0 bytes fits }, tt)
@@ -98,10 +98,10 @@ flag_takes (suc zero ∷ bytes) x fits e =
     subst (λ (y : Bool × List ℕ). Takes (1 ∷ bytes) (flag y.0) y.1 × IsFlag y.0) (ok_is (true, bytes) x e) (record { parts = refl; rest_fits = IsBytes-rest 1 bytes fits }, tt)
 flag_takes (suc (suc b) ∷ bytes) x fits e = absurd cc
 
-flag_again : (b : Bool) (rest : List ℕ) → IsFlag b → flag_at (flag b ++ rest) ≡ Ok (b, rest)
-unfolding flag_at
+flag_again : (b : Bool) (rest : List ℕ) → IsFlag b → take_flag (flag b ++ rest) ≡ Ok (b, rest)
+unfolding take_flag
 flag_again false rest h = refl
 flag_again true rest h = refl
 
-pub a_flag : IsField Bool flag_at flag IsFlag
+pub a_flag : IsField Bool take_flag flag IsFlag
 a_flag = record { takes = flag_takes; again = flag_again }

@@ -1,5 +1,4 @@
 pub mod Halves
-pub mod Units
 pub mod Loop
 pub mod Fields
 pub mod Texts

@@ -14,35 +14,35 @@ use Rattle.service_record.specs.declared.reading.Front.{Front}
 use Rattle.service_record.specs.declared.reading.Middle.{Middle}
 use Rattle.service_record.specs.declared.reading.Back.{Back}
 use Rattle.service_record.specs.declared.reading.RecordFault.{RecordFault}
-use Rattle.service_record.specs.Spelling.{number, flag, text, need, action, counted, front, middle, back, spelling, held, IsNumber, IsText, IsNeed, IsAction, AreItems, IsConfig}
-use Rattle.service_record.specs.Reading.{◌>>=◌, Item, Tells, number_at, need_of, need_at, action_at, items_at, counted_at, front_at, middle_at, back_at, config_of, config_at, whole_of, placed, record_of}
+use Rattle.service_record.specs.Spelling.{number, flag, text, need_bytes, action, counted_items, front, middle, back, spelling, held, FitsNumber, FitsText, IsNeed, IsAction, AreItems, IsConfig}
+use Rattle.service_record.specs.Reading.{◌>>=◌, Item, Tells, take_number, need_of, take_need, take_action, take_items, take_counted, take_front, take_middle, take_back, config_of, take_config, whole_of, placed, record_of}
 use Rattle.service_record.proofs.Fields.{IsBytes, bind_ok, Takes, Takes-then, IsField, step, ok_is, a_number, a_flag}
 use Rattle.service_record.proofs.Texts.{a_text}
 
 -- ## Needs and actions
 
-need_made : (bytes : List ℕ) (group : Bool) (name rest : List ℕ) → Takes bytes (flag group ++ text name) rest → IsText name → Takes bytes (need (need_of group name)) rest × IsNeed (need_of group name)
+need_made : (bytes : List ℕ) (group : Bool) (name rest : List ℕ) → Takes bytes (flag group ++ text name) rest → FitsText name → Takes bytes (need_bytes (need_of group name)) rest × IsNeed (need_of group name)
 need_made bytes true name rest taken fits = (taken, fits)
 need_made bytes false name rest taken fits = (taken, fits)
 
-need_takes : (bytes : List ℕ) (x : Need × List ℕ) → IsBytes bytes → need_at bytes ≡ Ok x → Takes bytes (need x.0) x.1 × IsNeed x.0
-unfolding need_at
+need_takes : (bytes : List ℕ) (x : Need × List ℕ) → IsBytes bytes → take_need bytes ≡ Ok x → Takes bytes (need_bytes x.0) x.1 × IsNeed x.0
+unfolding take_need
 need_takes bytes x fits e =
     step a_flag _ bytes x fits e (λ group r1 t1 _ e1.
     step a_text _ r1 x t1.rest_fits e1 (λ name r2 t2 f2 e2.
-    subst (λ (y : Need × List ℕ). Takes bytes (need y.0) y.1 × IsNeed y.0) (ok_is (need_of group name, r2) x e2)
+    subst (λ (y : Need × List ℕ). Takes bytes (need_bytes y.0) y.1 × IsNeed y.0) (ok_is (need_of group name, r2) x e2)
     (need_made bytes group name r2 (Takes-then bytes (flag group) r1 (text name) r2 t1 t2) f2)))
 
-need_again : (n : Need) (rest : List ℕ) → IsNeed n → need_at (need n ++ rest) ≡ Ok (n, rest)
-unfolding need_at
+need_again : (n : Need) (rest : List ℕ) → IsNeed n → take_need (need_bytes n ++ rest) ≡ Ok (n, rest)
+unfolding take_need
 need_again (needs.Service name) rest fits = rw (a_flag.again false (text name ++ rest) tt, a_text.again name rest fits) refl
 need_again (needs.Group name) rest fits = rw (a_flag.again true (text name ++ rest) tt, a_text.again name rest fits) refl
 
-a_need : IsField Need need_at need IsNeed
+a_need : IsField Need take_need need_bytes IsNeed
 a_need = record { takes = need_takes; again = need_again }
 
-action_takes : (bytes : List ℕ) (x : Action × List ℕ) → IsBytes bytes → action_at bytes ≡ Ok x → Takes bytes (action x.0) x.1 × IsAction x.0
-unfolding action_at
+action_takes : (bytes : List ℕ) (x : Action × List ℕ) → IsBytes bytes → take_action bytes ≡ Ok x → Takes bytes (action x.0) x.1 × IsAction x.0
+unfolding take_action
 action_takes bytes x fits e =
     step a_number _ bytes x fits e (λ what r1 t1 f1 e1.
     step a_number _ r1 x t1.rest_fits e1 (λ delay r2 t2 f2 e2.
@@ -50,63 +50,63 @@ action_takes bytes x fits e =
     subst (λ (y : Action × List ℕ). Takes bytes (action y.0) y.1 × IsAction y.0) (ok_is made x e2)
     (Takes-then bytes (number what) r1 (number delay) r2 t1 t2, (f1, f2))))
 
-action_again : (a : Action) (rest : List ℕ) → IsAction a → action_at (action a ++ rest) ≡ Ok (a, rest)
-unfolding action_at
+action_again : (a : Action) (rest : List ℕ) → IsAction a → take_action (action a ++ rest) ≡ Ok (a, rest)
+unfolding take_action
 action_again a rest fits =
-    ap (λ (r : Item ℕ). r >>= λ what. number_at what.1 >>= λ delay. Ok (record { what = what.0; delay = delay.0 }, delay.1)) (a_number.again a.what (number a.delay ++ rest) fits.0)
+    ap (λ (r : Item ℕ). r >>= λ what. take_number what.1 >>= λ delay. Ok (record { what = what.0; delay = delay.0 }, delay.1)) (a_number.again a.what (number a.delay ++ rest) fits.0)
     ∙ ap (λ (r : Item ℕ). r >>= λ delay. Ok (record { what = a.what; delay = delay.0 }, delay.1)) (a_number.again a.delay rest fits.1)
 
-an_action : IsField Action action_at action IsAction
+an_action : IsField Action take_action action IsAction
 an_action = record { takes = action_takes; again = action_again }
 
 -- ## Lists
 
 items_take : {A : Type 0} {read : List ℕ → Item A} {spell : A → List ℕ} {Fits : A → Type 0} (field : IsField A read spell Fits) (n : ℕ) (bytes : List ℕ) (x : List A × List ℕ)
-    → IsBytes bytes → items_at read n bytes ≡ Ok x → Takes bytes (flat_map spell x.0) x.1 × (length x.0 ≡ n) × AllByRecursion Fits x.0
-unfolding items_at
+    → IsBytes bytes → take_items read n bytes ≡ Ok x → Takes bytes (flat_map spell x.0) x.1 × (length x.0 ≡ n) × AllByRecursion Fits x.0
+unfolding take_items
 items_take {A} {read} {spell} {Fits} field zero bytes x fits e =
     subst (λ (y : List A × List ℕ). Takes bytes (flat_map spell y.0) y.1 × (length y.0 ≡ 0) × AllByRecursion Fits y.0) (ok_is ([], bytes) x e) (record { parts = refl; rest_fits = fits }, refl, tt)
 items_take {A} {read} {spell} {Fits} field (suc n) bytes x fits e =
     step field _ bytes x fits e (λ a r1 t1 f1 e1.
-    let b = bind_ok (items_at read n r1) (λ others. Ok (a ∷ others.0, others.1)) x e1 in
+    let b = bind_ok (take_items read n r1) (λ others. Ok (a ∷ others.0, others.1)) x e1 in
     let second = items_take field n r1 b.0 t1.rest_fits b.1 in
     let both = Takes-then bytes (spell a) r1 (flat_map spell b.0.0) b.0.1 t1 second.0 in
     let made : List A × List ℕ = (a ∷ b.0.0, b.0.1) in
     subst (λ (y : List A × List ℕ). Takes bytes (flat_map spell y.0) y.1 × (length y.0 ≡ suc n) × AllByRecursion Fits y.0) (ok_is made x b.2) (rw flat_map-cons both, ap suc second.1, (f1, second.2)))
 
 items_again : {A : Type 0} {read : List ℕ → Item A} {spell : A → List ℕ} {Fits : A → Type 0} (field : IsField A read spell Fits) (xs : List A) (rest : List ℕ)
-    → AllByRecursion Fits xs → items_at read (length xs) (flat_map spell xs ++ rest) ≡ Ok (xs, rest)
-unfolding items_at
+    → AllByRecursion Fits xs → take_items read (length xs) (flat_map spell xs ++ rest) ≡ Ok (xs, rest)
+unfolding take_items
 items_again field [] rest fits = refl
 items_again {A} {read} {spell} {Fits} field (x ∷ xs) rest fits =
     let regrouped : flat_map spell (x ∷ xs) ++ rest ≡ spell x ++ (flat_map spell xs ++ rest) = ap (λ (t : List ℕ). t ++ rest) (flat_map-cons spell x xs) ∙ append_assoc (spell x) (flat_map spell xs) rest in
-    ap (items_at read (suc (length xs))) regrouped ∙ rw (field.again x (flat_map spell xs ++ rest) fits.0, items_again field xs rest fits.1) refl
+    ap (take_items read (suc (length xs))) regrouped ∙ rw (field.again x (flat_map spell xs ++ rest) fits.0, items_again field xs rest fits.1) refl
 
 counted_takes : {A : Type 0} {read : List ℕ → Item A} {spell : A → List ℕ} {Fits : A → Type 0} (field : IsField A read spell Fits) (bytes : List ℕ) (x : List A × List ℕ)
-    → IsBytes bytes → counted_at read bytes ≡ Ok x → Takes bytes (counted spell x.0) x.1 × AreItems Fits x.0
-unfolding counted_at
+    → IsBytes bytes → take_counted read bytes ≡ Ok x → Takes bytes (counted_items spell x.0) x.1 × AreItems Fits x.0
+unfolding take_counted
 counted_takes {A} {read} {spell} {Fits} field bytes x fits e =
     step a_number _ bytes x fits e (λ n r1 t1 f1 e1.
     let items = items_take field n r1 x t1.rest_fits e1 in
     let both = Takes-then bytes (number n) r1 (flat_map spell x.0) x.1 t1 items.0 in
-    let whole : Takes bytes (counted spell x.0) x.1 = subst (λ (k : ℕ). Takes bytes (number k ++ flat_map spell x.0) x.1) (sym items.1) both in
-    let small : IsNumber (length x.0) = omega (arith, items.1, f1) in
+    let whole : Takes bytes (counted_items spell x.0) x.1 = subst (λ (k : ℕ). Takes bytes (number k ++ flat_map spell x.0) x.1) (sym items.1) both in
+    let small : FitsNumber (length x.0) = omega (arith, items.1, f1) in
     (whole, (small, All-from_recursion Fits x.0 items.2)))
 
 counted_again : {A : Type 0} {read : List ℕ → Item A} {spell : A → List ℕ} {Fits : A → Type 0} (field : IsField A read spell Fits) (xs : List A) (rest : List ℕ)
-    → AreItems Fits xs → counted_at read (counted spell xs ++ rest) ≡ Ok (xs, rest)
-unfolding counted_at
+    → AreItems Fits xs → take_counted read (counted_items spell xs ++ rest) ≡ Ok (xs, rest)
+unfolding take_counted
 counted_again {A} {read} {spell} {Fits} field xs rest fits =
-    ap (λ (r : Item ℕ). r >>= λ n. items_at read n.0 n.1) (a_number.again (length xs) (flat_map spell xs ++ rest) fits.0)
+    ap (λ (r : Item ℕ). r >>= λ n. take_items read n.0 n.1) (a_number.again (length xs) (flat_map spell xs ++ rest) fits.0)
     ∙ items_again field xs rest (recursion_from_All Fits xs fits.1)
 
-pub are_items : {A : Type 0} {read : List ℕ → Item A} {spell : A → List ℕ} {Fits : A → Type 0} → IsField A read spell Fits → IsField (List A) (counted_at read) (counted spell) (AreItems Fits)
+pub are_items : {A : Type 0} {read : List ℕ → Item A} {spell : A → List ℕ} {Fits : A → Type 0} → IsField A read spell Fits → IsField (List A) (take_counted read) (counted_items spell) (AreItems Fits)
 are_items field = record { takes = counted_takes field; again = counted_again field }
 
-some_needs : IsField (List Need) (counted_at need_at) (counted need) (AreItems IsNeed)
+some_needs : IsField (List Need) (take_counted take_need) (counted_items need_bytes) (AreItems IsNeed)
 some_needs = are_items a_need
 
-some_actions : IsField (List Action) (counted_at action_at) (counted action) (AreItems IsAction)
+some_actions : IsField (List Action) (take_counted take_action) (counted_items action) (AreItems IsAction)
 some_actions = are_items an_action
 
 -- ## The three parts of a configuration
@@ -115,12 +115,12 @@ abbrev pub front_text : Front → List ℕ
 front_text f = text f.name ++ text f.display ++ number f.kind ++ number f.start ++ number f.error ++ text f.path
 
 pub record IsFront (f : Front) : Type 0 where
-  pub name : IsText f.name
-  pub display : IsText f.display
-  pub kind : IsNumber f.kind
-  pub start : IsNumber f.start
-  pub error : IsNumber f.error
-  pub path : IsText f.path
+  pub name : FitsText f.name
+  pub display : FitsText f.display
+  pub kind : FitsNumber f.kind
+  pub start : FitsNumber f.start
+  pub error : FitsNumber f.error
+  pub path : FitsText f.path
 
 front_made : (bytes r1 r2 r3 r4 r5 r6 : List ℕ) (f : Front) → Takes bytes (text f.name) r1 → Takes r1 (text f.display) r2 → Takes r2 (number f.kind) r3
     → Takes r3 (number f.start) r4 → Takes r4 (number f.error) r5 → Takes r5 (text f.path) r6 → Takes bytes (front_text f) r6
@@ -131,8 +131,8 @@ front_made bytes r1 r2 r3 r4 r5 r6 f t1 t2 t3 t4 t5 t6 =
     let p5 = Takes-then bytes (text f.name ++ text f.display ++ number f.kind ++ number f.start) r4 (number f.error) r5 p4 t5 in
     Takes-then bytes (text f.name ++ text f.display ++ number f.kind ++ number f.start ++ number f.error) r5 (text f.path) r6 p5 t6
 
-front_takes : (bytes : List ℕ) (x : Front × List ℕ) → IsBytes bytes → front_at bytes ≡ Ok x → Takes bytes (front_text x.0) x.1 × IsFront x.0
-unfolding front_at
+front_takes : (bytes : List ℕ) (x : Front × List ℕ) → IsBytes bytes → take_front bytes ≡ Ok x → Takes bytes (front_text x.0) x.1 × IsFront x.0
+unfolding take_front
 front_takes bytes x fits e =
     step a_text _ bytes x fits e (λ name r1 t1 f1 e1.
     step a_text _ r1 x t1.rest_fits e1 (λ display r2 t2 f2 e2.
@@ -144,8 +144,8 @@ front_takes bytes x fits e =
     subst (λ (y : Front × List ℕ). Takes bytes (front_text y.0) y.1 × IsFront y.0) (ok_is (f, r6) x e6)
     (front_made bytes r1 r2 r3 r4 r5 r6 f t1 t2 t3 t4 t5 t6, record { name = f1; display = f2; kind = f3; start = f4; error = f5; path = f6 })))))))
 
-front_again : (f : Front) (rest : List ℕ) → IsFront f → front_at (front_text f ++ rest) ≡ Ok (f, rest)
-unfolding front_at
+front_again : (f : Front) (rest : List ℕ) → IsFront f → take_front (front_text f ++ rest) ≡ Ok (f, rest)
+unfolding take_front
 front_again f rest fits =
     let last = text f.path ++ rest in
     let numbers = number f.kind ++ (number f.start ++ (number f.error ++ last)) in
@@ -156,7 +156,7 @@ front_again f rest fits =
     ∙ append_assoc (text f.name ++ text f.display ++ number f.kind) (number f.start) (number f.error ++ last)
     ∙ append_assoc (text f.name ++ text f.display) (number f.kind) (number f.start ++ (number f.error ++ last))
     ∙ append_assoc (text f.name) (text f.display) numbers in
-    ap front_at regrouped ∙ rw (
+    ap take_front regrouped ∙ rw (
       a_text.again f.name r1 fits.name,
       a_text.again f.display numbers fits.display,
       a_number.again f.kind (number f.start ++ (number f.error ++ last)) fits.kind,
@@ -165,27 +165,27 @@ front_again f rest fits =
       a_text.again f.path rest fits.path,
     ) refl
 
-pub a_front : IsField Front front_at front_text IsFront
+pub a_front : IsField Front take_front front_text IsFront
 a_front = record { takes = front_takes; again = front_again }
 
 abbrev pub middle_text : Middle → List ℕ
-middle_text m = text m.group ++ number m.tag ++ counted need m.needs ++ text m.description
+middle_text m = text m.group ++ number m.tag ++ counted_items need_bytes m.needs ++ text m.description
 
 pub record IsMiddle (m : Middle) : Type 0 where
-  pub group : IsText m.group
-  pub tag : IsNumber m.tag
+  pub group : FitsText m.group
+  pub tag : FitsNumber m.tag
   pub needs : AreItems IsNeed m.needs
-  pub description : IsText m.description
+  pub description : FitsText m.description
 
-middle_made : (bytes r1 r2 r3 r4 : List ℕ) (m : Middle) → Takes bytes (text m.group) r1 → Takes r1 (number m.tag) r2 → Takes r2 (counted need m.needs) r3
+middle_made : (bytes r1 r2 r3 r4 : List ℕ) (m : Middle) → Takes bytes (text m.group) r1 → Takes r1 (number m.tag) r2 → Takes r2 (counted_items need_bytes m.needs) r3
     → Takes r3 (text m.description) r4 → Takes bytes (middle_text m) r4
 middle_made bytes r1 r2 r3 r4 m t1 t2 t3 t4 =
     let p2 = Takes-then bytes (text m.group) r1 (number m.tag) r2 t1 t2 in
-    let p3 = Takes-then bytes (text m.group ++ number m.tag) r2 (counted need m.needs) r3 p2 t3 in
-    Takes-then bytes (text m.group ++ number m.tag ++ counted need m.needs) r3 (text m.description) r4 p3 t4
+    let p3 = Takes-then bytes (text m.group ++ number m.tag) r2 (counted_items need_bytes m.needs) r3 p2 t3 in
+    Takes-then bytes (text m.group ++ number m.tag ++ counted_items need_bytes m.needs) r3 (text m.description) r4 p3 t4
 
-middle_takes : (bytes : List ℕ) (x : Middle × List ℕ) → IsBytes bytes → middle_at bytes ≡ Ok x → Takes bytes (middle_text x.0) x.1 × IsMiddle x.0
-unfolding middle_at
+middle_takes : (bytes : List ℕ) (x : Middle × List ℕ) → IsBytes bytes → take_middle bytes ≡ Ok x → Takes bytes (middle_text x.0) x.1 × IsMiddle x.0
+unfolding take_middle
 middle_takes bytes x fits e =
     step a_text _ bytes x fits e (λ group r1 t1 f1 e1.
     step a_number _ r1 x t1.rest_fits e1 (λ tag r2 t2 f2 e2.
@@ -195,42 +195,42 @@ middle_takes bytes x fits e =
     subst (λ (y : Middle × List ℕ). Takes bytes (middle_text y.0) y.1 × IsMiddle y.0) (ok_is (m, r4) x e4)
     (middle_made bytes r1 r2 r3 r4 m t1 t2 t3 t4, record { group = f1; tag = f2; needs = f3; description = f4 })))))
 
-middle_again : (m : Middle) (rest : List ℕ) → IsMiddle m → middle_at (middle_text m ++ rest) ≡ Ok (m, rest)
-unfolding middle_at
+middle_again : (m : Middle) (rest : List ℕ) → IsMiddle m → take_middle (middle_text m ++ rest) ≡ Ok (m, rest)
+unfolding take_middle
 middle_again m rest fits =
     let last = text m.description ++ rest in
-    let r2 = counted need m.needs ++ last in
+    let r2 = counted_items need_bytes m.needs ++ last in
     let regrouped : middle_text m ++ rest ≡ text m.group ++ (number m.tag ++ r2) =
-    append_assoc (text m.group ++ number m.tag ++ counted need m.needs) (text m.description) rest
-    ∙ append_assoc (text m.group ++ number m.tag) (counted need m.needs) last
+    append_assoc (text m.group ++ number m.tag ++ counted_items need_bytes m.needs) (text m.description) rest
+    ∙ append_assoc (text m.group ++ number m.tag) (counted_items need_bytes m.needs) last
     ∙ append_assoc (text m.group) (number m.tag) r2 in
-    ap middle_at regrouped ∙ rw (
+    ap take_middle regrouped ∙ rw (
       a_text.again m.group (number m.tag ++ r2) fits.group,
       a_number.again m.tag r2 fits.tag,
       some_needs.again m.needs last fits.needs,
       a_text.again m.description rest fits.description,
     ) refl
 
-a_middle : IsField Middle middle_at middle_text IsMiddle
+a_middle : IsField Middle take_middle middle_text IsMiddle
 a_middle = record { takes = middle_takes; again = middle_again }
 
 abbrev pub back_text : Back → List ℕ
-back_text b = number b.reset ++ counted action b.actions ++ text b.command ++ flag b.on_exit
+back_text b = number b.reset ++ counted_items action b.actions ++ text b.command ++ flag b.on_exit
 
 pub record IsBack (b : Back) : Type 0 where
-  pub reset : IsNumber b.reset
+  pub reset : FitsNumber b.reset
   pub actions : AreItems IsAction b.actions
-  pub command : IsText b.command
+  pub command : FitsText b.command
 
-back_made : (bytes r1 r2 r3 r4 : List ℕ) (b : Back) → Takes bytes (number b.reset) r1 → Takes r1 (counted action b.actions) r2 → Takes r2 (text b.command) r3
+back_made : (bytes r1 r2 r3 r4 : List ℕ) (b : Back) → Takes bytes (number b.reset) r1 → Takes r1 (counted_items action b.actions) r2 → Takes r2 (text b.command) r3
     → Takes r3 (flag b.on_exit) r4 → Takes bytes (back_text b) r4
 back_made bytes r1 r2 r3 r4 b t1 t2 t3 t4 =
-    let p2 = Takes-then bytes (number b.reset) r1 (counted action b.actions) r2 t1 t2 in
-    let p3 = Takes-then bytes (number b.reset ++ counted action b.actions) r2 (text b.command) r3 p2 t3 in
-    Takes-then bytes (number b.reset ++ counted action b.actions ++ text b.command) r3 (flag b.on_exit) r4 p3 t4
+    let p2 = Takes-then bytes (number b.reset) r1 (counted_items action b.actions) r2 t1 t2 in
+    let p3 = Takes-then bytes (number b.reset ++ counted_items action b.actions) r2 (text b.command) r3 p2 t3 in
+    Takes-then bytes (number b.reset ++ counted_items action b.actions ++ text b.command) r3 (flag b.on_exit) r4 p3 t4
 
-back_takes : (bytes : List ℕ) (x : Back × List ℕ) → IsBytes bytes → back_at bytes ≡ Ok x → Takes bytes (back_text x.0) x.1 × IsBack x.0
-unfolding back_at
+back_takes : (bytes : List ℕ) (x : Back × List ℕ) → IsBytes bytes → take_back bytes ≡ Ok x → Takes bytes (back_text x.0) x.1 × IsBack x.0
+unfolding take_back
 back_takes bytes x fits e =
     step a_number _ bytes x fits e (λ reset r1 t1 f1 e1.
     step some_actions _ r1 x t1.rest_fits e1 (λ actions r2 t2 f2 e2.
@@ -240,23 +240,23 @@ back_takes bytes x fits e =
     subst (λ (y : Back × List ℕ). Takes bytes (back_text y.0) y.1 × IsBack y.0) (ok_is (b, r4) x e4)
     (back_made bytes r1 r2 r3 r4 b t1 t2 t3 t4, record { reset = f1; actions = f2; command = f3 })))))
 
-back_again : (b : Back) (rest : List ℕ) → IsBack b → back_at (back_text b ++ rest) ≡ Ok (b, rest)
-unfolding back_at
+back_again : (b : Back) (rest : List ℕ) → IsBack b → take_back (back_text b ++ rest) ≡ Ok (b, rest)
+unfolding take_back
 back_again b rest fits =
     let last = flag b.on_exit ++ rest in
     let r2 = text b.command ++ last in
-    let regrouped : back_text b ++ rest ≡ number b.reset ++ (counted action b.actions ++ r2) =
-    append_assoc (number b.reset ++ counted action b.actions ++ text b.command) (flag b.on_exit) rest
-    ∙ append_assoc (number b.reset ++ counted action b.actions) (text b.command) last
-    ∙ append_assoc (number b.reset) (counted action b.actions) r2 in
-    ap back_at regrouped ∙ rw (
-      a_number.again b.reset (counted action b.actions ++ r2) fits.reset,
+    let regrouped : back_text b ++ rest ≡ number b.reset ++ (counted_items action b.actions ++ r2) =
+    append_assoc (number b.reset ++ counted_items action b.actions ++ text b.command) (flag b.on_exit) rest
+    ∙ append_assoc (number b.reset ++ counted_items action b.actions) (text b.command) last
+    ∙ append_assoc (number b.reset) (counted_items action b.actions) r2 in
+    ap take_back regrouped ∙ rw (
+      a_number.again b.reset (counted_items action b.actions ++ r2) fits.reset,
       some_actions.again b.actions r2 fits.actions,
       a_text.again b.command last fits.command,
       a_flag.again b.on_exit rest tt,
     ) refl
 
-a_back : IsField Back back_at back_text IsBack
+a_back : IsField Back take_back back_text IsBack
 a_back = record { takes = back_takes; again = back_again }
 
 -- ## A configuration
@@ -286,8 +286,8 @@ middle_fits c h = record { group = h.1.group; tag = h.1.tag; needs = h.1.needs; 
 back_fits : (c : Config) → IsConfig c → IsBack (back_in c)
 back_fits c h = record { reset = h.2.reset; actions = h.2.actions; command = h.2.command }
 
-config_takes : (bytes : List ℕ) (x : Config × List ℕ) → IsBytes bytes → config_at bytes ≡ Ok x → Takes bytes (spelling x.0) x.1 × IsConfig x.0
-unfolding config_at
+config_takes : (bytes : List ℕ) (x : Config × List ℕ) → IsBytes bytes → take_config bytes ≡ Ok x → Takes bytes (spelling x.0) x.1 × IsConfig x.0
+unfolding take_config
 config_takes bytes x fits e =
     step a_front _ bytes x fits e (λ f r1 t1 f1 e1.
     step a_middle _ r1 x t1.rest_fits e1 (λ m r2 t2 f2 e2.
@@ -296,13 +296,13 @@ config_takes bytes x fits e =
     let p3 = Takes-then bytes (front_text f ++ middle_text m) r2 (back_text b) r3 p2 t3 in
     subst (λ (y : Config × List ℕ). Takes bytes (spelling y.0) y.1 × IsConfig y.0) (ok_is (config_of f m b, r3) x e3) (p3, fits_of f m b f1 f2 f3))))
 
-config_again : (c : Config) (rest : List ℕ) → IsConfig c → config_at (spelling c ++ rest) ≡ Ok (held c, rest)
-unfolding config_at
+config_again : (c : Config) (rest : List ℕ) → IsConfig c → take_config (spelling c ++ rest) ≡ Ok (held c, rest)
+unfolding take_config
 config_again c rest fits =
     let last = back c ++ rest in
     let r1 = middle c ++ last in
     let regrouped : spelling c ++ rest ≡ front c ++ r1 = append_assoc (front c ++ middle c) (back c) rest ∙ append_assoc (front c) (middle c) last in
-    ap config_at regrouped ∙ rw (
+    ap take_config regrouped ∙ rw (
       a_front.again (front_in c) r1 (front_fits c fits),
       a_middle.again (middle_in c) last (middle_fits c fits),
       a_back.again (back_in c) rest (back_fits c fits),
@@ -315,7 +315,7 @@ guard_ended false d x y e = absurd cc
 whole_takes : (bytes : List ℕ) (c : Config) → IsBytes bytes → whole_of bytes ≡ Ok c → IsConfig c × (bytes ≡ spelling c)
 unfolding whole_of
 whole_takes bytes c fits e =
-    let a = bind_ok (config_at bytes) (λ x. cond (length x.1 == 0) (Ok x.0) (Err (length x.1))) c e in
+    let a = bind_ok (take_config bytes) (λ x. cond (length x.1 == 0) (Ok x.0) (Err (length x.1))) c e in
     let g = guard_ended (length a.0.1 == 0) (length a.0.1) a.0.0 c a.2 in
     let t = config_takes bytes a.0 fits a.1 in
     let nothing : a.0.1 ≡ [] = nil_from_length a.0.1 (eqb-true _ _ g.0) in
@@ -325,7 +325,7 @@ whole_takes bytes c fits e =
 pub record_again : (c : Config) → IsConfig c → record_of (spelling c) ≡ Ok (held c)
 unfolding whole_of
 record_again c fits =
-    let e : config_at (spelling c) ≡ Ok (held c, []) = ap config_at (sym (append-nil (spelling c))) ∙ config_again c [] fits in
+    let e : take_config (spelling c) ≡ Ok (held c, []) = ap take_config (sym (append-nil (spelling c))) ∙ config_again c [] fits in
     ap (λ (r : Item Config). placed (length (spelling c)) (r >>= λ x. cond (length x.1 == 0) (Ok x.0) (Err (length x.1)))) e
 
 placed_ok : {A : Type 0} (size : ℕ) (r : Result A ℕ) (x : A) → placed size r ≡ Ok x → r ≡ Ok x

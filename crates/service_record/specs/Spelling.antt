@@ -19,25 +19,25 @@ abbrev pub text : List ℕ → List ℕ
 text units = number (length units) ++ flat_map (to_le_bytes w16) units
 
 -- whether a group is needed, and the name
-abbrev pub need : Need → List ℕ
-need (needs.Service name) = flag false ++ text name
-need (needs.Group name) = flag true ++ text name
+abbrev pub need_bytes : Need → List ℕ
+need_bytes (needs.Service name) = flag false ++ text name
+need_bytes (needs.Group name) = flag true ++ text name
 
 abbrev pub action : Action → List ℕ
 action a = number a.what ++ number a.delay
 
 -- a count, and the items
-abbrev pub counted : {A : Type 0} → (A → List ℕ) → List A → List ℕ
-counted spell items = number (length items) ++ flat_map spell items
+abbrev pub counted_items : {A : Type 0} → (A → List ℕ) → List A → List ℕ
+counted_items spell items = number (length items) ++ flat_map spell items
 
 abbrev pub front : Config → List ℕ
 front config = text config.name ++ text config.display ++ number config.kind ++ number config.start ++ number config.error ++ text config.path
 
 abbrev pub middle : Config → List ℕ
-middle config = text config.group ++ number config.tag ++ counted need config.needs ++ text config.description
+middle config = text config.group ++ number config.tag ++ counted_items need_bytes config.needs ++ text config.description
 
 abbrev pub back : Config → List ℕ
-back config = number config.reset ++ counted action config.actions ++ text config.command ++ flag config.on_exit
+back config = number config.reset ++ counted_items action config.actions ++ text config.command ++ flag config.on_exit
 
 -- the bytes of a configuration; a delayed start and triggers aren't held
 abbrev pub spelling : Config → List ℕ
@@ -45,43 +45,43 @@ spelling config = front config ++ middle config ++ back config
 
 -- ## What has a spelling
 
-abbrev pub IsNumber : ℕ → Type 0
-IsNumber n = n < 2 ^ 32
+abbrev pub FitsNumber : ℕ → Type 0
+FitsNumber n = n < 2 ^ 32
 
 abbrev pub IsUnit : ℕ → Type 0
 IsUnit u = (0 < u) × (u < 2 ^ 16)
 
-abbrev pub IsText : List ℕ → Type 0
-IsText units = IsNumber (length units) × All IsUnit units
+abbrev pub FitsText : List ℕ → Type 0
+FitsText units = FitsNumber (length units) × All IsUnit units
 
 abbrev pub IsNeed : Need → Type 0
-IsNeed (needs.Service name) = IsText name
-IsNeed (needs.Group name) = IsText name
+IsNeed (needs.Service name) = FitsText name
+IsNeed (needs.Group name) = FitsText name
 
 abbrev pub IsAction : Action → Type 0
-IsAction a = IsNumber a.what × IsNumber a.delay
+IsAction a = FitsNumber a.what × FitsNumber a.delay
 
 abbrev pub AreItems : {A : Type 0} → (A → Type 0) → List A → Type 0
-AreItems Is items = IsNumber (length items) × All Is items
+AreItems Is items = FitsNumber (length items) × All Is items
 
 pub record FitsFront (config : Config) : Type 0 where
-  pub name : IsText config.name
-  pub display : IsText config.display
-  pub kind : IsNumber config.kind
-  pub start : IsNumber config.start
-  pub error : IsNumber config.error
-  pub path : IsText config.path
+  pub name : FitsText config.name
+  pub display : FitsText config.display
+  pub kind : FitsNumber config.kind
+  pub start : FitsNumber config.start
+  pub error : FitsNumber config.error
+  pub path : FitsText config.path
 
 pub record FitsMiddle (config : Config) : Type 0 where
-  pub group : IsText config.group
-  pub tag : IsNumber config.tag
+  pub group : FitsText config.group
+  pub tag : FitsNumber config.tag
   pub needs : AreItems IsNeed config.needs
-  pub description : IsText config.description
+  pub description : FitsText config.description
 
 pub record FitsBack (config : Config) : Type 0 where
-  pub reset : IsNumber config.reset
+  pub reset : FitsNumber config.reset
   pub actions : AreItems IsAction config.actions
-  pub command : IsText config.command
+  pub command : FitsText config.command
 
 -- each number and each text is one, as every value of the type is whose lists are shorter than 2 ^ 32
 abbrev pub IsConfig : Config → Type 0

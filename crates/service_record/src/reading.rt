@@ -1,11 +1,10 @@
-ghost use Rattle.std.specs.Prelude.{◌≡◌, ◌*◌, ◌+◌, ◌≤◌, ◌==◌, false, length, drop, IfOk, Ok};
-ghost use Rattle.std.specs.List.{list_any};
+ghost use Rattle.std.specs.Prelude.{◌≡◌, IfOk, Ok};
 ghost use Rattle.scm_model.specs.declared.flat.Config.{Config};
-ghost use Rattle.scm_text.specs.Fold.{HasNoZero};
-ghost use Rattle.service_record.specs.Reading.{Gives, Tells, action_at, back_at, config_of, counted_at, flag_at, front_at, half, items_at, middle_at, need_at, number_at, record_of, text_at, units_in, whole_of};
+ghost use Rattle.service_record.specs.Reading.{Gives, Tells, take_action, take_back, config_of, take_counted, take_flag, take_front, take_items, take_middle, take_need, take_number, record_of, take_text, whole_of};
 ghost use Rattle.service_record.specs.Spelling.{IsConfig, held, spelling};
 ghost use Rattle.service_record.specs.declared.reading.Stop.TheVariants as stops;
 
+use ndr_body::{has_zero, units_of};
 use scm_model::{Action, Config, Need};
 use scm_text::{Items, WText};
 use std::alloc::{AllocError, AllocFailed, Global};
@@ -46,7 +45,7 @@ impl<T: Drop> From<AllocFailed<T>> for Stop {
 }
 
 fn number_of(bytes: &[u8]) -> Result<(u32, &[u8]), Stop>
-    ensures { Gives (λ x. (x.0, x.1.now)) result (number_at bytes.now) }
+    ensures { Gives (λ x. (x.0, x.1.now)) result (take_number bytes.now) }
 {
     if bytes.len() < 4 {
         return Err(Stop::Left(bytes.len()));
@@ -56,9 +55,9 @@ fn number_of(bytes: &[u8]) -> Result<(u32, &[u8]), Stop>
     Ok((number, rest))
 }
 
-#[tactic(auto, unfolding(crate::specs::Reading::flag_at))]
+#[tactic(auto, unfolding(crate::specs::Reading::take_flag))]
 fn flag_of(bytes: &[u8]) -> Result<(bool, &[u8]), Stop>
-    ensures { Gives (λ x. (x.0, x.1.now)) result (flag_at bytes.now) }
+    ensures { Gives (λ x. (x.0, x.1.now)) result (take_flag bytes.now) }
 {
     match bytes {
         [0, rest @ ..] => Ok((false, rest)),
@@ -67,39 +66,9 @@ fn flag_of(bytes: &[u8]) -> Result<(bool, &[u8]), Stop>
     }
 }
 
-/// The number of two bytes.
-#[tactic(auto, unfolding(crate::specs::Reading::half))]
-fn half_of(bytes: &[u8], at: usize) -> u16
-    requires { at + 2 ≤ length bytes.now }
-    ensures { result ≡ half (drop at bytes.now) }
-{
-    u16::from_le_bytes([bytes[at], bytes[at + 1]])
-}
-
-/// Some units of two bytes.
-#[tactic(auto, using(crate::proofs::Units::units_more, crate::proofs::Units::no_units))]
-fn units_of(alloc: Global, bytes: &[u8], count: usize) -> Result<Vec<u16>, AllocError>
-    requires { 2 * count ≤ length bytes.now }
-    ensures { IfOk result (λ units. units.items ≡ units_in count bytes.now) }
-{
-    let mut units = Vec::with_capacity(alloc, count)?;
-    for i in 0..count {
-        units.push_reserved(half_of(bytes, 2 * i));
-    }
-    Ok(units)
-}
-
-/// Whether one of the units is 0.
-fn has_zero(units: &[u16]) -> bool
-    ensures value { result ≡ list_any (λ u. u == 0) units.now }
-    ensures none { result ≡ false → HasNoZero units.now }
-{
-    units.iter().any(|unit| *unit == 0)
-}
-
-#[tactic(auto, unfolding(crate::specs::Reading::text_at))]
+#[tactic(auto, unfolding(crate::specs::Reading::take_text))]
 fn text_of(alloc: Global, bytes: &[u8]) -> Result<(WText, &[u8]), Stop>
-    ensures { Gives (λ x. (x.0, x.1.now)) result (text_at bytes.now) }
+    ensures { Gives (λ x. (x.0, x.1.now)) result (take_text bytes.now) }
 {
     let (count, rest) = number_of(bytes)?;
     let count = count as usize;
@@ -114,9 +83,9 @@ fn text_of(alloc: Global, bytes: &[u8]) -> Result<(WText, &[u8]), Stop>
     Ok((WText::from_vec(units), rest))
 }
 
-#[tactic(auto, unfolding(crate::specs::Reading::need_at))]
+#[tactic(auto, unfolding(crate::specs::Reading::take_need))]
 fn need_of(alloc: Global, bytes: &[u8]) -> Result<(Need, &[u8]), Stop>
-    ensures { Gives (λ x. (x.0, x.1.now)) result (need_at bytes.now) }
+    ensures { Gives (λ x. (x.0, x.1.now)) result (take_need bytes.now) }
 {
     let (group, rest) = flag_of(bytes)?;
     let (name, rest) = text_of(alloc, rest)?;
@@ -127,9 +96,9 @@ fn need_of(alloc: Global, bytes: &[u8]) -> Result<(Need, &[u8]), Stop>
     }
 }
 
-#[tactic(auto, unfolding(crate::specs::Reading::action_at))]
+#[tactic(auto, unfolding(crate::specs::Reading::take_action))]
 fn action_of(bytes: &[u8]) -> Result<(Action, &[u8]), Stop>
-    ensures { Gives (λ x. (x.0, x.1.now)) result (action_at bytes.now) }
+    ensures { Gives (λ x. (x.0, x.1.now)) result (take_action bytes.now) }
 {
     let (what, rest) = number_of(bytes)?;
     let (delay, rest) = number_of(rest)?;
@@ -137,7 +106,7 @@ fn action_of(bytes: &[u8]) -> Result<(Action, &[u8]), Stop>
 }
 
 fn needs_of(alloc: Global, count: u32, bytes: &[u8]) -> Result<(Vec<Need>, &[u8]), Stop>
-    ensures { Gives (λ x. (x.0.items, x.1.now)) result (items_at need_at count bytes.now) }
+    ensures { Gives (λ x. (x.0.items, x.1.now)) result (take_items take_need count bytes.now) }
 {
     let mut needs = Vec::new(alloc);
     let mut rest = bytes;
@@ -150,7 +119,7 @@ fn needs_of(alloc: Global, count: u32, bytes: &[u8]) -> Result<(Vec<Need>, &[u8]
 }
 
 fn actions_of(alloc: Global, count: u32, bytes: &[u8]) -> Result<(Vec<Action>, &[u8]), Stop>
-    ensures { Gives (λ x. (x.0.items, x.1.now)) result (items_at action_at count bytes.now) }
+    ensures { Gives (λ x. (x.0.items, x.1.now)) result (take_items take_action count bytes.now) }
 {
     let mut actions = Vec::new(alloc);
     let mut rest = bytes;
@@ -162,18 +131,18 @@ fn actions_of(alloc: Global, count: u32, bytes: &[u8]) -> Result<(Vec<Action>, &
     Ok((actions, rest))
 }
 
-#[tactic(auto, unfolding(crate::specs::Reading::counted_at))]
+#[tactic(auto, unfolding(crate::specs::Reading::take_counted))]
 fn counted_needs(alloc: Global, bytes: &[u8]) -> Result<(Items<Need>, &[u8]), Stop>
-    ensures { Gives (λ x. (x.0, x.1.now)) result (counted_at need_at bytes.now) }
+    ensures { Gives (λ x. (x.0, x.1.now)) result (take_counted take_need bytes.now) }
 {
     let (count, rest) = number_of(bytes)?;
     let (needs, rest) = needs_of(alloc, count, rest)?;
     Ok((Items::from_vec(needs), rest))
 }
 
-#[tactic(auto, unfolding(crate::specs::Reading::counted_at))]
+#[tactic(auto, unfolding(crate::specs::Reading::take_counted))]
 fn counted_actions(alloc: Global, bytes: &[u8]) -> Result<(Items<Action>, &[u8]), Stop>
-    ensures { Gives (λ x. (x.0, x.1.now)) result (counted_at action_at bytes.now) }
+    ensures { Gives (λ x. (x.0, x.1.now)) result (take_counted take_action bytes.now) }
 {
     let (count, rest) = number_of(bytes)?;
     let (actions, rest) = actions_of(alloc, count, rest)?;
@@ -191,9 +160,9 @@ struct Front {
     path: WText,
 }
 
-#[tactic(auto, unfolding(crate::specs::Reading::front_at))]
+#[tactic(auto, unfolding(crate::specs::Reading::take_front))]
 fn front_of(alloc: Global, bytes: &[u8]) -> Result<(Front, &[u8]), Stop>
-    ensures { Gives (λ x. (x.0, x.1.now)) result (front_at bytes.now) }
+    ensures { Gives (λ x. (x.0, x.1.now)) result (take_front bytes.now) }
 {
     let (name, rest) = text_of(alloc, bytes)?;
     let (display, rest) = text_of(alloc, rest)?;
@@ -221,9 +190,9 @@ struct Middle {
     description: WText,
 }
 
-#[tactic(auto, unfolding(crate::specs::Reading::middle_at))]
+#[tactic(auto, unfolding(crate::specs::Reading::take_middle))]
 fn middle_of(alloc: Global, bytes: &[u8]) -> Result<(Middle, &[u8]), Stop>
-    ensures { Gives (λ x. (x.0, x.1.now)) result (middle_at bytes.now) }
+    ensures { Gives (λ x. (x.0, x.1.now)) result (take_middle bytes.now) }
 {
     let (group, rest) = text_of(alloc, bytes)?;
     let (tag, rest) = number_of(rest)?;
@@ -247,9 +216,9 @@ struct Back {
     on_exit: bool,
 }
 
-#[tactic(auto, unfolding(crate::specs::Reading::back_at))]
+#[tactic(auto, unfolding(crate::specs::Reading::take_back))]
 fn back_of(alloc: Global, bytes: &[u8]) -> Result<(Back, &[u8]), Stop>
-    ensures { Gives (λ x. (x.0, x.1.now)) result (back_at bytes.now) }
+    ensures { Gives (λ x. (x.0, x.1.now)) result (take_back bytes.now) }
 {
     let (reset, rest) = number_of(bytes)?;
     let (actions, rest) = counted_actions(alloc, rest)?;
@@ -287,7 +256,7 @@ fn config_from(alloc: Global, front: Front, middle: Middle, back: Back) -> Confi
     }
 }
 
-#[tactic(auto, unfolding(crate::specs::Reading::config_at, crate::specs::Reading::whole_of))]
+#[tactic(auto, unfolding(crate::specs::Reading::take_config, crate::specs::Reading::whole_of))]
 fn whole_of(alloc: Global, bytes: &[u8]) -> Result<Config, Stop>
     ensures { Gives (λ config. config) result (whole_of bytes.now) }
 {

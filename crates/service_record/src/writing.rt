@@ -2,7 +2,7 @@ ghost use Rattle.std.specs.Prelude.{◌≡◌, ◌++◌, ◌<◌, ◌^◌, All, 
 ghost use Rattle.std.specs.Int.{w16, to_le_bytes};
 ghost use Rattle.std.specs.List.{flat_map};
 ghost use Rattle.service_record.specs.Reading.{record_of};
-ghost use Rattle.service_record.specs.Spelling.{AreItems, IsAction, FitsBack, FitsFront, FitsMiddle, IsConfig, IsNeed, IsNumber, IsText, IsUnit, action, back, counted, flag, front, held, middle, need, number, spelling, text};
+ghost use Rattle.service_record.specs.Spelling.{AreItems, IsAction, FitsBack, FitsFront, FitsMiddle, IsConfig, IsNeed, FitsNumber, FitsText, IsUnit, action, back, counted_items, flag, front, held, middle, need_bytes, number, spelling, text};
 
 use scm_model::{Action, Config, Need};
 use scm_text::{Items, OutOfMemory, WText};
@@ -14,10 +14,10 @@ fn put_number(out: &mut Items<u8>, value: u32) -> Result<(), OutOfMemory>
     out.append(&value.to_le_bytes())
 }
 
-/// Appends a count. One that needs more than 32 bits is that of a list for which no memory would do.
-fn put_count(out: &mut Items<u8>, count: usize) -> Result<(), OutOfMemory>
+/// Appends a count in four bytes, the lowest first. One that needs more is that of a list for which no memory would do.
+pub fn put_count(out: &mut Items<u8>, count: usize) -> Result<(), OutOfMemory>
     ensures count { OnOk result (out.new ≡ out.old ++ number count) }
-    ensures small { OnOk result (IsNumber count) }
+    ensures small { OnOk result (FitsNumber count) }
 {
     if 0xFFFF_FFFF < count {
         return Err(OutOfMemory);
@@ -45,16 +45,17 @@ fn put_units(out: &mut Items<u8>, units: &[u16]) -> Result<(), OutOfMemory>
     Ok(())
 }
 
-fn put_text(out: &mut Items<u8>, value: &WText) -> Result<(), OutOfMemory>
+/// Appends a text: a count of units, and these, of two bytes each, the lower first.
+pub fn put_text(out: &mut Items<u8>, value: &WText) -> Result<(), OutOfMemory>
     ensures bytes { OnOk result (out.new ≡ out.old ++ text value.now) }
-    ensures fits { OnOk result (IsText value.now) }
+    ensures fits { OnOk result (FitsText value.now) }
 {
     put_count(out, value.units().len())?;
     put_units(out, value.units())
 }
 
 fn put_need(out: &mut Items<u8>, value: &Need) -> Result<(), OutOfMemory>
-    ensures bytes { OnOk result (out.new ≡ out.old ++ need value.now) }
+    ensures bytes { OnOk result (out.new ≡ out.old ++ need_bytes value.now) }
     ensures fits { OnOk result (IsNeed value.now) }
 {
     match value {
@@ -70,7 +71,7 @@ fn put_need(out: &mut Items<u8>, value: &Need) -> Result<(), OutOfMemory>
 }
 
 fn put_each_need(out: &mut Items<u8>, needs: &[Need]) -> Result<(), OutOfMemory>
-    ensures bytes { OnOk result (out.new ≡ out.old ++ flat_map need needs.now) }
+    ensures bytes { OnOk result (out.new ≡ out.old ++ flat_map need_bytes needs.now) }
     ensures fits { OnOk result (All IsNeed needs.now) }
 {
     for value in needs {
@@ -80,7 +81,7 @@ fn put_each_need(out: &mut Items<u8>, needs: &[Need]) -> Result<(), OutOfMemory>
 }
 
 fn put_needs(out: &mut Items<u8>, needs: &[Need]) -> Result<(), OutOfMemory>
-    ensures bytes { OnOk result (out.new ≡ out.old ++ counted need needs.now) }
+    ensures bytes { OnOk result (out.new ≡ out.old ++ counted_items need_bytes needs.now) }
     ensures fits { OnOk result (AreItems IsNeed needs.now) }
 {
     put_count(out, needs.len())?;
@@ -106,7 +107,7 @@ fn put_each_action(out: &mut Items<u8>, actions: &[Action]) -> Result<(), OutOfM
 }
 
 fn put_actions(out: &mut Items<u8>, actions: &[Action]) -> Result<(), OutOfMemory>
-    ensures bytes { OnOk result (out.new ≡ out.old ++ counted action actions.now) }
+    ensures bytes { OnOk result (out.new ≡ out.old ++ counted_items action actions.now) }
     ensures fits { OnOk result (AreItems IsAction actions.now) }
 {
     put_count(out, actions.len())?;

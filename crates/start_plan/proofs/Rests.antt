@@ -8,10 +8,10 @@ use Rattle.scm_model.specs.declared.flat.Limits.{Limits}
 use Rattle.scm_model.specs.declared.flat.Plan.{Plan}
 use Rattle.scm_model.specs.declared.flat.Due.{Due}
 use Rattle.scm_model.specs.declared.flat.Service.{Service}
-use Rattle.start_plan.specs.Entered.{started, started_if, with_entered}
+use Rattle.start_plan.specs.Entered.{starting_in, started_if, with_entered}
 use Rattle.start_plan.specs.Moves.{cause_of, entering_at, has, is_pending, move_by, move_of}
 use Rattle.scm_model.specs.Ready.{state_in, state_of}
-use Rattle.start_plan.specs.Settle.{moved, dropped, words_for, code_in, settle_entries, settle_plan, settle_all, settled, tidied, stays, is_due_still}
+use Rattle.start_plan.specs.Settle.{moved, dropped, words_for, move_code, settle_entries, settle_plan, settle_all, settled, tidied, stays, is_due_still}
 use Rattle.start_plan.specs.declared.field.Entering.{Entering}
 use Rattle.start_plan.specs.declared.field.Entering.TheVariants as entering
 use Rattle.start_plan.specs.declared.settling.Move.TheVariants as moves
@@ -43,7 +43,7 @@ entered_state : (n p : ℕ) (rows : List Service) → state_in (find (λ (row : 
 entered_state n p [] h = absurd (omega (arith, h))
 entered_state n p (row ∷ rows) h =
     rw (same_number n p row) (elim (row.number == n) as (λ b. state_in (cond b (Some row) (find (λ (row : Service). row.number == n) rows)) ≡ 1
-    → state_in (cond b (Some (cond (b && row.status.state == 1) (started p row) row)) (find (λ (row : Service). row.number == n) (map (started_if n p) rows))) ≡ 2) [
+    → state_in (cond b (Some (cond (b && row.status.state == 1) (starting_in p row) row)) (find (λ (row : Service). row.number == n) (map (started_if n p) rows))) ≡ 2) [
       | true ↦ λ h. rw (eq-eqb row.status.state 1 h) refl
       | false ↦ λ h. entered_state n p rows h
     ] h)
@@ -100,10 +100,10 @@ now_waits l f n words tried stopped = rw (entered_state n f.next.process f.servi
 entries_rest : (l : Limits) (f : Flat) (plan : Plan) (entries : List ℕ) → plan.entries ≡ entries → Rests l (settle_entries l f plan entries).0 (settle_entries l f plan entries).1
 entries_rest l f plan [] e = inr (rw e tt)
 entries_rest l f plan (s ∷ rest) e =
-    elim (is_some plan.code) as (λ b. is_some plan.code ≡ b → Rests l (cond b (f, plan) (moved f plan s (settle_entries l f (dropped plan s rest (code_in (move_of l f plan.tried s))) rest) (move_of l f plan.tried s))).0
-    (cond b (f, plan) (moved f plan s (settle_entries l f (dropped plan s rest (code_in (move_of l f plan.tried s))) rest) (move_of l f plan.tried s))).1) [
+    elim (is_some plan.code) as (λ b. is_some plan.code ≡ b → Rests l (cond b (f, plan) (moved f plan s (settle_entries l f (dropped plan s rest (move_code (move_of l f plan.tried s))) rest) (move_of l f plan.tried s))).0
+    (cond b (f, plan) (moved f plan s (settle_entries l f (dropped plan s rest (move_code (move_of l f plan.tried s))) rest) (move_of l f plan.tried s))).1) [
       | true ↦ λ decided. inl decided
-      | false ↦ λ undecided. elim (move_of l f plan.tried s) as (λ m. move_of l f plan.tried s ≡ m → Rests l (moved f plan s (settle_entries l f (dropped plan s rest (code_in m)) rest) m).0 (moved f plan s (settle_entries l f (dropped plan s rest (code_in m)) rest) m).1) [
+      | false ↦ λ undecided. elim (move_of l f plan.tried s) as (λ m. move_of l f plan.tried s ≡ m → Rests l (moved f plan s (settle_entries l f (dropped plan s rest (move_code m)) rest) m).0 (moved f plan s (settle_entries l f (dropped plan s rest (move_code m)) rest) m).1) [
         | moves.Passes ↦ λ h. entries_rest l f (dropped plan s rest 0) rest refl
         | moves.Waits ↦ λ h. inr (rw e h)
         | moves.Enters ↦ λ h. inr (rw e (now_waits l f s (words_for plan s) (plan.tried ++ s ∷ []) (was_stopped l f plan.tried s (is_entry l f plan.tried s h))))
@@ -126,7 +126,7 @@ entries_still : (l : Limits) (f : Flat) (plan : Plan) (entries : List ℕ) → (
 entries_still l f plan [] rests = refl
 entries_still l f plan (x ∷ xs) (inl decided) = rw decided refl
 entries_still l f plan (x ∷ xs) (inr waits) =
-    elim (is_some plan.code) as (λ b. cond b (f, plan) (moved f plan x (settle_entries l f (dropped plan x xs (code_in (move_of l f plan.tried x))) xs) (move_of l f plan.tried x)) ≡ (f, plan)) [
+    elim (is_some plan.code) as (λ b. cond b (f, plan) (moved f plan x (settle_entries l f (dropped plan x xs (move_code (move_of l f plan.tried x))) xs) (move_of l f plan.tried x)) ≡ (f, plan)) [
       | true ↦ refl
       | false ↦ rw waits refl
     ]

@@ -15,5 +15,5 @@ returns-then-code-ne0-clause-flat c =
 
 pub configure-requires : goal.configure-requires
 configure-requires c =
-    change_fits c.args.tables.now.flat c.args.caller c.args.change.now c.args.kept c.args.code c.code_once_kept-code.result c.in-Some.config c.requires.verdict c.code_once_kept-code.ensures
-    c.if-code-ne0.false (sym c.requires.made ∙ c.in-Some.is)
+    change_fits c.args.tables.now.flat c.args.caller c.args.change.now c.args.kept c.args.code c.code_once_kept-code.result c.in-Some-Some.config c.requires.verdict c.code_once_kept-code.ensures
+    c.if-code-ne0.false (sym c.requires.made ∙ c.in-Some-Some.is-1)

@@ -1,6 +1,6 @@
 use Rattle.std.proofs.Common.{◌≡◌, drop}
 use Rattle.std.specs.List.{list_any}
-use Rattle.scm_rules.specs.Start.{is_due}
+use Rattle.scm_rules.specs.Due.{is_due}
 use Rattle.scm_tables.proofs.due_rows.is_any_due.Given as goal
 
 -- the rows that are left decide

@@ -15,6 +15,7 @@ invariant_of-result c =
           (subst (λ (n : ℕ). AreRising (n + 1) c.in_ok-services.services.items) (sym count)
           (subst (AreRising (length c.args.configs + 1)) (sym is) (opened_rising c.args.configs)));
       paths = subst (All HasShortPath) (sym is) (opened_paths 1 c.args.configs c.requires.paths);
+      needs = λ t. rw c.as_slice.ensures.value at (c.is_acyclic-acyclic.ensures t);
       room = search rules;
       plans = search rules;
       untried = search rules;

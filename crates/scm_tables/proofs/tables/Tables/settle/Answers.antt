@@ -1,4 +1,4 @@
-use Rattle.std.proofs.Common.{◌∙◌, ap, sym, subst, filter, List}
+use Rattle.std.proofs.Common.{refl, ◌∙◌, ap, sym, subst, filter, List}
 use Rattle.std.specs.List.{AllByRecursion}
 use Rattle.scm_model.specs.declared.flat.Due.{Due}
 use Rattle.scm_model.specs.declared.flat.Flat.{Flat}
@@ -7,7 +7,7 @@ use Rattle.start_plan.specs.Planned.{Planned}
 use Rattle.start_plan.specs.Settle.{is_due_still, settled, with_plans}
 use Rattle.scm_tables.specs.Inside.{IsBelow, tabled}
 use Rattle.scm_tables.specs.Tabled.{Tabled}
-use Rattle.scm_tables.proofs.Keeping.{below_settled, next_settled, settles}
+use Rattle.scm_tables.proofs.Keeping.{other_plans, below_settled, next_settled, settles}
 use Rattle.scm_tables.proofs.tables.Tables.settle.Goals as goal
 
 pub returns-clause-flat : goal.returns-clause-flat
@@ -30,10 +30,4 @@ invariant_of-self-2 c =
     let was = ap (λ (p : Planned). p.plans) c.replace-plans.ensures.value in
     let next = ap (λ (t : Tabled). t.flat.next.plan) c.self-2.view_is ∙ ap (λ (g : Flat). g.next.plan) c.settle.ensures.flat ∙ next_settled l f c.replace-plans.result.plans in
     let below = below_settled l f c.self.inside.next.plan c.replace-plans.result.plans (subst (λ (ps : List Plan). AllByRecursion (IsBelow c.self.inside.next.plan) ps) (sym was) c.self.invariant.plans) in
-    record {
-      rising = kept.rising;
-      paths = kept.paths;
-      room = kept.room;
-      plans = subst (λ n. AllByRecursion (IsBelow n) c.settle.new.self.plans) (sym next) (subst (λ (ps : List Plan). AllByRecursion (IsBelow c.self.inside.next.plan) ps) (sym c.settle.ensures.plans) below);
-      untried = kept.untried;
-    }
+    other_plans kept refl refl refl refl refl refl (subst (λ n. AllByRecursion (IsBelow n) c.settle.new.self.plans) (sym next) (subst (λ (ps : List Plan). AllByRecursion (IsBelow c.self.inside.next.plan) ps) (sym c.settle.ensures.plans) below))

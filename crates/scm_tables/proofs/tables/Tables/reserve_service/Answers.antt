@@ -1,0 +1,25 @@
+use Rattle.scm_tables.proofs.tables.Tables.reserve_service.Goals as goal
+
+pub invariant_of-self : goal.invariant_of-self
+invariant_of-self c =
+    let kept = c.self.invariant in
+    record {
+      rising = rw c.reserve.ensures.items kept.rising;
+      paths = rw c.reserve.ensures.items kept.paths;
+      needs = λ t. rw c.reserve.ensures.items (kept.needs t);
+      room = kept.room;
+      plans = kept.plans;
+      untried = kept.untried;
+    }
+
+pub invariant_of-self-2 : goal.invariant_of-self-2
+invariant_of-self-2 c =
+    let kept = c.self.invariant in
+    record {
+      rising = rw c.reserve.ensures.items kept.rising;
+      paths = rw c.reserve.ensures.items kept.paths;
+      needs = λ t. rw c.reserve.ensures.items (kept.needs t);
+      room = kept.room;
+      plans = kept.plans;
+      untried = kept.untried;
+    }
