@@ -15,25 +15,28 @@ use Rattle.scm_model.specs.declared.steps.Answer.{Answer}
 use Rattle.scm_model.specs.declared.steps.Answer.TheVariants as answer
 use Rattle.scm_model.specs.declared.steps.Kept.{Kept}
 use Rattle.scm_model.specs.declared.steps.Step.{Step}
-use Rattle.scm_model.specs.declared.steps.Step.TheVariants.{Call, EndStart, Launched, LaunchFailed, Report, Ended, Tick, Gone}
+use Rattle.scm_model.specs.declared.steps.Step.TheVariants.{Call, EndStart, Launched, LaunchFailed, Report, Ended, Tick, Gone, LaunchTaken, ControlTaken}
 use Rattle.scm_model.specs.Changes.{with_moment}
-use Rattle.start_plan.specs.Decided.{aims_at, caller_of, code_of, decided_if, decided_in, is_callers, is_numbered, without_plan}
+use Rattle.start_plan.specs.Decided.{aims_at, plan_caller, code_of, decided_if, decided_in, is_callers, is_numbered, without_plan}
 use Rattle.start_plan.specs.Settle.{settle_all, settled, stays}
 use Rattle.start_plan.proofs.Keeps.{Keeps, all_filter, keeps_all}
-use Rattle.scm_rules.specs.Change.{asked_config}
 use Rattle.scm_rules.specs.Launches.{service_of_process}
-use Rattle.scm_rules.specs.Runs.{state_of}
+use Rattle.scm_rules.specs.Runs.{run_state}
 use Rattle.scm_model.specs.Entries.{Entry}
-use Rattle.scm_rules.specs.Start.{expired, fired, fired_by, is_caller_of, is_due, start_done, start_verdict}
+use Rattle.scm_rules.specs.Start.{is_caller_of, start_done, start_verdict}
 use Rattle.scm_model.specs.Refused.{answered}
-use Rattle.scm_rules.specs.Steps.{answer_of, answered_by, at_moment, effect_of, finished, left_by, may, step_of}
+use Rattle.scm_rules.specs.Steps.{call_answer, answered_by, at_moment, effect_of, finished, left_by, may, step_of}
 use Rattle.scm_rules.specs.Verdicts.{call_of, done_of, told_refused, verdict}
-use Rattle.scm_laws.proofs.Calls.{by_verdict}
-use Rattle.scm_laws.proofs.Plans.{all_more}
+use Rattle.scm_runs.proofs.Calls.{by_verdict}
+use Rattle.scm_runs.proofs.Plans.{all_more}
 use Rattle.scm_rules.specs.Named.{has_begun, is_it, names_caller, plan_made}
 use Rattle.scm_history.specs.Made.{AnswersItsOwn}
 use Rattle.std.proofs.lemmas.Bool.{and_parts}
-use Rattle.scm_laws.proofs.Going.{plans_configured}
+use Rattle.scm_model.proofs.Found.{found_keeps}
+use Rattle.scm_model.specs.Found.{if_found}
+use Rattle.scm_runs.proofs.Founds.{opened_keeps, started_keeps}
+use Rattle.scm_rules.proofs.Dues.{ticked_plans}
+use Rattle.scm_rules.specs.Due.{expired}
 
 -- a plan has another number or another caller
 abbrev IsOther : ℕ → ℕ → Plan → Type 0
@@ -51,15 +54,13 @@ coded number caller test code (plan ∷ plans) all = (all.0, coded number caller
 decided : (number caller : ℕ) (test : Plan → Bool) (code : ℕ) (plans : List Plan) → AreOther number caller plans → AreOther number caller (decided_in test code plans)
 decided number caller test code plans all = all_filter (IsOther number caller) stays (map (decided_if test code) plans) (coded number caller test code plans all)
 
+starts_decided : (number caller : ℕ) (target : Option ℕ) (code : ℕ) (plans : List Plan) → AreOther number caller plans → AreOther number caller (if_found (λ service. decided_in (aims_at service) code) target plans)
+starts_decided number caller target code plans all =
+    found_keeps (AreOther number caller) (λ service. decided_in (aims_at service) code) target plans all (λ one is. decided number caller (aims_at one) code plans all)
+
 has_expired : (number caller : ℕ) (plans : List Plan) (kind : DueKind) → AreOther number caller plans → AreOther number caller (expired plans kind)
 has_expired number caller plans (dues.Deadline plan) all = decided number caller (is_numbered plan) 1053 plans all
 has_expired number caller plans kind all = all
-
-ticked : (number caller moment : ℕ) (plans : List Plan) (rows : List Due) → AreOther number caller plans → AreOther number caller (fired moment plans rows)
-ticked number caller moment plans [] all = all
-ticked number caller moment plans (due ∷ rows) all =
-    ticked number caller moment (fired_by moment plans due) rows
-    (elim (is_due moment due) as (λ b. AreOther number caller (cond b (expired plans due.kind) plans)) [ true ↦ has_expired number caller plans due.kind all | false ↦ all ])
 
 stays_other : (l : Limits) (number caller : ℕ) → Keeps l (λ f. Unit {0}) (IsOther number caller)
 stays_other l number caller = record {
@@ -98,7 +99,7 @@ left_answered number caller next g (Some code) same told = subst (λ n. AreOther
 
 -- what a call comes to where another plan begins, none, or one whose start it answers
 called : (l : Limits) (number caller next by : ℕ) (begins : Bool) (told : Reply) (h : Flat) → (begins ≡ false → AreOther number caller h.plans) → ((next == number && by == caller) ≡ false → AreOther number caller h.plans)
-    → (caller == by && is_it number (plan_made (finished (settled l h) (answer_of begins next told)).answer)) ≡ false → AreOther number caller (finished (settled l h) (answer_of begins next told)).flat.plans
+    → (caller == by && is_it number (plan_made (finished (settled l h) (call_answer begins next told)).answer)) ≡ false → AreOther number caller (finished (settled l h) (call_answer begins next told)).flat.plans
 called l number caller next by false told h none other not_told = settles l h number caller (none refl)
 called l number caller next by true told h none other not_told =
     let g = settled l h in
@@ -126,10 +127,10 @@ of_call number caller l f moment by (request.Start handle words) append all not_
     called l number caller f.next.plan by (code == 0) (answered code told g done).reply (answered code told g done).flat
     (elim (code == 0) as (λ b. b ≡ false → AreOther number caller (cond b done (record { reply = told; flat = g })).flat.plans) [ true ↦ λ e. absurd cc | false ↦ λ e. all ])
     (elim (code == 0) as (λ b. (f.next.plan == number && by == caller) ≡ false → AreOther number caller (cond b done (record { reply = told; flat = g })).flat.plans)
-    [ true ↦ λ e. all_more (IsOther number caller) f.plans _ all e | false ↦ λ e. all ]) not_told
-of_call number caller l f moment by (request.Change change) append all not_told =
+    [ true ↦ λ e. started_keeps (λ (h : Flat). AreOther number caller h.plans) g by handle words all (λ row is. all_more (IsOther number caller) f.plans _ all e) | false ↦ λ e. all ]) not_told
+of_call number caller l f moment by (request.OpenService handle name access) append all not_told =
     let g = with_moment f moment in
-    change_done number caller l g by (request.Change change) append (plans_configured g _ (asked_config g by change)) all
+    change_done number caller l g by (request.OpenService handle name access) append (opened_keeps (λ (h : Flat). h.plans ≡ g.plans) g by name access refl (λ row is. refl)) all
 of_call number caller l f moment by asked append all not_told = change_done number caller l (with_moment f moment) by asked append refl all
 
 -- ## Steps
@@ -140,9 +141,15 @@ of_step number caller l f moment (Call by asked append) all not_told = of_call n
 of_step number caller l f moment (EndStart by plan) all not_told =
     settles l (effect_of l (with_moment f moment) (EndStart by plan)).flat number caller (all_filter (IsOther number caller) (λ (row : Plan). not (is_numbered plan row)) f.plans all)
 of_step number caller l f moment (Launched process pid) all not_told =
-    settles l (effect_of l (with_moment f moment) (Launched process pid)).flat number caller (decided number caller (aims_at (service_of_process f process)) 0 f.plans all)
+    settles l (effect_of l (with_moment f moment) (Launched process pid)).flat number caller (starts_decided number caller (service_of_process f process) 0 f.plans all)
 of_step number caller l f moment (LaunchFailed process code) all not_told =
-    settles l (effect_of l (with_moment f moment) (LaunchFailed process code)).flat number caller (decided number caller (aims_at (service_of_process f process)) code f.plans all)
+    settles l (effect_of l (with_moment f moment) (LaunchFailed process code)).flat number caller (starts_decided number caller (service_of_process f process) code f.plans all)
+of_step number caller l f moment LaunchTaken all not_told =
+    let done = effect_of l (with_moment f moment) LaunchTaken in
+    finishes number caller (settled l done.flat) done.answer (settles l done.flat number caller all)
+of_step number caller l f moment (ControlTaken process) all not_told =
+    let done = effect_of l (with_moment f moment) (ControlTaken process) in
+    finishes number caller (settled l done.flat) done.answer (settles l done.flat number caller all)
 of_step number caller l f moment (Report process status) all not_told =
     let done = effect_of l (with_moment f moment) (Report process status) in
     finishes number caller (settled l done.flat) done.answer (settles l done.flat number caller all)
@@ -150,7 +157,7 @@ of_step number caller l f moment (Ended process) all not_told =
     let done = effect_of l (with_moment f moment) (Ended process) in
     finishes number caller (settled l done.flat) done.answer (settles l done.flat number caller all)
 of_step number caller l f moment Tick all not_told =
-    settles l (effect_of l (with_moment f moment) Tick).flat number caller (ticked number caller (with_moment f moment).moment f.plans f.dues all)
+    settles l (effect_of l (with_moment f moment) Tick).flat number caller (ticked_plans (AreOther number caller) (has_expired number caller) (with_moment f moment) all)
 of_step number caller l f moment (Gone by) all not_told =
     settles l (effect_of l (with_moment f moment) (Gone by)).flat number caller (all_filter (IsOther number caller) (λ (row : Plan). not (is_callers by row)) f.plans all)
 of_step number caller l f moment step all not_told = settles l (effect_of l (at_moment f moment step) step).flat number caller all
@@ -158,14 +165,14 @@ of_step number caller l f moment step all not_told = settles l (effect_of l (at_
 -- ## Histories
 
 -- no plan is the caller's with this number
-not_callers : (number caller : ℕ) (plans : List Plan) → AreOther number caller plans → is_caller_of (caller_of plans number) caller ≡ false
+not_callers : (number caller : ℕ) (plans : List Plan) → AreOther number caller plans → is_caller_of (plan_caller plans number) caller ≡ false
 not_callers number caller [] all = refl
 not_callers number caller (plan ∷ plans) all =
     elim (plan.number == number) as (λ b. (b && plan.caller == caller) ≡ false → is_caller_of (option_map (λ (row : Plan). row.caller) (cond b (Some plan) (find (is_numbered number) plans))) caller ≡ false)
     [ true ↦ λ h. h | false ↦ λ h. not_callers number caller plans all.1 ] all.0
 
 -- a plan that is a caller's in the end, and wasn't in the beginning, was begun by it
-began : (l : Limits) (f : Flat) (number caller : ℕ) (es : List Entry) → AreOther number caller f.plans → is_caller_of (caller_of (state_of l f es).plans number) caller ≡ true → has_begun l f caller number es ≡ true
+began : (l : Limits) (f : Flat) (number caller : ℕ) (es : List Entry) → AreOther number caller f.plans → is_caller_of (plan_caller (run_state l f es).plans number) caller ≡ true → has_begun l f caller number es ≡ true
 began l f number caller [] all there = absurd (let none = not_callers number caller f.plans all in cc)
 began l f number caller (e ∷ es) all there =
     let after = (step_of l f e.0 e.1).flat in
@@ -175,9 +182,9 @@ began l f number caller (e ∷ es) all there =
       | false ↦ λ h. began l after number caller es (of_step number caller l f e.0 e.1 all h) there
     ] refl
 
-pub answers_own : (l : Limits) (f : Flat) (front : List Entry) (moment : ℕ) (step : Step) → f.plans ≡ [] → IsTrue (may l (state_of l f front) moment step) → AnswersItsOwn l f front step
+pub answers_own : (l : Limits) (f : Flat) (front : List Entry) (moment : ℕ) (step : Step) → f.plans ≡ [] → IsTrue (may l (run_state l f front) moment step) → AnswersItsOwn l f front step
 answers_own l f front moment (EndStart caller plan) none ok =
-    (let g = state_of l f front in
+    (let g = run_state l f front in
     let both = and_parts _ _ (and_parts _ _ ok).0 in
     began l f plan caller front (subst (AreOther plan caller) (sym none) tt) (and_parts _ _ both.1).0)
 answers_own l f front moment step none ok = tt

@@ -5,25 +5,26 @@ use Rattle.scm_model.specs.declared.flat.Caller.{Caller}
 use Rattle.scm_model.specs.declared.flat.Flat.{Flat}
 use Rattle.scm_model.specs.declared.flat.Limits.{Limits}
 use Rattle.scm_model.specs.declared.steps.Step.{Step}
-use Rattle.scm_model.specs.declared.steps.Step.TheVariants.{Joined, Call, Gone}
+use Rattle.scm_model.specs.declared.steps.Step.TheVariants.{Joined, Call, Gone, Tick}
 use Rattle.scm_model.specs.Rows.{is_caller}
 use Rattle.scm_model.specs.Changes.{with_moment}
-use Rattle.scm_rules.specs.Runs.{IsLegal, state_of}
+use Rattle.scm_rules.specs.Runs.{IsLegal, run_state}
 use Rattle.scm_model.specs.Entries.{Entry}
 use Rattle.scm_rules.specs.Steps.{at_moment, effect_of, may, step_of}
-use Rattle.scm_laws.proofs.Along.{Gives}
-use Rattle.scm_laws.proofs.Calls.{keeps}
-use Rattle.scm_laws.proofs.Handled.{found_still, has_caller, still_found}
-use Rattle.scm_laws.proofs.Sound.{Sound}
+use Rattle.scm_runs.proofs.Along.{Gives}
+use Rattle.scm_runs.proofs.Calls.{keeps}
+use Rattle.scm_runs.proofs.Handled.{found_still, has_caller, still_found}
+use Rattle.scm_runs.proofs.Sound.{Sound}
 use Rattle.scm_history.specs.Callers.{CallersStay, takes_leave, IsGoneForGood}
 use Rattle.scm_rules.specs.Named.{caller_made}
 use Rattle.scm_history.proofs.Effects.{of_call}
 use Rattle.scm_history.proofs.Finds.{find_push, found_below, none_filter}
 use Rattle.std.proofs.lemmas.Bool.{and_parts}
-use Rattle.scm_laws.proofs.Frames.{framed}
-use Rattle.scm_laws.proofs.Handles.{not_there}
-use Rattle.scm_laws.proofs.Lists.{find_new}
+use Rattle.scm_runs.proofs.Frames.{framed}
+use Rattle.scm_runs.proofs.Handles.{not_there}
+use Rattle.scm_runs.proofs.Lists.{find_new}
 use Rattle.scm_rules.specs.Histories.{state}
+use Rattle.scm_rules.proofs.Dues.{ticked_apart}
 
 abbrev has : ℕ → Caller → Bool
 has number row = row.number == number
@@ -38,6 +39,7 @@ others : (l : Limits) (f : Flat) (moment : ℕ) (step : Step) (number : ℕ) →
 others l f moment (Joined principal) number other there = ap is_some (still_found f.callers (record { number = f.next.caller; principal = principal }) number there) ∙ there
 others l f moment (Call caller asked append) number other there = ap (λ rows. has_caller rows number) (of_call l (with_moment f moment) caller asked append).callers ∙ there
 others l f moment (Gone caller) number other there = ap is_some (found_still f.callers caller number (ap not other)) ∙ there
+others l f moment Tick number other there = ticked_apart (λ (g : Flat). is_caller g number ≡ true) (λ g plans rows q. q) (with_moment f moment) there
 others l f moment step number other there = there
 
 left : (l : Limits) (f : Flat) (moment : ℕ) (step : Step) (number : ℕ) → takes_leave number step ≡ true → is_caller (effect_of l (at_moment f moment step) step).flat number ≡ false
@@ -50,10 +52,12 @@ away l f moment (Joined principal) number low none =
     ap is_some (find_push (has number) f.callers (record { number = f.next.caller; principal = principal }) (ne_eqb f.next.caller number (λ e. absurd (omega (arith, e, low))))) ∙ none
 away l f moment (Call caller asked append) number low none = ap (λ rows. has_caller rows number) (of_call l (with_moment f moment) caller asked append).callers ∙ none
 away l f moment (Gone caller) number low none = none_filter (has number) (λ (row : Caller). not (row.number == caller)) f.callers none
+away l f moment Tick number low none = ticked_apart (λ (g : Flat). is_caller g number ≡ false) (λ g plans rows q. q) (with_moment f moment) none
 away l f moment step number low none = none
 
 rises : (l : Limits) (f : Flat) (moment : ℕ) (step : Step) → f.next.caller ≤ (effect_of l (at_moment f moment step) step).flat.next.caller
 rises l f moment (Call caller asked append) = (let e = (of_call l (with_moment f moment) caller asked append).next_caller in omega (arith, e))
+rises l f moment Tick = ticked_apart (λ (g : Flat). f.next.caller ≤ g.next.caller) (λ g plans rows up. up) (with_moment f moment) (omega arith)
 rises l f moment step = omega arith
 
 -- ## Steps
@@ -89,7 +93,7 @@ gives l f e s ok = record {
 
 -- ## Histories
 
-out_for_good : (l : Limits) (f : Flat) (es : List Entry) (number : ℕ) → number < f.next.caller → is_caller f number ≡ false → is_caller (state_of l f es) number ≡ false
+out_for_good : (l : Limits) (f : Flat) (es : List Entry) (number : ℕ) → number < f.next.caller → is_caller f number ≡ false → is_caller (run_state l f es) number ≡ false
 out_for_good l f [] number low none = none
 out_for_good l f (e ∷ es) number low none =
     out_for_good l (step_of l f e.0 e.1).flat es number (let up = rising l f e.0 e.1 in omega (arith, up, low)) (stays_out l f e.0 e.1 number low none)
@@ -101,7 +105,7 @@ left_below l f moment (Gone caller) number s ok leaves =
 left_below l f moment step number s ok leaves = absurd cc
 
 gone_behind : (l : Limits) (f : Flat) (number : ℕ) (front : List Entry) (e : Entry) (rest : List Entry) → Sound f → IsLegal l f (front ++ e ∷ rest) → takes_leave number e.1 ≡ true
-    → is_caller (state_of l f (front ++ e ∷ rest)) number ≡ false
+    → is_caller (run_state l f (front ++ e ∷ rest)) number ≡ false
 gone_behind l f number [] e rest s legal leaves =
     out_for_good l (step_of l f e.0 e.1).flat rest number
     (let low = left_below l f e.0 e.1 number s legal.0 leaves in let up = rising l f e.0 e.1 in omega (arith, up, low)) (is_out l f e.0 e.1 number leaves)
@@ -109,9 +113,9 @@ gone_behind l f number (first ∷ front) e rest s legal leaves =
     gone_behind l (step_of l f first.0 first.1).flat number front e rest (keeps l f first s legal.0) legal.1 leaves
 
 in_the_end : (l : Limits) (f : Flat) (es : List Entry) → Sound f → IsLegal l f es → (number : ℕ) (front : List Entry) (e : Entry) (rest : List Entry) → es ≡ front ++ e ∷ rest → takes_leave number e.1 ≡ true
-    → is_caller (state_of l f es) number ≡ false
+    → is_caller (run_state l f es) number ≡ false
 in_the_end l f es s legal number front e rest split leaves =
-    subst (λ all. is_caller (state_of l f all) number ≡ false) (sym split) (gone_behind l f number front e rest s (subst (IsLegal l f) split legal) leaves)
+    subst (λ all. is_caller (run_state l f all) number ≡ false) (sym split) (gone_behind l f number front e rest s (subst (IsLegal l f) split legal) leaves)
 
 pub gone_for_good : (l : Limits) (f : Flat) (es : List Entry) → Sound f → IsLegal l f es → IsGoneForGood l f es
 unfolding state

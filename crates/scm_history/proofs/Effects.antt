@@ -7,14 +7,17 @@ use Rattle.scm_model.specs.declared.flat.Process.{Process}
 use Rattle.scm_model.specs.declared.calls.Request.{Request}
 use Rattle.scm_model.specs.declared.calls.Request.TheVariants as request
 use Rattle.scm_model.specs.declared.steps.Kept.{Kept}
-use Rattle.scm_rules.specs.Change.{asked_config, with_new_config}
 use Rattle.scm_rules.specs.Controls.{controlled_if}
 use Rattle.scm_rules.specs.Verdicts.{call_of, done_of, told_refused, verdict}
-use Rattle.scm_laws.proofs.Calls.{by_verdict}
-use Rattle.scm_laws.proofs.Lists.{map_same}
-use Rattle.scm_laws.proofs.Processes.{IsOfControls}
-use Rattle.scm_laws.proofs.Sound.{controls_more}
+use Rattle.scm_runs.proofs.Calls.{by_verdict}
+use Rattle.scm_runs.proofs.Lists.{map_same}
+use Rattle.scm_runs.proofs.Processes.{IsOfControls}
+use Rattle.scm_runs.proofs.Sound.{controls_more}
 use Rattle.scm_history.specs.Processes.{apart_from_controls}
+use Rattle.scm_model.proofs.Found.{found_keeps}
+use Rattle.scm_model.specs.Rows.{held_service}
+use Rattle.scm_runs.proofs.Founds.{opened_keeps, started_keeps}
+use Rattle.scm_model.specs.declared.flat.Service.{Service}
 
 -- a change of the controls alone leaves all else
 pub controls_apart : (change : Process → Process) → IsOfControls change → (rows : List Process) → map apart_from_controls (map change rows) ≡ map apart_from_controls rows
@@ -30,15 +33,15 @@ pub record Spares (f g : Flat) : Type 0 where
 spared : (f : Flat) → Spares f f
 spared f = record { callers = refl; processes = refl; next_caller = refl; next_process = refl }
 
-of_configured : (f : Flat) (number : ℕ) (config : Option Config) → Spares f (with_new_config f number config)
-of_configured f number None = spared f
-of_configured f number (Some config) = record { callers = refl; processes = refl; next_caller = refl; next_process = refl }
-
 of_done : (l : Limits) (f : Flat) (caller : ℕ) (asked : Request) → Spares f (done_of l f caller asked).flat
-of_done l f caller (request.Change change) = of_configured f _ (asked_config f caller change)
+of_done l f caller (request.OpenService handle name access) =
+    opened_keeps (Spares f) f caller name access (spared f) (λ row is. record { callers = refl; processes = refl; next_caller = refl; next_process = refl })
+of_done l f caller (request.Start handle words) =
+    started_keeps (Spares f) f caller handle words (spared f) (λ row is. record { callers = refl; processes = refl; next_caller = refl; next_process = refl })
 of_done l f caller (request.Control handle control) = record {
   callers = refl;
-  processes = controls_apart (controlled_if l.controls _ control) (controls_more l.controls _ control) f.processes;
+  processes = found_keeps (λ (rows : List Process). map apart_from_controls rows ≡ map apart_from_controls f.processes) (λ (row : Service). map (controlled_if l.controls row.process control))
+      (held_service f caller handle) f.processes refl (λ row is. controls_apart (controlled_if l.controls row.process control) (controls_more l.controls row.process control) f.processes);
   next_caller = refl;
   next_process = refl;
 }

@@ -14,8 +14,8 @@ use Rattle.scm_rules.specs.Runs.{IsLegal}
 use Rattle.scm_model.specs.Entries.{Entry}
 use Rattle.scm_rules.specs.Start.{is_caller_of}
 use Rattle.scm_rules.specs.Steps.{effect_of, may, step_of}
-use Rattle.scm_laws.proofs.Calls.{keeps}
-use Rattle.scm_laws.proofs.Sound.{Sound}
+use Rattle.scm_runs.proofs.Calls.{keeps}
+use Rattle.scm_runs.proofs.Sound.{Sound}
 use Rattle.scm_history.specs.Plans.{ends_plan}
 use Rattle.scm_history.proofs.Numbers.{IsNone, none_last, plan_rises, stays_none}
 use Rattle.scm_history.proofs.Plans.{plan_below}

@@ -16,21 +16,24 @@ use Rattle.scm_model.specs.declared.steps.Answer.{Answer}
 use Rattle.scm_model.specs.declared.steps.Answer.TheVariants as answer
 use Rattle.scm_model.specs.declared.steps.Kept.{Kept}
 use Rattle.scm_model.specs.declared.steps.Step.{Step}
-use Rattle.scm_model.specs.declared.steps.Step.TheVariants.{Call, EndStart, Launched, LaunchFailed, Report, Ended, Tick, Gone}
+use Rattle.scm_model.specs.declared.steps.Step.TheVariants.{Call, EndStart, Launched, LaunchFailed, Report, Ended, Tick, Gone, LaunchTaken, ControlTaken}
 use Rattle.scm_model.specs.Changes.{with_moment}
 use Rattle.start_plan.specs.Decided.{aims_at, code_of, decided_if, decided_in, is_numbered, without_plan, without_plans_of}
 use Rattle.start_plan.specs.Settle.{settle_all, settle_plan, settled, stays}
 use Rattle.start_plan.proofs.Keeps.{Keeps, keeps_all}
-use Rattle.scm_rules.specs.Change.{asked_config}
-use Rattle.scm_rules.specs.Launches.{service_of_process}
+use Rattle.scm_rules.specs.Launches.{service_of_process, first_wanted, launch_told}
 use Rattle.scm_rules.specs.Reports.{current_of, report_answer, report_told}
 use Rattle.scm_rules.specs.Ends.{end_told}
-use Rattle.scm_rules.specs.Start.{expired, fired, fired_by, is_due}
-use Rattle.scm_rules.specs.Steps.{answer_of, at_moment, effect_of, finished, left_by, step_of, tells_plan}
+use Rattle.scm_rules.specs.Steps.{call_answer, at_moment, effect_of, finished, left_by, step_of, tells_plan}
 use Rattle.scm_rules.specs.Verdicts.{call_of, done_of, told_refused, verdict}
-use Rattle.scm_laws.proofs.Calls.{by_verdict}
+use Rattle.scm_runs.proofs.Calls.{by_verdict}
 use Rattle.scm_rules.specs.Named.{plan_made}
-use Rattle.scm_laws.proofs.Going.{plans_configured}
+use Rattle.scm_model.proofs.Found.{found_keeps}
+use Rattle.scm_model.specs.Found.{if_found}
+use Rattle.scm_runs.proofs.Founds.{opened_keeps, started_keeps}
+use Rattle.scm_rules.specs.Controls.{control_sent, controls_of, first_control}
+use Rattle.scm_rules.proofs.Dues.{ticked_plans}
+use Rattle.scm_rules.specs.Due.{expired}
 
 -- a fact of plans that lasts where none with this number begins, and only plans of Over end and only callers of Left leave
 pub record Lasts (number : ℕ) (Over Left : ℕ → Type 0) (P : List Plan → Type 0) : Type 0 where
@@ -56,15 +59,14 @@ expires : (number : ℕ) (Over Left : ℕ → Type 0) (P : List Plan → Type 0)
 expires number Over Left P lasts plans (dues.Deadline plan) p = decides number Over Left P lasts (is_numbered plan) 1053 plans p
 expires number Over Left P lasts plans kind p = p
 
-ticks : (number : ℕ) (Over Left : ℕ → Type 0) (P : List Plan → Type 0) → Lasts number Over Left P → (moment : ℕ) (plans : List Plan) (rows : List Due) → P plans → P (fired moment plans rows)
-ticks number Over Left P lasts moment plans [] p = p
-ticks number Over Left P lasts moment plans (due ∷ rows) p =
-    ticks number Over Left P lasts moment (fired_by moment plans due) rows
-    (elim (is_due moment due) as (λ b. P (cond b (expired plans due.kind) plans)) [ true ↦ expires number Over Left P lasts plans due.kind p | false ↦ p ])
+starts_decided : (number : ℕ) (Over Left : ℕ → Type 0) (P : List Plan → Type 0) → Lasts number Over Left P → (target : Option ℕ) (code : ℕ) (plans : List Plan) → P plans
+    → P (if_found (λ service. decided_in (aims_at service) code) target plans)
+starts_decided number Over Left P lasts target code plans p =
+    found_keeps P (λ service. decided_in (aims_at service) code) target plans p (λ one is. decides number Over Left P lasts (aims_at one) code plans p)
 
 of_done : (number : ℕ) (Over Left : ℕ → Type 0) (P : List Plan → Type 0) → Lasts number Over Left P → (l : Limits) (f : Flat) (caller : ℕ) (asked : Request) → (f.next.plan == number) ≡ false → P f.plans → P (done_of l f caller asked).flat.plans
-of_done number Over Left P lasts l f caller (request.Change change) other p = subst P (sym (plans_configured f _ (asked_config f caller change))) p
-of_done number Over Left P lasts l f caller (request.Start handle words) other p = lasts.begins f.plans _ other p
+of_done number Over Left P lasts l f caller (request.OpenService handle name access) other p = opened_keeps (λ (g : Flat). P g.plans) f caller name access p (λ row is. p)
+of_done number Over Left P lasts l f caller (request.Start handle words) other p = started_keeps (λ (g : Flat). P g.plans) f caller handle words p (λ row is. lasts.begins f.plans _ other p)
 of_done number Over Left P lasts l f caller asked other p = p
 
 of_call : (number : ℕ) (Over Left : ℕ → Type 0) (P : List Plan → Type 0) → Lasts number Over Left P → (l : Limits) (f : Flat) (caller : ℕ) (asked : Request) (append : Kept) → (f.next.plan == number) ≡ false → P f.plans
@@ -77,15 +79,15 @@ of_effect : (number : ℕ) (Over Left : ℕ → Type 0) (P : List Plan → Type 
     → P (effect_of l (at_moment f moment step) step).flat.plans
 of_effect number Over Left P lasts l f moment (Call caller asked append) other allowed p = of_call number Over Left P lasts l (with_moment f moment) caller asked append other p
 of_effect number Over Left P lasts l f moment (EndStart caller plan) other allowed p = lasts.ends plan f.plans allowed p
-of_effect number Over Left P lasts l f moment (Launched process pid) other allowed p = decides number Over Left P lasts (aims_at (service_of_process f process)) 0 f.plans p
-of_effect number Over Left P lasts l f moment (LaunchFailed process code) other allowed p = decides number Over Left P lasts (aims_at (service_of_process f process)) code f.plans p
-of_effect number Over Left P lasts l f moment Tick other allowed p = ticks number Over Left P lasts (with_moment f moment).moment f.plans f.dues p
+of_effect number Over Left P lasts l f moment (Launched process pid) other allowed p = starts_decided number Over Left P lasts (service_of_process f process) 0 f.plans p
+of_effect number Over Left P lasts l f moment (LaunchFailed process code) other allowed p = starts_decided number Over Left P lasts (service_of_process f process) code f.plans p
+of_effect number Over Left P lasts l f moment Tick other allowed p = ticked_plans P (expires number Over Left P lasts) (with_moment f moment) p
 of_effect number Over Left P lasts l f moment (Gone caller) other allowed p = lasts.leaves caller f.plans allowed p
 of_effect number Over Left P lasts l f moment step other allowed p = p
 
 -- ## Starts that end in their call
 
-answers_next : (b : Bool) (plan : ℕ) (told : Reply) → IfSome (plan_made (answer_of b plan told)) (λ number. number ≡ plan)
+answers_next : (b : Bool) (plan : ℕ) (told : Reply) → IfSome (plan_made (call_answer b plan told)) (λ number. number ≡ plan)
 answers_next true plan told = refl
 answers_next false plan told = tt
 
@@ -105,6 +107,14 @@ pub end_none : (P : ℕ → Type 0) (found : Option Service) → IfSome (plan_ma
 end_none P None = tt
 end_none P (Some row) = tt
 
+pub launch_none : (P : ℕ → Type 0) (found : Option ℕ) → IfSome (plan_made (launch_told found)) P
+launch_none P None = tt
+launch_none P (Some process) = tt
+
+pub control_none : (P : ℕ → Type 0) (found : Option ℕ) → IfSome (plan_made (control_sent found)) P
+control_none P None = tt
+control_none P (Some code) = tt
+
 -- a plan that begins has the next number
 pub begins_next : (l : Limits) (f : Flat) (moment : ℕ) (step : Step) → IfSome (plan_made (effect_of l (at_moment f moment step) step).answer) (λ number. number ≡ f.next.plan)
 begins_next l f moment (Call caller asked append) =
@@ -112,6 +122,8 @@ begins_next l f moment (Call caller asked append) =
     answers_next (tells_plan asked (verdict l g caller asked append)) f.next.plan (call_of l g caller asked append).reply
 begins_next l f moment (Report process status) = report_none (λ number. number ≡ f.next.plan) (current_of f process) status
 begins_next l f moment (Ended process) = end_none (λ number. number ≡ f.next.plan) (current_of f process)
+begins_next l f moment LaunchTaken = launch_none (λ number. number ≡ f.next.plan) (first_wanted f.wanted)
+begins_next l f moment (ControlTaken process) = control_none (λ number. number ≡ f.next.plan) (first_control (controls_of f process))
 begins_next l f moment step = tt
 
 left : (number : ℕ) (Over Left : ℕ → Type 0) (P : List Plan → Type 0) → Lasts number Over Left P → (g : Flat) (plan : ℕ) (code : Option ℕ) → Over plan → P g.plans → P (left_by g plan code).plans

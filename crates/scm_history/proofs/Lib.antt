@@ -17,3 +17,4 @@ pub mod Beginnings
 pub mod Shapes
 pub mod Owned
 pub mod Kept
+pub mod Once

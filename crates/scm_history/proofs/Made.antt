@@ -9,7 +9,7 @@ use Rattle.scm_model.specs.declared.flat.Phase.{Phase}
 use Rattle.scm_model.specs.declared.flat.Phase.TheVariants as phases
 use Rattle.scm_model.specs.declared.flat.Process.{Process}
 use Rattle.scm_model.specs.declared.steps.Step.{Step}
-use Rattle.scm_model.specs.declared.steps.Step.TheVariants.{Joined, Call, LaunchTaken, Launched, LaunchFailed, Ended, ControlTaken, Gone}
+use Rattle.scm_model.specs.declared.steps.Step.TheVariants.{Joined, Call, LaunchTaken, Launched, LaunchFailed, Ended, ControlTaken, Gone, Tick}
 use Rattle.scm_model.specs.Rows.{is_caller}
 use Rattle.scm_model.specs.Changes.{with_moment}
 use Rattle.start_plan.specs.Entered.{wanted_process}
@@ -17,16 +17,16 @@ use Rattle.start_plan.specs.Settle.{settled}
 use Rattle.start_plan.proofs.Enterings.{all_units}
 use Rattle.start_plan.proofs.Keeps.{Keeps, keeps_all}
 use Rattle.scm_rules.specs.Controls.{relieved_if}
-use Rattle.scm_rules.specs.Launches.{first_wanted, is_running, is_running_phase, is_taken, is_taken_phase, launched_if, process_of, taken_if}
+use Rattle.scm_rules.specs.Launches.{first_wanted, is_launched, is_running_phase, is_taken, is_taken_phase, launched_if, process_of, taken_if}
 use Rattle.scm_rules.specs.Opening.{IsOpening}
-use Rattle.scm_rules.specs.Runs.{IsLegal, state_of}
+use Rattle.scm_rules.specs.Runs.{IsLegal, run_state}
 use Rattle.scm_model.specs.Entries.{Entry}
 use Rattle.scm_rules.specs.Steps.{at_moment, effect_of, may, step_of}
 use Rattle.scm_rules.specs.Valid.{is_to_launch, is_wanted_phase}
-use Rattle.scm_laws.proofs.Frames.{finished_keeps}
-use Rattle.scm_laws.proofs.Handled.{has_caller}
-use Rattle.scm_laws.proofs.Sound.{controls_fewer}
-use Rattle.scm_rules.specs.Named.{caller_named, has_made, has_taken, makes_caller, process_named, takes_process}
+use Rattle.scm_runs.proofs.Frames.{finished_keeps}
+use Rattle.scm_runs.proofs.Handled.{has_caller}
+use Rattle.scm_runs.proofs.Sound.{controls_fewer}
+use Rattle.scm_rules.specs.Named.{caller_named, has_made, has_taken, makes_caller, process_named, takes_process, is_it}
 use Rattle.scm_history.specs.Made.{StandsBehind}
 use Rattle.scm_history.specs.Names.{has_come_to}
 use Rattle.scm_history.specs.Processes.{apart_from_controls}
@@ -37,7 +37,9 @@ use Rattle.scm_history.proofs.Finds.{find_push, none_filter}
 use Rattle.scm_history.proofs.Names.{caller_there, process_there}
 use Rattle.scm_history.proofs.Processes.{has, launches, left_not, others_changed, takes, told_apart}
 use Rattle.std.proofs.lemmas.Bool.{and_parts}
-use Rattle.scm_laws.proofs.Histories.{made_front, may_behind}
+use Rattle.scm_runs.proofs.Histories.{made_front, may_behind}
+use Rattle.scm_model.proofs.Found.{found_keeps}
+use Rattle.scm_rules.proofs.Dues.{ticked_apart}
 
 -- ## Callers
 
@@ -50,10 +52,11 @@ not_made l f moment (Joined principal) number other none =
     ap is_some (find_push (λ (row : Caller). row.number == number) f.callers (record { number = f.next.caller; principal = principal }) (not_same number f.next.caller other)) ∙ none
 not_made l f moment (Call caller asked append) number other none = ap (λ rows. has_caller rows number) (of_call l (with_moment f moment) caller asked append).callers ∙ none
 not_made l f moment (Gone caller) number other none = none_filter (λ (row : Caller). row.number == number) (λ (row : Caller). not (row.number == caller)) f.callers none
+not_made l f moment Tick number other none = ticked_apart (λ (g : Flat). is_caller g number ≡ false) (λ g plans rows q. q) (with_moment f moment) none
 not_made l f moment step number other none = none
 
 -- who is there in the end and wasn't in the beginning was made
-made : (l : Limits) (f : Flat) (number : ℕ) (es : List Entry) → is_caller f number ≡ false → is_caller (state_of l f es) number ≡ true → has_made l f number es ≡ true
+made : (l : Limits) (f : Flat) (number : ℕ) (es : List Entry) → is_caller f number ≡ false → is_caller (run_state l f es) number ≡ true → has_made l f number es ≡ true
 made l f number [] none there = absurd cc
 made l f number (e ∷ es) none there =
     elim (makes_caller f number e.1) as (λ b. makes_caller f number e.1 ≡ b → (b || has_made l (step_of l f e.0 e.1).flat number es) ≡ true) [
@@ -86,7 +89,7 @@ taken_begun : (row : Option Process) → is_taken row ≡ true → is_begun row 
 taken_begun None h = absurd cc
 taken_begun (Some row) h = phase_taken row.phase h
 
-running_begun : (row : Option Process) → is_running row ≡ true → is_begun row ≡ true
+running_begun : (row : Option Process) → is_launched row ≡ true → is_begun row ≡ true
 running_begun None h = absurd cc
 running_begun (Some row) h = phase_running row.phase h
 
@@ -104,16 +107,22 @@ launched_not number process pid rows taken none =
       | false ↦ λ e. ap is_begun (others_changed number process (launched_if process pid) rows (launches process pid) e) ∙ none
     ] refl
 
+abbrev IsNotBegun : ℕ → Flat → Type 0
+IsNotBegun number f = is_begun (process_of f number) ≡ false
+
 -- an effect that takes another process in hand, or none
 not_begun : (l : Limits) (f : Flat) (moment : ℕ) (step : Step) (number : ℕ) → IsTrue (may l f moment step) → takes_process f number step ≡ false → is_begun (process_of f number) ≡ false
     → is_begun (process_of (effect_of l (at_moment f moment step) step).flat number) ≡ false
 not_begun l f moment (Call caller asked append) number ok other none = told_apart is_begun begun_apart number f.processes _ (of_call l (with_moment f moment) caller asked append).processes ∙ none
-not_begun l f moment LaunchTaken number ok other none = ap is_begun (others_changed number (first_wanted f.wanted) (taken_if (first_wanted f.wanted)) f.processes (takes (first_wanted f.wanted)) other) ∙ none
+not_begun l f moment LaunchTaken number ok other none =
+    found_keeps (λ (rows : List Process). is_begun (find (has number) rows) ≡ false) (λ process. map (taken_if process)) (first_wanted f.wanted) f.processes none
+    (λ one is. ap is_begun (others_changed number one (taken_if one) f.processes (takes one) (ap (is_it number) (sym is) ∙ other)) ∙ none)
 not_begun l f moment (Launched process pid) number ok other none = launched_not number process pid f.processes (and_parts _ _ ok).0 none
 not_begun l f moment (LaunchFailed process code) number ok other none = left_not is_begun refl number process f.processes none
 not_begun l f moment (Ended process) number ok other none = left_not is_begun refl number process f.processes none
 not_begun l f moment (ControlTaken process) number ok other none =
     told_apart is_begun begun_apart number f.processes _ (controls_apart (relieved_if process) (controls_fewer process) f.processes) ∙ none
+not_begun l f moment Tick number ok other none = ticked_apart (IsNotBegun number) (λ g plans rows q. q) (with_moment f moment) none
 not_begun l f moment step number ok other none = none
 
 -- a process that is wanted is still to be launched
@@ -122,9 +131,6 @@ wanted_not number next service [] none = elim (next == number) as (λ b. is_begu
 wanted_not number next service (row ∷ rows) none =
     elim (row.number == number) as (λ b. is_begun (cond b (Some row) (find (has number) rows)) ≡ false → is_begun (cond b (Some row) (find (has number) (rows ++ wanted_process next service ∷ []))) ≡ false)
     [ true ↦ λ h. h | false ↦ λ h. wanted_not number next service rows h ] none
-
-abbrev IsNotBegun : ℕ → Flat → Type 0
-IsNotBegun number f = is_begun (process_of f number) ≡ false
 
 stays_not : (l : Limits) (number : ℕ) → Keeps l (IsNotBegun number) (λ plan. Unit {0})
 stays_not l number = record {
@@ -140,7 +146,7 @@ step_not l f moment step number ok other none =
     (keeps_all l (IsNotBegun number) (λ plan. Unit {0}) (stays_not l number) done.flat done.flat.plans (not_begun l f moment step number ok other none) (all_units done.flat.plans)).flat
 
 -- who is no more to be launched in the end and wasn't listed so in the beginning was taken in hand
-taken : (l : Limits) (f : Flat) (number : ℕ) (es : List Entry) → IsLegal l f es → is_begun (process_of f number) ≡ false → is_begun (process_of (state_of l f es) number) ≡ true → has_taken l f number es ≡ true
+taken : (l : Limits) (f : Flat) (number : ℕ) (es : List Entry) → IsLegal l f es → is_begun (process_of f number) ≡ false → is_begun (process_of (run_state l f es) number) ≡ true → has_taken l f number es ≡ true
 taken l f number [] legal none there = absurd cc
 taken l f number (e ∷ es) legal none there =
     elim (takes_process f number e.1) as (λ b. takes_process f number e.1 ≡ b → (b || has_taken l (step_of l f e.0 e.1).flat number es) ≡ true) [
@@ -167,8 +173,8 @@ stands_behind l f es empty none legal front e rest split =
     let ok = may_behind l f front e rest whole in
     let before = made_front l f front (e ∷ rest) whole in
     record {
-      caller = IfSome_then (caller_named e.1) (caller_there l (state_of l f front) e.0 e.1 ok) (λ number there. made l f number front (ap (λ rows. has_caller rows number) empty.callers) there);
-      process = IfSome_then (process_named e.1) (process_there l (state_of l f front) e.0 e.1 ok)
-          (λ number there. taken l f number front before (ap (λ rows. is_begun (find (has number) rows)) empty.processes) (named_begun e.1 (process_of (state_of l f front) number) there));
+      caller = IfSome_then (caller_named e.1) (caller_there l (run_state l f front) e.0 e.1 ok) (λ number there. made l f number front (ap (λ rows. has_caller rows number) empty.callers) there);
+      process = IfSome_then (process_named e.1) (process_there l (run_state l f front) e.0 e.1 ok)
+          (λ number there. taken l f number front before (ap (λ rows. is_begun (find (has number) rows)) empty.processes) (named_begun e.1 (process_of (run_state l f front) number) there));
       start = answers_own l f front e.0 e.1 none ok;
     }

@@ -8,8 +8,8 @@ use Rattle.scm_model.specs.declared.steps.Step.TheVariants.{Call, EndStart, Laun
 use Rattle.scm_model.specs.Rows.{is_caller}
 use Rattle.scm_rules.specs.Launches.{process_of}
 use Rattle.scm_rules.specs.Steps.{may}
-use Rattle.scm_laws.proofs.Along.{Gives}
-use Rattle.scm_laws.proofs.Sound.{Sound}
+use Rattle.scm_runs.proofs.Along.{Gives}
+use Rattle.scm_runs.proofs.Sound.{Sound}
 use Rattle.scm_rules.specs.Named.{caller_named, process_named}
 use Rattle.scm_history.specs.Names.{NamesWhoIsThere, has_come_to}
 use Rattle.std.proofs.lemmas.Bool.{and_parts}

@@ -1,5 +1,5 @@
 -- Numbers are given once.
-use Rattle.std.proofs.Common.{ℕ, ◌≡◌, ◌∙◌, ◌<◌, ◌≤◌, ◌==◌, Bool, true, false, not, cond, List, Option, None, Some, ap, sym, refl, subst, arith, leb, leb-true, leb-false}
+use Rattle.std.proofs.Common.{ℕ, ◌≡◌, ◌∙◌, ◌<◌, ◌≤◌, ◌==◌, Bool, true, false, not, cond, List, Option, None, Some, ap, sym, refl, subst, arith, leb, leb-true, leb-false, eqb-true, unwrap_or, []}
 use Rattle.std.specs.Prelude.{IfSome, is_some}
 use Rattle.scm_model.specs.declared.flat.Config.{Config}
 use Rattle.scm_model.specs.declared.flat.Flat.{Flat}
@@ -12,25 +12,29 @@ use Rattle.scm_model.specs.declared.steps.Answer.{Answer}
 use Rattle.scm_model.specs.declared.steps.Answer.TheVariants as answer
 use Rattle.scm_model.specs.declared.steps.Kept.{Kept}
 use Rattle.scm_model.specs.declared.steps.Step.{Step}
-use Rattle.scm_model.specs.declared.steps.Step.TheVariants.{Joined, Call, EndStart, Report, Ended, Gone}
+use Rattle.scm_model.specs.declared.steps.Step.TheVariants.{Joined, Call, EndStart, Report, Ended, Gone, LaunchTaken, ControlTaken, Tick}
 use Rattle.scm_model.specs.Changes.{with_moment}
 use Rattle.start_plan.specs.Decided.{code_of, is_callers, is_numbered, plan_of}
 use Rattle.start_plan.specs.Settle.{settled, stays}
-use Rattle.scm_rules.specs.Change.{asked_config, with_new_config}
 use Rattle.scm_rules.specs.Reports.{current_of}
-use Rattle.scm_rules.specs.Start.{start_done, start_verdict}
+use Rattle.scm_rules.specs.Start.{start_done, start_verdict, with_start}
 use Rattle.scm_rules.specs.Steps.{at_moment, effect_of, finished, answered_by, step_of}
 use Rattle.scm_rules.specs.Verdicts.{call_of, done_of, told_refused, verdict}
-use Rattle.scm_laws.proofs.Along.{Gives}
-use Rattle.scm_laws.proofs.Calls.{by_verdict}
-use Rattle.scm_laws.proofs.Sound.{Sound}
+use Rattle.scm_runs.proofs.Along.{Gives}
+use Rattle.scm_runs.proofs.Calls.{by_verdict, start_held}
+use Rattle.scm_runs.proofs.Sound.{Sound}
 use Rattle.scm_rules.specs.Named.{caller_made, plan_made}
 use Rattle.scm_history.specs.Numbers.{AreMadeOnce, IsGiven}
 use Rattle.scm_history.proofs.Callers.{next_after, rising, stays_out}
 use Rattle.scm_history.proofs.Finds.{find_push, is_some-map, none_filter}
-use Rattle.scm_history.proofs.Lasting.{Allows, Lasts, coded_sides, end_none, of_step, report_none, settled_sides, sides}
+use Rattle.scm_history.proofs.Lasting.{Allows, Lasts, coded_sides, end_none, of_step, report_none, settled_sides, sides, control_none, launch_none}
 use Rattle.scm_history.proofs.Processes.{after_effect, none_effect, process_rises}
-use Rattle.scm_laws.proofs.Frames.{framed}
+use Rattle.scm_runs.proofs.Frames.{framed}
+use Rattle.scm_model.specs.Found.{if_found}
+use Rattle.scm_runs.proofs.Founds.{opened_keeps, started_keeps}
+use Rattle.scm_rules.specs.Launches.{first_wanted}
+use Rattle.scm_rules.specs.Controls.{controls_of, first_control}
+use Rattle.scm_rules.proofs.Dues.{ticked_apart}
 
 -- ## Plans
 
@@ -58,12 +62,9 @@ stays_none l f moment step number low none = of_step number (λ plan. Unit {0}) 
 
 -- ## The next plan
 
-plan_configured : (f : Flat) (number : ℕ) (config : Option Config) → f.next.plan ≤ (with_new_config f number config).next.plan
-plan_configured f number None = omega arith
-plan_configured f number (Some config) = omega arith
-
 plan_done : (l : Limits) (f : Flat) (caller : ℕ) (asked : Request) → f.next.plan ≤ (done_of l f caller asked).flat.next.plan
-plan_done l f caller (request.Change change) = plan_configured f _ (asked_config f caller change)
+plan_done l f caller (request.OpenService handle name access) = opened_keeps (λ (g : Flat). f.next.plan ≤ g.next.plan) f caller name access (omega arith) (λ row is. omega arith)
+plan_done l f caller (request.Start handle words) = started_keeps (λ (g : Flat). f.next.plan ≤ g.next.plan) f caller handle words (omega arith) (λ row is. omega arith)
 plan_done l f caller asked = omega arith
 
 plan_call : (l : Limits) (f : Flat) (caller : ℕ) (asked : Request) (append : Kept) → f.next.plan ≤ (call_of l f caller asked append).flat.next.plan
@@ -73,6 +74,7 @@ plan_call l f caller asked append =
 
 plan_effect : (l : Limits) (f : Flat) (moment : ℕ) (step : Step) → f.next.plan ≤ (effect_of l (at_moment f moment step) step).flat.next.plan
 plan_effect l f moment (Call caller asked append) = plan_call l (with_moment f moment) caller asked append
+plan_effect l f moment Tick = ticked_apart (λ (g : Flat). f.next.plan ≤ g.next.plan) (λ g plans rows up. up) (with_moment f moment) (omega arith)
 plan_effect l f moment step = omega arith
 
 plan_after : (l : Limits) (f : Flat) (moment : ℕ) (step : Step) → (step_of l f moment step).flat.next.plan ≡ (effect_of l (at_moment f moment step) step).flat.next.plan
@@ -89,16 +91,23 @@ begun_call l f moment caller (request.Start handle words) append =
     let g = with_moment f moment in
     let done = start_done g caller handle words in
     let refusal : Done = record { reply = told_refused g caller (request.Start handle words) (start_verdict g caller handle words); flat = g } in
-    elim (start_verdict g caller handle words == 0) as (λ b. IfSome (plan_made (cond b (answer.Begun f.next.plan) (answer.Reply (cond b done refusal).reply))) (IsGiven f.next.plan (cond b done refusal).flat.next.plan)) [
-      | true ↦ record { is_next = refl; below = omega arith }
-      | false ↦ tt
-    ]
+    elim (start_verdict g caller handle words == 0) as (λ b. (start_verdict g caller handle words == 0) ≡ b
+    → IfSome (plan_made (cond b (answer.Begun f.next.plan) (answer.Reply (cond b done refusal).reply))) (IsGiven f.next.plan (cond b done refusal).flat.next.plan)) [
+      | true ↦ λ e. record {
+        is_next = refl;
+        below = (let held = start_held g caller handle words (eqb-true (start_verdict g caller handle words) 0 e) in
+            let next = ap (λ found. (if_found (with_start caller (unwrap_or words [])) found g).next.plan) held.is in omega (arith, next));
+      }
+      | false ↦ λ e. tt
+    ] refl
 begun_call l f moment caller asked append = tt
 
 begun_effect : (l : Limits) (f : Flat) (moment : ℕ) (step : Step) → IfSome (plan_made (effect_of l (at_moment f moment step) step).answer) (IsGiven f.next.plan (effect_of l (at_moment f moment step) step).flat.next.plan)
 begun_effect l f moment (Call caller asked append) = begun_call l f moment caller asked append
 begun_effect l f moment (Report process status) = report_none (IsGiven f.next.plan f.next.plan) (current_of f process) status
 begun_effect l f moment (Ended process) = end_none (IsGiven f.next.plan f.next.plan) (current_of f process)
+begun_effect l f moment LaunchTaken = launch_none (IsGiven f.next.plan f.next.plan) (first_wanted f.wanted)
+begun_effect l f moment (ControlTaken process) = control_none (IsGiven f.next.plan f.next.plan) (first_control (controls_of f process))
 begun_effect l f moment step = tt
 
 -- an answer that is a start's number was one before

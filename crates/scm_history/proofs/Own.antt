@@ -6,15 +6,15 @@ use Rattle.scm_model.specs.declared.flat.Caller.{Caller}
 use Rattle.scm_model.specs.declared.flat.Flat.{Flat}
 use Rattle.scm_model.specs.declared.flat.Limits.{Limits}
 use Rattle.scm_model.specs.declared.steps.Step.{Step}
-use Rattle.scm_model.specs.declared.steps.Step.TheVariants.{Joined, Call}
+use Rattle.scm_model.specs.declared.steps.Step.TheVariants.{Joined, Call, Tick}
 use Rattle.scm_model.specs.Rows.{is_caller}
 use Rattle.scm_model.specs.Changes.{with_moment}
 use Rattle.scm_rules.specs.Runs.{IsLegal}
 use Rattle.scm_model.specs.Entries.{Entry}
 use Rattle.scm_rules.specs.Steps.{at_moment, effect_of, step_of}
-use Rattle.scm_laws.proofs.Calls.{keeps}
-use Rattle.scm_laws.proofs.Handled.{has_caller}
-use Rattle.scm_laws.proofs.Sound.{Sound}
+use Rattle.scm_runs.proofs.Calls.{keeps}
+use Rattle.scm_runs.proofs.Handled.{has_caller}
+use Rattle.scm_runs.proofs.Sound.{Sound}
 use Rattle.scm_rules.specs.Named.{caller_named, is_it, makes_caller, names_caller, of_caller}
 use Rattle.scm_history.specs.Numbers.{IsGiven}
 use Rattle.scm_history.specs.Own.{BeginsWithJoined, all_named, is_joined}
@@ -24,6 +24,7 @@ use Rattle.scm_history.proofs.Finds.{found_below}
 use Rattle.scm_history.proofs.Made.{IsEmpty}
 use Rattle.scm_history.proofs.Names.{caller_there}
 use Rattle.scm_history.proofs.Numbers.{joins_after}
+use Rattle.scm_rules.proofs.Dues.{ticked_apart}
 
 -- ## Once it has joined
 
@@ -61,6 +62,7 @@ above_effect l f moment (Joined principal) caller up other =
     let apart : caller ≢ f.next.caller = λ e. absurd (let same = eq-eqb caller f.next.caller e in cc) in
     omega (arith, up, apart)
 above_effect l f moment (Call by asked append) caller up other = (let e = (of_call l (with_moment f moment) by asked append).next_caller in omega (arith, e, up))
+above_effect l f moment Tick caller up other = ticked_apart (λ (g : Flat). g.next.caller ≤ caller) (λ g plans rows q. q) (with_moment f moment) up
 above_effect l f moment step caller up other = up
 
 pub begins : (l : Limits) (f : Flat) (es : List Entry) → Sound f → IsLegal l f es → (caller : ℕ) → f.next.caller ≤ caller → BeginsWithJoined caller es (of_caller l f caller es)

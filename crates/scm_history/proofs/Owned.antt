@@ -16,56 +16,57 @@ use Rattle.scm_model.specs.Rows.{is_caller}
 use Rattle.scm_rules.specs.Histories.{answer, state}
 use Rattle.scm_rules.specs.Launches.{first_wanted, process_of}
 use Rattle.scm_rules.specs.Named.{caller_named, is_it, makes_caller, names_caller, names_process, of_caller, process_named, takes_process}
-use Rattle.scm_rules.specs.Runs.{IsLegal, state_of}
+use Rattle.scm_rules.specs.Runs.{IsLegal, run_state}
 use Rattle.scm_rules.specs.Steps.{may, step_of}
-use Rattle.scm_laws.proofs.Along.{at_end}
-use Rattle.scm_laws.proofs.Calls.{keeps}
-use Rattle.scm_laws.proofs.Histories.{made_front, same_answer, state_is, told}
-use Rattle.scm_laws.proofs.Sound.{Sound}
-use Rattle.scm_laws.proofs.Wanted.{taken_listed}
+use Rattle.scm_runs.proofs.Along.{at_end}
+use Rattle.scm_runs.proofs.Calls.{keeps}
+use Rattle.scm_runs.proofs.Histories.{made_front, same_answer, state_is, told}
+use Rattle.scm_runs.proofs.Sound.{Sound}
+use Rattle.scm_runs.proofs.Wanted.{taken_listed}
 use Rattle.scm_history.specs.Names.{has_come_to}
-use Rattle.scm_history.specs.Owned.{LastsOnce, LawOfOwn, Made, is_last_of, is_of, made, own}
+use Rattle.scm_history.specs.Owned.{LastsOnce, LawOfOwn, Made, is_last_of, is_by_name, made_of, own}
 use Rattle.scm_history.proofs.Anew.{first_listed}
 use Rattle.scm_history.proofs.Callers.{is_out, left_below, rising, stays_out}
 use Rattle.scm_history.proofs.Names.{caller_there, process_there}
 use Rattle.scm_history.proofs.Phases.{gives as leaves_so, runs_listed}
 use Rattle.scm_history.proofs.Processes.{after_effect, listed_below, none_effect, process_rises}
+use Rattle.scm_runs.proofs.Founds.{it_is}
 
 -- ## One entry more
 
 -- the entries of a name behind a front
-own_behind : (l : Limits) (f : Flat) (name : Name) (front rest : List Entry) → own l f name (front ++ rest) ≡ own l f name front ++ own l (state_of l f front) name rest
+own_behind : (l : Limits) (f : Flat) (name : Name) (front rest : List Entry) → own l f name (front ++ rest) ≡ own l f name front ++ own l (run_state l f front) name rest
 unfolding own
 own_behind l f name [] rest = refl
 own_behind l f name (e ∷ front) rest =
     let step = step_of l f e.0 e.1 in
     let more = own_behind l step.flat name front rest in
-    elim (is_of f name e.1) as (λ b. cond b (made e step.answer ∷ own l step.flat name (front ++ rest)) (own l step.flat name (front ++ rest))
-    ≡ cond b (made e step.answer ∷ own l step.flat name front) (own l step.flat name front) ++ own l (state_of l step.flat front) name rest) [ true ↦ ap (λ (es : List Made). made e step.answer ∷ es) more | false ↦ more ]
+    elim (is_by_name f name e.1) as (λ b. cond b (made_of e step.answer ∷ own l step.flat name (front ++ rest)) (own l step.flat name (front ++ rest))
+    ≡ cond b (made_of e step.answer ∷ own l step.flat name front) (own l step.flat name front) ++ own l (run_state l step.flat front) name rest) [ true ↦ ap (λ (es : List Made). made_of e step.answer ∷ es) more | false ↦ more ]
 
-own_one : (l : Limits) (g : Flat) (name : Name) (e : Entry) → is_of g name e.1 ≡ true → own l g name (e ∷ []) ≡ made e (step_of l g e.0 e.1).answer ∷ []
+own_one : (l : Limits) (g : Flat) (name : Name) (e : Entry) → is_by_name g name e.1 ≡ true → own l g name (e ∷ []) ≡ made_of e (step_of l g e.0 e.1).answer ∷ []
 unfolding own
-own_one l g name e is = ap (λ b. cond b (made e (step_of l g e.0 e.1).answer ∷ []) []) is
+own_one l g name e is = ap (λ b. cond b (made_of e (step_of l g e.0 e.1).answer ∷ []) []) is
 
-own_other : (l : Limits) (g : Flat) (name : Name) (e : Entry) (rest : List Entry) → is_of g name e.1 ≡ false → own l g name (e ∷ rest) ≡ own l (step_of l g e.0 e.1).flat name rest
+own_other : (l : Limits) (g : Flat) (name : Name) (e : Entry) (rest : List Entry) → is_by_name g name e.1 ≡ false → own l g name (e ∷ rest) ≡ own l (step_of l g e.0 e.1).flat name rest
 unfolding own
 own_other l g name e rest is =
     let step = step_of l g e.0 e.1 in
-    ap (λ b. cond b (made e step.answer ∷ own l step.flat name rest) (own l step.flat name rest)) is
+    ap (λ b. cond b (made_of e step.answer ∷ own l step.flat name rest) (own l step.flat name rest)) is
 
 own_none : (l : Limits) (f : Flat) (name : Name) → own l f name [] ≡ []
 unfolding own
 own_none l f name = refl
 
-own_more : (l : Limits) (f : Flat) (name : Name) (es : List Entry) (e : Entry) (reply : Answer) → is_of (state l f es) name e.1 ≡ true → answer l f (es ++ e ∷ []) (length es) ≡ Some reply
-    → own l f name (es ++ e ∷ []) ≡ own l f name es ++ made e reply ∷ []
+own_more : (l : Limits) (f : Flat) (name : Name) (es : List Entry) (e : Entry) (reply : Answer) → is_by_name (state l f es) name e.1 ≡ true → answer l f (es ++ e ∷ []) (length es) ≡ Some reply
+    → own l f name (es ++ e ∷ []) ≡ own l f name es ++ made_of e reply ∷ []
 own_more l f name es e reply is said =
     let one = own_one l (state l f es) name e is in
     let same = same_answer (step_of l (state l f es) e.0 e.1).answer reply (sym (told l f es e []) ∙ said) in
     own_behind l f name es (e ∷ [])
-    ∙ ap (λ (ms : List Made). own l f name es ++ ms) (ap (λ g. own l g name (e ∷ [])) (sym (state_is l f es)) ∙ one ∙ ap (λ r. made e r ∷ []) same)
+    ∙ ap (λ (ms : List Made). own l f name es ++ ms) (ap (λ g. own l g name (e ∷ [])) (sym (state_is l f es)) ∙ one ∙ ap (λ r. made_of e r ∷ []) same)
 
-own_quiet : (l : Limits) (f : Flat) (name : Name) (es : List Entry) (e : Entry) → is_of (state l f es) name e.1 ≡ false → own l f name (es ++ e ∷ []) ≡ own l f name es
+own_quiet : (l : Limits) (f : Flat) (name : Name) (es : List Entry) (e : Entry) → is_by_name (state l f es) name e.1 ≡ false → own l f name (es ++ e ∷ []) ≡ own l f name es
 own_quiet l f name es e is =
     own_behind l f name es (e ∷ [])
     ∙ ap (λ (ms : List Made). own l f name es ++ ms) (ap (λ g. own l g name (e ∷ [])) (sym (state_is l f es)) ∙ own_other l (state l f es) name e [] is ∙ own_none l _ name)
@@ -77,7 +78,7 @@ of_callers l f caller [] = refl
 of_callers l f caller (e ∷ es) =
     let step = step_of l f e.0 e.1 in
     let more = of_callers l step.flat caller es in
-    elim (is_of f (names.Caller caller) e.1) as (λ b. map (λ (one : Made). one.entry) (cond b (made e step.answer ∷ own l step.flat (names.Caller caller) es) (own l step.flat (names.Caller caller) es))
+    elim (is_by_name f (names.Caller caller) e.1) as (λ b. map (λ (one : Made). one.entry) (cond b (made_of e step.answer ∷ own l step.flat (names.Caller caller) es) (own l step.flat (names.Caller caller) es))
     ≡ cond b (e ∷ of_caller l step.flat caller es) (of_caller l step.flat caller es)) [ true ↦ ap (λ (rest : List Entry). e ∷ rest) more | false ↦ more ]
 
 pub law_of_own : (l : Limits) (f : Flat) → LawOfOwn l f
@@ -103,7 +104,7 @@ not_made : (g : Flat) (step : Step) (caller : ℕ) → caller < g.next.caller �
 not_made g (Joined principal) caller low = ne_eqb caller g.next.caller (λ same. absurd (omega (arith, same, low)))
 not_made g step caller low = refl
 
-away_not_of : (l : Limits) (g : Flat) (moment : ℕ) (step : Step) (caller : ℕ) → IsTrue (may l g moment step) → IsAway g caller → is_of g (names.Caller caller) step ≡ false
+away_not_of : (l : Limits) (g : Flat) (moment : ℕ) (step : Step) (caller : ℕ) → IsTrue (may l g moment step) → IsAway g caller → is_by_name g (names.Caller caller) step ≡ false
 away_not_of l g moment step caller ok away =
     or_from (names_caller caller step) (makes_caller g caller step)
     (not_it (λ number. IsTrue (is_caller g number)) caller (caller_named step) (caller_there l g moment step ok) (λ there. let none = away.none in cc)) (not_made g step caller away.low)
@@ -132,12 +133,12 @@ come_listed step row come = runs_listed row come
 
 not_taken : (l : Limits) (g : Flat) (moment : ℕ) (step : Step) (process : ℕ) → Sound g → IsTrue (may l g moment step) → IsOff g process → takes_process g process step ≡ false
 not_taken l g moment LaunchTaken process s ok off =
-    false_from_ne_true (process == first_wanted g.wanted) (λ same.
-    let there = subst (λ n. is_some (process_of g n) ≡ true) (sym (eqb-true process (first_wanted g.wanted) same)) (first_listed g s (and_parts _ _ ok).0) in
+    false_from_ne_true (is_it process (first_wanted g.wanted)) (λ same.
+    let there = first_listed g process s (it_is process (first_wanted g.wanted) same) in
     let none = off.none in cc)
 not_taken l g moment step process s ok off = refl
 
-off_not_of : (l : Limits) (g : Flat) (moment : ℕ) (step : Step) (process : ℕ) → Sound g → IsTrue (may l g moment step) → IsOff g process → is_of g (names.Process process) step ≡ false
+off_not_of : (l : Limits) (g : Flat) (moment : ℕ) (step : Step) (process : ℕ) → Sound g → IsTrue (may l g moment step) → IsOff g process → is_by_name g (names.Process process) step ≡ false
 off_not_of l g moment step process s ok off =
     or_from (names_process process step) (takes_process g process step)
     (not_it (λ number. IsTrue (has_come_to step (process_of g number))) process (process_named step) (process_there l g moment step ok)
@@ -183,16 +184,16 @@ own_last : (l : Limits) (g : Flat) (name : Name) (e : Entry) (rest : List Entry)
 unfolding own
 own_last l g name e rest none =
     let step = step_of l g e.0 e.1 in
-    ap (λ (ms : List Made). cond (is_of g name e.1) (made e step.answer ∷ ms) ms) none
+    ap (λ (ms : List Made). cond (is_by_name g name e.1) (made_of e step.answer ∷ ms) ms) none
 
-legal_behind : (l : Limits) (f : Flat) (front rest : List Entry) → IsLegal l f (front ++ rest) → IsLegal l (state_of l f front) rest
+legal_behind : (l : Limits) (f : Flat) (front rest : List Entry) → IsLegal l f (front ++ rest) → IsLegal l (run_state l f front) rest
 legal_behind l f [] rest legal = legal
 legal_behind l f (e ∷ front) rest legal = legal_behind l (step_of l f e.0 e.1).flat front rest legal.1
 
 last_once : (l : Limits) (f : Flat) (name : Name) (front : List Entry) (e : Entry) (rest : List Entry) → Sound f → IsLegal l f (front ++ e ∷ rest) → is_last_of name e.1 ≡ true
     → own l f name (front ++ e ∷ rest) ≡ own l f name (front ++ e ∷ [])
 last_once l f name front e rest s legal last =
-    let g = state_of l f front in
+    let g = run_state l f front in
     let sound = at_end Sound l (keeps l) f front s (made_front l f front (e ∷ rest) legal) in
     own_behind l f name front (e ∷ rest)
     ∙ ap (λ (ms : List Made). own l f name front ++ ms) (own_last l g name e rest (none_behind l g name e rest sound (legal_behind l f front (e ∷ rest) legal) last))

@@ -1,5 +1,5 @@
 -- How far an entry leaves the process that it is of.
-use Rattle.std.proofs.Common.{ℕ, ◌≡◌, ◌∙◌, ◌==◌, true, List, Option, None, Some, find, ap, sym, refl}
+use Rattle.std.proofs.Common.{ℕ, ◌≡◌, ◌∙◌, ◌==◌, true, List, Option, None, Some, find, ap, sym, refl, subst}
 use Rattle.std.specs.Prelude.{IsTrue, is_some, option_map}
 use Rattle.std.proofs.lemmas.Bool.{and_parts}
 use Rattle.scm_model.specs.declared.flat.Flat.{Flat}
@@ -10,15 +10,16 @@ use Rattle.scm_model.specs.declared.flat.Process.{Process}
 use Rattle.scm_model.specs.declared.flat.Status.{Status}
 use Rattle.scm_model.specs.declared.steps.Step.{Step}
 use Rattle.scm_model.specs.declared.steps.Step.TheVariants.{LaunchTaken, Launched, LaunchFailed, Report, Ended}
-use Rattle.scm_rules.specs.Launches.{is_running, is_running_phase, is_taken, is_taken_phase, launched_if, process_of}
+use Rattle.scm_rules.specs.Launches.{is_launched, is_running_phase, is_taken, is_taken_phase, launched_if, process_of}
 use Rattle.scm_rules.specs.Steps.{may, step_of}
-use Rattle.scm_laws.proofs.Along.{Gives}
-use Rattle.scm_laws.proofs.Lists.{found_passes}
-use Rattle.scm_laws.proofs.Sound.{Sound}
-use Rattle.scm_laws.proofs.Wanted.{taken_is_listed, taken_listed}
-use Rattle.scm_history.specs.Phases.{LawOfPhases, LeavesSo, RunsAs, RunsOn}
+use Rattle.scm_runs.proofs.Along.{Gives}
+use Rattle.scm_runs.proofs.Lists.{found_passes}
+use Rattle.scm_runs.proofs.Sound.{Sound}
+use Rattle.scm_runs.proofs.Wanted.{taken_is_listed, taken_listed}
+use Rattle.scm_history.specs.Phases.{LawOfPhases, LeavesSo, RunsAs, RunsOn, IsInHand}
 use Rattle.scm_history.proofs.Finds.{found_map, is_some-map}
 use Rattle.scm_history.proofs.Processes.{after_effect, has, launches, listed_below, none_left}
+use Rattle.scm_runs.proofs.Processes.{first_of}
 
 -- ## Phases
 
@@ -36,12 +37,12 @@ running_phase phases.Wanted h = absurd cc
 running_phase phases.Taken h = absurd cc
 running_phase phases.Launched h = refl
 
-runs : (row : Option Process) → is_running row ≡ true → option_map (λ (row : Process). row.phase) row ≡ Some phases.Launched
+runs : (row : Option Process) → is_launched row ≡ true → option_map (λ (row : Process). row.phase) row ≡ Some phases.Launched
 runs None h = absurd cc
 runs (Some row) h = ap (λ (phase : Phase). Some phase) (running_phase row.phase h)
 
 -- who runs is listed
-pub runs_listed : (row : Option Process) → is_running row ≡ true → is_some row ≡ true
+pub runs_listed : (row : Option Process) → is_launched row ≡ true → is_some row ≡ true
 runs_listed row h = sym (is_some-map (λ (row : Process). row.phase) row) ∙ ap is_some (runs row h)
 
 -- ## A launch
@@ -69,14 +70,16 @@ of_launched l f moment process pid s taken =
 
 -- ## Steps
 
-of_report : (l : Limits) (f : Flat) (moment process : ℕ) (report : Status) → Sound f → is_running (process_of f process) ≡ true → RunsOn f (step_of l f moment (Report process report)).flat process
+of_report : (l : Limits) (f : Flat) (moment process : ℕ) (report : Status) → Sound f → is_launched (process_of f process) ≡ true → RunsOn f (step_of l f moment (Report process report)).flat process
 of_report l f moment process report s running =
     let low = listed_below f process s (runs_listed (process_of f process) running) in
     let same : process_of (step_of l f moment (Report process report)).flat process ≡ process_of f process = after_effect l f moment (Report process report) process low in
     record { phase = ap (option_map (λ (row : Process). row.phase)) same ∙ runs (process_of f process) running; same = same }
 
 of_step : (l : Limits) (f : Flat) (moment : ℕ) (step : Step) → Sound f → IsTrue (may l f moment step) → LeavesSo f step (step_of l f moment step).flat
-of_step l f moment LaunchTaken s ok = in_hand _ (taken_is_listed l f moment s (and_parts _ _ ok).0)
+of_step l f moment LaunchTaken s ok =
+    let first = first_of f.wanted (and_parts _ _ ok).0 in
+    subst (IsInHand (step_of l f moment LaunchTaken).flat) (sym first.is) (in_hand _ (taken_is_listed l f moment first.number s first.is))
 of_step l f moment (Launched process pid) s ok = of_launched l f moment process pid s (and_parts _ _ ok).0
 of_step l f moment (Report process status) s ok = of_report l f moment process status s (and_parts _ _ ok).0
 of_step l f moment (LaunchFailed process code) s ok =

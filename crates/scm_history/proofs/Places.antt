@@ -6,7 +6,7 @@ use Rattle.scm_model.specs.declared.flat.Flat.{Flat}
 use Rattle.scm_model.specs.declared.flat.Limits.{Limits}
 use Rattle.scm_model.specs.declared.flat.Process.{Process}
 use Rattle.scm_model.specs.declared.steps.Step.{Step}
-use Rattle.scm_model.specs.declared.steps.Step.TheVariants.{Call, LaunchTaken, Launched, LaunchFailed, Ended, ControlTaken}
+use Rattle.scm_model.specs.declared.steps.Step.TheVariants.{Call, LaunchTaken, Launched, LaunchFailed, Ended, ControlTaken, Tick}
 use Rattle.scm_model.specs.Changes.{with_moment}
 use Rattle.start_plan.specs.Entered.{wanted_process}
 use Rattle.start_plan.specs.Settle.{settled}
@@ -15,17 +15,19 @@ use Rattle.start_plan.proofs.Keeps.{Keeps, keeps_all}
 use Rattle.scm_rules.specs.Controls.{relieved_if}
 use Rattle.scm_rules.specs.Launches.{first_wanted, launched_if, taken_if}
 use Rattle.scm_rules.specs.Steps.{at_moment, effect_of, step_of}
-use Rattle.scm_laws.proofs.Along.{Gives}
-use Rattle.scm_laws.proofs.Effects.{same_process}
-use Rattle.scm_laws.proofs.Frames.{finished_keeps}
-use Rattle.scm_laws.proofs.Lists.{map_same}
-use Rattle.scm_laws.proofs.Sound.{Sound, controls_fewer}
-use Rattle.scm_rules.specs.Named.{names_process, takes_process}
-use Rattle.scm_history.specs.Places.{PlacesStay, numbers_of, those_not_meant, those_that_stay}
+use Rattle.scm_runs.proofs.Along.{Gives}
+use Rattle.scm_runs.proofs.Effects.{same_process}
+use Rattle.scm_runs.proofs.Frames.{finished_keeps}
+use Rattle.scm_runs.proofs.Lists.{map_same}
+use Rattle.scm_runs.proofs.Sound.{Sound, controls_fewer}
+use Rattle.scm_rules.specs.Named.{names_process, takes_process, is_it}
+use Rattle.scm_history.specs.Places.{PlacesStay, process_numbers, those_not_meant, those_that_stay}
 use Rattle.scm_history.specs.Processes.{apart_from_controls}
 use Rattle.scm_history.proofs.Effects.{controls_apart, of_call}
 use Rattle.scm_history.proofs.Processes.{IsOf, launches, takes}
 use Rattle.std.proofs.lemmas.Bool.{or_left}
+use Rattle.scm_model.proofs.Found.{found_keeps}
+use Rattle.scm_rules.proofs.Dues.{ticked_apart}
 
 -- ## Lists
 
@@ -51,9 +53,9 @@ others_apart : (test : ℕ → Bool) (befores afters : List Process) → map apa
 others_apart test befores afters same =
     filter_apart test afters ∙ ap (filter (λ (row : Process). not (test row.number))) same ∙ sym (filter_apart test befores)
 
-numbers_apart : (befores afters : List Process) → map apart_from_controls afters ≡ map apart_from_controls befores → numbers_of afters ≡ numbers_of befores
+numbers_apart : (befores afters : List Process) → map apart_from_controls afters ≡ map apart_from_controls befores → process_numbers afters ≡ process_numbers befores
 numbers_apart befores afters same =
-    sym (map_same apart_from_controls (λ (row : Process). row.number) (λ row. refl) afters) ∙ ap numbers_of same ∙ map_same apart_from_controls (λ (row : Process). row.number) (λ row. refl) befores
+    sym (map_same apart_from_controls (λ (row : Process). row.number) (λ row. refl) afters) ∙ ap process_numbers same ∙ map_same apart_from_controls (λ (row : Process). row.number) (λ row. refl) befores
 
 -- a change of one that passes the test
 others_changed : (test : ℕ → Bool) (one : ℕ) (change : Process → Process) → IsOf one change → ((number : ℕ) → (number == one) ≡ true → test number ≡ true) → (rows : List Process)
@@ -94,11 +96,11 @@ others_left test one meant (row ∷ rows) =
 -- ## Effects
 
 record HavePlaces (f : Flat) (step : Step) (rows : List Process) : Type 0 where
-  places : numbers_of rows ≡ numbers_of (those_that_stay step f.processes)
+  places : process_numbers rows ≡ process_numbers (those_that_stay step f.processes)
   others : those_not_meant f step rows ≡ those_not_meant f step f.processes
 
 -- only controls have changed
-apart_places : (f : Flat) (step : Step) (rows : List Process) → numbers_of f.processes ≡ numbers_of (those_that_stay step f.processes) → map apart_from_controls rows ≡ map apart_from_controls f.processes → HavePlaces f step rows
+apart_places : (f : Flat) (step : Step) (rows : List Process) → process_numbers f.processes ≡ process_numbers (those_that_stay step f.processes) → map apart_from_controls rows ≡ map apart_from_controls f.processes → HavePlaces f step rows
 apart_places f step rows stay same = record {
   places = numbers_apart f.processes rows same ∙ stay;
   others = others_apart (λ n. names_process n step || takes_process f n step) f.processes rows same;
@@ -106,20 +108,21 @@ apart_places f step rows stay same = record {
 
 -- one has changed that the step means
 one_places : (f : Flat) (step : Step) (one : ℕ) (change : Process → Process) → IsOf one change → ((number : ℕ) → (number == one) ≡ true → (names_process number step || takes_process f number step) ≡ true)
-    → numbers_of f.processes ≡ numbers_of (those_that_stay step f.processes) → HavePlaces f step (map change f.processes)
+    → process_numbers f.processes ≡ process_numbers (those_that_stay step f.processes) → HavePlaces f step (map change f.processes)
 one_places f step one change is meant stay = record {
   places = map_same change (λ (row : Process). row.number) is.number_same f.processes ∙ stay;
   others = others_changed (λ n. names_process n step || takes_process f n step) one change is meant f.processes;
 }
 
-all_stay : (rows : List Process) → numbers_of rows ≡ numbers_of (filter (λ (row : Process). true) rows)
-all_stay rows = ap numbers_of (sym (all_pass rows))
+all_stay : (rows : List Process) → process_numbers rows ≡ process_numbers (filter (λ (row : Process). true) rows)
+all_stay rows = ap process_numbers (sym (all_pass rows))
 
 of_effect : (l : Limits) (f : Flat) (moment : ℕ) (step : Step) → HavePlaces f step (effect_of l (at_moment f moment step) step).flat.processes
 of_effect l f moment (Call caller asked append) =
     apart_places f (Call caller asked append) _ (all_stay f.processes) (of_call l (with_moment f moment) caller asked append).processes
 of_effect l f moment LaunchTaken =
-    one_places f LaunchTaken (first_wanted f.wanted) (taken_if (first_wanted f.wanted)) (takes (first_wanted f.wanted)) (λ n e. e) (all_stay f.processes)
+    found_keeps (HavePlaces f LaunchTaken) (λ process. map (taken_if process)) (first_wanted f.wanted) f.processes (record { places = all_stay f.processes; others = refl })
+    (λ one is. one_places f LaunchTaken one (taken_if one) (takes one) (λ n e. ap (is_it n) is ∙ e) (all_stay f.processes))
 of_effect l f moment (Launched process pid) =
     one_places f (Launched process pid) process (launched_if process pid) (launches process pid) (λ n e. or_left _ _ e) (all_stay f.processes)
 of_effect l f moment (LaunchFailed process code) = record {
@@ -132,6 +135,8 @@ of_effect l f moment (Ended process) = record {
 }
 of_effect l f moment (ControlTaken process) =
     apart_places f (ControlTaken process) _ (all_stay f.processes) (controls_apart (relieved_if process) (controls_fewer process) f.processes)
+of_effect l f moment Tick =
+    ticked_apart (λ (g : Flat). HavePlaces f Tick g.processes) (λ g plans rows have. have) (with_moment f moment) (record { places = all_stay f.processes; others = refl })
 of_effect l f moment step = record { places = all_stay f.processes; others = refl }
 
 -- ## Settling

@@ -9,9 +9,9 @@ use Rattle.scm_model.specs.declared.steps.Step.{Step}
 use Rattle.scm_model.specs.declared.steps.Step.TheVariants.{EndStart, Gone}
 use Rattle.start_plan.specs.Decided.{is_callers, is_numbered, plan_of}
 use Rattle.start_plan.specs.Settle.{stays}
-use Rattle.scm_laws.proofs.Along.{Gives}
-use Rattle.scm_laws.proofs.Plans.{IsPlan}
-use Rattle.scm_laws.proofs.Sound.{Sound}
+use Rattle.scm_runs.proofs.Along.{Gives}
+use Rattle.scm_runs.proofs.Plans.{IsPlan}
+use Rattle.scm_runs.proofs.Sound.{Sound}
 use Rattle.scm_history.specs.Callers.{takes_leave}
 use Rattle.scm_history.specs.Plans.{PlansAreTheirCallers, ends_plan}
 use Rattle.scm_history.proofs.Finds.{found_below, is_some-map, told_filter, told_push}

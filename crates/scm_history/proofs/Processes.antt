@@ -7,7 +7,7 @@ use Rattle.scm_model.specs.declared.flat.Phase.TheVariants as phases
 use Rattle.scm_model.specs.declared.flat.Process.{Process}
 use Rattle.scm_model.specs.declared.steps.Answer.{Answer}
 use Rattle.scm_model.specs.declared.steps.Step.{Step}
-use Rattle.scm_model.specs.declared.steps.Step.TheVariants.{Call, LaunchTaken, Launched, LaunchFailed, Ended, ControlTaken}
+use Rattle.scm_model.specs.declared.steps.Step.TheVariants.{Call, LaunchTaken, Launched, LaunchFailed, Ended, ControlTaken, Tick}
 use Rattle.scm_model.specs.Changes.{with_moment}
 use Rattle.start_plan.specs.Entered.{wanted_process}
 use Rattle.start_plan.specs.Settle.{settled}
@@ -16,15 +16,17 @@ use Rattle.start_plan.proofs.Keeps.{Keeps, keeps_all}
 use Rattle.scm_rules.specs.Controls.{relieved_if}
 use Rattle.scm_rules.specs.Launches.{first_wanted, launched_if, process_of, taken_if}
 use Rattle.scm_rules.specs.Steps.{at_moment, effect_of, finished, step_of}
-use Rattle.scm_laws.proofs.Along.{Gives}
-use Rattle.scm_laws.proofs.Effects.{same_process}
-use Rattle.scm_laws.proofs.Frames.{finished_keeps}
-use Rattle.scm_laws.proofs.Lists.{find_filter}
-use Rattle.scm_laws.proofs.Sound.{Sound, controls_fewer}
-use Rattle.scm_rules.specs.Named.{names_process, takes_process}
+use Rattle.scm_runs.proofs.Along.{Gives}
+use Rattle.scm_runs.proofs.Effects.{same_process}
+use Rattle.scm_runs.proofs.Frames.{finished_keeps}
+use Rattle.scm_runs.proofs.Lists.{find_filter}
+use Rattle.scm_runs.proofs.Sound.{Sound, controls_fewer}
+use Rattle.scm_rules.specs.Named.{names_process, takes_process, is_it}
 use Rattle.scm_history.specs.Processes.{OthersStay, apart_from_controls}
 use Rattle.scm_history.proofs.Effects.{controls_apart, of_call}
 use Rattle.scm_history.proofs.Finds.{find_map, find_push, found_below, found_map, none_filter}
+use Rattle.scm_model.proofs.Found.{found_keeps}
+use Rattle.scm_rules.proofs.Dues.{ticked_apart}
 
 -- whether a process has a number
 abbrev pub has : ℕ → Process → Bool
@@ -109,22 +111,28 @@ of_effect : (l : Limits) (f : Flat) (moment : ℕ) (step : Step) (number : ℕ) 
     → option_map apart_from_controls (process_of (effect_of l (at_moment f moment step) step).flat number) ≡ option_map apart_from_controls (process_of f number)
 of_effect l f moment (Call caller asked append) number named taken = found_apart number f.processes _ (of_call l (with_moment f moment) caller asked append).processes
 of_effect l f moment LaunchTaken number named taken =
-    ap (option_map apart_from_controls) (others_changed number (first_wanted f.wanted) (taken_if (first_wanted f.wanted)) f.processes (takes (first_wanted f.wanted)) taken)
+    found_keeps (λ (rows : List Process). option_map apart_from_controls (find (has number) rows) ≡ option_map apart_from_controls (find (has number) f.processes)) (λ process. map (taken_if process)) (first_wanted f.wanted) f.processes refl
+    (λ one is. ap (option_map apart_from_controls) (others_changed number one (taken_if one) f.processes (takes one) (ap (is_it number) (sym is) ∙ taken)))
 of_effect l f moment (Launched process pid) number named taken =
     ap (option_map apart_from_controls) (others_changed number process (launched_if process pid) f.processes (launches process pid) named)
 of_effect l f moment (LaunchFailed process code) number named taken = others_left number process f.processes named
 of_effect l f moment (Ended process) number named taken = others_left number process f.processes named
 of_effect l f moment (ControlTaken process) number named taken = found_apart number f.processes _ (controls_apart (relieved_if process) (controls_fewer process) f.processes)
+of_effect l f moment Tick number named taken =
+    ticked_apart (λ (g : Flat). option_map apart_from_controls (process_of g number) ≡ option_map apart_from_controls (process_of f number)) (λ g plans rows e. e) (with_moment f moment) refl
 of_effect l f moment step number named taken = refl
 
 -- an effect lists nobody
 pub none_effect : (l : Limits) (f : Flat) (moment : ℕ) (step : Step) (number : ℕ) → is_some (process_of f number) ≡ false → is_some (process_of (effect_of l (at_moment f moment step) step).flat number) ≡ false
 none_effect l f moment (Call caller asked append) number none = told_apart is_some (is_some-map apart_from_controls) number f.processes _ (of_call l (with_moment f moment) caller asked append).processes ∙ none
-none_effect l f moment LaunchTaken number none = none_changed number (first_wanted f.wanted) (taken_if (first_wanted f.wanted)) f.processes (takes (first_wanted f.wanted)) ∙ none
+none_effect l f moment LaunchTaken number none =
+    found_keeps (λ (rows : List Process). is_some (find (has number) rows) ≡ false) (λ process. map (taken_if process)) (first_wanted f.wanted) f.processes none
+    (λ one is. none_changed number one (taken_if one) f.processes (takes one) ∙ none)
 none_effect l f moment (Launched process pid) number none = none_changed number process (launched_if process pid) f.processes (launches process pid) ∙ none
 none_effect l f moment (LaunchFailed process code) number none = none_filter (has number) (λ (row : Process). not (row.number == process)) f.processes none
 none_effect l f moment (Ended process) number none = none_filter (has number) (λ (row : Process). not (row.number == process)) f.processes none
 none_effect l f moment (ControlTaken process) number none = told_apart is_some (is_some-map apart_from_controls) number f.processes _ (controls_apart (relieved_if process) (controls_fewer process) f.processes) ∙ none
+none_effect l f moment Tick number none = ticked_apart (λ (g : Flat). is_some (process_of g number) ≡ false) (λ g plans rows q. q) (with_moment f moment) none
 none_effect l f moment step number none = none
 
 -- ## Settling

@@ -1,5 +1,5 @@
 -- The shape of each answer.
-use Rattle.std.proofs.Common.{ℕ, ◌≡◌, ◌⊎◌, ◌∙◌, ◌==◌, true, false, cond, List, Option, None, Some, Ok, Err, refl, inl, inr}
+use Rattle.std.proofs.Common.{ℕ, ◌≡◌, ◌⊎◌, ◌∙◌, ◌==◌, true, false, cond, List, Option, None, Some, Ok, Err, refl, inl, inr, IsTrue, [], ◌∷◌}
 use Rattle.std.specs.Prelude.{is_some, unwrap_or}
 use Rattle.scm_model.specs.declared.codes.TheConstants.{ERROR_INVALID_DATA}
 use Rattle.scm_model.specs.declared.flat.Flat.{Flat}
@@ -13,23 +13,27 @@ use Rattle.scm_model.specs.declared.steps.Answer.{Answer}
 use Rattle.scm_model.specs.declared.steps.Answer.TheVariants as answer
 use Rattle.scm_model.specs.declared.steps.Kept.{Kept}
 use Rattle.scm_model.specs.declared.steps.Step.{Step}
-use Rattle.scm_model.specs.declared.steps.Step.TheVariants.{Call, EndStart, Report, Ended, ControlTaken}
+use Rattle.scm_model.specs.declared.steps.Step.TheVariants.{Call, EndStart, Report, Ended, ControlTaken, LaunchTaken}
 use Rattle.scm_model.specs.Changes.{with_moment}
 use Rattle.scm_model.specs.Outcomes.{Done}
 use Rattle.start_plan.specs.Decided.{code_of}
 use Rattle.start_plan.specs.Settle.{settled}
 use Rattle.status_machine.specs.Moves.{takes}
-use Rattle.scm_rules.specs.Controls.{controls_of, first_control}
+use Rattle.scm_rules.specs.Controls.{controls_of, first_control, control_sent, waits}
 use Rattle.scm_rules.specs.Ends.{end_told}
 use Rattle.scm_rules.specs.Reports.{current_of, report_answer, report_told}
 use Rattle.scm_rules.specs.Start.{start_done, start_verdict}
-use Rattle.scm_rules.specs.Steps.{answered_by, at_moment, effect_of, finished, step_of}
+use Rattle.scm_rules.specs.Steps.{answered_by, at_moment, effect_of, finished, step_of, may}
 use Rattle.scm_rules.specs.Verdicts.{call_of, done_of, told_refused, verdict}
-use Rattle.scm_laws.proofs.Along.{Gives}
-use Rattle.scm_laws.proofs.Calls.{by_verdict}
-use Rattle.scm_laws.proofs.Lists.{is_some-find}
-use Rattle.scm_laws.proofs.Sound.{Sound}
-use Rattle.scm_history.specs.Shapes.{HasShape, IsAnswered, IsReplied, LawOfShapes, has_current, is_reply_to}
+use Rattle.scm_runs.proofs.Along.{Gives}
+use Rattle.scm_runs.proofs.Calls.{by_verdict}
+use Rattle.scm_runs.proofs.Lists.{is_some-find}
+use Rattle.scm_runs.proofs.Sound.{Sound}
+use Rattle.scm_history.specs.Shapes.{HasShape, IsAnswered, IsReplied, LawOfShapes, has_current, is_reply_to, IsControl}
+use Rattle.scm_runs.proofs.Founds.{launch_is}
+use Rattle.scm_runs.proofs.Processes.{first_of}
+use Rattle.scm_rules.specs.Launches.{first_wanted}
+use Rattle.std.proofs.lemmas.Bool.{and_parts}
 
 -- ## Replies
 
@@ -120,17 +124,24 @@ of_end g (Some row) = record { stale = λ e. absurd cc; done = λ e. refl }
 same_current : (f : Flat) (process : ℕ) → is_some (current_of f process) ≡ has_current f process
 same_current f process = is_some-find (λ (row : Service). row.process == process) f.services
 
-of_step : (l : Limits) (f : Flat) (moment : ℕ) (step : Step) → HasShape f step (step_of l f moment step).answer
-of_step l f moment (Call caller asked append) = of_call l f moment caller asked append
-of_step l f moment (EndStart caller plan) = record { code = unwrap_or (code_of f.plans plan) 0; is = refl }
-of_step l f moment (Report process status) =
+of_control : (g : Flat) (codes : List ℕ) → waits codes ≡ true → IsControl (finished g (control_sent (first_control codes))).answer
+of_control g [] some = absurd cc
+of_control g (code ∷ codes) some = record { code = code; is = refl }
+
+of_step : (l : Limits) (f : Flat) (moment : ℕ) (step : Step) → IsTrue (may l f moment step) → HasShape f step (step_of l f moment step).answer
+of_step l f moment (Call caller asked append) ok = of_call l f moment caller asked append
+of_step l f moment (EndStart caller plan) ok = record { code = unwrap_or (code_of f.plans plan) 0; is = refl }
+of_step l f moment (Report process status) ok =
     let told = of_report (settled l (effect_of l (at_moment f moment (Report process status)) (Report process status)).flat) (current_of f process) status in
     record { stale = λ e. told.stale (same_current f process ∙ e); heard = λ e. told.heard (same_current f process ∙ e) }
-of_step l f moment (Ended process) =
+of_step l f moment (Ended process) ok =
     let told = of_end (settled l (effect_of l (at_moment f moment (Ended process)) (Ended process)).flat) (current_of f process) in
     record { stale = λ e. told.stale (same_current f process ∙ e); done = λ e. told.done (same_current f process ∙ e) }
-of_step l f moment (ControlTaken process) = record { code = first_control (controls_of f process); is = refl }
-of_step l f moment step = refl
+of_step l f moment LaunchTaken ok =
+    let first = first_of f.wanted (and_parts _ _ ok).0 in
+    record { process = first.number; first = first.is; is = launch_is (settled l (effect_of l (at_moment f moment LaunchTaken) LaunchTaken).flat) (first_wanted f.wanted) first.number first.is }
+of_step l f moment (ControlTaken process) ok = of_control (settled l (effect_of l (at_moment f moment (ControlTaken process)) (ControlTaken process)).flat) (controls_of f process) (and_parts _ _ ok).0
+of_step l f moment step ok = refl
 
 pub gives : (l : Limits) → Gives Sound LawOfShapes l
-gives l f e s ok = of_step l f e.0 e.1
+gives l f e s ok = of_step l f e.0 e.1 ok

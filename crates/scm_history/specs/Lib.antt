@@ -12,3 +12,4 @@ pub mod Begun
 pub mod Shapes
 pub mod Owned
 pub mod Kept
+pub mod Once

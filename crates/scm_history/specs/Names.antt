@@ -6,7 +6,7 @@ use Rattle.scm_model.specs.declared.steps.Answer.{Answer}
 use Rattle.scm_model.specs.declared.steps.Step.{Step}
 use Rattle.scm_model.specs.declared.steps.Step.TheVariants.{Launched, LaunchFailed}
 use Rattle.scm_model.specs.Rows.{is_caller}
-use Rattle.scm_rules.specs.Launches.{is_running, is_taken, process_of}
+use Rattle.scm_rules.specs.Launches.{is_launched, is_taken, process_of}
 use Rattle.scm_model.specs.Entries.{Entry}
 use Rattle.scm_rules.specs.Named.{caller_named, process_named}
 
@@ -15,7 +15,7 @@ use Rattle.scm_rules.specs.Named.{caller_named, process_named}
 abbrev pub has_come_to : Step → Option Process → Bool
 has_come_to (Launched process pid) row = is_taken row
 has_come_to (LaunchFailed process code) row = is_taken row
-has_come_to step row = is_running row
+has_come_to step row = is_launched row
 
 -- the caller that an entry names is in the state before it, and the process that it names is listed there, and in hand or launched as the
 -- entry wants

@@ -18,27 +18,27 @@ pub record Made : Type 0 where
   pub entry : Entry
   pub told : Answer
 
-abbrev pub made : Entry → Answer → Made
-made e told = record { entry = e; told = told }
+abbrev pub made_of : Entry → Answer → Made
+made_of e told = record { entry = e; told = told }
 
 -- whether a step makes or names a caller, or takes in hand or names a process, in the state before it
-abbrev pub is_of : Flat → Name → Step → Bool
-is_of f (names.Caller caller) step = names_caller caller step || makes_caller f caller step
-is_of f (names.Process process) step = names_process process step || takes_process f process step
+abbrev pub is_by_name : Flat → Name → Step → Bool
+is_by_name f (names.Caller caller) step = names_caller caller step || makes_caller f caller step
+is_by_name f (names.Process process) step = names_process process step || takes_process f process step
 
 -- the entries of a name. Its law says all that is to be known of it, so nobody need open it
 unfoldable pub own : Limits → Flat → Name → List Entry → List Made
 own l f name [] = []
 own l f name (e ∷ es) =
     let step = step_of l f e.0 e.1 in
-    if is_of f name e.1 then made e step.answer ∷ own l step.flat name es else own l step.flat name es
+    if is_by_name f name e.1 then made_of e step.answer ∷ own l step.flat name es else own l step.flat name es
 
 -- one entry more is one more where it is of the name, and else changes nothing; a caller's are those that its history has
 pub record LawOfOwn (l : Limits) (f : Flat) : Type 0 where
   pub none : (name : Name) → own l f name [] ≡ []
-  pub more : (name : Name) (es : List Entry) (e : Entry) (told : Answer) → is_of (state l f es) name e.1 ≡ true
-      → answer l f (es ++ e ∷ []) (length es) ≡ Some told → own l f name (es ++ e ∷ []) ≡ own l f name es ++ made e told ∷ []
-  pub quiet : (name : Name) (es : List Entry) (e : Entry) → is_of (state l f es) name e.1 ≡ false → own l f name (es ++ e ∷ []) ≡ own l f name es
+  pub more : (name : Name) (es : List Entry) (e : Entry) (told : Answer) → is_by_name (state l f es) name e.1 ≡ true
+      → answer l f (es ++ e ∷ []) (length es) ≡ Some told → own l f name (es ++ e ∷ []) ≡ own l f name es ++ made_of e told ∷ []
+  pub quiet : (name : Name) (es : List Entry) (e : Entry) → is_by_name (state l f es) name e.1 ≡ false → own l f name (es ++ e ∷ []) ≡ own l f name es
   pub callers : (caller : ℕ) (es : List Entry) → map (λ (one : Made). one.entry) (own l f (names.Caller caller) es) ≡ of_caller l f caller es
 
 -- whether a step is the last of a name: a caller goes, a process ends or could not be launched

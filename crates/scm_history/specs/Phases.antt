@@ -28,10 +28,15 @@ pub record RunsOn (before after : Flat) (number : ℕ) : Type 0 where
   pub phase : phase_of after number ≡ Some phases.Launched
   pub same : process_of after number ≡ process_of before number
 
+-- a process that was found is in hand
+abbrev pub IsInHand : Flat → Option ℕ → Type 0
+IsInHand f None = ⊥
+IsInHand f (Some number) = phase_of f number ≡ Some phases.Taken
+
 -- a process is in hand once its launch is taken, runs once it was launched and as long as it reports, and isn't listed once its launch failed
 -- or it has ended
 abbrev pub LeavesSo : Flat → Step → Flat → Type 0
-LeavesSo before LaunchTaken after = phase_of after (first_wanted before.wanted) ≡ Some phases.Taken
+LeavesSo before LaunchTaken after = IsInHand after (first_wanted before.wanted)
 LeavesSo before (Launched process pid) after = RunsAs after process pid
 LeavesSo before (Report process status) after = RunsOn before after process
 LeavesSo before (LaunchFailed process code) after = process_of after process ≡ None

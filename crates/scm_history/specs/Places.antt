@@ -16,8 +16,8 @@ takes_away number (Ended process) = number == process
 takes_away number step = false
 
 -- the numbers of processes, in the order of the list
-abbrev pub numbers_of : List Process → List ℕ
-numbers_of rows = map (λ (row : Process). row.number) rows
+abbrev pub process_numbers : List Process → List ℕ
+process_numbers rows = map (λ (row : Process). row.number) rows
 
 -- those that don't leave with a step
 abbrev pub those_that_stay : Step → List Process → List Process
@@ -34,6 +34,6 @@ pub record PlacesStay (before : Flat) (e : Entry) (told : Answer) (after : Flat)
   pub old : List Process
   pub new : List Process
   pub listed : after.processes ≡ old ++ new
-  pub places : numbers_of old ≡ numbers_of (those_that_stay e.1 before.processes)
+  pub places : process_numbers old ≡ process_numbers (those_that_stay e.1 before.processes)
   pub others : those_not_meant before e.1 old ≡ those_not_meant before e.1 before.processes
   pub given : All (λ (row : Process). before.next.process ≤ row.number) new

@@ -5,7 +5,7 @@ use Rattle.scm_model.specs.declared.flat.Plan.{Plan}
 use Rattle.scm_model.specs.declared.steps.Answer.{Answer}
 use Rattle.scm_model.specs.declared.steps.Step.{Step}
 use Rattle.scm_model.specs.declared.steps.Step.TheVariants.{EndStart}
-use Rattle.start_plan.specs.Decided.{caller_of, plan_of}
+use Rattle.start_plan.specs.Decided.{plan_caller, plan_of}
 use Rattle.scm_model.specs.Entries.{Entry}
 use Rattle.scm_history.specs.Callers.{takes_leave}
 
@@ -19,7 +19,7 @@ target_of plans number = option_map (λ (plan : Plan). plan.target) (plan_of pla
 
 -- a plan is there, and has this caller and this target
 pub record IsPlanOf (f : Flat) (number caller target : ℕ) : Type 0 where
-  pub callers : caller_of f.plans number ≡ Some caller
+  pub callers : plan_caller f.plans number ≡ Some caller
   pub aims : target_of f.plans number ≡ Some target
 
 -- a plan of a caller stays with its caller and its target, unless this is its EndStart or its caller's Gone

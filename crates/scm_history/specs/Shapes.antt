@@ -1,5 +1,5 @@
 -- The shape of each answer.
-use Rattle.std.specs.Prelude.{ℕ, Bool, ◌≡◌, ◌⊎◌, ◌==◌, true, false}
+use Rattle.std.specs.Prelude.{ℕ, Bool, ◌≡◌, ◌⊎◌, ◌==◌, true, false, Some}
 use Rattle.std.specs.List.{list_any}
 use Rattle.scm_model.specs.declared.codes.TheConstants.{ERROR_INVALID_DATA}
 use Rattle.scm_model.specs.declared.flat.Flat.{Flat}
@@ -37,9 +37,9 @@ abbrev pub is_tag : Reply → Bool
 is_tag (reply.Tag tag code) = true
 is_tag told = false
 
-abbrev pub is_shown : Reply → Bool
-is_shown (reply.Shown config needed code) = true
-is_shown told = false
+abbrev pub is_config_reply : Reply → Bool
+is_config_reply (reply.Shown config needed code) = true
+is_config_reply told = false
 
 abbrev pub is_lock_state : Reply → Bool
 is_lock_state (reply.LockState held owner seconds needed code) = true
@@ -62,7 +62,7 @@ is_reply_to (request.Change change) told = is_tag told
 is_reply_to (request.Create new) told = is_made told
 is_reply_to (request.OpenManager database access) told = is_handle told
 is_reply_to (request.OpenService handle name access) told = is_handle told
-is_reply_to (request.QueryConfig handle size) told = is_shown told
+is_reply_to (request.QueryConfig handle size) told = is_config_reply told
 is_reply_to (request.QueryLock handle size) told = is_lock_state told
 is_reply_to (request.Start handle words) told = is_code told
 is_reply_to (request.DisplayName handle name size) told = is_name told
@@ -105,11 +105,17 @@ pub record IsControl (told : Answer) : Type 0 where
   pub code : ℕ
   pub is : told ≡ answer.Control code
 
+-- the process of the launch that was wanted first
+pub record IsFirstLaunch (before : Flat) (told : Answer) : Type 0 where
+  pub process : ℕ
+  pub first : first_wanted before.wanted ≡ Some process
+  pub is : told ≡ answer.Launch process
+
 abbrev pub HasShape : Flat → Step → Answer → Type 0
 HasShape before (Joined principal) told = told ≡ answer.Caller before.next.caller
 HasShape before (Call caller asked append) told = IsAnswered before asked told
 HasShape before (EndStart caller plan) told = IsEnded told
-HasShape before LaunchTaken told = told ≡ answer.Launch (first_wanted before.wanted)
+HasShape before LaunchTaken told = IsFirstLaunch before told
 HasShape before (Report process status) told = IsStaleOrHeard before process told
 HasShape before (Ended process) told = IsStaleOrDone before process told
 HasShape before (ControlTaken process) told = IsControl told

@@ -8,6 +8,7 @@ ghost use Rattle.scm_history.specs.Kept.{LawOfKept};
 ghost use Rattle.scm_history.specs.Made.{EachStandsBehind};
 ghost use Rattle.scm_history.specs.Names.{NamesWhoIsThere};
 ghost use Rattle.scm_history.specs.Numbers.{AreMadeOnce};
+ghost use Rattle.scm_history.specs.Once.{AllAreGivenOnce, NoneIsGivenAgain};
 ghost use Rattle.scm_history.specs.Own.{EachBeginsWithJoined};
 ghost use Rattle.scm_history.specs.Owned.{LastsOnce, LawOfOwn};
 ghost use Rattle.scm_history.specs.Phases.{LawOfPhases};
@@ -15,7 +16,7 @@ ghost use Rattle.scm_history.specs.Places.{PlacesStay};
 ghost use Rattle.scm_history.specs.Plans.{EachEndsOnce, PlansAreTheirCallers};
 ghost use Rattle.scm_history.specs.Processes.{OthersStay};
 ghost use Rattle.scm_history.specs.Shapes.{LawOfShapes};
-ghost use Rattle.scm_laws.specs.Histories.{EachEntry};
+ghost use Rattle.scm_runs.specs.Histories.{EachEntry};
 ghost use Rattle.scm_rules.specs.Histories.{Legal};
 ghost use Rattle.scm_rules.specs.Opening.{IsOpening};
 ghost use Rattle.scm_rules.specs.Runs.{EachStep, IsLegal};
@@ -56,6 +57,17 @@ pub fn numbers_are_made_once(limits: &Limits, steps: &Items<(u64, Step)>, openin
     requires begins { IsOpening limits.now opening.now }
     requires legal { IsLegal limits.now opening.now steps.now }
     ensures { EachStep AreMadeOnce limits.now opening.now steps.now }
+{}
+
+/// No number is given again, of whatever kind: one that an entry takes away never comes back.
+/// Behind each step the numbers of services, handles, registrations and rows that become due are
+/// below the next ones, which never fall, and each row stood before, or has a number that was not
+/// given before.
+pub fn numbers_are_never_given_again(limits: &Limits, steps: &Items<(u64, Step)>, opening: &Flat)
+    requires begins { IsOpening limits.now opening.now }
+    requires legal { IsLegal limits.now opening.now steps.now }
+    ensures each_step { EachStep AllAreGivenOnce limits.now opening.now steps.now }
+    ensures for_good { NoneIsGivenAgain limits.now opening.now steps.now }
 {}
 
 /// Each entry that names a caller stands behind the Joined that made it, each that names a process

@@ -1,73 +1,89 @@
-//! Laws of the service manager, over every run.
+//! The laws of the service manager, over every run, whatever the limits.
 #![tactic(auto)]
 
-ghost use Rattle.std.specs.Prelude.{All};
-ghost use Rattle.scm_laws.specs.Handles.{LawOfHandles};
-ghost use Rattle.scm_laws.specs.Histories.{LawOfAnswers, LawOfStates};
-ghost use Rattle.scm_laws.specs.Leaving.{LawOfLeaving};
-ghost use Rattle.scm_laws.specs.Plans.{LawOfPlans};
-ghost use Rattle.scm_laws.specs.Sizes.{IsToldWhole};
-ghost use Rattle.scm_laws.specs.Starts.{LawOfStarts};
-ghost use Rattle.scm_rules.specs.Histories.{state};
+ghost use Rattle.scm_moves.specs.Controls.{LawOfControls};
+ghost use Rattle.scm_moves.specs.Moves.{LawOfMoves};
+ghost use Rattle.scm_moves.specs.Stale.{LawOfStale};
+ghost use Rattle.scm_replies.specs.Replies.{LawOfReplies};
 ghost use Rattle.scm_rules.specs.Opening.{IsOpening};
 ghost use Rattle.scm_rules.specs.Runs.{EachStep, IsLegal};
-ghost use Rattle.scm_rules.specs.Valid.{IsValid};
+ghost use Rattle.scm_runs.specs.Creation.{LawOfCreation};
+ghost use Rattle.scm_runs.specs.Entering.{LawOfEntering};
+ghost use Rattle.scm_runs.specs.Handles.{LawOfHandles};
+ghost use Rattle.scm_runs.specs.Leaving.{LawOfLeaving};
+ghost use Rattle.scm_runs.specs.Plans.{LawOfPlans};
+ghost use Rattle.scm_runs.specs.Starts.{LawOfStarts};
 
 use scm_model::{Flat, Limits, Step};
+use scm_moves::{law_of_controls, law_of_moves};
+use scm_replies::law_of_replies;
+use scm_runs::{law_of_handles, law_of_leaving, law_of_plans, law_of_starts};
 use scm_text::Items;
 
-/// The law of states: every state that a run ends in is valid, whatever the limits.
-pub fn law_of_states(limits: &Limits, steps: &Items<(u64, Step)>, opening: &Flat)
+/// Of moves: a service's state changes only as its current process reports or ends, or as it is
+/// started where it is STOPPED; what a process tells that is no service's current one is stale.
+pub fn law_1(limits: &Limits, steps: &Items<(u64, Step)>, opening: &Flat)
     requires begins { IsOpening limits.now opening.now }
     requires legal { IsLegal limits.now opening.now steps.now }
-    ensures { IsValid limits.now (state limits.now opening.now steps.now) }
-{}
+    ensures moves { EachStep (LawOfMoves limits.now) limits.now opening.now steps.now }
+    ensures stale { EachStep LawOfStale limits.now opening.now steps.now }
+{
+    law_of_moves(limits, steps, opening)
+}
 
-/// The law of sizes: in every state that a run ends in, the sizes that are told of configurations
-/// and names are those of their texts: no text is so long that a `u32` would not hold its size.
-pub fn law_of_sizes(limits: &Limits, steps: &Items<(u64, Step)>, opening: &Flat)
-    requires begins { IsOpening limits.now opening.now }
-    requires legal { IsLegal limits.now opening.now steps.now }
-    ensures { All IsToldWhole (state limits.now opening.now steps.now).services }
-{}
-
-/// The law of starts: in each step a service gets a process that none had before only where all
-/// that it needs is up, it is neither marked nor disabled, and the lock is free: it is
-/// START_PENDING then. Every other process is one that its service had before.
+/// Of starts: a service gets a new process only where all that it needs is up and nothing is in its
+/// way.
 pub fn law_2(limits: &Limits, steps: &Items<(u64, Step)>, opening: &Flat)
     requires begins { IsOpening limits.now opening.now }
     requires legal { IsLegal limits.now opening.now steps.now }
     ensures { EachStep (LawOfStarts limits.now) limits.now opening.now steps.now }
-{}
+{
+    law_of_starts(limits, steps, opening)
+}
 
-/// The law of leaving: in each step those services leave that are marked, STOPPED and named by no
-/// handle, and nobody else; none is left then.
+/// Of controls: what a Control is told, and which controls wait for a process.
+pub fn law_3(limits: &Limits, steps: &Items<(u64, Step)>, opening: &Flat)
+    requires begins { IsOpening limits.now opening.now }
+    requires legal { IsLegal limits.now opening.now steps.now }
+    ensures { EachStep (LawOfControls limits.now) limits.now opening.now steps.now }
+{
+    law_of_controls(limits, steps, opening)
+}
+
+/// Of leaving: which services a step adds, which leave with it, and that all others stay.
 pub fn law_4(limits: &Limits, steps: &Items<(u64, Step)>, opening: &Flat)
     requires begins { IsOpening limits.now opening.now }
     requires legal { IsLegal limits.now opening.now steps.now }
-    ensures { EachStep (LawOfLeaving limits.now) limits.now opening.now steps.now }
-{}
+    ensures leaving { EachStep (LawOfLeaving limits.now) limits.now opening.now steps.now }
+    ensures created { EachStep LawOfCreation limits.now opening.now steps.now }
+{
+    law_of_leaving(limits, steps, opening)
+}
 
-/// The law of handles: each number of a handle is given once, each mask has only rights of its
-/// caller's principal, and a caller that is gone has nothing: where the lock is held then, a handle
-/// of another caller holds it.
+/// Of handles: their numbers and their rights, and that nothing is left of a caller that is gone.
 pub fn law_5(limits: &Limits, steps: &Items<(u64, Step)>, opening: &Flat)
     requires begins { IsOpening limits.now opening.now }
     requires legal { IsLegal limits.now opening.now steps.now }
     ensures { EachStep (LawOfHandles limits.now) limits.now opening.now steps.now }
-{}
+{
+    law_of_handles(limits, steps, opening)
+}
 
-/// The law of plans: after each step the needs have no cycle, and no plan has tried a service
-/// twice; a plan has its caller and its target for good, and what it has tried stays tried.
+/// Of replies: the code of each, and that a refused call changes nothing.
+pub fn law_6(limits: &Limits, steps: &Items<(u64, Step)>, opening: &Flat)
+    requires begins { IsOpening limits.now opening.now }
+    requires legal { IsLegal limits.now opening.now steps.now }
+    ensures { EachStep (LawOfReplies limits.now) limits.now opening.now steps.now }
+{
+    law_of_replies(limits, steps, opening)
+}
+
+/// Of plans and needs: needs have no cycle, and no plan enters a service twice.
 pub fn law_7(limits: &Limits, steps: &Items<(u64, Step)>, opening: &Flat)
     requires begins { IsOpening limits.now opening.now }
     requires legal { IsLegal limits.now opening.now steps.now }
-    ensures { EachStep (LawOfPlans limits.now) limits.now opening.now steps.now }
-{}
-
-/// The law of histories: the state that a history ends in and what its entries are told, in terms
-/// of the step, from any state: so neither need be opened.
-pub fn law_of_histories(limits: &Limits, first: &Flat)
-    ensures states { LawOfStates limits.now first.now }
-    ensures answers { LawOfAnswers limits.now first.now }
-{}
+    ensures plans { EachStep (LawOfPlans limits.now) limits.now opening.now steps.now }
+    ensures entered { EachStep LawOfEntering limits.now opening.now steps.now }
+{
+    law_of_plans(limits, steps, opening)
+}

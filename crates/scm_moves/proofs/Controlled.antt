@@ -19,36 +19,39 @@ use Rattle.scm_model.specs.declared.steps.Step.{Step}
 use Rattle.scm_model.specs.declared.steps.Step.TheVariants.{Call, ControlTaken, Ended, LaunchFailed}
 use Rattle.scm_model.specs.Changes.{with_moment}
 use Rattle.scm_model.specs.Purge.{purged}
-use Rattle.scm_model.specs.Rows.{handle_of, opened, opened_at, opened_by, service_of}
+use Rattle.scm_model.specs.Rows.{handle_of, opened, opened_at, opened_by, service_of, held_service}
 use Rattle.start_plan.specs.Settle.{settled}
-use Rattle.scm_rules.specs.Controls.{active_among, control_done, control_told, control_verdict, controlled_if, controlled_service, controls_in, controls_of, first_control, granted_in, waiting_for, waits, with_control, with_control_taken}
+use Rattle.scm_rules.specs.Controls.{active_among, control_done, control_told, control_verdict, controlled_if, controls_in, controls_of, first_control, granted_in, waiting_for, waits, with_control, with_control_taken, control_sent, controlled_in}
 use Rattle.scm_rules.specs.Launches.{process_of}
-use Rattle.scm_rules.specs.Query.{service_in, status_in}
-use Rattle.scm_rules.specs.Reports.{process_in}
+use Rattle.scm_rules.specs.Query.{status_in}
 use Rattle.scm_model.specs.Entries.{Entry}
-use Rattle.scm_rules.specs.Steps.{may, step_of}
+use Rattle.scm_rules.specs.Steps.{may, step_of, finished}
 use Rattle.scm_rules.specs.Valid.{HasListed, IsValid, has_process}
-use Rattle.scm_laws.proofs.Calls.{by_verdict}
-use Rattle.scm_laws.proofs.Lists.{found_has}
-use Rattle.scm_moves.specs.Controls.{FirstIsTaken, IsControlled, IsNeededStill, LawOfControls, OfControls, OneMoreWaits, changes_controls, shown_at}
+use Rattle.scm_runs.proofs.Calls.{by_verdict}
+use Rattle.scm_runs.proofs.Lists.{found_has}
+use Rattle.scm_moves.specs.Controls.{FirstIsTaken, IsControlled, IsNeededStill, LawOfControls, OfControls, OneMoreWaits, changes_controls, status_shown, OneMoreWaitsFor}
 use Rattle.scm_moves.proofs.Judged.{IsTaken, held, holds_up, is_taken}
 use Rattle.scm_moves.proofs.Known.{Holds, IsBelow, IsOfOne, Known, holds}
 use Rattle.scm_moves.proofs.Needed.{needed_same}
 use Rattle.scm_moves.proofs.Still.{stays_put}
-use Rattle.scm_moves.proofs.Waiting.{controlled, controlled_others, ended_none, found, others_wait, relieved, waiting_settled}
+use Rattle.scm_moves.proofs.Waiting.{controlled, controlled_others, ended_none, found, others_wait, relieved, waiting_settled, waiting_after}
 use Rattle.std.proofs.lemmas.Bool.{and_parts}
+use Rattle.scm_model.proofs.Found.{found_keeps}
+use Rattle.scm_runs.specs.Leaving.{is_process_of}
+use Rattle.scm_model.specs.declared.flat.Opened.{Opened}
+use Rattle.scm_rules.proofs.Held.{held_is}
 
 -- ## Who gets a control
 
 opened_kind : (services : List Service) (kind : HandleKind) (granted : ℕ) → IsOfOne services kind → is_none (granted_in (opened_at kind granted)) ≡ false
-    → is_some (find (λ (row : Service). row.number == service_in (opened_at kind granted)) services) ≡ true
+    → is_some (option_and_then (λ (of : Opened). find (λ (row : Service). row.number == of.service) services) (opened_at kind granted)) ≡ true
 opened_kind services kinds.Manager granted is some = absurd cc
 opened_kind services (kinds.Service number) granted is some = is
 opened_kind services kinds.Lock granted is some = absurd cc
 opened_kind services (kinds.Notify number) granted is some = absurd cc
 
 opened_one : (f : Flat) (caller handle : ℕ) (row : Option HandleRow) → Known f → handle_of f caller handle ≡ row → is_none (granted_in (option_and_then opened_by row)) ≡ false
-    → is_some (service_of f (service_in (option_and_then opened_by row))) ≡ true
+    → is_some (option_and_then (λ (of : Opened). service_of f of.service) (option_and_then opened_by row)) ≡ true
 opened_one f caller handle None known e some = absurd cc
 opened_one f caller handle (Some row) known e some =
     opened_kind f.services row.kind row.granted (found_has (λ (r : HandleRow). IsOfOne f.services r.kind) (λ (r : HandleRow). r.caller == caller && r.number == handle) row f.handles known.opened e) some
@@ -74,47 +77,58 @@ has_one f row same runs listed =
     not_zero : (n : ℕ) → (n == 0) ≡ false → 1 ≤ n
     not_zero n e = grind (arith, nat_tests)
 
-running : (l : Limits) (f : Flat) (number : ℕ) (row : Option Service) → IsValid l f → service_of f number ≡ row → is_some row ≡ true → ((status_in row).state == 1) ≡ false → IsRunning f (process_in row)
-running l f number None v e some runs = absurd cc
-running l f number (Some row) v e some runs =
-    has_one f row (found_has (λ (r : Service). (r.status.state == 1) ≡ (r.process == 0)) (λ (r : Service). r.number == number) row f.services v.stopped e) runs
-    (found_has (HasListed f.processes) (λ (r : Service). r.number == number) row f.services v.current e)
+running : (l : Limits) (f : Flat) (row : Service) → IsValid l f → service_of f row.number ≡ Some row → (row.status.state == 1) ≡ false → IsRunning f row.process
+running l f row v e runs =
+    has_one f row (found_has (λ (r : Service). (r.status.state == 1) ≡ (r.process == 0)) (λ (r : Service). r.number == row.number) row f.services v.stopped e) runs
+    (found_has (HasListed f.processes) (λ (r : Service). r.number == row.number) row f.services v.current e)
 
 -- ## A Control that is taken
 
 fewer_wait : (limit waiting : ℕ) → nat_le limit waiting ≡ false → nat_lt waiting limit ≡ true
 fewer_wait limit waiting e = grind (arith, nat_tests)
 
-one_more : (l : Limits) (f : Flat) (moment caller handle control : ℕ) → IsValid l f → Known f → control_verdict l f caller handle control ≡ 0
-    → OneMoreWaits f (purged (settled l (with_control l (with_moment f moment) (process_in (controlled_service f caller handle)) control))) (process_in (controlled_service f caller handle)) control
-one_more l f moment caller handle control v known e =
-    let service = controlled_service f caller handle in
-    let process = process_in service in
-    let is : IsTaken (granted_in (opened f caller handle)) (status_in service) (waiting_for f service) l.controls =
-    is_taken (granted_in (opened f caller handle)) control (status_in service) (active_among f.services service) (waiting_for f service) l.controls e in
-    let runs = running l f (service_in (opened f caller handle)) service v refl (opened_one f caller handle (handle_of f caller handle) known refl is.opened) is.runs in
+given : (l : Limits) (f : Flat) (caller handle control : ℕ) → control_verdict l f caller handle control ≡ 0
+    → IsTaken (granted_in (opened f caller handle)) (status_in (held_service f caller handle)) (waiting_for f (held_service f caller handle)) l.controls
+given l f caller handle control e =
+    let service = held_service f caller handle in
+    is_taken (granted_in (opened f caller handle)) control (status_in service) (active_among f.services service) (waiting_for f service) l.controls e
+
+one_more : (l : Limits) (f : Flat) (moment caller handle control : ℕ) (service : Option Service) → IsValid l f → Known f → held_service f caller handle ≡ service → control_verdict l f caller handle control ≡ 0
+    → OneMoreWaitsFor f (purged (settled l (record (with_moment f moment) { processes = controlled_in l control service f.processes }))) service control
+one_more l f moment caller handle control None v known at e =
+    let some : is_some (held_service f caller handle) ≡ true = opened_one f caller handle (handle_of f caller handle) known refl (given l f caller handle control e).opened in
+    absurd (let none = ap (λ (o : Option Service). is_some o) at in let no : false ≡ true = sym none ∙ some in cc)
+one_more l f moment caller handle control (Some row) v known at e =
+    let process = row.process in
+    let is : IsTaken (granted_in (opened f caller handle)) row.status (waiting_for f (Some row)) l.controls =
+    subst (λ (o : Option Service). IsTaken (granted_in (opened f caller handle)) (status_in o) (waiting_for f o) l.controls) at (given l f caller handle control e) in
+    let runs = running l f row v (held_is f caller handle row at) is.runs in
     record {
       there = runs.there;
-      waits = waiting_settled l (with_control l (with_moment f moment) process control) process ∙ controlled l.controls process control f.processes runs.listed (fewer_wait l.controls (waiting_for f service) is.few);
+      waits = waiting_settled l (with_control l (with_moment f moment) process control) process ∙ controlled l.controls process control f.processes runs.listed (fewer_wait l.controls (waiting_for f (Some row)) is.few);
       others = λ number other. waiting_settled l (with_control l (with_moment f moment) process control) number ∙ controlled_others l.controls process control number f.processes other;
     }
 
 -- ## The answer
 
-shown_zero : (f : Flat) (caller handle code : ℕ) → (code == 0) ≡ false → control_told f caller handle code ≡ reply.State (shown_at code (controlled_service f caller handle)) code
+shown_zero : (f : Flat) (caller handle code : ℕ) → (code == 0) ≡ false → control_told f caller handle code ≡ reply.State (status_shown code (held_service f caller handle)) code
 shown_zero f caller handle code e = rw e refl
 
 still_needed : (l : Limits) (f : Flat) (caller handle control : ℕ) → control_verdict l f caller handle control ≡ 1051 → IsNeededStill f caller handle control
 still_needed l f caller handle control e =
-    let service = controlled_service f caller handle in
+    let service = held_service f caller handle in
     let is = held (granted_in (opened f caller handle)) control (status_in service) (active_among f.services service) (waiting_for f service) l.controls e in
     record { stop = is.stop; taken = is.taken; needed = sym (needed_same f service) ∙ is.needed }
 
 needed_still : (l : Limits) (f : Flat) (caller handle control : ℕ) → IsNeededStill f caller handle control → control_verdict l f caller handle control ≡ 1051
 needed_still l f caller handle control is =
-    let service = controlled_service f caller handle in
+    let service = held_service f caller handle in
     holds_up (granted_in (opened f caller handle)) control (status_in service) (active_among f.services service) (waiting_for f service) l.controls
     (record { stop = is.stop; taken = is.taken; needed = needed_same f service ∙ is.needed })
+
+as_many : (l : Limits) (control : ℕ) (service : Option Service) (rows : List Process) → length (controlled_in l control service rows) ≡ length rows
+as_many l control service rows =
+    found_keeps (λ (more : List Process). length more ≡ length rows) (λ (row : Service). map (controlled_if l.controls row.process control)) service rows refl (λ row is. length-map rows (controlled_if l.controls row.process control))
 
 controlled_call : (l : Limits) (f : Flat) (moment caller handle control : ℕ) (append : Kept) → IsValid l f → Known f
     → IsControlled l f caller handle control (step_of l f moment (Call caller (request.Control handle control) append)).answer (step_of l f moment (Call caller (request.Control handle control) append)).flat
@@ -126,10 +140,10 @@ controlled_call l f moment caller handle control append v known =
       code = 0;
       verdict = sym e;
       answers = refl;
-      taken = λ same. one_more l f moment caller handle control v known e;
+      taken = λ same. one_more l f moment caller handle control (held_service f caller handle) v known refl e;
       refused = λ other. absurd cc;
-      services = stays_put l f (map (controlled_if l.controls (process_in (controlled_service f caller handle)) control) f.processes) f.wanted (max f.moment moment) v
-          (let long = length-map f.processes (controlled_if l.controls (process_in (controlled_service f caller handle)) control) in omega arith);
+      services = stays_put l f (controlled_in l control (held_service f caller handle) f.processes) f.wanted (max f.moment moment) v
+          (let long = as_many l control (held_service f caller handle) f.processes in omega (arith, long));
       needed = (λ h. absurd cc, λ is. sym e ∙ needed_still l f caller handle control is);
     })
     (λ e. record {
@@ -144,16 +158,13 @@ controlled_call l f moment caller handle control append v known =
 
 -- ## A control that is taken in hand
 
-first_left : (codes left : List ℕ) → nat_lt 0 (length codes) ≡ true → left ≡ drop 1 codes → codes ≡ first_control codes ∷ left
-first_left [] left some e = absurd cc
-first_left (code ∷ codes) left some e = ap (λ rest. code ∷ rest) (sym e)
+taken_by : (f g after : Flat) (process : ℕ) (codes : List ℕ) → controls_of f process ≡ codes → waits codes ≡ true → controls_of after process ≡ drop 1 codes → FirstIsTaken f process (finished g (control_sent (first_control codes))).answer after
+taken_by f g after process [] e some left = absurd cc
+taken_by f g after process (code ∷ codes) e some left = record { code = code; answers = refl; first = e ∙ ap (λ rest. code ∷ rest) (sym left) }
 
 taken_first : (l : Limits) (f : Flat) (moment process : ℕ) → waits (controls_of f process) ≡ true → FirstIsTaken f process (step_of l f moment (ControlTaken process)).answer (step_of l f moment (ControlTaken process)).flat
-taken_first l f moment process some = record {
-  code = first_control (controls_of f process);
-  answers = refl;
-  first = first_left (controls_of f process) _ some (waiting_settled l (with_control_taken (with_moment f moment) process) process ∙ relieved process f.processes);
-}
+taken_first l f moment process some =
+    taken_by f (settled l (with_control_taken (with_moment f moment) process)) _ process (controls_of f process) refl some (waiting_after l f moment (ControlTaken process) process ∙ relieved process f.processes)
 
 of_controls : (l : Limits) (f : Flat) (moment : ℕ) (step : Step) → IsValid l f → Known f → IsTrue (may l f moment step) → OfControls l f step (step_of l f moment step).answer (step_of l f moment step).flat
 of_controls l f moment (Call caller (request.Control handle control) append) v known ok = controlled_call l f moment caller handle control append v known
@@ -171,20 +182,23 @@ unlisted next number (row ∷ rows) below up =
     rw other (unlisted next number rows (All-tail (λ (r : Process). r.number < next) row rows below) up)
 
 -- a control that is taken waits for a process whose number was given
-given_before : (l : Limits) (f : Flat) (number of : ℕ) (row : Option Service) → Holds f → service_of f of ≡ row → 1 ≤ process_in row → process_in row ≡ number → f.next.process ≤ number → ⊥
-given_before l f number of None h e first same up = absurd (omega arith)
-given_before l f number of (Some row) h e first same up =
-    elim (found_has (IsBelow f.next.process) (λ (r : Service). r.number == of) row f.services h.own.below e) as (λ _. ⊥) [
+given_before : (f : Flat) (number : ℕ) (row : Service) → Holds f → service_of f row.number ≡ Some row → 1 ≤ row.process → row.process ≡ number → f.next.process ≤ number → ⊥
+given_before f number row h e first same up =
+    elim (found_has (IsBelow f.next.process) (λ (r : Service). r.number == row.number) row f.services h.own.below e) as (λ _. ⊥) [
       | inl none ↦ absurd (omega (arith, none, first))
       | inr below ↦ absurd (omega (arith, below, same, up))
     ]
 
-fresh_control : (l : Limits) (f : Flat) (moment caller handle control number : ℕ) (append : Kept) → IsValid l f → Known f → process_in (controlled_service f caller handle) ≡ number → f.next.process ≤ number
+fresh_control : (l : Limits) (f : Flat) (moment caller handle control number : ℕ) (append : Kept) (service : Option Service) → IsValid l f → Known f → held_service f caller handle ≡ service
+    → is_process_of service number ≡ true → f.next.process ≤ number
     → controls_of (step_of l f moment (Call caller (request.Control handle control) append)).flat number ≡ []
-fresh_control l f moment caller handle control number append v known same up =
+fresh_control l f moment caller handle control number append None v known at same up = absurd cc
+fresh_control l f moment caller handle control number append (Some row) v known at same up =
     let is = controlled_call l f moment caller handle control append v known in
     elim (is.code == 0) as (λ b. (is.code == 0) ≡ b → controls_of (step_of l f moment (Call caller (request.Control handle control) append)).flat number ≡ []) [
-      | true ↦ λ e. absurd (given_before l f number (service_in (opened f caller handle)) (controlled_service f caller handle) (holds l f v known) refl (is.taken (eqb-true is.code 0 e)).there same up)
+      | true ↦ λ e. absurd (let more : OneMoreWaits f (step_of l f moment (Call caller (request.Control handle control) append)).flat row.process control =
+          subst (λ (o : Option Service). OneMoreWaitsFor f (step_of l f moment (Call caller (request.Control handle control) append)).flat o control) at (is.taken (eqb-true is.code 0 e)) in
+          given_before f number row (holds l f v known) (held_is f caller handle row at) more.there (sym (eqb-true number row.process same)) up)
       | false ↦ λ e. is.refused e number ∙ unlisted f.next.process number f.processes v.processes.below up
     ] refl
 
@@ -194,7 +208,7 @@ none_taken code codes left none some = absurd cc
 fresh_changed : (l : Limits) (f : Flat) (moment : ℕ) (step : Step) (number : ℕ) → IsValid l f → Known f → IsTrue (may l f moment step) → changes_controls f step number ≡ true → f.next.process ≤ number
     → controls_of (step_of l f moment step).flat number ≡ []
 fresh_changed l f moment (Call caller (request.Control handle control) append) number v known ok changed up =
-    fresh_control l f moment caller handle control number append v known (eqb-true (process_in (controlled_service f caller handle)) number changed) up
+    fresh_control l f moment caller handle control number append (held_service f caller handle) v known refl changed up
 fresh_changed l f moment (ControlTaken process) number v known ok changed up =
     let first = taken_first l f moment process (and_parts _ _ ok).0 in
     let is = eqb-true process number changed in

@@ -4,7 +4,7 @@ use Rattle.std.specs.List.{AllZip}
 use Rattle.scm_model.specs.declared.flat.Flat.{Flat}
 use Rattle.scm_model.specs.declared.flat.Limits.{Limits}
 use Rattle.scm_model.specs.declared.flat.Service.{Service}
-use Rattle.start_plan.specs.Entered.{started, started_if}
+use Rattle.start_plan.specs.Entered.{starting_in, started_if}
 use Rattle.start_plan.specs.Settle.{settled}
 use Rattle.start_plan.proofs.Enterings.{all_units}
 use Rattle.start_plan.proofs.Keeps.{Keeps, keeps_all}
@@ -12,7 +12,7 @@ use Rattle.start_plan.proofs.Rows.{started_or}
 
 pub record IsEntered (next : ℕ) (before after : Service) : Type 0 where
   pub stopped : before.status.state ≡ 1
-  pub entered : after ≡ started after.process before
+  pub entered : after ≡ starting_in after.process before
   pub process : next ≤ after.process
 
 abbrev pub IsSettled : ℕ → Service → Service → Type 0
@@ -21,7 +21,7 @@ IsSettled next before after = (after ≡ before) ⊎ IsEntered next before after
 one_settled : (next n process : ℕ) (before after : Service) → next ≤ process → IsSettled next before after → IsSettled next before (started_if n process after)
 one_settled next n process before after up (inl same) =
     started_or (IsSettled next before) n process after
-    (λ stopped. inr (record { stopped = ap (λ (r : Service). r.status.state) (sym same) ∙ stopped; entered = ap (started process) same; process = up })) (inl same)
+    (λ stopped. inr (record { stopped = ap (λ (r : Service). r.status.state) (sym same) ∙ stopped; entered = ap (starting_in process) same; process = up })) (inl same)
 one_settled next n process before after up (inr is) =
     started_or (IsSettled next before) n process after
     (λ stopped. absurd (let pending : after.status.state ≡ 2 = ap (λ (r : Service). r.status.state) is.entered in omega arith)) (inr is)

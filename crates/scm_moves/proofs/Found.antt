@@ -1,7 +1,7 @@
 -- Rows that are found by their numbers.
 use Rattle.std.proofs.Common.{ℕ, ◌≡◌, ◌∙◌, ◌==◌, Bool, true, false, cond, List, [], ◌∷◌, ◌++◌, Some, find, map, ap, refl}
 use Rattle.std.specs.Prelude.{is_some}
-use Rattle.scm_laws.proofs.Lists.{same_some}
+use Rattle.scm_runs.proofs.Lists.{same_some}
 
 -- a map that changes no number finds the same
 pub found_mapped : {X : Type 0} (number : X → ℕ) (g : X → X) (n : ℕ) → ((x : X) → number (g x) ≡ number x) → (xs : List X) → is_some (find (λ x. number x == n) (map g xs)) ≡ is_some (find (λ x. number x == n) xs)

@@ -20,30 +20,33 @@ use Rattle.scm_model.specs.declared.steps.Answer.{Answer}
 use Rattle.scm_model.specs.declared.steps.Answer.TheVariants as answer
 use Rattle.scm_model.specs.declared.steps.Kept.{Kept}
 use Rattle.scm_model.specs.declared.steps.Step.{Step}
-use Rattle.scm_model.specs.declared.steps.Step.TheVariants.{Call, LaunchFailed, Report, Ended, Gone}
-use Rattle.scm_model.specs.Changes.{configured_if, marked_if, with_moment}
+use Rattle.scm_model.specs.declared.steps.Step.TheVariants.{Call, LaunchFailed, Report, Ended, Gone, Tick}
+use Rattle.scm_model.specs.Changes.{configured_if, marked_if, with_moment, with_config}
 use Rattle.scm_model.specs.Purge.{leaves}
-use Rattle.scm_model.specs.Rows.{is_of, named}
+use Rattle.scm_model.specs.Rows.{is_of_service, named, held_service}
 use Rattle.start_plan.specs.Decided.{code_of}
-use Rattle.start_plan.specs.Entered.{started, started_if}
+use Rattle.start_plan.specs.Entered.{starting_in, started_if}
 use Rattle.start_plan.specs.Settle.{settled}
 use Rattle.start_plan.proofs.Enterings.{all_units}
 use Rattle.start_plan.proofs.Keeps.{Keeps, keeps_all}
 use Rattle.start_plan.proofs.Rows.{same_number, started_or}
 use Rattle.status_machine.specs.Moves.{take_end, take_report}
-use Rattle.scm_rules.specs.Change.{asked_config, with_new_config}
 use Rattle.scm_rules.specs.Launches.{fallen_if}
-use Rattle.scm_rules.specs.OpenService.{number_in, open_service_refusals}
+use Rattle.scm_rules.specs.OpenService.{open_service_refusals}
 use Rattle.scm_rules.specs.Reports.{moved_by, reported_if}
 use Rattle.scm_rules.specs.Steps.{at_moment, effect_of, finished, finished_step, left_by, step_of}
 use Rattle.scm_rules.specs.Valid.{HasListed, IsValid, has_process}
 use Rattle.scm_rules.specs.Verdicts.{call_of, done_of, told_refused, verdict}
-use Rattle.scm_laws.proofs.Calls.{all_pass, by_verdict}
-use Rattle.scm_laws.proofs.Lists.{any_at, find_filter, pairs_map, find_new}
+use Rattle.scm_runs.proofs.Calls.{all_pass, by_verdict}
+use Rattle.scm_runs.proofs.Lists.{any_at, find_filter, pairs_map, find_new}
 use Rattle.scm_moves.proofs.Found.{found_mapped, found_more, found_too}
 use Rattle.scm_moves.proofs.Own.{AreRising, fallen_number, reported_number}
 use Rattle.std.proofs.lemmas.Bool.{and_parts}
-use Rattle.scm_laws.proofs.Configured.{number_kept}
+use Rattle.scm_runs.proofs.Configured.{number_kept}
+use Rattle.scm_model.proofs.Found.{found_keeps}
+use Rattle.scm_runs.proofs.Founds.{opened_keeps, started_keeps}
+use Rattle.scm_rules.specs.Change.{new_config}
+use Rattle.scm_rules.proofs.Dues.{ticked_apart}
 
 -- two services have no process in common
 abbrev pub AreApart : Service → Service → Type 0
@@ -166,9 +169,8 @@ configures_plainly number config = record {
 
 -- ## Calls
 
-holds_change : (f : Flat) (number : ℕ) (config : Option Config) → Holds f → Holds (with_new_config f number config)
-holds_change f number None h = h
-holds_change f number (Some config) h = record {
+holds_change : (f : Flat) (number : ℕ) (config : Config) → Holds f → Holds (with_config f number config)
+holds_change f number config h = record {
   own = own_mapped f.next.process (configured_if number config) f.services (configures_plainly number config) h.own;
   opened = opened_mapped (configured_if number config) f.services f.handles (number_kept number config) h.opened;
 }
@@ -192,9 +194,8 @@ own_pushed next number rows row own below is none = record {
 }
 
 -- the service that a handle is given of is there
-named_one : (f : Flat) (name : List ℕ) (found : Option Service) → named f name ≡ found → is_none found ≡ false → is_some (find (λ (row : Service). row.number == number_in found) f.services) ≡ true
-named_one f name None e some = absurd cc
-named_one f name (Some row) e some = found_too _ (λ (r : Service). r.number == row.number) row f.services e (eq-eqb row.number row.number refl)
+named_one : (f : Flat) (name : List ℕ) (row : Service) → named f name ≡ Some row → is_some (find (λ (one : Service). one.number == row.number) f.services) ≡ true
+named_one f name row e = found_too _ (λ (r : Service). r.number == row.number) row f.services e (eq-eqb row.number row.number refl)
 
 holds_done : (l : Limits) (f : Flat) (caller : ℕ) (asked : Request) (append : Kept) → All (λ (row : Service). row.number < f.next.service) f.services → Holds f → verdict l f caller asked append ≡ 0 → Holds (done_of l f caller asked).flat
 holds_done l f caller (request.Close handle) append below h e = record { own = h.own; opened = All-filter _ (λ (row : HandleRow). IsOfOne f.services row.kind) f.handles h.opened }
@@ -202,21 +203,27 @@ holds_done l f caller (request.Unlock handle) append below h e = record { own = 
 holds_done l f caller (request.Lock handle) append below h e = record { own = h.own; opened = All-push (λ (row : HandleRow). IsOfOne f.services row.kind) f.handles _ h.opened tt }
 holds_done l f caller (request.OpenManager database access) append below h e = record { own = h.own; opened = All-push (λ (row : HandleRow). IsOfOne f.services row.kind) f.handles _ h.opened tt }
 holds_done l f caller (request.OpenService handle name access) append below h e =
-    let p = all_pass (open_service_refusals l f caller handle name access) (refl, (refl, (refl, (refl, (refl, tt))))) e in
-    record { own = h.own; opened = All-push (λ (row : HandleRow). IsOfOne f.services row.kind) f.handles _ h.opened (named_one f name (named f name) refl p.1.1.0) }
+    opened_keeps Holds f caller name access h (λ row is. record { own = h.own; opened = All-push (λ (row : HandleRow). IsOfOne f.services row.kind) f.handles _ h.opened (named_one f name row is) })
 holds_done l f caller (request.Create new) append below h e = record {
   own = own_pushed f.next.process f.next.service f.services _ h.own below refl refl;
   opened = opened_added f.services f.handles _ _ refl h.opened;
 }
-holds_done l f caller (request.Delete handle) append below h e = record {
-  own = own_mapped f.next.process (marked_if _) f.services (record { number = λ row. refl; process = λ row. inl refl }) h.own;
-  opened = opened_mapped (marked_if _) f.services f.handles (λ row. refl) h.opened;
-}
-holds_done l f caller (request.SetStatus handle report) append below h e = record {
-  own = own_mapped f.next.process (reported_if _ report) f.services (reports_plainly _ report) h.own;
-  opened = opened_mapped (reported_if _ report) f.services f.handles (reported_number _ report) h.opened;
-}
-holds_done l f caller (request.Change change) append below h e = holds_change f _ (asked_config f caller change) h
+holds_done l f caller (request.Delete handle) append below h e =
+    found_keeps (λ (rows : List Service). Holds (record f { services = rows })) (λ (one : Service). map (marked_if one.number)) (held_service f caller handle) f.services h
+    (λ one is. record {
+      own = own_mapped f.next.process (marked_if one.number) f.services (record { number = λ row. refl; process = λ row. inl refl }) h.own;
+      opened = opened_mapped (marked_if one.number) f.services f.handles (λ row. refl) h.opened;
+    })
+holds_done l f caller (request.SetStatus handle report) append below h e =
+    found_keeps (λ (rows : List Service). Holds (record f { services = rows })) (λ (one : Service). map (reported_if one.process report)) (held_service f caller handle) f.services h
+    (λ one is. record {
+      own = own_mapped f.next.process (reported_if one.process report) f.services (reports_plainly one.process report) h.own;
+      opened = opened_mapped (reported_if one.process report) f.services f.handles (reported_number one.process report) h.opened;
+    })
+holds_done l f caller (request.Change change) append below h e =
+    found_keeps (λ (rows : List Service). Holds (record f { services = rows })) (λ (one : Service). map (configured_if one.number (new_config f change one))) (held_service f caller change.handle) f.services h
+    (λ one is. holds_change f one.number (new_config f change one) h)
+holds_done l f caller (request.Start handle words) append below h e = started_keeps Holds f caller handle words h (λ row is. record { own = h.own; opened = h.opened })
 holds_done l f caller asked append below h e = record { own = h.own; opened = h.opened }
 
 holds_call : (l : Limits) (f : Flat) (caller : ℕ) (asked : Request) (append : Kept) → All (λ (row : Service). row.number < f.next.service) f.services → Holds f → Holds (call_of l f caller asked append).flat
@@ -241,6 +248,7 @@ holds_effect l f moment (Report process report) below h = record {
   opened = opened_mapped (reported_if process report) f.services f.handles (reported_number process report) h.opened;
 }
 holds_effect l f moment (Gone caller) below h = record { own = h.own; opened = All-filter _ (λ (row : HandleRow). IsOfOne f.services row.kind) f.handles h.opened }
+holds_effect l f moment Tick below h = ticked_apart Holds (λ g plans rows q. record { own = q.own; opened = q.opened }) (with_moment f moment) (record { own = h.own; opened = h.opened })
 holds_effect l f moment step below h = record { own = h.own; opened = h.opened }
 
 -- ## Settling
@@ -265,8 +273,8 @@ second_started process a (inr below) e = absurd (omega (arith, below, e))
 
 pair_started : (n process : ℕ) (a b : Service) → IsBelow process a → IsBelow process b → ArePair a b → AreApart (started_if n process a) (started_if n process b)
 pair_started n process a b p q pair =
-    elim (a.number == n && a.status.state == 1) as (λ x. (a.number == n && a.status.state == 1) ≡ x → AreApart (cond x (started process a) a) (started_if n process b)) [
-      | true ↦ λ e. elim (b.number == n && b.status.state == 1) as (λ y. (b.number == n && b.status.state == 1) ≡ y → AreApart (started process a) (cond y (started process b) b)) [
+    elim (a.number == n && a.status.state == 1) as (λ x. (a.number == n && a.status.state == 1) ≡ x → AreApart (cond x (starting_in process a) a) (started_if n process b)) [
+      | true ↦ λ e. elim (b.number == n && b.status.state == 1) as (λ y. (b.number == n && b.status.state == 1) ≡ y → AreApart (starting_in process a) (cond y (starting_in process b) b)) [
         | true ↦ λ h same. absurd (
             let here = eqb-true a.number n (and_parts (a.number == n) (a.status.state == 1) e).0 in
             let there = eqb-true b.number n (and_parts (b.number == n) (b.status.state == 1) h).0 in
@@ -274,7 +282,7 @@ pair_started n process a b p q pair =
             omega (arith, here, there, up))
         | false ↦ λ h same. first_started process b q same
       ] refl
-      | false ↦ λ e. elim (b.number == n && b.status.state == 1) as (λ y. AreApart a (cond y (started process b) b)) [
+      | false ↦ λ e. elim (b.number == n && b.status.state == 1) as (λ y. AreApart a (cond y (starting_in process b) b)) [
         | true ↦ λ same. second_started process a p same
         | false ↦ pair.apart
       ]
@@ -314,11 +322,11 @@ holds_finished : (g : Flat) (told : Answer) → Holds g → Holds (finished g to
 holds_finished g (answer.Begun plan) h = holds_left g plan (code_of g.plans plan) h
 holds_finished g told h = h
 
-stays_one : (handles : List HandleRow) (rows : List Service) (kind : HandleKind) → ((n : ℕ) → kind ≡ kinds.Service n → list_any (λ (handle : HandleRow). is_of n handle.kind) handles ≡ true)
+stays_one : (handles : List HandleRow) (rows : List Service) (kind : HandleKind) → ((n : ℕ) → kind ≡ kinds.Service n → list_any (λ (handle : HandleRow). is_of_service n handle.kind) handles ≡ true)
     → IsOfOne rows kind → IsOfOne (filter (λ (row : Service). not (leaves handles row)) rows) kind
 stays_one handles rows (kinds.Service n) there is =
     ap (λ (o : Option Service). is_some o) (find_filter (λ (row : Service). row.number == n) (λ (row : Service). not (leaves handles row))
-    (λ row e. stays_by row.marked (row.status.state == 1) _ (subst (λ m. list_any (λ (handle : HandleRow). is_of m handle.kind) handles ≡ true) (sym (eqb-true row.number n e)) (there n refl))) rows) ∙ is
+    (λ row e. stays_by row.marked (row.status.state == 1) _ (subst (λ m. list_any (λ (handle : HandleRow). is_of_service m handle.kind) handles ≡ true) (sym (eqb-true row.number n e)) (there n refl))) rows) ∙ is
   where
     stays_by : (m s h : Bool) → h ≡ true → not (m && s && not h) ≡ true
     stays_by true true true e = refl
@@ -327,8 +335,8 @@ stays_one handles rows (kinds.Service n) there is =
     stays_by false s h e = refl
 stays_one handles rows kind there is = tt
 
-of_itself : (n : ℕ) (kind : HandleKind) → kind ≡ kinds.Service n → is_of n kind ≡ true
-of_itself n kind e = subst (λ (k : HandleKind). is_of n k ≡ true) (sym e) (eq-eqb n n refl)
+of_itself : (n : ℕ) (kind : HandleKind) → kind ≡ kinds.Service n → is_of_service n kind ≡ true
+of_itself n kind e = subst (λ (k : HandleKind). is_of_service n k ≡ true) (sym e) (eq-eqb n n refl)
 
 pub known : (l : Limits) (f : Flat) (moment : ℕ) (step : Step) → IsValid l f → Known f → Known (step_of l f moment step).flat
 known l f moment step v was =
@@ -338,5 +346,5 @@ known l f moment step v was =
     record {
       apart = AllPairs-filter AreApart (λ (row : Service). not (leaves g.handles row)) g.services h.own.apart;
       opened = λ k d lt. stays_one g.handles g.services (get_or g.handles k d).kind
-          (λ n e. any_at (λ (handle : HandleRow). is_of n handle.kind) g.handles k d lt (of_itself n (get_or g.handles k d).kind e)) (h.opened k d lt);
+          (λ n e. any_at (λ (handle : HandleRow). is_of_service n handle.kind) g.handles k d lt (of_itself n (get_or g.handles k d).kind e)) (h.opened k d lt);
     }

@@ -10,3 +10,5 @@ pub mod Needed
 pub mod Judged
 pub mod Controlled
 pub mod Whole
+pub mod ToldStale
+mod Ticked

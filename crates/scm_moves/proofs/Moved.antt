@@ -14,7 +14,7 @@ use Rattle.start_plan.specs.Decided.{code_of}
 use Rattle.start_plan.specs.Settle.{settled}
 use Rattle.scm_rules.specs.Steps.{at_moment, effect_of, finished, finished_step, left_by, may, step_of}
 use Rattle.scm_rules.specs.Valid.{IsValid}
-use Rattle.scm_laws.proofs.Effects.{same_process}
+use Rattle.scm_runs.proofs.Effects.{same_process}
 use Rattle.scm_moves.specs.Moves.{HasMoved}
 use Rattle.scm_moves.proofs.Entered.{IsSettled, rows_settled}
 use Rattle.scm_moves.proofs.Own.{HasOwn, own_effect}

@@ -13,34 +13,27 @@ use Rattle.scm_model.specs.declared.calls.Request.{Request}
 use Rattle.scm_model.specs.declared.calls.Request.TheVariants as request
 use Rattle.scm_model.specs.declared.steps.Kept.{Kept}
 use Rattle.scm_model.specs.declared.steps.Step.{Step}
-use Rattle.scm_model.specs.declared.steps.Step.TheVariants.{Call, LaunchFailed, Report, Ended}
+use Rattle.scm_model.specs.declared.steps.Step.TheVariants.{Call, LaunchFailed, Report, Ended, Tick}
 use Rattle.scm_model.specs.Changes.{configured_if, marked_if, with_moment}
 use Rattle.status_machine.specs.Moves.{take_end, take_report, takes}
-use Rattle.scm_rules.specs.Change.{asked_config, with_new_config}
-use Rattle.scm_rules.specs.Launches.{fallen_if, is_running, is_taken, process_of}
-use Rattle.scm_rules.specs.Reports.{may_report, moved_by, process_in, reported_if, reporting_service, set_status_refusals, set_status_verdict}
+use Rattle.scm_rules.specs.Launches.{fallen_if, is_launched, is_taken, process_of}
+use Rattle.scm_rules.specs.Reports.{moved_by, reported_if, set_status_refusals, set_status_verdict}
 use Rattle.scm_rules.specs.Steps.{at_moment, effect_of, may}
 use Rattle.scm_rules.specs.Valid.{IsValid}
 use Rattle.scm_rules.specs.Verdicts.{call_of, done_of, told_refused, verdict}
-use Rattle.scm_laws.specs.Leaving.{reports}
-use Rattle.scm_laws.proofs.Calls.{all_pass, by_verdict}
-use Rattle.scm_laws.proofs.Lists.{found_has, found_passes}
+use Rattle.scm_runs.specs.Leaving.{reports, is_process_of}
+use Rattle.scm_runs.proofs.Calls.{all_pass, by_verdict, set_status_runs}
+use Rattle.scm_runs.proofs.Lists.{found_has, found_passes, alone}
 use Rattle.scm_moves.specs.Moves.{MovesItself, code_of_end, report_in}
 use Rattle.std.proofs.lemmas.Bool.{not-false, and_parts}
-use Rattle.scm_laws.proofs.Configured.{number_kept}
+use Rattle.scm_runs.proofs.Configured.{number_kept}
+use Rattle.scm_model.proofs.Found.{found_keeps}
+use Rattle.scm_runs.proofs.Founds.{opened_keeps, started_keeps}
+use Rattle.scm_model.specs.Rows.{held_service}
+use Rattle.scm_rules.specs.Change.{new_config}
+use Rattle.scm_rules.proofs.Dues.{ticked_apart}
 
 -- ## Rows
-
--- where numbers rise, no other row has a row's number
-pub alone : {X : Type 0} (number : X → ℕ) (rows : List X) → AllPairs (λ a b. number a < number b) rows → All (λ row. All (λ other. number other ≡ number row → other ≡ row) rows) rows
-alone number [] rising = All-nil (λ row. All (λ other. number other ≡ number row → other ≡ row) [])
-alone number (x ∷ xs) rising =
-    All-cons (λ row. All (λ other. number other ≡ number row → other ≡ row) (x ∷ xs)) x xs
-    (All-cons (λ other. number other ≡ number x → other ≡ x) x xs (λ e. refl)
-    (λ k d lt e. absurd (let up : number x < number (get_or xs k d) = rising 0 (suc k) d (omega arith) (omega arith) in omega arith)))
-    (λ k d lt. All-cons (λ other. number other ≡ number (get_or xs k d) → other ≡ get_or xs k d) x xs
-    (λ e. absurd (let up : number x < number (get_or xs k d) = rising 0 (suc k) d (omega arith) (omega arith) in omega arith))
-    (alone number xs (λ i j c lt within. rising (suc i) (suc j) c (omega arith) (omega arith)) k d lt))
 
 abbrev pub AreRising : List Service → Type 0
 AreRising rows = AllPairs (λ (a b : Service). a.number < b.number) rows
@@ -74,7 +67,7 @@ pub taken_first : (l : Limits) (f : Flat) (process : ℕ) (found : Option Proces
 taken_first l f process None v e taken = absurd cc
 taken_first l f process (Some row) v e taken = listed_first l f process row v e
 
-pub running_first : (l : Limits) (f : Flat) (process : ℕ) (found : Option Process) → IsValid l f → process_of f process ≡ found → is_running found ≡ true → 1 ≤ process
+pub running_first : (l : Limits) (f : Flat) (process : ℕ) (found : Option Process) → IsValid l f → process_of f process ≡ found → is_launched found ≡ true → 1 ≤ process
 running_first l f process None v e runs = absurd cc
 running_first l f process (Some row) v e runs = listed_first l f process row v e
 
@@ -130,27 +123,37 @@ own_configured : (f : Flat) (step : Step) (number : ℕ) (config : Config) (row 
 own_configured f step number config row =
     elim (row.number == number) as (λ b. MovesItself f step row (cond b (record row { config = config; status = record row.status { kind = config.kind } }) row).status) [ true ↦ inl refl | false ↦ inl refl ]
 
-own_change : (f : Flat) (step : Step) (moment number : ℕ) (config : Option Config) → AreRising f.services → All (HasOwn f step) (with_new_config (with_moment f moment) number config).services
-own_change f step moment number None rising = own_same f step rising
-own_change f step moment number (Some config) rising =
+own_change : (f : Flat) (step : Step) (number : ℕ) (config : Config) → AreRising f.services → All (HasOwn f step) (map (configured_if number config) f.services)
+own_change f step number config rising =
     own_mapped f step (configured_if number config) rising (number_kept number config) (λ k d lt. own_configured f step number config (get_or f.services k d))
 
 -- the service that may report has a process
-may_first : (l : Limits) (f : Flat) (found : Option Service) (report : Status) → IsValid l f → may_report f found report ≡ true → 1 ≤ process_in found
-may_first l f None report v e = absurd cc
-may_first l f (Some row) report v e = running_first l f row.process (process_of f row.process) v refl (and_parts (is_running (process_of f row.process)) (takes row.status report) e).0
-
-pub set_first : (l : Limits) (f : Flat) (moment caller handle : ℕ) (report : Status) → IsValid l f → set_status_verdict (with_moment f moment) caller handle report ≡ 0 → 1 ≤ process_in (reporting_service f caller handle)
-set_first l f moment caller handle report v e =
-    let p = all_pass (set_status_refusals (with_moment f moment) caller handle report) (refl, (refl, (refl, tt))) e in
-    may_first l f (reporting_service f caller handle) report v (not-false _ p.1.1.0)
+set_first : (l : Limits) (f : Flat) (moment caller handle : ℕ) (report : Status) (row : Service) → IsValid l f → held_service f caller handle ≡ Some row → set_status_verdict (with_moment f moment) caller handle report ≡ 0
+    → 1 ≤ row.process
+set_first l f moment caller handle report row v is e =
+    running_first l f row.process (process_of f row.process) v refl (set_status_runs (with_moment f moment) caller handle report row is e)
 
 own_done : (l : Limits) (f : Flat) (moment caller : ℕ) (asked : Request) (append : Kept) → IsValid l f → verdict l (with_moment f moment) caller asked append ≡ 0
     → All (HasOwn f (Call caller asked append)) (done_of l (with_moment f moment) caller asked).flat.services
-own_done l f moment caller (request.Delete handle) append v e = own_mapped f _ (marked_if _) v.services.rising (λ row. refl) (λ k d lt. inl refl)
+own_done l f moment caller (request.Delete handle) append v e =
+    let step = Call caller (request.Delete handle) append in
+    found_keeps (All (HasOwn f step)) (λ (row : Service). map (marked_if row.number)) (held_service f caller handle) f.services (own_same f step v.services.rising)
+    (λ one is. own_mapped f step (marked_if one.number) v.services.rising (λ row. refl) (λ k d lt. inl refl))
 own_done l f moment caller (request.SetStatus handle report) append v e =
-    own_reported f _ (process_in (reporting_service f caller handle)) report v.services.rising (set_first l f moment caller handle report v e) (λ row h. h) refl
-own_done l f moment caller (request.Change change) append v e = own_change f _ moment _ (asked_config (with_moment f moment) caller change) v.services.rising
+    let step = Call caller (request.SetStatus handle report) append in
+    found_keeps (All (HasOwn f step)) (λ (row : Service). map (reported_if row.process report)) (held_service f caller handle) f.services (own_same f step v.services.rising)
+    (λ one is. own_reported f step one.process report v.services.rising (set_first l f moment caller handle report one v is e) (λ row h. ap (λ found. is_process_of found row.process) is ∙ h) refl)
+own_done l f moment caller (request.Change change) append v e =
+    let step = Call caller (request.Change change) append in
+    let new = new_config (with_moment f moment) change in
+    found_keeps (All (HasOwn f step)) (λ (row : Service). map (configured_if row.number (new row))) (held_service f caller change.handle) f.services (own_same f step v.services.rising)
+    (λ one is. own_change f step one.number (new one) v.services.rising)
+own_done l f moment caller (request.OpenService handle name access) append v e =
+    let step = Call caller (request.OpenService handle name access) append in
+    opened_keeps (λ (g : Flat). All (HasOwn f step) g.services) (with_moment f moment) caller name access (own_same f step v.services.rising) (λ row is. own_same f step v.services.rising)
+own_done l f moment caller (request.Start handle words) append v e =
+    let step = Call caller (request.Start handle words) append in
+    started_keeps (λ (g : Flat). All (HasOwn f step) g.services) (with_moment f moment) caller handle words (own_same f step v.services.rising) (λ row is. own_same f step v.services.rising)
 own_done l f moment caller (request.Create new) append v e =
     All-push (HasOwn f _) f.services _ (own_same f _ v.services.rising) (λ k d lt same. absurd (let below = v.services.below k d lt in omega arith))
 own_done l f moment caller asked append v e = own_same f _ v.services.rising
@@ -176,4 +179,5 @@ own_effect l f moment (Ended process) v ok =
     own_fallen f _ process 1067 v.services.rising (running_first l f process (process_of f process) v refl (and_parts _ _ ok).0) (ends_with process 1067)
 own_effect l f moment (Report process report) v ok =
     own_reported f _ process report v.services.rising (running_first l f process (process_of f process) v refl (and_parts _ _ ok).0) (λ row h. h) refl
+own_effect l f moment Tick v ok = ticked_apart (λ (g : Flat). All (HasOwn f Tick) g.services) (λ g plans rows own. own) (with_moment f moment) (own_same f Tick v.services.rising)
 own_effect l f moment step v ok = own_same f _ v.services.rising

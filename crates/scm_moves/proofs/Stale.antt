@@ -14,25 +14,26 @@ use Rattle.scm_model.specs.declared.steps.Answer.{Answer}
 use Rattle.scm_model.specs.declared.steps.Answer.TheVariants as answer
 use Rattle.scm_model.specs.declared.steps.Kept.{Kept}
 use Rattle.scm_model.specs.declared.steps.Step.{Step}
-use Rattle.scm_model.specs.declared.steps.Step.TheVariants.{Call, Report, Ended}
+use Rattle.scm_model.specs.declared.steps.Step.TheVariants.{Call, Report, Ended, LaunchTaken, ControlTaken}
 use Rattle.scm_model.specs.Changes.{with_moment}
 use Rattle.scm_model.specs.Purge.{purged}
 use Rattle.start_plan.specs.Decided.{code_of}
 use Rattle.start_plan.specs.Settle.{settled}
 use Rattle.status_machine.specs.Moves.{take_report, takes}
-use Rattle.scm_rules.specs.Launches.{fallen_if, process_of, wanted_of_others, with_fallen, without_process}
+use Rattle.scm_rules.specs.Launches.{fallen_if, process_of, wanted_of_others, with_fallen, without_process, first_wanted, launch_told}
 use Rattle.scm_rules.specs.Reports.{current_of, moved_by, report_answer, report_told, reported_if, set_status_done, set_status_verdict, with_report}
 use Rattle.scm_rules.specs.Ends.{end_told}
-use Rattle.scm_rules.specs.Steps.{answer_of, answered_by, at_moment, effect_of, finished, may, step_of, tells_plan}
+use Rattle.scm_rules.specs.Steps.{call_answer, answered_by, at_moment, effect_of, finished, may, step_of, tells_plan}
 use Rattle.scm_rules.specs.Valid.{IsValid}
 use Rattle.scm_rules.specs.Verdicts.{verdict}
-use Rattle.scm_laws.proofs.Calls.{by_verdict}
-use Rattle.scm_laws.proofs.Lists.{none_found, filter_short, same_some}
+use Rattle.scm_runs.proofs.Calls.{by_verdict}
+use Rattle.scm_runs.proofs.Lists.{none_found, filter_short, same_some}
 use Rattle.scm_moves.specs.Moves.{is_called_report}
 use Rattle.scm_moves.proofs.Known.{AreApart, Known}
 use Rattle.scm_moves.proofs.Own.{running_first}
 use Rattle.scm_moves.proofs.Still.{stays_put}
 use Rattle.std.proofs.lemmas.Bool.{and_parts}
+use Rattle.scm_rules.specs.Controls.{control_sent, controls_of, first_control}
 
 -- ## Rows that stay
 
@@ -134,7 +135,7 @@ stale_end l f moment process (Some row) v e told = absurd cc
 -- ## Other steps
 
 -- whether an answer is one of a report or an end that moved nothing
-abbrev tells_off : Answer → Bool
+abbrev pub tells_off : Answer → Bool
 tells_off (answer.Refused code) = true
 tells_off answer.Stale = true
 tells_off told = false
@@ -147,12 +148,20 @@ finished_off : (g : Flat) (told : Answer) → tells_off told ≡ false → tells
 finished_off g (answer.Begun plan) e = answered_off plan (code_of g.plans plan)
 finished_off g told e = e
 
-call_off : (begins : Bool) (plan : ℕ) (told : Reply) → tells_off (answer_of begins plan told) ≡ false
+call_off : (begins : Bool) (plan : ℕ) (told : Reply) → tells_off (call_answer begins plan told) ≡ false
 call_off true plan told = refl
 call_off false plan told = refl
 
+launch_off : (found : Option ℕ) → tells_off (launch_told found) ≡ false
+launch_off None = refl
+launch_off (Some process) = refl
+
+control_off : (found : Option ℕ) → tells_off (control_sent found) ≡ false
+control_off None = refl
+control_off (Some code) = refl
+
 -- whether a step is a report or an end
-abbrev tells_of_process : Step → Bool
+abbrev pub tells_of_process : Step → Bool
 tells_of_process (Report process status) = true
 tells_of_process (Ended process) = true
 tells_of_process step = false
@@ -161,14 +170,16 @@ effect_off : (l : Limits) (f : Flat) (step : Step) → tells_of_process step ≡
 effect_off l f (Call caller asked append) e = call_off (tells_plan asked (verdict l f caller asked append)) f.next.plan _
 effect_off l f (Report process status) e = absurd cc
 effect_off l f (Ended process) e = absurd cc
+effect_off l f LaunchTaken e = launch_off (first_wanted f.wanted)
+effect_off l f (ControlTaken process) e = control_off (first_control (controls_of f process))
 effect_off l f step e = refl
 
-step_off : (l : Limits) (f : Flat) (moment : ℕ) (step : Step) → tells_of_process step ≡ false → tells_off (step_of l f moment step).answer ≡ false
+pub step_off : (l : Limits) (f : Flat) (moment : ℕ) (step : Step) → tells_of_process step ≡ false → tells_off (step_of l f moment step).answer ≡ false
 step_off l f moment step e =
     let done = effect_of l (at_moment f moment step) step in
     finished_off (settled l done.flat) done.answer (effect_off l (at_moment f moment step) step e)
 
-not_off : (b : Bool) → b ≡ true → b ≡ false → ⊥
+pub not_off : (b : Bool) → b ≡ true → b ≡ false → ⊥
 not_off true h e = cc
 not_off false h e = cc
 

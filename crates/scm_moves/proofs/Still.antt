@@ -17,7 +17,7 @@ use Rattle.start_plan.specs.Settle.{settled, tidied}
 use Rattle.start_plan.specs.declared.settling.Move.{Move}
 use Rattle.start_plan.specs.declared.settling.Move.TheVariants as moves
 use Rattle.scm_rules.specs.Valid.{IsValid}
-use Rattle.scm_laws.proofs.Rests.{Rests, settled_rest, RestsAt, all_still}
+use Rattle.scm_runs.proofs.Rests.{Rests, settled_rest, RestsAt, all_still}
 
 -- the state with other processes and other wanted launches, at another moment
 abbrev pub with_others : Flat → List Process → List Wanted → ℕ → Flat

@@ -1,5 +1,5 @@
 -- Which controls wait after a step.
-use Rattle.std.proofs.Common.{ℕ, ◌≡◌, ◌∙◌, ◌==◌, ◌&&◌, Bool, true, false, not, cond, List, [], ◌∷◌, ◌++◌, Option, None, Some, drop, filter, find, length, map, ap, sym, refl, subst, eq-eqb, eqb-true}
+use Rattle.std.proofs.Common.{ℕ, ◌≡◌, ◌∙◌, ◌==◌, ◌&&◌, Bool, true, false, not, cond, List, [], ◌∷◌, ◌++◌, Option, None, Some, drop, filter, find, length, map, ap, sym, refl, subst, eq-eqb, eqb-true, ne_eqb}
 use Rattle.std.specs.Prelude.{is_some, nat_lt}
 use Rattle.scm_model.specs.declared.flat.Config.{Config}
 use Rattle.scm_model.specs.declared.flat.Flat.{Flat}
@@ -12,22 +12,26 @@ use Rattle.scm_model.specs.declared.steps.Answer.{Answer}
 use Rattle.scm_model.specs.declared.steps.Answer.TheVariants as answer
 use Rattle.scm_model.specs.declared.steps.Kept.{Kept}
 use Rattle.scm_model.specs.declared.steps.Step.{Step}
-use Rattle.scm_model.specs.declared.steps.Step.TheVariants.{Call, LaunchTaken, Launched, LaunchFailed, Ended, ControlTaken}
+use Rattle.scm_model.specs.declared.steps.Step.TheVariants.{Call, LaunchTaken, Launched, LaunchFailed, Ended, ControlTaken, Tick}
 use Rattle.scm_model.specs.Changes.{with_moment}
 use Rattle.start_plan.specs.Decided.{code_of}
 use Rattle.start_plan.specs.Entered.{wanted_process}
 use Rattle.start_plan.specs.Settle.{settled}
 use Rattle.start_plan.proofs.Enterings.{all_units}
 use Rattle.start_plan.proofs.Keeps.{Keeps, keeps_all}
-use Rattle.scm_rules.specs.Change.{asked_config, with_new_config}
-use Rattle.scm_rules.specs.Controls.{controlled_if, controlled_service, controls_in, controls_of, relieved_if}
+use Rattle.scm_rules.specs.Controls.{controlled_if, controls_in, controls_of, relieved_if}
 use Rattle.scm_rules.specs.Launches.{first_wanted, launched_if, taken_if}
-use Rattle.scm_rules.specs.Reports.{process_in}
 use Rattle.scm_rules.specs.Steps.{at_moment, effect_of, finished, left_by, step_of}
 use Rattle.scm_rules.specs.Verdicts.{call_of, done_of, told_refused, verdict}
-use Rattle.scm_laws.proofs.Calls.{by_verdict}
-use Rattle.scm_laws.proofs.Lists.{find_filter}
-use Rattle.scm_moves.specs.Controls.{changes_controls, ends}
+use Rattle.scm_runs.proofs.Calls.{by_verdict}
+use Rattle.scm_runs.proofs.Lists.{find_filter}
+use Rattle.scm_moves.specs.Controls.{changes_controls, ends_process}
+use Rattle.scm_model.proofs.Found.{found_keeps}
+use Rattle.scm_runs.proofs.Founds.{opened_keeps, started_keeps}
+use Rattle.scm_model.specs.Rows.{held_service}
+use Rattle.scm_runs.specs.Leaving.{is_process_of}
+use Rattle.scm_model.specs.declared.flat.Service.{Service}
+use Rattle.scm_rules.proofs.Dues.{ticked_apart}
 
 -- the process with a number
 abbrev pub found : ℕ → List Process → Option Process
@@ -114,13 +118,19 @@ left_none process number (row ∷ rows) is =
 
 -- ## Effects
 
-waiting_configured : (f : Flat) (number of : ℕ) (config : Option Config) → controls_of (with_new_config f of config) number ≡ controls_of f number
-waiting_configured f number of None = refl
-waiting_configured f number of (Some config) = refl
+other_process : (a b : ℕ) → (b == a) ≡ false → (a == b) ≡ false
+other_process a b e = ne_eqb a b (λ same. absurd (let yes = eq-eqb b a (sym same) in cc))
+
+-- what waits for a process among these
+abbrev WaitsSo : ℕ → List Process → List Process → Type 0
+WaitsSo number before after = controls_in (found number after) ≡ controls_in (found number before)
 
 waiting_done : (l : Limits) (f : Flat) (caller : ℕ) (asked : Request) (append : Kept) (number : ℕ) → changes_controls f (Call caller asked append) number ≡ false → controls_of (done_of l f caller asked).flat number ≡ controls_of f number
-waiting_done l f caller (request.Control handle control) append number other = controlled_others l.controls (process_in (controlled_service f caller handle)) control number f.processes other
-waiting_done l f caller (request.Change change) append number other = waiting_configured f number _ (asked_config f caller change)
+waiting_done l f caller (request.Control handle control) append number other =
+    found_keeps (WaitsSo number f.processes) (λ (row : Service). map (controlled_if l.controls row.process control)) (held_service f caller handle) f.processes refl
+    (λ row is. controlled_others l.controls row.process control number f.processes (other_process row.process number (ap (λ one. is_process_of one number) (sym is) ∙ other)))
+waiting_done l f caller (request.OpenService handle name access) append number other = opened_keeps (λ (g : Flat). controls_of g number ≡ controls_of f number) f caller name access refl (λ row is. refl)
+waiting_done l f caller (request.Start handle words) append number other = started_keeps (λ (g : Flat). controls_of g number ≡ controls_of f number) f caller handle words refl (λ row is. refl)
 waiting_done l f caller asked append number other = refl
 
 waiting_call : (l : Limits) (f : Flat) (moment caller : ℕ) (asked : Request) (append : Kept) (number : ℕ) → changes_controls f (Call caller asked append) number ≡ false
@@ -145,14 +155,16 @@ some_is false code h = absurd cc
 
 waiting_effect : (l : Limits) (f : Flat) (moment : ℕ) (step : Step) (number : ℕ) → changes_controls f step number ≡ false → controls_of (effect_of l (at_moment f moment step) step).flat number ≡ controls_of f number
 waiting_effect l f moment (Call caller asked append) number other = waiting_call l f moment caller asked append number other
-waiting_effect l f moment LaunchTaken number other = taken_same (first_wanted f.wanted) number f.processes
+waiting_effect l f moment LaunchTaken number other =
+    found_keeps (WaitsSo number f.processes) (λ process. map (taken_if process)) (first_wanted f.wanted) f.processes refl (λ process is. taken_same process number f.processes)
 waiting_effect l f moment (Launched process pid) number other = launched_same process pid number f.processes
 waiting_effect l f moment (LaunchFailed process code) number other = left_others process number f.processes (some_not (process == number) code other)
 waiting_effect l f moment (Ended process) number other = left_others process number f.processes (some_not (process == number) 1067 other)
 waiting_effect l f moment (ControlTaken process) number other = relieved_others process number f.processes other
+waiting_effect l f moment Tick number other = ticked_apart (λ (g : Flat). controls_of g number ≡ controls_of f number) (λ g plans rows e. e) (with_moment f moment) refl
 waiting_effect l f moment step number other = refl
 
-ended_effect : (l : Limits) (f : Flat) (moment : ℕ) (step : Step) (number : ℕ) → ends step number ≡ true → controls_of (effect_of l (at_moment f moment step) step).flat number ≡ []
+ended_effect : (l : Limits) (f : Flat) (moment : ℕ) (step : Step) (number : ℕ) → ends_process step number ≡ true → controls_of (effect_of l (at_moment f moment step) step).flat number ≡ []
 ended_effect l f moment (LaunchFailed process code) number is = left_none process number f.processes (eqb-true process number (some_is (process == number) code is))
 ended_effect l f moment (Ended process) number is = left_none process number f.processes (eqb-true process number (some_is (process == number) 1067 is))
 ended_effect l f moment step number is = absurd cc
@@ -185,7 +197,7 @@ waiting_finished : (g : Flat) (told : Answer) (number : ℕ) → controls_of (fi
 waiting_finished g (answer.Begun plan) number = waiting_left g plan (code_of g.plans plan) number
 waiting_finished g told number = refl
 
-waiting_after : (l : Limits) (f : Flat) (moment : ℕ) (step : Step) (number : ℕ) → controls_of (step_of l f moment step).flat number ≡ controls_of (effect_of l (at_moment f moment step) step).flat number
+pub waiting_after : (l : Limits) (f : Flat) (moment : ℕ) (step : Step) (number : ℕ) → controls_of (step_of l f moment step).flat number ≡ controls_of (effect_of l (at_moment f moment step) step).flat number
 waiting_after l f moment step number =
     let done = effect_of l (at_moment f moment step) step in
     waiting_finished (settled l done.flat) done.answer number ∙ waiting_settled l done.flat number
@@ -193,5 +205,5 @@ waiting_after l f moment step number =
 pub others_wait : (l : Limits) (f : Flat) (moment : ℕ) (step : Step) (number : ℕ) → changes_controls f step number ≡ false → controls_of (step_of l f moment step).flat number ≡ controls_of f number
 others_wait l f moment step number other = waiting_after l f moment step number ∙ waiting_effect l f moment step number other
 
-pub ended_none : (l : Limits) (f : Flat) (moment : ℕ) (step : Step) (number : ℕ) → ends step number ≡ true → controls_of (step_of l f moment step).flat number ≡ []
+pub ended_none : (l : Limits) (f : Flat) (moment : ℕ) (step : Step) (number : ℕ) → ends_process step number ≡ true → controls_of (step_of l f moment step).flat number ≡ []
 ended_none l f moment step number is = waiting_after l f moment step number ∙ ended_effect l f moment step number is

@@ -6,9 +6,9 @@ use Rattle.scm_model.specs.declared.flat.Flat.{Flat}
 use Rattle.scm_model.specs.declared.flat.HandleRow.{HandleRow}
 use Rattle.scm_model.specs.declared.flat.Limits.{Limits}
 use Rattle.scm_rules.specs.Opening.{IsOpening, opening, services_from}
-use Rattle.scm_laws.proofs.Along.{Gives, Keeps}
-use Rattle.scm_laws.proofs.Opened.{pairs_opened}
-use Rattle.scm_laws.proofs.Clear.{Clear, clear_begun, clear_keeps, is_valid_clear}
+use Rattle.scm_runs.proofs.Along.{Gives, Keeps}
+use Rattle.scm_runs.proofs.Opened.{pairs_opened}
+use Rattle.scm_runs.proofs.Clear.{Clear, clear_begun, clear_keeps, is_valid_clear}
 use Rattle.scm_moves.specs.Controls.{LawOfControls}
 use Rattle.scm_moves.specs.Moves.{LawOfMoves}
 use Rattle.scm_moves.proofs.Controlled.{controls}

@@ -12,12 +12,12 @@ use Rattle.scm_model.specs.declared.steps.Answer.TheVariants as answer
 use Rattle.scm_model.specs.declared.steps.Step.{Step}
 use Rattle.scm_model.specs.declared.steps.Step.TheVariants.{Call, ControlTaken}
 use Rattle.scm_model.specs.Refused.{zero_status}
-use Rattle.scm_model.specs.Rows.{opened}
+use Rattle.scm_model.specs.Rows.{held_service, opened}
 use Rattle.control_dispatch.specs.Judging.{judge}
 use Rattle.dependency_index.specs.Naming.{is_named}
-use Rattle.scm_rules.specs.Controls.{control_verdict, controlled_service, controls_of, granted_in}
+use Rattle.scm_rules.specs.Controls.{control_verdict, controls_of, granted_in}
 use Rattle.scm_rules.specs.Query.{status_in}
-use Rattle.scm_rules.specs.Reports.{process_in}
+use Rattle.scm_runs.specs.Leaving.{is_process_of}
 use Rattle.scm_model.specs.Entries.{Entry}
 use Rattle.scm_model.specs.declared.codes.TheConstants.{ERROR_DEPENDENT_SERVICES_RUNNING, ERROR_INVALID_SERVICE_CONTROL, ERROR_SERVICE_CANNOT_ACCEPT_CTRL, ERROR_SERVICE_NOT_ACTIVE, SERVICE_CONTROL_STOP, SERVICE_STOPPED}
 use Rattle.scm_moves.specs.Moves.{code_of_end}
@@ -28,8 +28,8 @@ use Rattle.scm_moves.specs.Moves.{code_of_end}
 abbrev pub shows : ℕ → Bool
 shows code = code == 0 || code == ERROR_INVALID_SERVICE_CONTROL || code == ERROR_SERVICE_CANNOT_ACCEPT_CTRL || code == ERROR_SERVICE_NOT_ACTIVE
 
-abbrev pub shown_at : ℕ → Option Service → Status
-shown_at code service = if shows code then status_in service else zero_status
+abbrev pub status_shown : ℕ → Option Service → Status
+status_shown code service = if shows code then status_in service else zero_status
 
 -- ## Who needs a service that is to stop
 
@@ -45,8 +45,8 @@ is_needed_by_active f (Some target) = list_any (is_active_with target.config.nam
 -- a STOP that would be taken if nobody needed the service and nothing waited, of a service that somebody needs
 pub record IsNeededStill (f : Flat) (caller handle control : ℕ) : Type 0 where
   pub stop : control ≡ SERVICE_CONTROL_STOP
-  pub taken : judge (granted_in (opened f caller handle)) control (status_in (controlled_service f caller handle)) 0 0 1 ≡ 0
-  pub needed : is_needed_by_active f (controlled_service f caller handle) ≡ true
+  pub taken : judge (granted_in (opened f caller handle)) control (status_in (held_service f caller handle)) 0 0 1 ≡ 0
+  pub needed : is_needed_by_active f (held_service f caller handle) ≡ true
 
 -- ## The controls that wait
 
@@ -60,6 +60,11 @@ pub record OneMoreWaits (before after : Flat) (process control : ℕ) : Type 0 w
   pub waits : controls_of after process ≡ controls_of before process ++ control ∷ []
   pub others : (number : ℕ) → (process == number) ≡ false → controls_of after number ≡ controls_of before number
 
+-- the same of the process of a service that was found
+abbrev pub OneMoreWaitsFor : Flat → Flat → Option Service → ℕ → Type 0
+OneMoreWaitsFor before after None control = ⊥
+OneMoreWaitsFor before after (Some row) control = OneMoreWaits before after row.process control
+
 -- ## A Control, and a control that is taken in hand
 
 -- a Control is told its verdict in the state before, whatever the moment, and moves no service; where the verdict is 0 the control comes to
@@ -67,8 +72,8 @@ pub record OneMoreWaits (before after : Flat) (process control : ℕ) : Type 0 w
 pub record IsControlled (l : Limits) (before : Flat) (caller handle control : ℕ) (told : Answer) (after : Flat) : Type 0 where
   pub code : ℕ
   pub verdict : code ≡ control_verdict l before caller handle control
-  pub answers : told ≡ answer.Reply (reply.State (shown_at code (controlled_service before caller handle)) code)
-  pub taken : code ≡ 0 → OneMoreWaits before after (process_in (controlled_service before caller handle)) control
+  pub answers : told ≡ answer.Reply (reply.State (status_shown code (held_service before caller handle)) code)
+  pub taken : code ≡ 0 → OneMoreWaitsFor before after (held_service before caller handle) control
   pub refused : (code == 0) ≡ false → AllWaitAsBefore before after
   pub services : after.services ≡ before.services
   pub needed : (code ≡ ERROR_DEPENDENT_SERVICES_RUNNING) ↔ IsNeededStill before caller handle control
@@ -87,19 +92,19 @@ OfControls l before step told after = Unit {0}
 -- ## The law
 
 -- whether a step is the end of this process
-abbrev pub ends : Step → ℕ → Bool
-ends step process = is_some (code_of_end step process)
+abbrev pub ends_process : Step → ℕ → Bool
+ends_process step process = is_some (code_of_end step process)
 
 -- whether a step may change what waits for this process
 abbrev pub changes_controls : Flat → Step → ℕ → Bool
-changes_controls f (Call caller (request.Control handle control) append) number = process_in (controlled_service f caller handle) == number
+changes_controls f (Call caller (request.Control handle control) append) number = is_process_of (held_service f caller handle) number
 changes_controls f (ControlTaken process) number = process == number
-changes_controls f step number = ends step number
+changes_controls f step number = ends_process step number
 
 -- a Control puts a control behind those that wait, which are taken from the front; a process that ends has none, nor has one that is new,
 -- and no other step changes what waits
 pub record LawOfControls (l : Limits) (before : Flat) (e : Entry) (told : Answer) (after : Flat) : Type 0 where
   pub controls : OfControls l before e.1 told after
-  pub ended : (number : ℕ) → ends e.1 number ≡ true → controls_of after number ≡ []
+  pub ended : (number : ℕ) → ends_process e.1 number ≡ true → controls_of after number ≡ []
   pub fresh : (number : ℕ) → before.next.process ≤ number → controls_of after number ≡ []
   pub others : (number : ℕ) → changes_controls before e.1 number ≡ false → controls_of after number ≡ controls_of before number

@@ -1,2 +1,4 @@
 pub mod Moves
 pub mod Controls
+pub mod Stale
+pub mod Ticks

@@ -14,7 +14,7 @@ use Rattle.start_plan.specs.Entered.{starting}
 use Rattle.status_machine.specs.Moves.{take_end, takes}
 use Rattle.scm_model.specs.Entries.{Entry}
 use Rattle.scm_model.specs.declared.codes.TheConstants.{ERROR_INVALID_DATA, ERROR_PROCESS_ABORTED, SERVICE_STOPPED}
-use Rattle.scm_laws.specs.Leaving.{reports}
+use Rattle.scm_runs.specs.Leaving.{reports}
 
 -- the status that a step reports
 abbrev pub report_in : Step → Option Status

@@ -3,6 +3,8 @@
 
 ghost use Rattle.scm_moves.specs.Controls.{LawOfControls};
 ghost use Rattle.scm_moves.specs.Moves.{LawOfMoves};
+ghost use Rattle.scm_moves.specs.Stale.{LawOfStale};
+ghost use Rattle.scm_moves.specs.Ticks.{LawOfTicks};
 ghost use Rattle.scm_rules.specs.Opening.{IsOpening};
 ghost use Rattle.scm_rules.specs.Runs.{EachStep, IsLegal};
 
@@ -12,12 +14,14 @@ use scm_text::Items;
 /// The law of moves: in each step a service's status stays as it is but for its type, or its
 /// current process reports another one that the table allows from there, or that process ends and
 /// the service is STOPPED; then it may be entered where it is STOPPED, by a process that none had
-/// before. A stale step changes no service, and a report that is refused changes none: a process's
+/// before. A report or an end is told that it is stale exactly where its process is no service's
+/// current one, and then it changes no service; a report that is refused changes none: a process's
 /// own with 13, one by a call with any code.
-pub fn law_1(limits: &Limits, steps: &Items<(u64, Step)>, opening: &Flat)
+pub fn law_of_moves(limits: &Limits, steps: &Items<(u64, Step)>, opening: &Flat)
     requires begins { IsOpening limits.now opening.now }
     requires legal { IsLegal limits.now opening.now steps.now }
-    ensures { EachStep (LawOfMoves limits.now) limits.now opening.now steps.now }
+    ensures moves { EachStep (LawOfMoves limits.now) limits.now opening.now steps.now }
+    ensures stale { EachStep LawOfStale limits.now opening.now steps.now }
 {}
 
 /// The law of controls: a Control is told its verdict on the state before, whatever the moment, and
@@ -26,8 +30,14 @@ pub fn law_1(limits: &Limits, steps: &Items<(u64, Step)>, opening: &Flat)
 /// applies and a service that isn't STOPPED names this one as a need. What waits is taken from the
 /// front; a process that ends has none, nor has one that is new, and no other step changes what
 /// waits for a process.
-pub fn law_3(limits: &Limits, steps: &Items<(u64, Step)>, opening: &Flat)
+pub fn law_of_controls(limits: &Limits, steps: &Items<(u64, Step)>, opening: &Flat)
     requires begins { IsOpening limits.now opening.now }
     requires legal { IsLegal limits.now opening.now steps.now }
     ensures { EachStep (LawOfControls limits.now) limits.now opening.now steps.now }
+{}
+
+/// The law of ticks: behind a tick nothing is due up to its moment, or up to the moment that the
+/// state had come to before. It takes neither an opening nor a legal history.
+pub fn law_of_ticks(limits: &Limits, steps: &Items<(u64, Step)>, opening: &Flat)
+    ensures { EachStep LawOfTicks limits.now opening.now steps.now }
 {}

@@ -5,7 +5,7 @@ use Rattle.std.specs.List.{IsDistinct}
 use Rattle.scm_model.specs.declared.flat.NeedRow.{NeedRow}
 use Rattle.scm_model.specs.Needs.{has, needs_of, numbers_of}
 use Rattle.dependency_index.specs.Order.{IsWithin}
-use Rattle.scm_model.specs.Order.{explore, is_running, noted, order_in, try_all}
+use Rattle.scm_model.specs.Order.{explore, runs_in, noted, order_in, try_all}
 use Rattle.dependency_index.proofs.Lists.{needed_listed, or_right}
 use Rattle.dependency_index.proofs.Rooms.{few, more_within}
 
@@ -71,8 +71,8 @@ none_within rows = record { listed = λ n h. absurd cc; once = tt }
 
 pub few_in_order : (rows : List NeedRow) (state_of : ℕ → ℕ) (target : ℕ) → has (numbers_of rows) target ≡ true → length (order_in rows state_of target) ≤ length rows
 few_in_order rows state_of target listed =
-    let go = explore (needs_of rows) (is_running state_of) (length rows) in
+    let go = explore (needs_of rows) (runs_in state_of) (length rows) in
     elim (go [] target) as (λ o. go [] target ≡ o → length (unwrap_or o []) ≤ length rows) [
       | None ↦ λ g. omega arith
-      | Some done ↦ λ g. few rows done (explore_within rows (is_running state_of) (length rows) [] target done listed (none_within rows) g)
+      | Some done ↦ λ g. few rows done (explore_within rows (runs_in state_of) (length rows) [] target done listed (none_within rows) g)
     ] refl

@@ -6,15 +6,15 @@ use Rattle.scm_rules.specs.Runs.{IsLegal}
 use Rattle.scm_model.specs.Entries.{Entry, text_in}
 use Rattle.scm_rules.specs.Steps.{may, step_of}
 use Rattle.scm_model.specs.Texts.{text_of}
-use Rattle.scm_laws.proofs.Along.{at_end}
-use Rattle.scm_laws.proofs.Calls.{keeps}
-use Rattle.scm_laws.proofs.Sound.{Sound}
+use Rattle.scm_runs.proofs.Along.{at_end}
+use Rattle.scm_runs.proofs.Calls.{keeps}
+use Rattle.scm_runs.proofs.Sound.{Sound}
 use Rattle.scm_owed.specs.Legal.{LawOfLegal, StaysLegal}
-use Rattle.scm_rules.specs.Histories.{Fits, Legal, state}
+use Rattle.scm_rules.specs.Histories.{FitsOwed, Legal, state}
 use Rattle.scm_rules.specs.Owed.{owed}
 use Rattle.scm_owed.specs.Paying.{FoundRoom}
 use Rattle.scm_owed.proofs.Whole.{fits_more, room_kept}
-use Rattle.scm_laws.proofs.Histories.{state_none, state_more, made_front, made_more, legal_made, may_behind}
+use Rattle.scm_runs.proofs.Histories.{state_none, state_more, made_front, made_more, legal_made, may_behind}
 use Rattle.std.proofs.lemmas.List.{append_assoc, append-nil}
 
 -- ## States and answers
@@ -44,7 +44,7 @@ none_front (x ∷ front) rest is = absurd cc
 
 -- ## Legal histories
 
-pub legal_fits : (l : Limits) (f : Flat) (es : List Entry) → Legal l f es → Fits l f es
+pub legal_fits : (l : Limits) (f : Flat) (es : List Entry) → Legal l f es → FitsOwed l f es
 unfolding Legal
 legal_fits l f es legal = legal.fits es [] (sym (append-nil es))
 
@@ -55,12 +55,12 @@ legal_front l f front rest legal = record {
   fits = λ before later is. legal.fits before (later ++ rest) (ap (λ es. es ++ rest) is ∙ append_assoc before later rest);
 }
 
-none_fits : (l : Limits) (f : Flat) → owed f ≤ l.steps → Fits l f []
+none_fits : (l : Limits) (f : Flat) → owed f ≤ l.steps → FitsOwed l f []
 none_fits l f room = let same = ap owed (state_none l f) in omega (arith, room, same)
 
 pub legal_none : (l : Limits) (f : Flat) → owed f ≤ l.steps → Legal l f []
 unfolding Legal
-legal_none l f room = record { made = tt; fits = λ front rest is. subst (Fits l f) (sym (none_front front rest is)) (none_fits l f room) }
+legal_none l f room = record { made = tt; fits = λ front rest is. subst (FitsOwed l f) (sym (none_front front rest is)) (none_fits l f room) }
 
 none_room : (l : Limits) (f : Flat) → Legal l f [] → owed f ≤ l.steps
 none_room l f legal = let fits = legal_fits l f [] legal in let same = ap owed (state_none l f) in omega (arith, fits, same)
@@ -73,12 +73,12 @@ made_so : (l : Limits) (f : Flat) (es : List Entry) (e : Entry) → IsLegal l f 
 unfolding state
 made_so l f es e legal ok = made_more l f es e legal ok
 
-pub legal_more : (l : Limits) (f : Flat) (es : List Entry) (e : Entry) → Legal l f es → IsTrue (may l (state l f es) e.0 e.1) → Fits l f (es ++ e ∷ []) → Legal l f (es ++ e ∷ [])
+pub legal_more : (l : Limits) (f : Flat) (es : List Entry) (e : Entry) → Legal l f es → IsTrue (may l (state l f es) e.0 e.1) → FitsOwed l f (es ++ e ∷ []) → Legal l f (es ++ e ∷ [])
 unfolding Legal
 legal_more l f es e legal ok fits = record {
   made = made_so l f es e legal.made ok;
-  fits = λ front rest is. elim (front_of es front rest e is) as (λ s. Fits l f front) [
-    | inl whole ↦ subst (Fits l f) (sym whole) fits
+  fits = λ front rest is. elim (front_of es front rest e is) as (λ s. FitsOwed l f front) [
+    | inl whole ↦ subst (FitsOwed l f) (sym whole) fits
     | inr begins ↦ legal.fits front begins.rest begins.is
   ];
 }
@@ -113,7 +113,7 @@ room_front : (l : Limits) (f : Flat) (steps text : ℕ) (front rest : List Entry
 room_front l f steps text [] rest room = tt
 room_front l f steps text (e ∷ front) rest room = (room.0, room_front l (step_of l f e.0 e.1).flat (steps + 1) (text + text_of e.1) front rest room.1)
 
-found_fits : (l : Limits) (f : Flat) (front : List Entry) → Sound f → owed f ≤ l.steps → IsLegal l f front → FoundRoom l f 0 0 front → Fits l f front
+found_fits : (l : Limits) (f : Flat) (front : List Entry) → Sound f → owed f ≤ l.steps → IsLegal l f front → FoundRoom l f 0 0 front → FitsOwed l f front
 unfolding state
 found_fits l f front s fits legal room = let kept = room_kept l f 0 0 front s (omega (arith, fits)) legal room in omega (arith, kept)
 

@@ -13,20 +13,21 @@ use Rattle.scm_model.specs.declared.flat.Wanted.{Wanted}
 use Rattle.scm_model.specs.declared.steps.Step.{Step}
 use Rattle.scm_model.specs.declared.steps.Step.TheVariants.{EndStart, LaunchTaken, Launched, LaunchFailed, Report, Ended, ControlTaken, Gone, Joined, Call, Tick, NoMemory}
 use Rattle.scm_model.specs.Rows.{is_caller}
-use Rattle.start_plan.specs.Decided.{aims_at, caller_of, code_of, is_numbered, without_plan}
-use Rattle.scm_rules.specs.Launches.{first_wanted, is_running, is_taken, launched_if, process_of, service_of_process, taken_if}
+use Rattle.start_plan.specs.Decided.{plan_caller, code_of, is_numbered, without_plan}
+use Rattle.scm_rules.specs.Launches.{first_wanted, is_launched, is_taken, launched_if, process_of, service_of_process, taken_if}
 use Rattle.scm_rules.specs.Start.{can_end, is_caller_of}
-use Rattle.scm_rules.specs.Steps.{at_moment, effect_of, is_wanted, may}
+use Rattle.scm_rules.specs.Steps.{at_moment, effect_of, wants_launch, may}
 use Rattle.scm_rules.specs.Valid.{AreNumbered, has_process, is_to_launch}
-use Rattle.scm_laws.proofs.Processes.{is_there, number_of, process_in}
-use Rattle.scm_laws.proofs.Sound.{Sound}
+use Rattle.scm_runs.proofs.Processes.{is_there, number_of, process_in}
+use Rattle.scm_runs.proofs.Sound.{Sound}
 use Rattle.scm_rules.specs.Owed.{owed, owed_by_process, owed_in_phase}
 use Rattle.start_plan.specs.Owed.{owed_by_plan, owed_to, total}
 use Rattle.scm_rules.specs.Room.{is_owed}
-use Rattle.scm_owed.proofs.Effects.{decision_owes}
 use Rattle.scm_owed.proofs.Settling.{kept_owes}
 use Rattle.std.proofs.lemmas.Bool.{and_parts}
-use Rattle.scm_laws.proofs.Wanted.{taken_listed}
+use Rattle.scm_runs.proofs.Wanted.{taken_listed}
+use Rattle.scm_model.specs.Found.{if_found}
+use Rattle.scm_owed.proofs.Effects.{starts_owe}
 
 -- ## A launch that is taken
 
@@ -88,8 +89,8 @@ taken_pays n ns (row ∷ rows) rising e =
           omega (arith, one, rest)
     ] refl e
 
-first_pays : (launching : List Wanted) (rows : List Process) → Rising rows → map process_in launching ≡ map number_of (filter is_to_launch rows) → is_wanted launching ≡ true
-    → total owed_by_process (map (taken_if (first_wanted launching)) rows) + 1 ≤ total owed_by_process rows
+first_pays : (launching : List Wanted) (rows : List Process) → Rising rows → map process_in launching ≡ map number_of (filter is_to_launch rows) → wants_launch launching ≡ true
+    → total owed_by_process (if_found (λ process. map (taken_if process)) (first_wanted launching) rows) + 1 ≤ total owed_by_process rows
 first_pays [] rows rising e is = absurd cc
 first_pays (row ∷ more) rows rising e is = taken_pays row.process (map process_in more) rows rising e
 
@@ -141,7 +142,7 @@ left_pays n (row ∷ rows) e =
       | false ↦ λ h g. let rest = left_pays n rows g in omega (arith, rest)
     ] refl e
 
-running_listed : (found : Option Process) → is_running found ≡ true → is_some found ≡ true
+running_listed : (found : Option Process) → is_launched found ≡ true → is_some found ≡ true
 running_listed None e = absurd cc
 running_listed (Some row) e = refl
 
@@ -166,7 +167,7 @@ gone_pays n (row ∷ rows) e =
 somebody : (c : ℕ) → 1 ≤ c → owed_to c ≡ 1
 somebody c least = ap (λ b. cond b 0 1) (ne_eqb c 0 (λ zero_is. absurd (omega arith)))
 
-ended_pays : (n c : ℕ) (plans : List Plan) → 1 ≤ c → is_caller_of (caller_of plans n) c ≡ true → total owed_by_plan (without_plan plans n) + 1 ≤ total owed_by_plan plans
+ended_pays : (n c : ℕ) (plans : List Plan) → 1 ≤ c → is_caller_of (plan_caller plans n) c ≡ true → total owed_by_plan (without_plan plans n) + 1 ≤ total owed_by_plan plans
 ended_pays n c [] least e = absurd cc
 ended_pays n c (plan ∷ plans) least e =
     elim (plan.number == n) as (λ b. (plan.number == n) ≡ b → is_caller_of (option_map (λ (plan : Plan). plan.caller) (cond b (Some plan) (find (is_numbered n) plans))) c ≡ true
@@ -197,18 +198,18 @@ owed_steps_pay l f moment (EndStart caller plan) s ok e =
     let came = (and_parts _ _ ok).0 in
     let least = positive caller f.next.caller f.callers s.handles.callers (and_parts _ _ came).0 in
     let pays : total owed_by_plan (without_plan f.plans plan) + 1 ≤ total owed_by_plan f.plans = ended_pays plan caller f.plans least
-    (and_parts (is_caller_of (caller_of f.plans plan) caller) (is_some (code_of f.plans plan)) (and_parts (is_caller f caller) (can_end f caller plan) came).1).0 in
+    (and_parts (is_caller_of (plan_caller f.plans plan) caller) (is_some (code_of f.plans plan)) (and_parts (is_caller f caller) (can_end f caller plan) came).1).0 in
     omega (arith, pays)
 owed_steps_pay l f moment LaunchTaken s ok e =
     let pays = first_pays f.wanted f.processes s.processes.numbered.rising s.processes.wanted (and_parts _ _ ok).0 in
     omega (arith, pays)
 owed_steps_pay l f moment (Launched process pid) s ok e =
     let pays = launched_pays process pid f.processes (and_parts _ _ ok).0 in
-    let decided = decision_owes (aims_at (service_of_process f process)) 0 f.plans in
+    let decided = starts_owe (service_of_process f process) 0 f.plans in
     omega (arith, pays, decided)
 owed_steps_pay l f moment (LaunchFailed process code) s ok e =
     let pays = left_pays process f.processes (taken_listed (process_of f process) (and_parts _ _ (and_parts _ _ ok).0).0) in
-    let decided = decision_owes (aims_at (service_of_process f process)) code f.plans in
+    let decided = starts_owe (service_of_process f process) code f.plans in
     omega (arith, pays, decided)
 owed_steps_pay l f moment (Ended process) s ok e =
     let pays = left_pays process f.processes (running_listed (process_of f process) (and_parts _ _ ok).0) in

@@ -7,7 +7,7 @@ use Rattle.scm_model.specs.declared.flat.Limits.{Limits}
 use Rattle.scm_model.specs.declared.flat.Plan.{Plan}
 use Rattle.start_plan.specs.Entered.{wanted_process, with_entered}
 use Rattle.start_plan.specs.Moves.{has, move_of}
-use Rattle.start_plan.specs.Settle.{code_in, dropped, moved, settle_all, settle_entries, settle_plan, settled, stays, with_tried, words_for}
+use Rattle.start_plan.specs.Settle.{move_code, dropped, moved, settle_all, settle_entries, settle_plan, settled, stays, with_tried, words_for}
 use Rattle.start_plan.specs.declared.settling.Move.TheVariants as moves
 use Rattle.start_plan.proofs.Keeps.{is_entry, keeps_all}
 use Rattle.start_plan.proofs.Enterings.{all_units}
@@ -66,9 +66,9 @@ entries_owe l f plan [] is = omega arith
 entries_owe l f plan (s ∷ rest) is =
     let go = λ (code : ℕ). settle_entries l f (dropped plan s rest code) rest in
     let on : (code : ℕ) → both (go code) ≤ both (f, plan) = λ code. (let r = entries_owe l f (dropped plan s rest code) rest refl in let d = dropped_owes plan s rest code is in omega (arith, r, d)) in
-    elim (is_some plan.code) as (λ b. is_some plan.code ≡ b → both (cond b (f, plan) (moved f plan s (go (code_in (move_of l f plan.tried s))) (move_of l f plan.tried s))) ≤ both (f, plan)) [
+    elim (is_some plan.code) as (λ b. is_some plan.code ≡ b → both (cond b (f, plan) (moved f plan s (go (move_code (move_of l f plan.tried s))) (move_of l f plan.tried s))) ≤ both (f, plan)) [
       | true ↦ λ c. omega arith
-      | false ↦ λ c. elim (move_of l f plan.tried s) as (λ m. move_of l f plan.tried s ≡ m → both (moved f plan s (go (code_in m)) m) ≤ both (f, plan)) [
+      | false ↦ λ c. elim (move_of l f plan.tried s) as (λ m. move_of l f plan.tried s ≡ m → both (moved f plan s (go (move_code m)) m) ≤ both (f, plan)) [
         | moves.Passes ↦ λ e. on 0
         | moves.Waits ↦ λ e. omega arith
         | moves.Enters ↦ λ e. entered_owes l f plan s rest is c (is_entry l f plan.tried s e).fresh

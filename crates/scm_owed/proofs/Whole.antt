@@ -9,13 +9,13 @@ use Rattle.scm_model.specs.declared.steps.Step.{Step}
 use Rattle.scm_model.specs.declared.steps.Step.TheVariants.{Joined, Call, EndStart, LaunchTaken, Launched, LaunchFailed, Report, Ended, ControlTaken, Tick, Gone, NoMemory}
 use Rattle.start_plan.specs.Decided.{code_of, is_numbered}
 use Rattle.start_plan.specs.Settle.{settled}
-use Rattle.scm_rules.specs.Runs.{IsLegal, state_of}
+use Rattle.scm_rules.specs.Runs.{IsLegal, run_state}
 use Rattle.scm_model.specs.Entries.{Entry}
 use Rattle.scm_rules.specs.Steps.{at_moment, effect_of, finished, left_by, may, step_of}
 use Rattle.scm_model.specs.Texts.{text_of}
-use Rattle.scm_laws.proofs.Along.{Gives}
-use Rattle.scm_laws.proofs.Calls.{keeps}
-use Rattle.scm_laws.proofs.Sound.{Sound}
+use Rattle.scm_runs.proofs.Along.{Gives}
+use Rattle.scm_runs.proofs.Calls.{keeps}
+use Rattle.scm_runs.proofs.Sound.{Sound}
 use Rattle.scm_rules.specs.Owed.{owed}
 use Rattle.scm_owed.specs.Paying.{FoundRoom, LawOfOwed}
 use Rattle.scm_rules.specs.Room.{debt, has_room, is_owed, need}
@@ -89,7 +89,7 @@ fits_more l f steps text e s ok fits (inr has) =
     omega (arith, pays, most, counted)
 
 pub room_kept : (l : Limits) (f : Flat) (steps text : ℕ) (es : List Entry) → Sound f → steps + owed f ≤ l.steps → IsLegal l f es → FoundRoom l f steps text es
-    → steps + length es + owed (state_of l f es) ≤ l.steps
+    → steps + length es + owed (run_state l f es) ≤ l.steps
 room_kept l f steps text [] s fits legal room = omega (arith, fits)
 room_kept l f steps text (e ∷ es) s fits legal room =
     let now = fits_more l f steps text e s legal.0 fits room.0 in

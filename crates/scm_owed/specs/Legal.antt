@@ -3,7 +3,7 @@ use Rattle.std.specs.Prelude.{◌≡◌, ◌↔◌, ◌⊎◌, ◌≤◌, ◌++�
 use Rattle.scm_model.specs.declared.flat.Flat.{Flat}
 use Rattle.scm_model.specs.declared.flat.Limits.{Limits}
 use Rattle.scm_model.specs.Entries.{Entry, text_in}
-use Rattle.scm_rules.specs.Histories.{Fits, Legal, state}
+use Rattle.scm_rules.specs.Histories.{FitsOwed, Legal, state}
 use Rattle.scm_rules.specs.Owed.{owed}
 use Rattle.scm_rules.specs.Room.{has_room, is_owed}
 use Rattle.scm_rules.specs.Runs.{IsLegal}
@@ -12,7 +12,7 @@ use Rattle.scm_rules.specs.Steps.{may}
 -- an entry may be made behind a history, and the limit has room for it
 pub record MayFollow (l : Limits) (f : Flat) (es : List Entry) (e : Entry) : Type 0 where
   pub may : IsTrue (may l (state l f es) e.0 e.1)
-  pub fits : Fits l f (es ++ e ∷ [])
+  pub fits : FitsOwed l f (es ++ e ∷ [])
 
 -- which histories are legal, from the empty one on, and what is true of those that are
 pub record LawOfLegal (l : Limits) (f : Flat) : Type 0 where
@@ -20,7 +20,7 @@ pub record LawOfLegal (l : Limits) (f : Flat) : Type 0 where
   pub more : (es : List Entry) (e : Entry) → Legal l f (es ++ e ∷ []) ↔ (Legal l f es × MayFollow l f es e)
   pub front : (front rest : List Entry) → Legal l f (front ++ rest) → Legal l f front
   pub made : (es : List Entry) → Legal l f es → IsLegal l f es
-  pub fits : (es : List Entry) → Legal l f es → Fits l f es
+  pub fits : (es : List Entry) → Legal l f es → FitsOwed l f es
 
 -- a history stays legal with each entry more that may be made, and is owed or finds room
 abbrev pub StaysLegal : Limits → Flat → List Entry → Type 0

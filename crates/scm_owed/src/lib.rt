@@ -5,9 +5,9 @@
 ghost use Rattle.std.specs.Prelude.{[]};
 ghost use Rattle.scm_rules.specs.Opening.{IsOpening};
 ghost use Rattle.scm_rules.specs.Runs.{EachStep, IsLegal};
-ghost use Rattle.scm_laws.specs.Histories.{EachEntry};
+ghost use Rattle.scm_runs.specs.Histories.{EachEntry};
 ghost use Rattle.scm_owed.specs.Legal.{LawOfLegal, StaysLegal};
-ghost use Rattle.scm_rules.specs.Histories.{Fits, Legal};
+ghost use Rattle.scm_rules.specs.Histories.{FitsOwed, Legal};
 ghost use Rattle.scm_owed.specs.Paying.{EffectsOwe, FoundRoom, LawOfOwed, SettlingOwesNothing};
 
 use scm_model::{Flat, Limits, Step};
@@ -38,7 +38,7 @@ pub fn law_of_room(limits: &Limits, steps: &Items<(u64, Step)>, opening: &Flat)
     requires begins { IsOpening limits.now opening.now }
     requires legal { IsLegal limits.now opening.now steps.now }
     requires room { FoundRoom limits.now opening.now 0 0 steps.now }
-    ensures { Fits limits.now opening.now steps.now }
+    ensures { FitsOwed limits.now opening.now steps.now }
 {}
 
 /// The law of legal histories: the empty history is legal exactly where the limit has room for what

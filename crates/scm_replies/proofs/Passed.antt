@@ -9,11 +9,10 @@ use Rattle.scm_model.specs.declared.steps.Kept.{Kept}
 use Rattle.scm_model.specs.declared.steps.Step.{Step}
 use Rattle.scm_model.specs.declared.steps.Step.TheVariants.{Call}
 use Rattle.scm_model.specs.Changes.{with_moment}
-use Rattle.scm_model.specs.Rows.{is_caller, opened}
+use Rattle.scm_model.specs.Rows.{is_caller}
 use Rattle.scm_model.specs.Outcomes.{Told}
 use Rattle.scm_rules.specs.Needs.{start_order}
-use Rattle.scm_rules.specs.Query.{service_in}
-use Rattle.scm_rules.specs.Start.{new_plan}
+use Rattle.scm_rules.specs.Start.{new_plan, with_start}
 use Rattle.scm_rules.specs.Steps.{effect_of, step_of, tells_plan}
 use Rattle.scm_rules.specs.Valid.{IsValid}
 use Rattle.scm_rules.specs.Verdicts.{done_of, told_refused, verdict}
@@ -22,8 +21,11 @@ use Rattle.scm_replies.proofs.Begun.{Comes, comes}
 use Rattle.scm_replies.proofs.Lists.{none_has}
 use Rattle.scm_replies.proofs.Refused.{closed}
 use Rattle.scm_replies.proofs.Settling.{still}
-use Rattle.scm_replies.proofs.Verdicts.{begun_effect, done_code, passed_effect, verdict_moved}
-use Rattle.scm_laws.proofs.Handles.{not_nobody}
+use Rattle.scm_replies.proofs.Verdicts.{begun_effect, done_code, passed_effect, verdict_moved, leaving}
+use Rattle.scm_runs.proofs.Handles.{not_nobody}
+use Rattle.scm_model.specs.declared.steps.Answer.TheVariants as answer
+use Rattle.scm_model.specs.Found.{if_found}
+use Rattle.scm_runs.proofs.Calls.{start_held}
 
 -- a call that is no start is told 0
 told_zero : (l : Limits) (f : Flat) (moment caller : ℕ) (asked : Request) (append : Kept) → tells_plan asked 0 ≡ false
@@ -44,8 +46,10 @@ started l f moment caller handle words append valid there none =
     let code = verdict l g caller (request.Start handle words) append in
     let effect = begun_effect code g.next.plan (told_refused g caller (request.Start handle words) code) g (done_of l g caller (request.Start handle words))
     (verdict_moved l f moment caller (request.Start handle words) append ∙ none) in
-    subst (Comes l f moment) (sym effect)
-    (comes l f moment (new_plan g caller (service_in (opened g caller handle)) (start_order g (service_in (opened g caller handle))) (unwrap_or words [])) (still l f valid.settled) valid.purged
+    let held = start_held f caller handle words none in
+    let begun = ap (λ found. leaving (answer.Begun g.next.plan) (if_found (with_start caller (unwrap_or words [])) found g)) held.is in
+    subst (Comes l f moment) (sym (effect ∙ begun))
+    (comes l f moment (new_plan g caller held.row.number (start_order g held.row.number) (unwrap_or words [])) (still l f valid.settled) valid.purged
     (none_has f.next.plan f.plans valid.plans.below) refl (not_nobody caller f.callers valid.callers.positive there))
 
 as_stated : (l : Limits) (f : Flat) (moment : ℕ) (step : Step) → Comes l f moment (effect_of l (with_moment f moment) step)

@@ -6,10 +6,10 @@ use Rattle.scm_model.specs.declared.flat.Limits.{Limits}
 use Rattle.scm_model.specs.declared.flat.Plan.{Plan}
 use Rattle.scm_model.specs.Changes.{with_moment}
 use Rattle.start_plan.specs.Moves.{move_of}
-use Rattle.start_plan.specs.Settle.{code_in, dropped, moved, settle_all, settle_entries, settle_plan, settled, stays, tidied}
+use Rattle.start_plan.specs.Settle.{move_code, dropped, moved, settle_all, settle_entries, settle_plan, settled, stays, tidied}
 use Rattle.start_plan.specs.declared.settling.Move.TheVariants as moves
-use Rattle.scm_laws.proofs.Lists.{filter_full}
-use Rattle.scm_laws.proofs.Rests.{same_length}
+use Rattle.scm_runs.proofs.Lists.{filter_full}
+use Rattle.scm_runs.proofs.Rests.{same_length}
 
 -- ## What settling reads and changes
 
@@ -21,14 +21,14 @@ entries_over : (l : Limits) (f g : Flat) (plan : Plan) (entries : List ℕ)
     → settle_entries l (over f g) plan entries ≡ (over (settle_entries l f plan entries).0 g, (settle_entries l f plan entries).1)
 entries_over l f g plan [] = refl
 entries_over l f g plan (s ∷ rest) =
-    elim (is_some plan.code) as (λ b. cond b (over f g, plan) (moved (over f g) plan s (settle_entries l (over f g) (dropped plan s rest (code_in (move_of l f plan.tried s))) rest) (move_of l f plan.tried s))
+    elim (is_some plan.code) as (λ b. cond b (over f g, plan) (moved (over f g) plan s (settle_entries l (over f g) (dropped plan s rest (move_code (move_of l f plan.tried s))) rest) (move_of l f plan.tried s))
     ≡ (
-      over (cond b (f, plan) (moved f plan s (settle_entries l f (dropped plan s rest (code_in (move_of l f plan.tried s))) rest) (move_of l f plan.tried s))).0 g,
-      (cond b (f, plan) (moved f plan s (settle_entries l f (dropped plan s rest (code_in (move_of l f plan.tried s))) rest) (move_of l f plan.tried s))).1,
+      over (cond b (f, plan) (moved f plan s (settle_entries l f (dropped plan s rest (move_code (move_of l f plan.tried s))) rest) (move_of l f plan.tried s))).0 g,
+      (cond b (f, plan) (moved f plan s (settle_entries l f (dropped plan s rest (move_code (move_of l f plan.tried s))) rest) (move_of l f plan.tried s))).1,
     )) [
       | true ↦ refl
-      | false ↦ elim (move_of l f plan.tried s) as (λ m. moved (over f g) plan s (settle_entries l (over f g) (dropped plan s rest (code_in m)) rest) m
-          ≡ (over (moved f plan s (settle_entries l f (dropped plan s rest (code_in m)) rest) m).0 g, (moved f plan s (settle_entries l f (dropped plan s rest (code_in m)) rest) m).1)) [
+      | false ↦ elim (move_of l f plan.tried s) as (λ m. moved (over f g) plan s (settle_entries l (over f g) (dropped plan s rest (move_code m)) rest) m
+          ≡ (over (moved f plan s (settle_entries l f (dropped plan s rest (move_code m)) rest) m).0 g, (moved f plan s (settle_entries l f (dropped plan s rest (move_code m)) rest) m).1)) [
             | moves.Passes ↦ entries_over l f g (dropped plan s rest 0) rest
             | moves.Waits ↦ refl
             | moves.Enters ↦ refl
@@ -61,9 +61,9 @@ pub record Settles (f : Flat) (plan : Plan) (end : Flat × Plan) : Type 0 where
 entries_settle : (l : Limits) (f : Flat) (plan : Plan) (entries : List ℕ) → Settles f plan (settle_entries l f plan entries)
 entries_settle l f plan [] = record { number = refl; caller = refl; state = inl refl }
 entries_settle l f plan (s ∷ rest) =
-    elim (is_some plan.code) as (λ b. is_some plan.code ≡ b → Settles f plan (cond b (f, plan) (moved f plan s (settle_entries l f (dropped plan s rest (code_in (move_of l f plan.tried s))) rest) (move_of l f plan.tried s)))) [
+    elim (is_some plan.code) as (λ b. is_some plan.code ≡ b → Settles f plan (cond b (f, plan) (moved f plan s (settle_entries l f (dropped plan s rest (move_code (move_of l f plan.tried s))) rest) (move_of l f plan.tried s)))) [
       | true ↦ λ e. record { number = refl; caller = refl; state = inl refl }
-      | false ↦ λ undecided. elim (move_of l f plan.tried s) as (λ m. Settles f plan (moved f plan s (settle_entries l f (dropped plan s rest (code_in m)) rest) m)) [
+      | false ↦ λ undecided. elim (move_of l f plan.tried s) as (λ m. Settles f plan (moved f plan s (settle_entries l f (dropped plan s rest (move_code m)) rest) m)) [
         | moves.Passes ↦ (let r = entries_settle l f (dropped plan s rest 0) rest in record { number = r.number; caller = r.caller; state = r.state })
         | moves.Waits ↦ record { number = refl; caller = refl; state = inl refl }
         | moves.Enters ↦ record { number = refl; caller = refl; state = inr (record { up = omega arith; undecided = undecided }) }

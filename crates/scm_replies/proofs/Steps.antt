@@ -9,7 +9,7 @@ use Rattle.scm_model.specs.declared.flat.Service.{Service}
 use Rattle.scm_model.specs.declared.flat.Status.{Status}
 use Rattle.scm_model.specs.declared.steps.Answer.TheVariants as answer
 use Rattle.scm_model.specs.declared.steps.Kept.{Kept}
-use Rattle.scm_model.specs.declared.steps.Step.TheVariants.{Call, EndStart, Report, Ended}
+use Rattle.scm_model.specs.declared.steps.Step.TheVariants.{Call, EndStart, Report, Ended, LaunchTaken, ControlTaken}
 use Rattle.scm_model.specs.Rows.{is_caller}
 use Rattle.scm_model.specs.Changes.{with_moment}
 use Rattle.start_plan.specs.Decided.{code_of}
@@ -20,12 +20,14 @@ use Rattle.scm_rules.specs.Ends.{end_told, process_ended}
 use Rattle.scm_model.specs.Entries.{Entry}
 use Rattle.scm_rules.specs.Steps.{finished, may, step_of}
 use Rattle.scm_rules.specs.Valid.{IsValid}
-use Rattle.scm_laws.proofs.Along.{Gives}
-use Rattle.scm_laws.proofs.Clear.{Clear, is_valid_clear}
+use Rattle.scm_runs.proofs.Along.{Gives}
+use Rattle.scm_runs.proofs.Clear.{Clear, is_valid_clear}
 use Rattle.scm_replies.specs.Replies.{ComesTo, Ends, LawOfReplies, code_told}
 use Rattle.scm_replies.proofs.Passed.{passes}
 use Rattle.scm_replies.proofs.Refused.{is_refused}
 use Rattle.std.proofs.lemmas.Bool.{and_parts}
+use Rattle.scm_rules.specs.Launches.{first_wanted, launch_taken, launch_told}
+use Rattle.scm_rules.specs.Controls.{control_sent, control_taken, controls_of, first_control}
 
 of_call : (l : Limits) (f : Flat) (moment caller : ℕ) (asked : Request) (append : Kept) → IsValid l f → is_caller f caller ≡ true
     → ComesTo l f moment caller asked append (step_of l f moment (Call caller asked append)).answer (step_of l f moment (Call caller asked append)).flat
@@ -55,12 +57,23 @@ end_untold : (g : Flat) (row : Option Service) → code_told (finished g (end_to
 end_untold g None = refl
 end_untold g (Some row) = refl
 
+-- nor have a launch and a control that are taken in hand
+launch_untold : (g : Flat) (found : Option ℕ) → code_told (finished g (launch_told found)).answer ≡ None
+launch_untold g None = refl
+launch_untold g (Some process) = refl
+
+control_untold : (g : Flat) (found : Option ℕ) → code_told (finished g (control_sent found)).answer ≡ None
+control_untold g None = refl
+control_untold g (Some code) = refl
+
 told_rightly : (l : Limits) (f : Flat) (e : Entry) → IsValid l f → IsTrue (may l f e.0 e.1)
     → LawOfReplies l f e (step_of l f e.0 e.1).answer (step_of l f e.0 e.1).flat
 told_rightly l f (moment, Call caller asked append) valid ok = of_call l f moment caller asked append valid (and_parts _ _ (and_parts _ _ ok).0).0
 told_rightly l f (moment, EndStart caller plan) valid ok = decided f plan (code_of f.plans plan) refl (and_parts _ _ (and_parts _ _ (and_parts _ _ ok).0).1).1
 told_rightly l f (moment, Report process status) valid ok = report_untold (settled l (reported (with_moment f moment) process status).flat) (current_of f process) status
 told_rightly l f (moment, Ended process) valid ok = end_untold (settled l (process_ended (with_moment f moment) process).flat) (current_of f process)
+told_rightly l f (moment, LaunchTaken) valid ok = launch_untold (settled l (launch_taken (with_moment f moment)).flat) (first_wanted f.wanted)
+told_rightly l f (moment, ControlTaken process) valid ok = control_untold (settled l (control_taken (with_moment f moment) process).flat) (first_control (controls_of f process))
 told_rightly l f (moment, step) valid ok = refl
 
 -- each step from a state that a run reaches

@@ -11,9 +11,9 @@ use Rattle.scm_model.specs.declared.steps.Kept.{Kept}
 use Rattle.scm_model.specs.Changes.{with_moment}
 use Rattle.scm_model.specs.Refused.{answered}
 use Rattle.scm_model.specs.Outcomes.{Done, Told}
-use Rattle.scm_rules.specs.Steps.{answer_of, tells_plan}
+use Rattle.scm_rules.specs.Steps.{call_answer, tells_plan}
 use Rattle.scm_rules.specs.Verdicts.{done_of, told_refused, verdict}
-use Rattle.scm_replies.specs.Replies.{code_in}
+use Rattle.scm_replies.specs.Replies.{reply_code}
 
 -- a verdict is the same at every moment
 pub verdict_moved : (l : Limits) (f : Flat) (moment caller : ℕ) (asked : Request) (append : Kept)
@@ -36,7 +36,7 @@ verdict_moved l f moment caller (request.DisplayName handle name size) append = 
 verdict_moved l f moment caller (request.KeyName handle name size) append = refl
 
 -- what a refused call is told ends with its code
-pub refused_code : (f : Flat) (caller : ℕ) (asked : Request) (code : ℕ) → code_in (told_refused f caller asked code) ≡ code
+pub refused_code : (f : Flat) (caller : ℕ) (asked : Request) (code : ℕ) → reply_code (told_refused f caller asked code) ≡ code
 refused_code f caller (request.Close handle) code = refl
 refused_code f caller (request.Control handle control) code = refl
 refused_code f caller (request.Delete handle) code = refl
@@ -55,7 +55,7 @@ refused_code f caller (request.DisplayName handle name size) code = refl
 refused_code f caller (request.KeyName handle name size) code = refl
 
 -- what is told of a call's effect ends with 0
-pub done_code : (l : Limits) (f : Flat) (caller : ℕ) (asked : Request) → code_in (done_of l f caller asked).reply ≡ 0
+pub done_code : (l : Limits) (f : Flat) (caller : ℕ) (asked : Request) → reply_code (done_of l f caller asked).reply ≡ 0
 done_code l f caller (request.Close handle) = refl
 done_code l f caller (request.Control handle control) = refl
 done_code l f caller (request.Delete handle) = refl
@@ -84,16 +84,16 @@ leaving told f = record { answer = told; flat = f }
 
 -- the effect of a call that is refused
 pub refused_effect : (asked : Request) (code plan : ℕ) (told : Reply) (f : Flat) (done : Done) → (code == 0) ≡ false
-    → leaving (answer_of (tells_plan asked code) plan (answered code told f done).reply) (answered code told f done).flat ≡ leaving (answer.Reply told) f
+    → leaving (call_answer (tells_plan asked code) plan (answered code told f done).reply) (answered code told f done).flat ≡ leaving (answer.Reply told) f
 refused_effect asked code plan told f done some = rw (no_plan asked code some, some) refl
 
 -- the effect of a call with verdict 0 that is no start
 pub passed_effect : (asked : Request) (code plan : ℕ) (told : Reply) (f : Flat) (done : Done) → code ≡ 0
     → tells_plan asked 0 ≡ false
-    → leaving (answer_of (tells_plan asked code) plan (answered code told f done).reply) (answered code told f done).flat ≡ leaving (answer.Reply done.reply) done.flat
+    → leaving (call_answer (tells_plan asked code) plan (answered code told f done).reply) (answered code told f done).flat ≡ leaving (answer.Reply done.reply) done.flat
 passed_effect asked code plan told f done none plain = rw (none, plain) refl
 
 -- the effect of a start with verdict 0
 pub begun_effect : (code plan : ℕ) (told : Reply) (f : Flat) (done : Done) → code ≡ 0
-    → leaving (answer_of (code == 0) plan (answered code told f done).reply) (answered code told f done).flat ≡ leaving (answer.Begun plan) done.flat
+    → leaving (call_answer (code == 0) plan (answered code told f done).reply) (answered code told f done).flat ≡ leaving (answer.Begun plan) done.flat
 begun_effect code plan told f done none = rw none refl

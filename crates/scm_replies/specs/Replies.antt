@@ -22,20 +22,20 @@ use Rattle.scm_rules.specs.Verdicts.{told_refused, verdict}
 -- ## Codes
 
 -- the code that a reply ends with
-abbrev pub code_in : Reply → ℕ
-code_in (reply.Code code) = code
-code_in (reply.Handle handle code) = code
-code_in (reply.State status code) = code
-code_in (reply.Made tag handle code) = code
-code_in (reply.Tag tag code) = code
-code_in (reply.Shown config needed code) = code
-code_in (reply.LockState held owner seconds needed code) = code
-code_in (reply.Name name size code) = code
+abbrev pub reply_code : Reply → ℕ
+reply_code (reply.Code code) = code
+reply_code (reply.Handle handle code) = code
+reply_code (reply.State status code) = code
+reply_code (reply.Made tag handle code) = code
+reply_code (reply.Tag tag code) = code
+reply_code (reply.Shown config needed code) = code
+reply_code (reply.LockState held owner seconds needed code) = code
+reply_code (reply.Name name size code) = code
 
 -- the code that a caller is told: no answer but a reply has one
 abbrev pub code_told : Answer → Option ℕ
 code_told (answer.Caller caller) = None
-code_told (answer.Reply told) = Some (code_in told)
+code_told (answer.Reply told) = Some (reply_code told)
 code_told (answer.Begun plan) = None
 code_told (answer.Launch process) = None
 code_told (answer.Control code) = None

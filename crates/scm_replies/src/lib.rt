@@ -13,7 +13,7 @@ use scm_text::Items;
 /// no step but a call and the end of a start has a reply. A call that is refused changes nothing
 /// but the moment, and a start that its own settling decides nothing but that and the next numbers
 /// of plans and of what becomes due.
-pub fn law_6(limits: &Limits, steps: &Items<(u64, Step)>, opening: &Flat)
+pub fn law_of_replies(limits: &Limits, steps: &Items<(u64, Step)>, opening: &Flat)
     requires begins { IsOpening limits.now opening.now }
     requires legal { IsLegal limits.now opening.now steps.now }
     ensures { EachStep (LawOfReplies limits.now) limits.now opening.now steps.now }

@@ -1,7 +1,7 @@
-use Rattle.scm_laws.proofs.Along.{along}
-use Rattle.scm_laws.proofs.Calls.{keeps}
-use Rattle.scm_laws.proofs.Histories.{at_entry, legal_made}
-use Rattle.scm_laws.proofs.Sound.{Sound, begun}
+use Rattle.scm_runs.proofs.Along.{along}
+use Rattle.scm_runs.proofs.Calls.{keeps}
+use Rattle.scm_runs.proofs.Histories.{at_entry, legal_made}
+use Rattle.scm_runs.proofs.Sound.{Sound, begun}
 use Rattle.scm_history.specs.Begun.{LawOfBegun}
 use Rattle.scm_history.proofs.Beginnings.{gives}
 use Rattle.scm_history.proofs.a_plan_is_who_began_its.Goals as goal

@@ -1,7 +1,7 @@
-use Rattle.scm_laws.proofs.Along.{along}
-use Rattle.scm_laws.proofs.Calls.{keeps}
-use Rattle.scm_laws.proofs.Histories.{at_entry, legal_made}
-use Rattle.scm_laws.proofs.Sound.{Sound, begun}
+use Rattle.scm_runs.proofs.Along.{along}
+use Rattle.scm_runs.proofs.Calls.{keeps}
+use Rattle.scm_runs.proofs.Histories.{at_entry, legal_made}
+use Rattle.scm_runs.proofs.Sound.{Sound, begun}
 use Rattle.scm_history.specs.Shapes.{LawOfShapes}
 use Rattle.scm_history.proofs.Shapes.{gives}
 use Rattle.scm_history.proofs.answers_have_shapes.Goals as goal

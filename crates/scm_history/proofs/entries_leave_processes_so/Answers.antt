@@ -1,7 +1,7 @@
-use Rattle.scm_laws.proofs.Along.{along}
-use Rattle.scm_laws.proofs.Calls.{keeps}
-use Rattle.scm_laws.proofs.Histories.{at_entry, legal_made}
-use Rattle.scm_laws.proofs.Sound.{Sound, begun}
+use Rattle.scm_runs.proofs.Along.{along}
+use Rattle.scm_runs.proofs.Calls.{keeps}
+use Rattle.scm_runs.proofs.Histories.{at_entry, legal_made}
+use Rattle.scm_runs.proofs.Sound.{Sound, begun}
 use Rattle.scm_history.specs.Phases.{LawOfPhases}
 use Rattle.scm_history.proofs.Phases.{gives}
 use Rattle.scm_history.proofs.entries_leave_processes_so.Goals as goal

@@ -1,4 +1,4 @@
-use Rattle.scm_laws.proofs.Sound.{begun}
+use Rattle.scm_runs.proofs.Sound.{begun}
 use Rattle.scm_history.proofs.Made.{opened_empty}
 use Rattle.scm_history.proofs.Own.{begins_at}
 use Rattle.scm_history.proofs.its_joined_comes_first.Goals as goal

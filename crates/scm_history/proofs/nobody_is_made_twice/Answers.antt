@@ -1,4 +1,4 @@
-use Rattle.scm_laws.proofs.Sound.{begun}
+use Rattle.scm_runs.proofs.Sound.{begun}
 use Rattle.scm_history.proofs.Anew.{makes_anew}
 use Rattle.scm_history.proofs.nobody_is_made_twice.Goals as goal
 

@@ -1,6 +1,6 @@
-use Rattle.scm_laws.proofs.Along.{along}
-use Rattle.scm_laws.proofs.Calls.{keeps}
-use Rattle.scm_laws.proofs.Sound.{Sound, begun}
+use Rattle.scm_runs.proofs.Along.{along}
+use Rattle.scm_runs.proofs.Calls.{keeps}
+use Rattle.scm_runs.proofs.Sound.{Sound, begun}
 use Rattle.scm_history.specs.Numbers.{AreMadeOnce}
 use Rattle.scm_history.proofs.Numbers.{gives}
 use Rattle.scm_history.proofs.numbers_are_made_once.Goals as goal

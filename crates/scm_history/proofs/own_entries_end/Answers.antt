@@ -1,5 +1,5 @@
-use Rattle.scm_laws.proofs.Histories.{legal_made}
-use Rattle.scm_laws.proofs.Sound.{begun}
+use Rattle.scm_runs.proofs.Histories.{legal_made}
+use Rattle.scm_runs.proofs.Sound.{begun}
 use Rattle.scm_history.proofs.Owned.{lasts_once}
 use Rattle.scm_history.proofs.own_entries_end.Goals as goal
 

@@ -1,6 +1,6 @@
-use Rattle.scm_laws.proofs.Along.{along}
-use Rattle.scm_laws.proofs.Calls.{keeps}
-use Rattle.scm_laws.proofs.Sound.{Sound, begun}
+use Rattle.scm_runs.proofs.Along.{along}
+use Rattle.scm_runs.proofs.Calls.{keeps}
+use Rattle.scm_runs.proofs.Sound.{Sound, begun}
 use Rattle.scm_history.specs.Plans.{PlansAreTheirCallers}
 use Rattle.scm_history.proofs.Ends.{ends_once}
 use Rattle.scm_history.proofs.Plans.{gives}

@@ -1,5 +1,5 @@
 use Rattle.std.proofs.Common.{arith}
-use Rattle.scm_laws.proofs.Sound.{begun}
+use Rattle.scm_runs.proofs.Sound.{begun}
 use Rattle.scm_owed.proofs.Whole.{opened_owes}
 use Rattle.scm_owed.proofs.Histories.{found_legal}
 use Rattle.scm_owed.proofs.law_of_found_room.Goals as goal

@@ -1,6 +1,6 @@
-use Rattle.scm_laws.proofs.Along.{along}
-use Rattle.scm_laws.proofs.Calls.{keeps}
-use Rattle.scm_laws.proofs.Sound.{Sound, begun}
+use Rattle.scm_runs.proofs.Along.{along}
+use Rattle.scm_runs.proofs.Calls.{keeps}
+use Rattle.scm_runs.proofs.Sound.{Sound, begun}
 use Rattle.scm_owed.specs.Paying.{LawOfOwed}
 use Rattle.scm_owed.proofs.Whole.{gives}
 use Rattle.scm_owed.proofs.law_of_owed_steps.Goals as goal

@@ -1,6 +1,6 @@
 use Rattle.std.proofs.Common.{ap, arith}
-use Rattle.scm_laws.proofs.Histories.{state_is}
-use Rattle.scm_laws.proofs.Sound.{begun}
+use Rattle.scm_runs.proofs.Histories.{state_is}
+use Rattle.scm_runs.proofs.Sound.{begun}
 use Rattle.scm_rules.specs.Owed.{owed}
 use Rattle.scm_owed.proofs.Whole.{opened_owes, room_kept}
 use Rattle.scm_owed.proofs.law_of_room.Goals as goal

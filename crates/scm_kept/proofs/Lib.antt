@@ -1,0 +1,5 @@
+pub mod Alike
+pub mod Rows
+pub mod Found
+pub mod Calls
+pub mod Runs

@@ -1,0 +1,20 @@
+-- Reports and ends of processes that are no service's current one.
+use Rattle.std.specs.Prelude.{Bool, ◌≡◌, ◌↔◌, true, false, is_none}
+use Rattle.scm_model.specs.declared.flat.Flat.{Flat}
+use Rattle.scm_model.specs.declared.steps.Answer.{Answer}
+use Rattle.scm_model.specs.declared.steps.Answer.TheVariants as answer
+use Rattle.scm_model.specs.declared.steps.Step.{Step}
+use Rattle.scm_model.specs.declared.steps.Step.TheVariants.{Report, Ended}
+use Rattle.scm_model.specs.Entries.{Entry}
+use Rattle.scm_rules.specs.Reports.{current_of}
+
+-- whether a step is a report or an end of a process that is no service's current one
+abbrev pub is_stale : Flat → Step → Bool
+is_stale f (Report process status) = is_none (current_of f process)
+is_stale f (Ended process) = is_none (current_of f process)
+is_stale f step = false
+
+-- such a step is told that it is stale, and no other is; it changes no service
+pub record LawOfStale (before : Flat) (e : Entry) (told : Answer) (after : Flat) : Type 0 where
+  pub stale : (told ≡ answer.Stale) ↔ (is_stale before e.1 ≡ true)
+  pub services : is_stale before e.1 ≡ true → after.services ≡ before.services

@@ -1,0 +1,61 @@
+-- What holds of the effects of calls on services that were found.
+use Rattle.std.proofs.Common.{ℕ, ◌≡◌, List, [], Option, None, Some, eqb-true, sym, ap, refl, true, ◌==◌}
+use Rattle.std.specs.Prelude.{unwrap_or, IfSome}
+use Rattle.scm_model.specs.declared.flat.Flat.{Flat}
+use Rattle.scm_model.specs.declared.flat.Service.{Service}
+use Rattle.scm_model.specs.Rows.{held_service, named}
+use Rattle.scm_model.proofs.Found.{found_keeps}
+use Rattle.scm_rules.specs.OpenService.{open_service_done, service_granted, with_opened}
+use Rattle.scm_rules.specs.Start.{start_done, with_start}
+use Rattle.scm_rules.specs.Named.{is_it, plan_made}
+use Rattle.scm_rules.specs.Launches.{launch_told}
+use Rattle.scm_rules.specs.Controls.{control_sent}
+use Rattle.scm_rules.specs.Steps.{finished}
+use Rattle.scm_model.specs.declared.steps.Answer.TheVariants as answer
+use Rattle.scm_model.specs.Ready.{state_in}
+
+-- of an OpenService what holds as it was, and with a handle of a service of that name
+pub opened_keeps : (P : Flat → Type 0) (f : Flat) (caller : ℕ) (name : List ℕ) (access : ℕ) → P f
+    → ((row : Service) → named f name ≡ Some row → P (with_opened caller (unwrap_or (service_granted f caller access) 0) row f)) → P (open_service_done f caller name access).flat
+opened_keeps P f caller name access was by = found_keeps P (with_opened caller (unwrap_or (service_granted f caller access) 0)) (named f name) f was by
+
+-- of a Start what holds as it was, and with a plan to start the service that the handle is of
+pub started_keeps : (P : Flat → Type 0) (f : Flat) (caller handle : ℕ) (words : Option (List (List ℕ))) → P f
+    → ((row : Service) → held_service f caller handle ≡ Some row → P (with_start caller (unwrap_or words []) row f)) → P (start_done f caller handle words).flat
+started_keeps P f caller handle words was by = found_keeps P (with_start caller (unwrap_or words [])) (held_service f caller handle) f was by
+
+-- ## What was found
+
+-- a number that is the one that was found
+pub it_is : (number : ℕ) (found : Option ℕ) → is_it number found ≡ true → found ≡ Some number
+it_is number None e = absurd cc
+it_is number (Some of) e = ap (λ (n : ℕ). Some n) (sym (eqb-true number of e))
+
+pub if_some : {A : Type 0} (P : A → Type 0) (found : Option A) → ((one : A) → found ≡ Some one → P one) → IfSome found P
+if_some P None each = tt
+if_some P (Some one) each = each one refl
+
+-- ## Answers of what was taken
+
+pub launch_is : (g : Flat) (found : Option ℕ) (number : ℕ) → found ≡ Some number → (finished g (launch_told found)).answer ≡ answer.Launch number
+launch_is g None number e = absurd cc
+launch_is g (Some one) number e = (let same : one ≡ number = cc in ap answer.Launch same)
+
+-- taking a launch or a control begins no plan
+pub launch_begins : (found : Option ℕ) → plan_made (launch_told found) ≡ None
+launch_begins None = refl
+launch_begins (Some process) = refl
+
+pub control_begins : (found : Option ℕ) → plan_made (control_sent found) ≡ None
+control_begins None = refl
+control_begins (Some code) = refl
+
+-- ## A start that is not refused
+
+pub record IsHeld (f : Flat) (caller handle : ℕ) : Type 0 where
+  pub row : Service
+  pub is : held_service f caller handle ≡ Some row
+
+pub stopped_there : (f : Flat) (caller handle : ℕ) (found : Option Service) → held_service f caller handle ≡ found → (state_in found == 1) ≡ true → IsHeld f caller handle
+stopped_there f caller handle None e stopped = absurd cc
+stopped_there f caller handle (Some row) e stopped = record { row = row; is = e }

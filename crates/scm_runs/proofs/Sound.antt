@@ -1,0 +1,343 @@
+-- What is true of every state, before and after services leave, and that each change keeps it.
+use Rattle.std.proofs.Common.{ℕ, ◌≡◌, ◌<◌, ◌≤◌, ◌==◌, ◌&&◌, true, false, not, cond, List, [], ◌∷◌, ◌++◌, Option, None, drop, length, map, ap, sym, refl, subst, arith, eqb, ◌+◌, filter, eqb-true, Some}
+use Rattle.std.specs.Prelude.{All, is_some, nat_lt}
+use Rattle.std.proofs.lemmas.List.Elements.{All-filter, All-map, All-push, recursion_from_All}
+use Rattle.std.specs.List.{IsDistinct}
+use Rattle.scm_text.specs.Fold.{same_text}
+use Rattle.scm_model.specs.declared.flat.Config.{Config}
+use Rattle.scm_model.specs.declared.flat.Due.{Due}
+use Rattle.scm_model.specs.declared.flat.Flat.{Flat}
+use Rattle.scm_model.specs.declared.flat.HandleKind.{HandleKind}
+use Rattle.scm_model.specs.declared.flat.HandleKind.TheVariants as kinds
+use Rattle.scm_model.specs.declared.flat.Limits.{Limits}
+use Rattle.scm_model.specs.declared.flat.LockRow.{LockRow}
+use Rattle.scm_model.specs.declared.flat.Plan.{Plan}
+use Rattle.scm_model.specs.declared.flat.Process.{Process}
+use Rattle.scm_model.specs.declared.flat.Principal.{Principal}
+use Rattle.scm_model.specs.declared.flat.Registration.{Registration}
+use Rattle.scm_model.specs.declared.flat.Service.{Service}
+use Rattle.scm_model.specs.declared.flat.Status.{Status}
+use Rattle.scm_model.specs.Rows.{is_caller, is_lock, principal_of}
+use Rattle.scm_model.specs.Changes.{marked_if, with_caller, with_handle, with_mark, with_moment, with_service, without_handle}
+use Rattle.scm_model.specs.Purge.{leaves, purged}
+use Rattle.database_lock.specs.Locking.{unlocked}
+use Rattle.dependency_index.proofs.Lists.{or_right}
+use Rattle.service_record.specs.Checks.{check_new}
+use Rattle.start_plan.specs.Decided.{aims_at, is_callers, is_numbered, decided_in}
+use Rattle.scm_rules.specs.Controls.{controlled_if, relieved_if, with_control, with_control_taken}
+use Rattle.scm_rules.specs.Launches.{is_launched, launch_failed, launch_taken, launched, process_of, service_of_process}
+use Rattle.scm_rules.specs.Locks.{lock_done, unlock_done}
+use Rattle.scm_rules.specs.Opening.{CanOpen, IsOpening, opening, services_from}
+use Rattle.scm_rules.specs.Reports.{with_report}
+use Rattle.scm_rules.specs.Ends.{process_ended}
+use Rattle.scm_rules.specs.Due.{fired, next_due, ticked}
+use Rattle.scm_rules.specs.Start.{ended, new_plan, with_plan}
+use Rattle.scm_rules.specs.Steps.{gone, wants_launch}
+use Rattle.scm_rules.specs.Valid.{AreNumbered, HasListed}
+use Rattle.scm_runs.specs.Handles.{AreRights}
+use Rattle.scm_runs.proofs.Deadlines.{AreDeadlines, no_deadlines, plan_more, plans_decided, plans_fewer, fired as deadlines_fired}
+use Rattle.scm_runs.proofs.Handled.{AreHandled, caller_joined, caller_left as handles_left, handle_given, handle_left, no_handles}
+use Rattle.scm_runs.proofs.Lists.{filter_twice, alone}
+use Rattle.scm_runs.proofs.Locked.{Locked, one_holds, one_more}
+use Rattle.scm_rules.proofs.Needed.{HasNoCycle}
+use Rattle.scm_runs.proofs.Opened.{opened_listed, opened_services}
+use Rattle.scm_runs.proofs.Numbers.{numbered_filter, numbered_none, numbered_push}
+use Rattle.scm_runs.proofs.Plans.{AreBelow, ArePlans, IsPlan, all_weaker, caller_left as plans_left, caller_more, decided, fewer, more, no_plans, service_more, has_expired}
+use Rattle.scm_runs.proofs.Processes.{AreProcesses, IsOfControls, beside, controlled, failed, first_taken, no_processes, one_launched, reported as processes_reported, running_first, running_launched, starts_kept, starts_more, starts_stay}
+use Rattle.scm_runs.proofs.Rows.{AreServices, added as row_added, cleared as rows_cleared, fallen, marked as rows_marked, reported as rows_reported}
+use Rattle.scm_model.specs.Found.{if_found}
+use Rattle.scm_model.proofs.Found.{found_keeps}
+use Rattle.scm_model.specs.declared.flat.Caller.{Caller}
+use Rattle.scm_rules.proofs.Dues.{next_has, ticked_keeps}
+
+-- rows that become due have numbers
+pub record AreDues (next : ℕ) (rows : List Due) : Type 0 where
+  pub numbered : AreNumbered (λ (row : Due). row.number) next rows
+  pub first : 1 ≤ next
+
+pub record Sound (f : Flat) : Type 0 where
+  pub services : AreServices f.next.service f.next.process f.services
+  pub handles : AreHandled f.next.caller f.callers f.next.handle f.handles f.lock
+  pub processes : AreProcesses f.next.process f.processes f.wanted f.services
+  pub plans : ArePlans f.next.plan f.next.service f.callers f.plans
+  pub dues : AreDues f.next.due f.dues
+  pub deadlines : AreDeadlines f.next.plan f.plans f.dues
+  pub registrations : f.registrations ≡ []
+
+-- ## Changes
+
+opened : (l : Limits) (groups : List (List ℕ)) (configs : List Config) (moment : ℕ) → CanOpen l configs → Sound (opening l groups configs moment)
+opened l groups configs moment can = record {
+  services = opened_services l configs can;
+  handles = no_handles;
+  processes = no_processes (services_from 1 configs) (opened_listed configs);
+  plans = no_plans (length configs + 1);
+  dues = record { numbered = numbered_none (λ (row : Due). row.number) 1; first = omega arith };
+  deadlines = no_deadlines;
+  registrations = refl;
+}
+
+pub begun : (l : Limits) (f : Flat) → IsOpening l f → Sound f
+begun l f o = subst Sound (sym o.is) (opened l o.groups o.configs o.moment o.can)
+
+pub moved : (f : Flat) (moment : ℕ) → Sound f → Sound (with_moment f moment)
+moved f moment s = record { services = s.services; handles = s.handles; processes = s.processes; plans = s.plans; dues = s.dues; deadlines = s.deadlines; registrations = s.registrations }
+
+-- ## Callers and handles
+
+pub joined : (f : Flat) (principal : Principal) → Sound f → Sound (with_caller f principal)
+joined f principal s = record {
+  services = s.services;
+  handles = caller_joined f.next.caller f.callers f.next.handle f.handles f.lock principal s.handles;
+  processes = s.processes;
+  plans = caller_more f.next.plan f.next.service f.callers (record { number = f.next.caller; principal = principal }) f.plans s.plans;
+  dues = s.dues;
+  deadlines = s.deadlines;
+  registrations = s.registrations;
+}
+
+pub left : (f : Flat) (caller : ℕ) → Sound f → Sound (gone f caller)
+left f caller s = record {
+  services = s.services;
+  handles = handles_left f.next.caller f.callers f.next.handle f.handles f.lock caller s.handles;
+  processes = s.processes;
+  plans = plans_left f.next.plan f.next.service f.callers caller f.plans s.plans;
+  dues = s.dues;
+  deadlines = plans_fewer f.next.plan (λ (plan : Plan). not (is_callers caller plan)) f.plans f.dues s.deadlines;
+  registrations = ap (λ (rows : List Registration). filter (λ (row : Registration). not (row.caller == caller)) rows) s.registrations;
+}
+
+-- a handle more, and who then holds the lock
+given : (f : Flat) (held : Option LockRow) (caller : ℕ) (kind : HandleKind) (granted : ℕ) → Sound f → is_caller f caller ≡ true → AreRights (principal_of f caller) kind granted
+    → Locked held (with_handle f caller kind granted).handles → Sound (with_handle (record f { lock = held }) caller kind granted)
+given f held caller kind granted s there rights lock = record {
+  services = s.services;
+  handles = handle_given f.next.caller f.callers f.next.handle f.handles f.lock held (record { number = f.next.handle; caller = caller; kind = kind; granted = granted }) s.handles refl there rights lock;
+  processes = s.processes;
+  plans = s.plans;
+  dues = s.dues;
+  deadlines = s.deadlines;
+  registrations = s.registrations;
+}
+
+pub handed : (f : Flat) (caller : ℕ) (kind : HandleKind) (granted : ℕ) → Sound f → is_caller f caller ≡ true → AreRights (principal_of f caller) kind granted → is_lock kind ≡ false
+    → Sound (with_handle f caller kind granted)
+handed f caller kind granted s there rights other = given f f.lock caller kind granted s there rights (one_more f.lock f.handles _ other s.handles.handles.below s.handles.lock)
+
+pub taken : (f : Flat) (caller : ℕ) → Sound f → is_caller f caller ≡ true → is_some f.lock ≡ false → Sound (lock_done f caller).flat
+taken f caller s there free = given f _ caller kinds.Lock 0 s there refl (one_holds f.lock f.handles _ f.moment free refl s.handles.handles.below s.handles.lock)
+
+-- a handle leaves, and the lock is free if it held it
+pub given_back : (f : Flat) (number : ℕ) → Sound f → Sound (unlock_done f number).flat
+given_back f number s = record {
+  services = s.services;
+  handles = handle_left f.next.caller f.callers f.next.handle f.handles f.lock number s.handles;
+  processes = s.processes;
+  plans = s.plans;
+  dues = s.dues;
+  deadlines = s.deadlines;
+  registrations = s.registrations;
+}
+
+pub closed : (f : Flat) (number : ℕ) → Sound f → unlocked f.lock number ≡ f.lock → Sound (without_handle f number)
+closed f number s same = subst (λ (held : Option LockRow). Sound (without_handle (record f { lock = held }) number)) same (given_back f number s)
+
+-- ## Services
+
+pub added : (f : Flat) (config : Config) (status : Status) → Sound f
+    → All (λ (row : Service). same_text row.config.name config.name ≡ false) f.services
+    → All (λ (row : Service). same_text row.config.display config.display ≡ false) f.services
+    → check_new config None ≡ 0 → status.kind ≡ config.kind → (status.state == 1) ≡ true → HasNoCycle (with_service f config status).services → Sound (with_service f config status)
+added f config status s names displays checked kind state free = record {
+  services = row_added f.next.service f.next.process f.services _ s.services refl names displays checked kind state refl free;
+  handles = s.handles;
+  processes = beside f.next.process f.processes f.wanted f.services _ s.processes (All-push (HasListed f.processes) f.services _ s.processes.listed refl)
+      (starts_more f.processes f.services _ s.processes.starting);
+  plans = service_more f.next.plan f.next.service f.callers f.plans s.plans;
+  dues = s.dues;
+  deadlines = s.deadlines;
+  registrations = s.registrations;
+}
+
+pub marked : (f : Flat) (number : ℕ) → Sound f → Sound (with_mark f number)
+marked f number s = record {
+  services = rows_marked f.next.service f.next.process number f.services s.services;
+  handles = s.handles;
+  processes = beside f.next.process f.processes f.wanted f.services _ s.processes (All-map (HasListed f.processes) (marked_if number) f.services s.processes.listed)
+      (starts_kept f.processes (marked_if number) f.services (λ process row is. is) s.processes.starting);
+  plans = s.plans;
+  dues = s.dues;
+  deadlines = s.deadlines;
+  registrations = s.registrations;
+}
+
+pub cleared : (f : Flat) → Sound f → Sound (purged f)
+cleared f s =
+    let p = λ (row : Service). not (leaves f.handles row) in
+    record {
+      services = rows_cleared f.next.service f.next.process p f.services s.services;
+      handles = s.handles;
+      processes = beside f.next.process f.processes f.wanted f.services _ s.processes (All-filter p (HasListed f.processes) f.services s.processes.listed)
+          (starts_stay f.handles f.processes f.services s.processes.starting);
+      plans = s.plans;
+      dues = s.dues;
+      deadlines = s.deadlines;
+      registrations = s.registrations;
+    }
+
+-- ## Plans
+
+none_tried : IsDistinct eqb []
+unfolding IsDistinct
+none_tried = tt
+
+pub planned : (f : Flat) (caller target : ℕ) (entries : List ℕ) (words : List (List ℕ)) → Sound f → is_caller f caller ≡ true → AreBelow f.next.service entries → Sound (with_plan f (new_plan f caller target entries words))
+planned f caller target entries words s there below = record {
+  services = s.services;
+  handles = s.handles;
+  processes = s.processes;
+  plans = more f.next.plan f.next.service f.callers f.plans (new_plan f caller target entries words) s.plans refl (record {
+    positive = s.plans.first;
+    below = omega arith;
+    known = or_right (caller == 0) (is_caller f caller) there;
+    once = none_tried;
+    within = below;
+  });
+  dues = record {
+    numbered = numbered_push (λ (row : Due). row.number) f.next.due f.dues _ s.dues.numbered s.dues.first refl;
+    first = (let first = s.dues.first in omega arith);
+  };
+  deadlines = plan_more f.next.plan f.plans f.dues _ _ refl refl
+      (all_weaker (IsPlan f.next.plan f.next.service f.callers) (λ (plan : Plan). plan.number < f.next.plan) (λ plan is. is.below) f.plans s.plans.each) s.deadlines;
+  registrations = s.registrations;
+}
+
+pub over : (f : Flat) (plan : ℕ) → Sound f → Sound (ended f plan)
+over f plan s = record {
+  services = s.services;
+  handles = s.handles;
+  processes = s.processes;
+  plans = fewer f.next.plan f.next.service f.callers (λ (row : Plan). not (is_numbered plan row)) f.plans s.plans;
+  dues = s.dues;
+  deadlines = plans_fewer f.next.plan (λ (row : Plan). not (is_numbered plan row)) f.plans f.dues s.deadlines;
+  registrations = s.registrations;
+}
+
+one_due : (f : Flat) (row : Due) → next_due f ≡ Some row → Sound f → Sound (fired row f)
+one_due f row is s =
+    let only = next_has (λ (row : Due). All (λ (due : Due). (due.number == row.number) ≡ true → due ≡ row) f.dues) f row
+    (λ k d lt j c within same. alone (λ (due : Due). due.number) f.dues s.dues.numbered.rising k d lt j c within (eqb-true _ _ same)) is in
+    record {
+      services = s.services;
+      handles = s.handles;
+      processes = s.processes;
+      plans = has_expired f.next.plan f.next.service f.callers f.plans row.kind s.plans;
+      dues = record { numbered = numbered_filter (λ (due : Due). due.number) f.next.due (λ (due : Due). not (due.number == row.number)) f.dues s.dues.numbered; first = s.dues.first };
+      deadlines = deadlines_fired f.next.plan f.plans f.dues row (recursion_from_All (λ (due : Due). (due.number == row.number) ≡ true → due ≡ row) f.dues only) s.deadlines;
+      registrations = s.registrations;
+    }
+
+pub due : (f : Flat) → Sound f → Sound (ticked f)
+due f s = ticked_keeps Sound one_due f s
+
+-- ## Processes
+
+pub in_hand : (f : Flat) → wants_launch f.wanted ≡ true → Sound f → Sound (launch_taken f).flat
+in_hand f is s = record {
+  services = s.services;
+  handles = s.handles;
+  processes = first_taken f.next.process f.processes f.wanted f.services is s.processes;
+  plans = s.plans;
+  dues = s.dues;
+  deadlines = s.deadlines;
+  registrations = s.registrations;
+}
+
+-- the starts of a process's service are decided
+starts_decided : (next service : ℕ) (callers : List Caller) (target : Option ℕ) (code : ℕ) (plans : List Plan) → ArePlans next service callers plans
+    → ArePlans next service callers (if_found (λ one. decided_in (aims_at one) code) target plans)
+starts_decided next service callers target code plans s =
+    found_keeps (ArePlans next service callers) (λ one. decided_in (aims_at one) code) target plans s (λ one is. decided next service callers (aims_at one) code plans s)
+
+deadlines_decided : (next : ℕ) (target : Option ℕ) (code : ℕ) (plans : List Plan) (rows : List Due) → AreDeadlines next plans rows → AreDeadlines next (if_found (λ one. decided_in (aims_at one) code) target plans) rows
+deadlines_decided next target code plans rows s =
+    found_keeps (λ (ps : List Plan). AreDeadlines next ps rows) (λ one. decided_in (aims_at one) code) target plans s (λ one is. plans_decided next (aims_at one) code plans rows s)
+
+pub running : (f : Flat) (number pid : ℕ) → Sound f → Sound (launched f number pid)
+running f number pid s = record {
+  services = s.services;
+  handles = s.handles;
+  processes = one_launched f.next.process number pid f.processes f.wanted f.services s.processes;
+  plans = starts_decided f.next.plan f.next.service f.callers (service_of_process f number) 0 f.plans s.plans;
+  dues = s.dues;
+  deadlines = deadlines_decided f.next.plan (service_of_process f number) 0 f.plans f.dues s.deadlines;
+  registrations = s.registrations;
+}
+
+pub not_running : (f : Flat) (number code : ℕ) → Sound f → Sound (launch_failed f number code)
+not_running f number code s = record {
+  services = fallen f.next.service f.next.process number code f.services s.services;
+  handles = s.handles;
+  processes = failed f.next.process number code f.processes f.wanted f.services s.processes;
+  plans = starts_decided f.next.plan f.next.service f.callers (service_of_process f number) code f.plans s.plans;
+  dues = s.dues;
+  deadlines = deadlines_decided f.next.plan (service_of_process f number) code f.plans f.dues s.deadlines;
+  registrations = s.registrations;
+}
+
+-- a process that runs tells how its service stands
+pub reported : (f : Flat) (number : ℕ) (report : Status) → is_launched (process_of f number) ≡ true → Sound f → Sound (with_report f number report)
+reported f number report runs s = record {
+  services = rows_reported f.next.service f.next.process number report f.services (running_first f.next.process number f.processes (process_of f number) s.processes.numbered refl runs) s.services;
+  handles = s.handles;
+  processes = processes_reported f.next.process number report f.processes f.wanted f.services (running_launched number f.processes (process_of f number) s.processes.numbered.rising refl runs) s.processes;
+  plans = s.plans;
+  dues = s.dues;
+  deadlines = s.deadlines;
+  registrations = s.registrations;
+}
+
+pub no_more : (f : Flat) (number : ℕ) → Sound f → Sound (process_ended f number).flat
+no_more f number s = record {
+  services = fallen f.next.service f.next.process number 1067 f.services s.services;
+  handles = s.handles;
+  processes = failed f.next.process number 1067 f.processes f.wanted f.services s.processes;
+  plans = s.plans;
+  dues = s.dues;
+  deadlines = s.deadlines;
+  registrations = s.registrations;
+}
+
+-- ## Controls
+
+of_controls : (f : Flat) (change : Process → Process) → IsOfControls change → Sound f → Sound (record f { processes = map change f.processes })
+of_controls f change only s = record {
+  services = s.services;
+  handles = s.handles;
+  processes = controlled f.next.process change f.processes f.wanted f.services only s.processes;
+  plans = s.plans;
+  dues = s.dues;
+  deadlines = s.deadlines;
+  registrations = s.registrations;
+}
+
+pub controls_more : (limit number code : ℕ) → IsOfControls (controlled_if limit number code)
+controls_more limit number code row =
+    elim (row.number == number && nat_lt (length row.controls) limit) as (λ b. cond b (record row { controls = row.controls ++ code ∷ [] }) row
+    ≡ record row { controls = (cond b (record row { controls = row.controls ++ code ∷ [] }) row).controls }) [ true ↦ refl | false ↦ refl ]
+
+pub controls_fewer : (number : ℕ) → IsOfControls (relieved_if number)
+controls_fewer number row =
+    elim (row.number == number) as (λ b. cond b (record row { controls = drop 1 row.controls }) row ≡ record row { controls = (cond b (record row { controls = drop 1 row.controls }) row).controls }) [ true ↦ refl | false ↦ refl ]
+
+pub control_waits : (l : Limits) (f : Flat) (number code : ℕ) → Sound f → Sound (with_control l f number code)
+control_waits l f number code s = of_controls f (controlled_if l.controls number code) (controls_more l.controls number code) s
+
+pub control_sent : (f : Flat) (number : ℕ) → Sound f → Sound (with_control_taken f number)
+control_sent f number s = of_controls f (relieved_if number) (controls_fewer number) s
+
+-- ## Services that leave
+
+pub purged_twice : (f : Flat) → purged (purged f) ≡ purged f
+purged_twice f =
+    ap (λ (services : List Service). record f { services = services }) (filter_twice (λ (row : Service). not (leaves f.handles row)) f.services)
