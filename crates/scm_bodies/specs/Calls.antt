@@ -1,11 +1,11 @@
--- Every call that is served: it is one of those of a crate.
+-- Every call that is served: it is one of those of a crate, whose line it has.
 use Rattle.std.specs.Prelude.{ℕ, Option, Some, None}
 use Rattle.scm_model.specs.declared.calls.Request.{Request}
 use Rattle.scm_calls.specs.declared.calls.Call.{Call as PlainCall}
 use Rattle.scm_calls.specs.declared.kinds.ReplyKind.{ReplyKind}
-use Rattle.scm_calls.specs.Calls as plain
+use Rattle.scm_calls.specs.Calls.{plain_call_at, plain_call_of, plain_reply_kind}
 use Rattle.scm_calls_cfg.specs.declared.calls.Call.{Call as ConfigCall}
-use Rattle.scm_calls_cfg.specs.Calls as config
+use Rattle.scm_calls_cfg.specs.Calls.{config_call_at, config_call_of, config_reply_kind}
 use Rattle.scm_bodies.specs.declared.call.Call.{Call}
 use Rattle.scm_bodies.specs.declared.call.Call.TheVariants as call
 
@@ -16,12 +16,12 @@ either None (Some second) = Some (call.Config second)
 either None None = None
 
 abbrev pub call_at : ℕ → Option Call
-call_at opnum = either (plain.call_at opnum) (config.call_at opnum)
+call_at opnum = either (plain_call_at opnum) (config_call_at opnum)
 
 -- every request has one
 abbrev pub call_of : Request → Option Call
-call_of r = either (plain.call_of r) (config.call_of r)
+call_of r = either (plain_call_of r) (config_call_of r)
 
 abbrev pub reply_kind : Call → ReplyKind
-reply_kind (call.Plain asked) = plain.reply_kind asked
-reply_kind (call.Config asked) = config.reply_kind asked
+reply_kind (call.Plain asked) = plain_reply_kind asked
+reply_kind (call.Config asked) = config_reply_kind asked

@@ -3,17 +3,24 @@ use Rattle.std.specs.Prelude.{◌≡◌, ℕ, List, Option, Some, None, Result, 
 use Rattle.scm_model.specs.declared.calls.Request.{Request}
 use Rattle.scm_model.specs.declared.calls.Reply.{Reply}
 use Rattle.ndr_body.specs.declared.fault.BodyFault.{BodyFault}
-use Rattle.scm_calls.specs.Replies.{kind_of, told_at, IsTold, asked_size, Fits, longest, reply_bytes as written}
+use Rattle.scm_shapes.specs.Shapes.{body_bytes}
+use Rattle.scm_shapes.specs.Calls.{read_as, Spells}
+use Rattle.scm_calls.specs.declared.kinds.ReplyKind.{ReplyKind}
+use Rattle.scm_calls.specs.Replies.{kind_of, reply_shape, reply_from, reply_values, asked_size, Fits, longest}
 use Rattle.scm_bodies.specs.declared.call.Call.{Call}
 use Rattle.scm_bodies.specs.Calls.{call_of, reply_kind}
 
--- what a body of a call's reply tells, or the first fault
+-- what a body of a kind tells, or the first fault
+abbrev pub reply_told : ReplyKind → List ℕ → Result Reply BodyFault
+reply_told kind body = read_as (reply_shape kind) (reply_from kind) body
+
+-- what a body of a call's reply tells
 abbrev pub reply_at : Call → List ℕ → Result Reply BodyFault
-reply_at asked body = told_at (reply_kind asked) body
+reply_at asked body = reply_told (reply_kind asked) body
 
 -- bytes are a body of a call's reply that tells this
 abbrev pub IsReply : Call → List ℕ → Reply → Type 0
-IsReply asked bytes told = IsTold (reply_kind asked) bytes told
+IsReply asked bytes told = Spells reply_shape (λ r. Some (kind_of r)) reply_values (reply_kind asked) bytes told
 
 -- a reply is of the kind of the request's call, and fits in the size that the request asks for
 abbrev pub Answers : Request → Reply → Type 0
@@ -29,4 +36,4 @@ reply_bound r = bound_in (call_of r) (asked_size r)
 
 -- the one form that is written
 abbrev pub reply_bytes : Reply → List ℕ
-reply_bytes told = written told
+reply_bytes told = body_bytes (reply_values told)

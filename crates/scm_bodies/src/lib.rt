@@ -1,4 +1,4 @@
-//! Bodies of every call of svcctl that is served, both ways. Which crate has a call's bodies is told
+//! Bodies of every call of svcctl that is served, both ways. Which crate has a call's line is told
 //! here alone.
 #![tactic(auto)]
 

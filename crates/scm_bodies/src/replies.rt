@@ -1,20 +1,32 @@
 ghost use Rattle.std.specs.Prelude.{◌≡◌, ◌≤◌, ◌++◌, ℕ, List, IsTrue, Ok, IfOk, IfErr, IsOk, length};
 ghost use Rattle.std.specs.List.{AllByRecursion};
-ghost use Rattle.ndr_body.specs.Reading.{Gives};
+ghost use Rattle.ndr_body.specs.Reading.{FindsMemory, Gives};
 ghost use Rattle.scm_shapes.specs.Laws.{IsCarried};
+ghost use Rattle.scm_shapes.specs.Plain.{ArePlain};
 ghost use Rattle.scm_model.specs.declared.calls.Request.{Request as ARequest};
 ghost use Rattle.scm_model.specs.declared.calls.Reply.{Reply as AReply};
 ghost use Rattle.scm_model.specs.Ranges.{in_range};
-ghost use Rattle.scm_calls.specs.Replies.{reply_values, kind_of, told_at};
+ghost use Rattle.scm_calls.specs.Replies.{reply_shape, reply_values, kind_of};
 ghost use Rattle.scm_bodies.specs.declared.call.Call.{Call as ACall};
-ghost use Rattle.scm_bodies.specs.Replies.{reply_at, IsReply, Answers, reply_bound, reply_bytes};
+ghost use Rattle.scm_bodies.specs.Calls.{reply_kind};
+ghost use Rattle.scm_bodies.specs.Replies.{reply_told, reply_at, IsReply, Answers, reply_bound, reply_bytes};
 
 use crate::call::{Call, call_of, reply_kind};
 use ndr_body::BodyFault;
-use scm_calls::{asked_size, longest, read_told};
+use scm_calls::{asked_size, longest, put_reply, reply_of, reply_shape};
 use scm_model::{Reply, Request};
+use scm_shapes::read_body;
 use scm_text::{Buffer, OutOfMemory};
 use std::alloc::Global;
+
+fn read(alloc: Global, call: Call, body: &[u8]) -> Result<Reply, BodyFault>
+    ensures exact { Gives (λ r. r) result (reply_at call body.now) }
+    ensures memory { ArePlain (reply_shape (reply_kind call)) → FindsMemory result }
+{
+    let kind = reply_kind(call);
+    let mut values = read_body(alloc, reply_shape(kind), body)?;
+    Ok(reply_of(alloc, kind, &mut values))
+}
 
 /// What the body of a call's reply tells.
 pub fn read_reply(alloc: Global, call: Call, body: &[u8]) -> Result<Reply, BodyFault>
@@ -22,10 +34,12 @@ pub fn read_reply(alloc: Global, call: Call, body: &[u8]) -> Result<Reply, BodyF
     ensures found { IfOk result (λ told. IsReply call body.now told) }
     // What the body tells is read, unless memory runs out.
     ensures only { (told : AReply) → IsReply call body.now told → Gives (λ r. r) result (Ok told) }
+    // No memory is taken for a handle and numbers.
+    ensures memory { ArePlain (reply_shape (reply_kind call)) → FindsMemory result }
     // Which fault it is.
     ensures exact { Gives (λ r. r) result (reply_at call body.now) }
 {
-    read_told(alloc, reply_kind(call), body)
+    read(alloc, call, body)
 }
 
 /// Writes the body of a reply behind what the buffer holds. Without memory the buffer is given back
@@ -40,9 +54,19 @@ pub fn write_reply(reply: &Reply, out: Buffer<u8>) -> Result<Buffer<u8>, (OutOfM
     // What some body tells is read back from the one that is written.
     ensures back { (call : ACall) (bytes : List ℕ) → IsReply call bytes reply.now → reply_at call (reply_bytes reply.now) ≡ Ok reply.now }
     // So is a reply whose parts can stand in a body.
-    ensures carried { AllByRecursion IsCarried (reply_values reply.now) → told_at (kind_of reply.now) (reply_bytes reply.now) ≡ Ok reply.now }
+    ensures carried { AllByRecursion IsCarried (reply_values reply.now) → reply_told (kind_of reply.now) (reply_bytes reply.now) ≡ Ok reply.now }
 {
-    scm_calls::write_reply(reply, out)
+    put_reply(reply, out)
+}
+
+fn bound_of(request: &Request) -> u32
+    requires { IsTrue (in_range request.now) }
+    ensures { result ≡ reply_bound request.now }
+{
+    let Some(call) = call_of(request) else {
+        unreachable!();
+    };
+    longest(reply_kind(call), asked_size(request))
 }
 
 /// The greatest length of the body of a reply that answers a request.
@@ -53,8 +77,5 @@ pub fn reply_bound(request: &Request) -> u32
     ensures bound { (told : AReply) → Answers request.now told → length (reply_bytes told) ≤ result }
     ensures reached { (told : AReply) × Answers request.now told × (length (reply_bytes told) ≡ result) }
 {
-    let Some(call) = call_of(request) else {
-        unreachable!();
-    };
-    longest(reply_kind(call), asked_size(request))
+    bound_of(request)
 }

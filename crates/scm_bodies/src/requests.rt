@@ -1,15 +1,44 @@
 ghost use Rattle.std.specs.Prelude.{◌≡◌, ℕ, List, IsTrue, Ok, IfOk};
-ghost use Rattle.ndr_body.specs.Reading.{Gives};
+ghost use Rattle.ndr_body.specs.Reading.{FindsMemory, Gives};
+ghost use Rattle.scm_shapes.specs.Plain.{ArePlain};
+ghost use Rattle.scm_shapes.specs.Written.{IsWritten};
 ghost use Rattle.scm_model.specs.declared.calls.Request.{Request as ARequest};
 ghost use Rattle.scm_model.specs.Ranges.{in_range};
 ghost use Rattle.scm_bodies.specs.declared.call.Call.{Call as ACall};
-ghost use Rattle.scm_bodies.specs.Requests.{request_at, IsRequest, request_bytes, AreCarried};
+ghost use Rattle.scm_bodies.specs.Requests.{shape_of, asked_by, values_of, request_at, IsRequest, request_bytes, AreCarried};
 
 use crate::call::Call;
 use ndr_body::BodyFault;
 use scm_model::Request;
-use scm_text::{Items, OutOfMemory};
+use scm_shapes::{Item, Values, read_body};
+use scm_text::{Buffer, Items, OutOfMemory};
 use std::alloc::Global;
+
+fn shape_of(call: Call) -> &'static [Item]
+    ensures { result.now ≡ shape_of call }
+{
+    match call {
+        Call::Plain(call) => scm_calls::request_shape(call),
+        Call::Config(call) => scm_calls_cfg::request_shape(call),
+    }
+}
+
+fn asked_by(alloc: Global, call: Call, values: &mut Values) -> Request
+    ensures { result ≡ asked_by call values.old }
+{
+    match call {
+        Call::Plain(call) => scm_calls::request_of(alloc, call, values),
+        Call::Config(call) => scm_calls_cfg::request_of(alloc, call, values),
+    }
+}
+
+fn read(alloc: Global, call: Call, body: &[u8]) -> Result<Request, BodyFault>
+    ensures exact { Gives (λ r. r) result (request_at call body.now) }
+    ensures memory { ArePlain (shape_of call) → FindsMemory result }
+{
+    let mut values = read_body(alloc, shape_of(call), body)?;
+    Ok(asked_by(alloc, call, &mut values))
+}
 
 /// What the body of a request asks.
 pub fn read_request(alloc: Global, call: Call, body: &[u8]) -> Result<Request, BodyFault>
@@ -19,25 +48,43 @@ pub fn read_request(alloc: Global, call: Call, body: &[u8]) -> Result<Request, B
     ensures only { (r : ARequest) → IsRequest call body.now r → Gives (λ s. s) result (Ok r) }
     // No size in it is beyond its range.
     ensures ranged { IfOk result (λ r. IsTrue (in_range r)) }
+    // Nor is a part of it too long for a body.
+    ensures carried { IfOk result AreCarried }
+    // No memory is taken for a handle and numbers.
+    ensures memory { ArePlain (shape_of call) → FindsMemory result }
     // Which fault it is.
     ensures exact { Gives (λ r. r) result (request_at call body.now) }
 {
-    match call {
-        Call::Plain(call) => scm_calls::read_request(alloc, call, body),
-        Call::Config(call) => scm_calls_cfg::read_request(alloc, call, body),
+    read(alloc, call, body)
+}
+
+/// Writes the body of a request behind what the buffer holds. Without memory the buffer is given back
+/// as it was.
+fn put_request(request: &Request, out: Buffer<u8>) -> Result<Buffer<u8>, (OutOfMemory, Buffer<u8>)>
+    ensures { IsWritten (values_of request.now) out result }
+{
+    match scm_calls::call_of(request) {
+        Some(_) => scm_calls::put_request(request, out),
+        None => scm_calls_cfg::put_request(request, out),
+    }
+}
+
+fn bytes_of(alloc: Global, request: &Request) -> Result<Items<u8>, OutOfMemory>
+    ensures { IfOk result (λ bytes. bytes ≡ request_bytes request.now) }
+{
+    match put_request(request, Buffer::with_room(alloc, 256)?) {
+        Ok(out) => Ok(Items::from_vec(out.into_vec())),
+        Err((fault, _)) => Err(fault),
     }
 }
 
 /// The body of a request, in the one form that is written.
 pub fn write_request(alloc: Global, request: &Request) -> Result<Items<u8>, OutOfMemory>
     ensures form { IfOk result (λ bytes. bytes ≡ request_bytes request.now) }
-    // What some body asks is in its ranges, and read back from the one that is written.
-    ensures back { (call : ACall) (bytes : List ℕ) → IsRequest call bytes request.now → IsTrue (in_range request.now) × (request_at call (request_bytes request.now) ≡ Ok request.now) }
-    // A request in its ranges is read back, unless a part of it is too long for any body.
+    // What some body asks is in its ranges, has no part that is too long, and is read back from the one that is written.
+    ensures back { (call : ACall) (bytes : List ℕ) → IsRequest call bytes request.now → IsTrue (in_range request.now) × AreCarried request.now × (request_at call (request_bytes request.now) ≡ Ok request.now) }
+    // And such a request is one that a body asks. A text in memory can have more units than a body can count: no body asks for it.
     ensures ranged { IsTrue (in_range request.now) → AreCarried request.now → (call : ACall) × (request_at call (request_bytes request.now) ≡ Ok request.now) }
 {
-    match scm_calls::call_of(request) {
-        Some(_) => scm_calls::write_request(alloc, request),
-        None => scm_calls_cfg::write_request(alloc, request),
-    }
+    bytes_of(alloc, request)
 }

@@ -1,4 +1,4 @@
--- The calls whose bodies are here: a line each for its opnum, its request, and the kind of its replies.
+-- The calls whose lines are here: for each its opnum, its request, and the kind of its replies.
 use Rattle.std.specs.Prelude.{ℕ, ◌==◌, if◌then◌else◌, Option, Some, None}
 use Rattle.scm_model.specs.declared.calls.Request.{Request}
 use Rattle.scm_model.specs.declared.calls.Request.TheVariants as request
@@ -8,8 +8,8 @@ use Rattle.scm_calls.specs.declared.calls.Call.TheVariants as call
 use Rattle.scm_calls.specs.declared.kinds.ReplyKind.{ReplyKind}
 use Rattle.scm_calls.specs.declared.kinds.ReplyKind.TheVariants as kind
 
-abbrev pub call_at : ℕ → Option Call
-call_at opnum =
+abbrev pub plain_call_at : ℕ → Option Call
+plain_call_at opnum =
     if opnum == R_CLOSE_SERVICE_HANDLE then Some call.Close
     else if opnum == R_CONTROL_SERVICE then Some call.Control
     else if opnum == R_DELETE_SERVICE then Some call.Delete
@@ -25,33 +25,33 @@ call_at opnum =
     else if opnum == R_GET_SERVICE_KEY_NAME_W then Some call.KeyName
     else None
 
-abbrev pub call_of : Request → Option Call
-call_of (request.Close handle) = Some call.Close
-call_of (request.Control handle control) = Some call.Control
-call_of (request.Delete handle) = Some call.Delete
-call_of (request.Lock handle) = Some call.Lock
-call_of (request.QueryStatus handle) = Some call.QueryStatus
-call_of (request.SetStatus handle status) = Some call.SetStatus
-call_of (request.Unlock handle) = Some call.Unlock
-call_of (request.OpenManager database access) = Some call.OpenManager
-call_of (request.OpenService handle name access) = Some call.OpenService
-call_of (request.QueryLock handle size) = Some call.QueryLock
-call_of (request.Start handle words) = Some call.Start
-call_of (request.DisplayName handle name size) = Some call.DisplayName
-call_of (request.KeyName handle name size) = Some call.KeyName
-call_of _ = None
+abbrev pub plain_call_of : Request → Option Call
+plain_call_of (request.Close handle) = Some call.Close
+plain_call_of (request.Control handle control) = Some call.Control
+plain_call_of (request.Delete handle) = Some call.Delete
+plain_call_of (request.Lock handle) = Some call.Lock
+plain_call_of (request.QueryStatus handle) = Some call.QueryStatus
+plain_call_of (request.SetStatus handle status) = Some call.SetStatus
+plain_call_of (request.Unlock handle) = Some call.Unlock
+plain_call_of (request.OpenManager database access) = Some call.OpenManager
+plain_call_of (request.OpenService handle name access) = Some call.OpenService
+plain_call_of (request.QueryLock handle size) = Some call.QueryLock
+plain_call_of (request.Start handle words) = Some call.Start
+plain_call_of (request.DisplayName handle name size) = Some call.DisplayName
+plain_call_of (request.KeyName handle name size) = Some call.KeyName
+plain_call_of _ = None
 
-abbrev pub reply_kind : Call → ReplyKind
-reply_kind call.Close = kind.Handle
-reply_kind call.Control = kind.State
-reply_kind call.Delete = kind.Code
-reply_kind call.Lock = kind.Handle
-reply_kind call.QueryStatus = kind.State
-reply_kind call.SetStatus = kind.Code
-reply_kind call.Unlock = kind.Handle
-reply_kind call.OpenManager = kind.Handle
-reply_kind call.OpenService = kind.Handle
-reply_kind call.QueryLock = kind.LockState
-reply_kind call.Start = kind.Code
-reply_kind call.DisplayName = kind.Name
-reply_kind call.KeyName = kind.Name
+abbrev pub plain_reply_kind : Call → ReplyKind
+plain_reply_kind call.Close = kind.Handle
+plain_reply_kind call.Control = kind.State
+plain_reply_kind call.Delete = kind.Code
+plain_reply_kind call.Lock = kind.Handle
+plain_reply_kind call.QueryStatus = kind.State
+plain_reply_kind call.SetStatus = kind.Code
+plain_reply_kind call.Unlock = kind.Handle
+plain_reply_kind call.OpenManager = kind.Handle
+plain_reply_kind call.OpenService = kind.Handle
+plain_reply_kind call.QueryLock = kind.LockState
+plain_reply_kind call.Start = kind.Code
+plain_reply_kind call.DisplayName = kind.Name
+plain_reply_kind call.KeyName = kind.Name

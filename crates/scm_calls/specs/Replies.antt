@@ -1,17 +1,15 @@
 -- The bodies of replies of every kind: their shapes, what is made of their values, the values of a reply, and how long it can be.
-use Rattle.std.specs.Prelude.{ℕ, ◌+◌, ◌-◌, ◌*◌, ◌/◌, ◌≤◌, nat_lt, List, [], ◌∷◌, ◌++◌, length, Some, IfSome, Result, if◌then◌else◌}
+use Rattle.std.specs.Prelude.{ℕ, ◌+◌, ◌-◌, ◌*◌, ◌/◌, ◌≤◌, nat_lt, List, [], ◌∷◌, ◌++◌, length, IfSome, if◌then◌else◌}
 use Rattle.scm_model.specs.declared.calls.Shown.{Shown}
 use Rattle.scm_model.specs.declared.calls.Request.{Request}
 use Rattle.scm_model.specs.declared.calls.Request.TheVariants as request
 use Rattle.scm_model.specs.declared.calls.Reply.{Reply}
 use Rattle.scm_model.specs.declared.calls.Reply.TheVariants as reply
-use Rattle.ndr_body.specs.declared.fault.BodyFault.{BodyFault}
 use Rattle.scm_shapes.specs.declared.item.Item.{Item}
 use Rattle.scm_shapes.specs.declared.item.Item.TheVariants as item
 use Rattle.scm_shapes.specs.declared.item.Value.{Value}
 use Rattle.scm_shapes.specs.declared.item.Value.TheVariants as value
-use Rattle.scm_shapes.specs.Shapes.{after, handle_of, number_of, text_of, some_number_of, lock_of, shown_in, body_bytes}
-use Rattle.scm_shapes.specs.Calls.{read_as, Spells}
+use Rattle.scm_shapes.specs.Shapes.{after, first_handle, first_number, first_text, first_some_number, first_lock, first_shown}
 use Rattle.scm_calls.specs.declared.kinds.ReplyKind.{ReplyKind}
 use Rattle.scm_calls.specs.declared.kinds.ReplyKind.TheVariants as kind
 use Rattle.scm_calls.specs.Requests.{status_shape, status_from, status_values}
@@ -37,14 +35,14 @@ reply_shape kind.LockState = item.Lock ∷ item.Number ∷ item.Number ∷ []
 reply_shape kind.Name = item.Text ∷ item.Number ∷ item.Number ∷ []
 
 abbrev pub reply_from : ReplyKind → List Value → Reply
-reply_from kind.Code vs = reply.Code (number_of vs)
-reply_from kind.Handle vs = reply.Handle (handle_of vs) (number_of (after 1 vs))
-reply_from kind.State vs = reply.State (status_from vs) (number_of (after 7 vs))
-reply_from kind.Made vs = reply.Made (some_number_of vs) (handle_of (after 1 vs)) (number_of (after 2 vs))
-reply_from kind.Tag vs = reply.Tag (some_number_of vs) (number_of (after 1 vs))
-reply_from kind.Shown vs = reply.Shown (shown_in vs) (number_of (after 1 vs)) (number_of (after 2 vs))
-reply_from kind.LockState vs = reply.LockState (lock_of vs).0 (lock_of vs).1 (lock_of vs).2 (number_of (after 1 vs)) (number_of (after 2 vs))
-reply_from kind.Name vs = reply.Name (text_of vs) (number_of (after 1 vs)) (number_of (after 2 vs))
+reply_from kind.Code vs = reply.Code (first_number vs)
+reply_from kind.Handle vs = reply.Handle (first_handle vs) (first_number (after 1 vs))
+reply_from kind.State vs = reply.State (status_from vs) (first_number (after 7 vs))
+reply_from kind.Made vs = reply.Made (first_some_number vs) (first_handle (after 1 vs)) (first_number (after 2 vs))
+reply_from kind.Tag vs = reply.Tag (first_some_number vs) (first_number (after 1 vs))
+reply_from kind.Shown vs = reply.Shown (first_shown vs) (first_number (after 1 vs)) (first_number (after 2 vs))
+reply_from kind.LockState vs = reply.LockState (first_lock vs).0 (first_lock vs).1 (first_lock vs).2 (first_number (after 1 vs)) (first_number (after 2 vs))
+reply_from kind.Name vs = reply.Name (first_text vs) (first_number (after 1 vs)) (first_number (after 2 vs))
 
 abbrev pub reply_values : Reply → List Value
 reply_values (reply.Code code) = value.Number code ∷ []
@@ -55,18 +53,6 @@ reply_values (reply.Tag tag code) = value.SomeNumber tag ∷ value.Number code �
 reply_values (reply.Shown config needed code) = value.Shown config ∷ value.Number needed ∷ value.Number code ∷ []
 reply_values (reply.LockState held owner seconds needed code) = value.Lock held owner seconds ∷ value.Number needed ∷ value.Number code ∷ []
 reply_values (reply.Name name size code) = value.Text name ∷ value.Number size ∷ value.Number code ∷ []
-
--- what a body of a kind tells, or the first fault
-abbrev pub told_at : ReplyKind → List ℕ → Result Reply BodyFault
-told_at told body = read_as (reply_shape told) (reply_from told) body
-
--- bytes are a body of a kind that tells this
-abbrev pub IsTold : ReplyKind → List ℕ → Reply → Type 0
-IsTold told bytes r = Spells reply_shape (λ r. Some (kind_of r)) reply_values told bytes r
-
--- the one form that is written
-abbrev pub reply_bytes : Reply → List ℕ
-reply_bytes told = body_bytes (reply_values told)
 
 -- ## How long a reply can be
 

@@ -1,5 +1,5 @@
 ghost use Rattle.std.specs.Prelude.{◌≡◌};
-ghost use Rattle.scm_calls.specs.Calls.{call_at, call_of, reply_kind};
+ghost use Rattle.scm_calls.specs.Calls.{plain_call_at, plain_call_of, plain_reply_kind};
 
 use crate::kinds::ReplyKind;
 use scm_model::Request;
@@ -10,7 +10,7 @@ use scm_model::codes::{
     R_UNLOCK_SERVICE_DATABASE,
 };
 
-/// A call whose bodies are read and written here.
+/// A call whose line is here.
 #[derive(Clone, Copy, Debug, PartialEq, Eq)]
 pub enum Call {
     Close,
@@ -30,7 +30,7 @@ pub enum Call {
 
 /// The call of an opnum.
 pub fn call_at(opnum: u16) -> Option<Call>
-    ensures { result ≡ call_at opnum }
+    ensures { result ≡ plain_call_at opnum }
 {
     match opnum {
         R_CLOSE_SERVICE_HANDLE => Some(Call::Close),
@@ -52,7 +52,7 @@ pub fn call_at(opnum: u16) -> Option<Call>
 
 /// The call of a request.
 pub fn call_of(request: &Request) -> Option<Call>
-    ensures { result ≡ call_of request.now }
+    ensures { result ≡ plain_call_of request.now }
 {
     match request {
         Request::Close { .. } => Some(Call::Close),
@@ -74,7 +74,7 @@ pub fn call_of(request: &Request) -> Option<Call>
 
 /// The kind of a call's replies.
 pub fn reply_kind(call: Call) -> ReplyKind
-    ensures { result ≡ reply_kind call }
+    ensures { result ≡ plain_reply_kind call }
 {
     match call {
         Call::Close | Call::Lock | Call::Unlock | Call::OpenManager | Call::OpenService => {

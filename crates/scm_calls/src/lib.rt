@@ -1,8 +1,9 @@
-//! Bodies of requests and replies, both ways: `RCloseServiceHandle`, `RControlService`,
-//! `RDeleteService`, `RLockServiceDatabase`, `RQueryServiceStatus`, `RSetServiceStatus`,
-//! `RUnlockServiceDatabase`, `ROpenSCManagerW`, `ROpenServiceW`, `RQueryServiceLockStatusW`,
-//! `RStartServiceW`, `RGetServiceDisplayNameW` and `RGetServiceKeyNameW` of MS-SCMR. Replies of every
-//! kind are read and written here, and bounded.
+//! Lines of calls, each of which says what stands in the bodies of a call: `RCloseServiceHandle`,
+//! `RControlService`, `RDeleteService`, `RLockServiceDatabase`, `RQueryServiceStatus`,
+//! `RSetServiceStatus`, `RUnlockServiceDatabase`, `ROpenSCManagerW`, `ROpenServiceW`,
+//! `RQueryServiceLockStatusW`, `RStartServiceW`, `RGetServiceDisplayNameW` and
+//! `RGetServiceKeyNameW` of MS-SCMR. Those of replies of every kind are here too, with how long each
+//! can be. Bodies are read and written by them in `scm_bodies`.
 #![tactic(auto)]
 
 mod calls;
@@ -12,5 +13,5 @@ mod requests;
 
 pub use calls::{Call, call_at, call_of, reply_kind};
 pub use kinds::ReplyKind;
-pub use replies::{asked_size, longest, read_reply, read_told, write_reply};
-pub use requests::{read_request, write_request};
+pub use replies::{asked_size, longest, put_reply, reply_of, reply_shape};
+pub use requests::{put_request, request_of, request_shape};

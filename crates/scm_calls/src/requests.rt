@@ -1,27 +1,21 @@
-ghost use Rattle.std.specs.Prelude.{◌≡◌, ◌++◌, ◌∷◌, ℕ, List, IsTrue, Ok, IfOk, IfSome, is_some};
-ghost use Rattle.std.specs.List.{AllByRecursion};
-ghost use Rattle.ndr_body.specs.Reading.{Gives};
-ghost use Rattle.scm_shapes.specs.Shapes.{after};
-ghost use Rattle.scm_shapes.specs.Laws.{IsCarried};
-ghost use Rattle.scm_model.specs.declared.calls.Request.{Request as ARequest};
-ghost use Rattle.scm_model.specs.Ranges.{in_range};
-ghost use Rattle.scm_calls.specs.declared.calls.Call.{Call as ACall};
-ghost use Rattle.scm_calls.specs.Calls.{call_of};
-ghost use Rattle.scm_calls.specs.Requests.{status_from, request_shape, request_from, values_of, request_at, IsRequest, request_bytes};
+ghost use Rattle.std.specs.Prelude.{◌≡◌, ◌++◌, ◌∷◌, []};
+ghost use Rattle.scm_shapes.specs.declared.item.Value.TheVariants as value;
+ghost use Rattle.scm_shapes.specs.Shapes.{after, first_handle, first_number, first_some_text};
+ghost use Rattle.scm_shapes.specs.Written.{IsWritten};
+ghost use Rattle.scm_model.specs.declared.calls.Request.TheVariants as request;
+ghost use Rattle.scm_calls.specs.declared.calls.Call.TheVariants as call;
+ghost use Rattle.scm_calls.specs.Requests.{plain_from, plain_shape, plain_values, status_from, status_values};
 
 use crate::calls::Call;
-use ndr_body::BodyFault;
+use scm_model::codes::MAX_LOCK_STATUS_SIZE;
 use scm_model::{Request, Status};
-use scm_shapes::{Item, Piece, Values, read_body, write_pieces};
-use scm_text::{Buffer, Items, OutOfMemory};
+use scm_shapes::{Item, Piece, Values, write_pieces};
+use scm_text::{Buffer, OutOfMemory, WText};
 use std::alloc::Global;
 
-/// The most bytes in which the state of the lock may be asked for.
-const MOST_LOCK_STATE: u32 = 4096;
-
 /// The kinds of items in the body of a request.
-fn request_shape(call: Call) -> &'static [Item]
-    ensures { result.now ≡ request_shape call }
+pub fn request_shape(call: Call) -> &'static [Item]
+    ensures { result.now ≡ plain_shape call }
 {
     match call {
         Call::Close | Call::Delete | Call::Lock | Call::QueryStatus | Call::Unlock => {
@@ -42,7 +36,7 @@ fn request_shape(call: Call) -> &'static [Item]
         Call::OpenService | Call::DisplayName | Call::KeyName => {
             &[Item::Handle, Item::Text, Item::Number]
         }
-        Call::QueryLock => &[Item::Handle, Item::NumberTo(MOST_LOCK_STATE)],
+        Call::QueryLock => &[Item::Handle, Item::NumberTo(MAX_LOCK_STATUS_SIZE)],
         Call::Start => &[Item::Handle, Item::Words],
     }
 }
@@ -63,9 +57,50 @@ pub fn status_of(values: &mut Values) -> Status
     }
 }
 
+/// The machine's name isn't kept.
+fn open_manager(values: &mut Values) -> Request
+    ensures { result ≡ plain_from call.OpenManager values.old }
+{
+    values.skip();
+    Request::OpenManager {
+        database: values.some_text(),
+        access: values.number(),
+    }
+}
+
+fn open_service(alloc: Global, values: &mut Values) -> Request
+    ensures { result ≡ plain_from call.OpenService values.old }
+{
+    Request::OpenService {
+        handle: values.handle(),
+        name: values.text(alloc),
+        access: values.number(),
+    }
+}
+
+fn display_name(alloc: Global, values: &mut Values) -> Request
+    ensures { result ≡ plain_from call.DisplayName values.old }
+{
+    Request::DisplayName {
+        handle: values.handle(),
+        name: values.text(alloc),
+        size: values.number(),
+    }
+}
+
+fn key_name(alloc: Global, values: &mut Values) -> Request
+    ensures { result ≡ plain_from call.KeyName values.old }
+{
+    Request::KeyName {
+        handle: values.handle(),
+        name: values.text(alloc),
+        size: values.number(),
+    }
+}
+
 /// What is asked by the values of a body.
-fn request_of(alloc: Global, call: Call, values: &mut Values) -> Request
-    ensures { result ≡ request_from call values.old }
+pub fn request_of(alloc: Global, call: Call, values: &mut Values) -> Request
+    ensures { result ≡ plain_from call values.old }
 {
     match call {
         Call::Close => Request::Close {
@@ -91,18 +126,8 @@ fn request_of(alloc: Global, call: Call, values: &mut Values) -> Request
         Call::Unlock => Request::Unlock {
             handle: values.handle(),
         },
-        Call::OpenManager => {
-            values.skip();
-            Request::OpenManager {
-                database: values.some_text(),
-                access: values.number(),
-            }
-        }
-        Call::OpenService => Request::OpenService {
-            handle: values.handle(),
-            name: values.text(alloc),
-            access: values.number(),
-        },
+        Call::OpenManager => open_manager(values),
+        Call::OpenService => open_service(alloc, values),
         Call::QueryLock => Request::QueryLock {
             handle: values.handle(),
             size: values.number(),
@@ -111,43 +136,60 @@ fn request_of(alloc: Global, call: Call, values: &mut Values) -> Request
             handle: values.handle(),
             words: values.words(),
         },
-        Call::DisplayName => Request::DisplayName {
-            handle: values.handle(),
-            name: values.text(alloc),
-            size: values.number(),
-        },
-        Call::KeyName => Request::KeyName {
-            handle: values.handle(),
-            name: values.text(alloc),
-            size: values.number(),
-        },
+        Call::DisplayName => display_name(alloc, values),
+        Call::KeyName => key_name(alloc, values),
     }
 }
 
-fn read(alloc: Global, call: Call, body: &[u8]) -> Result<Request, BodyFault>
-    ensures { Gives (λ r. r) result (request_at call body.now) }
+/// Writes a handle and the numbers of a status.
+fn put_status(
+    handle: u64,
+    status: &Status,
+    out: Buffer<u8>,
+) -> Result<Buffer<u8>, (OutOfMemory, Buffer<u8>)>
+    ensures { IsWritten (value.Handle handle ∷ status_values status.now) out result }
 {
-    let mut values = read_body(alloc, request_shape(call), body)?;
-    Ok(request_of(alloc, call, &mut values))
+    write_pieces(
+        &[
+            Piece::Handle(handle),
+            Piece::Number(status.kind),
+            Piece::Number(status.state),
+            Piece::Number(status.accepted),
+            Piece::Number(status.win32),
+            Piece::Number(status.specific),
+            Piece::Number(status.checkpoint),
+            Piece::Number(status.hint),
+        ],
+        out,
+    )
 }
 
-/// What the body of a request asks.
-pub fn read_request(alloc: Global, call: Call, body: &[u8]) -> Result<Request, BodyFault>
-    // What is read is asked by the body, whatever its padding and its referents are.
-    ensures found { IfOk result (λ r. IsRequest call body.now r) }
-    // What the body asks is read, unless memory runs out.
-    ensures only { (r : ARequest) → IsRequest call body.now r → Gives (λ s. s) result (Ok r) }
-    // No size in it is beyond its range.
-    ensures ranged { IfOk result (λ r. IsTrue (in_range r)) }
-    // Which fault it is.
-    ensures exact { Gives (λ r. r) result (request_at call body.now) }
+/// Writes a handle, a name and a number.
+fn put_name(
+    handle: u64,
+    name: &WText,
+    number: u32,
+    out: Buffer<u8>,
+) -> Result<Buffer<u8>, (OutOfMemory, Buffer<u8>)>
+    ensures { IsWritten (value.Handle handle ∷ value.Text name.now ∷ value.Number number ∷ []) out result }
 {
-    read(alloc, call, body)
+    write_pieces(
+        &[
+            Piece::Handle(handle),
+            Piece::Text(name),
+            Piece::Number(number),
+        ],
+        out,
+    )
 }
 
-/// Writes the body of a request behind what the buffer holds.
-fn put_request(request: &Request, out: Buffer<u8>) -> Result<Buffer<u8>, (OutOfMemory, Buffer<u8>)>
-    ensures { IfOk result (λ written. written.items ≡ out.items ++ request_bytes request.now) }
+/// Writes the body of a request behind what the buffer holds, where its line is here. Without memory
+/// the buffer is given back as it was.
+pub fn put_request(
+    request: &Request,
+    out: Buffer<u8>,
+) -> Result<Buffer<u8>, (OutOfMemory, Buffer<u8>)>
+    ensures { IsWritten (plain_values request.now) out result }
 {
     match request {
         Request::Close { handle }
@@ -163,27 +205,11 @@ fn put_request(request: &Request, out: Buffer<u8>) -> Result<Buffer<u8>, (OutOfM
             handle,
             size: number,
         } => write_pieces(&[Piece::Handle(*handle), Piece::Number(*number)], out),
-        Request::SetStatus { handle, status } => write_pieces(
-            &[
-                Piece::Handle(*handle),
-                Piece::Number(status.kind),
-                Piece::Number(status.state),
-                Piece::Number(status.accepted),
-                Piece::Number(status.win32),
-                Piece::Number(status.specific),
-                Piece::Number(status.checkpoint),
-                Piece::Number(status.hint),
-            ],
-            out,
-        ),
-        Request::OpenManager { database, access } => write_pieces(
-            &[
-                Piece::UnkeptText,
-                Piece::SomeText(database),
-                Piece::Number(*access),
-            ],
-            out,
-        ),
+        Request::SetStatus { handle, status } => put_status(*handle, status, out),
+        Request::OpenManager { database, access } => {
+            let (database, access) = (Piece::SomeText(database), Piece::Number(*access));
+            write_pieces(&[Piece::UnkeptText, database, access], out)
+        }
         Request::OpenService {
             handle,
             name,
@@ -198,14 +224,7 @@ fn put_request(request: &Request, out: Buffer<u8>) -> Result<Buffer<u8>, (OutOfM
             handle,
             name,
             size: number,
-        } => write_pieces(
-            &[
-                Piece::Handle(*handle),
-                Piece::Text(name),
-                Piece::Number(*number),
-            ],
-            out,
-        ),
+        } => put_name(*handle, name, *number, out),
         Request::Start { handle, words } => {
             write_pieces(&[Piece::Handle(*handle), Piece::Words(words)], out)
         }
@@ -213,25 +232,4 @@ fn put_request(request: &Request, out: Buffer<u8>) -> Result<Buffer<u8>, (OutOfM
             write_pieces(&[], out)
         }
     }
-}
-
-fn bytes_of(alloc: Global, request: &Request) -> Result<Items<u8>, OutOfMemory>
-    ensures { IfOk result (λ bytes. bytes ≡ request_bytes request.now) }
-{
-    match put_request(request, Buffer::with_room(alloc, 64)?) {
-        Ok(out) => Ok(Items::from_vec(out.into_vec())),
-        Err((fault, _)) => Err(fault),
-    }
-}
-
-/// The body of a request, in the one form that is written.
-pub fn write_request(alloc: Global, request: &Request) -> Result<Items<u8>, OutOfMemory>
-    requires { IsTrue (is_some (call_of request.now)) }
-    ensures form { IfOk result (λ bytes. bytes ≡ request_bytes request.now) }
-    // What some body asks is read back from the one that is written.
-    ensures back { (call : ACall) (bytes : List ℕ) → IsRequest call bytes request.now → request_at call (request_bytes request.now) ≡ Ok request.now }
-    // So is a request in its ranges whose parts can stand in a body.
-    ensures ranged { IsTrue (in_range request.now) → AllByRecursion IsCarried (values_of request.now) → IfSome (call_of request.now) (λ call. request_at call (request_bytes request.now) ≡ Ok request.now) }
-{
-    bytes_of(alloc, request)
 }

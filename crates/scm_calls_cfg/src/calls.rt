@@ -1,11 +1,11 @@
 ghost use Rattle.std.specs.Prelude.{◌≡◌};
-ghost use Rattle.scm_calls_cfg.specs.Calls.{call_at, call_of, reply_kind};
+ghost use Rattle.scm_calls_cfg.specs.Calls.{config_call_at, config_call_of, config_reply_kind};
 
 use scm_calls::ReplyKind;
 use scm_model::Request;
 use scm_model::codes::{R_CHANGE_SERVICE_CONFIG_W, R_CREATE_SERVICE_W, R_QUERY_SERVICE_CONFIG_W};
 
-/// A call whose bodies are read and written here.
+/// A call whose line is here.
 #[derive(Clone, Copy, Debug, PartialEq, Eq)]
 pub enum Call {
     Change,
@@ -15,7 +15,7 @@ pub enum Call {
 
 /// The call of an opnum.
 pub fn call_at(opnum: u16) -> Option<Call>
-    ensures { result ≡ call_at opnum }
+    ensures { result ≡ config_call_at opnum }
 {
     match opnum {
         R_CHANGE_SERVICE_CONFIG_W => Some(Call::Change),
@@ -27,7 +27,7 @@ pub fn call_at(opnum: u16) -> Option<Call>
 
 /// The call of a request.
 pub fn call_of(request: &Request) -> Option<Call>
-    ensures { result ≡ call_of request.now }
+    ensures { result ≡ config_call_of request.now }
 {
     match request {
         Request::Change(_) => Some(Call::Change),
@@ -51,7 +51,7 @@ pub fn call_of(request: &Request) -> Option<Call>
 
 /// The kind of a call's replies.
 pub fn reply_kind(call: Call) -> ReplyKind
-    ensures { result ≡ reply_kind call }
+    ensures { result ≡ config_reply_kind call }
 {
     match call {
         Call::Change => ReplyKind::Tag,

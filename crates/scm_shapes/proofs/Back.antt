@@ -17,7 +17,7 @@ use Rattle.scm_shapes.specs.declared.item.Value.TheVariants as value
 use Rattle.scm_shapes.specs.Ranges.{within_at}
 use Rattle.scm_shapes.specs.Sized.{sized_at, put_sized}
 use Rattle.scm_shapes.specs.Words.{words_at, put_words}
-use Rattle.scm_shapes.specs.Shapes.{made, item_at, values_at, body_at, put_value, put_values, body_bytes}
+use Rattle.scm_shapes.specs.Shapes.{made, item_at, values_at, body_values, put_value, put_values, body_bytes}
 use Rattle.scm_shapes.specs.Bodies.{ItemStands, ValuesStand, IsBody}
 use Rattle.scm_shapes.specs.Laws.{CanHold, CanHoldAll, as_read}
 use Rattle.scm_shapes.specs.Records.{lock_at, lock_of, lock_marks, lock_texts, owners, shown_at, shown_of, shown_told, shown_marks, shown_texts, put_record}
@@ -108,8 +108,8 @@ values_put [] (v ∷ vs) h = absurd h
 values_put (kind ∷ kinds) [] h = absurd h
 
 -- the body of values that a shape can hold is read as they are
-pub body_again : (shape : List Item) (vs : List Value) → CanHoldAll shape vs → body_at shape (body_bytes vs) ≡ Ok (map as_read vs)
-unfolding body_at body_bytes
+pub body_again : (shape : List Item) (vs : List Value) → CanHoldAll shape vs → body_values shape (body_bytes vs) ≡ Ok (map as_read vs)
+unfolding body_values body_bytes
 body_again shape vs h =
     let d = put_values vs blank in
     let law = values_put shape vs h in
@@ -147,6 +147,6 @@ values_ranged (kind ∷ kinds) body place [] after h = absurd h
 pub body_ranged : (shape : List Item) (body : List ℕ) (vs : List Value) → IsBody shape body vs → CanHoldAll shape vs
 body_ranged shape body vs h = values_ranged shape body 0 vs h.behind h.stand
 
-pub ranged_if : (shape : List Item) (body : List ℕ) (result : Result (List Value) BodyFault) → IsBytes body → Gives (λ v. v) result (body_at shape body) → IfOk result (λ vs. CanHoldAll shape vs)
+pub ranged_if : (shape : List Item) (body : List ℕ) (result : Result (List Value) BodyFault) → IsBytes body → Gives (λ v. v) result (body_values shape body) → IfOk result (λ vs. CanHoldAll shape vs)
 ranged_if shape body (Ok vs) fits gives = body_ranged shape body vs (body_found shape body vs fits gives)
 ranged_if shape body (Err e) fits gives = tt

@@ -6,7 +6,7 @@ use Rattle.ndr_body.specs.Reading.{Gives}
 use Rattle.ndr_body.proofs.Spelled.{IsBytes, bind_ok, ok_is}
 use Rattle.scm_shapes.specs.declared.item.Item.{Item}
 use Rattle.scm_shapes.specs.declared.item.Value.{Value}
-use Rattle.scm_shapes.specs.Shapes.{body_at, body_bytes}
+use Rattle.scm_shapes.specs.Shapes.{body_values, body_bytes}
 use Rattle.scm_shapes.specs.Laws.{CanHoldAll}
 use Rattle.scm_shapes.specs.Calls.{read_as, shape_in, made_in, Codec, Spells}
 use Rattle.scm_shapes.proofs.Exact.{body_found, body_read, body_fits}
@@ -19,7 +19,7 @@ module _ {Kind R : Type 0} (shape_of : Kind → List Item) (from : Kind → List
   -- what is read is spelled by the body
   pub calls_found : (kind : Kind) (body : List ℕ) (result : Result R BodyFault) → IsBytes body → Gives (λ r. r) result (read_as (shape_of kind) (from kind) body) → IfOk result (λ r. Spells shape_of kind_of values_of kind body r)
   calls_found kind body (Ok r) fits gives =
-      let a = bind_ok (body_at (shape_of kind) body) (λ vs. Ok (from kind vs)) r gives in
+      let a = bind_ok (body_values (shape_of kind) body) (λ vs. Ok (from kind vs)) r gives in
       let found = body_found (shape_of kind) body a.0 fits a.1 in
       let values : values_of (from kind a.0) ≡ a.0 = codec.kept kind a.0 ∙ body_fits (shape_of kind) body a.0 found in
       subst (λ (s : R). Spells shape_of kind_of values_of kind body s) (ok_is (from kind a.0) r a.2) (record { named = codec.named kind a.0; body = rw values found })

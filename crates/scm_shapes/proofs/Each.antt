@@ -4,7 +4,7 @@ use Rattle.std.specs.List.{AllByRecursion}
 use Rattle.std.proofs.lemmas.List.{append-nil}
 use Rattle.ndr_body.specs.declared.fault.BodyFault.{BodyFault}
 use Rattle.ndr_body.specs.Reading.{◌>>=◌, text_at}
-use Rattle.ndr_body.specs.Writing.{Draft, number_bytes, text_bytes, padding, with_item, put_number, put_text, put_referent}
+use Rattle.ndr_body.specs.Writing.{Draft, number_bytes, text_bytes, padding_at, with_item, put_number, put_text, put_referent}
 use Rattle.ndr_body.specs.Spelled.{IsText, Stands}
 use Rattle.ndr_body.specs.Laws.{IsReferent, IsSent}
 use Rattle.ndr_body.proofs.Spelled.{bind_ok, ok_is}
@@ -49,7 +49,7 @@ pub behind_nothing : Behind (λ d. d)
 behind_nothing d = ([], sym (append-nil d.bytes))
 
 behind_item : (item : List ℕ) (d : Draft) → (more : List ℕ) × ((with_item item d).bytes ≡ d.bytes ++ more)
-behind_item item d = (padding (length d.bytes) ++ item, append_assoc d.bytes (padding (length d.bytes)) item)
+behind_item item d = (padding_at (length d.bytes) ++ item, append_assoc d.bytes (padding_at (length d.bytes)) item)
 
 pub behind_number : (n : ℕ) → Behind (put_number n)
 unfolding put_number

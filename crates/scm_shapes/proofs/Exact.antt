@@ -17,7 +17,7 @@ use Rattle.scm_shapes.specs.declared.item.Value.TheVariants as value
 use Rattle.scm_shapes.specs.Ranges.{within_at}
 use Rattle.scm_shapes.specs.Sized.{is_size, sized_at}
 use Rattle.scm_shapes.specs.Words.{words_at}
-use Rattle.scm_shapes.specs.Shapes.{made, item_at, values_at, body_at, first_as, fitted}
+use Rattle.scm_shapes.specs.Shapes.{made, item_at, values_at, body_values, first_as, fitted}
 use Rattle.scm_shapes.specs.Bodies.{WithinStands, IsSize, SizedStands, WordsStand, Holds, ItemStands, ValuesStand, IsBody}
 use Rattle.scm_shapes.specs.Records.{RecordStands, owners, lock_of, lock_at, shown_told, shown_of, shown_at}
 use Rattle.scm_shapes.proofs.Ranges.{guard_true, within_found, within_read}
@@ -116,15 +116,15 @@ values_read (kind ∷ kinds) body place (v ∷ vs) after fits h = rw ((item_exac
 values_read [] body place (v ∷ vs) after fits h = absurd h
 values_read (kind ∷ kinds) body place [] after fits h = absurd h
 
-pub body_found : (shape : List Item) (body : List ℕ) (vs : List Value) → IsBytes body → body_at shape body ≡ Ok vs → IsBody shape body vs
-unfolding body_at
+pub body_found : (shape : List Item) (body : List ℕ) (vs : List Value) → IsBytes body → body_values shape body ≡ Ok vs → IsBody shape body vs
+unfolding body_values
 body_found shape body vs fits e =
     let a = bind_ok (values_at shape body 0) (λ values. finished body values.1 >>= λ ended. Ok values.0) vs e in
     let b = bind_ok (finished body a.0.1) (λ ended. Ok a.0.0) vs a.2 in
     subst (IsBody shape body) (ok_is a.0.0 vs b.2) (record { behind = a.0.1; stand = values_found shape body 0 a.0 fits a.1; ends = finished_ended body a.0.1 b.1 })
 
-pub body_read : (shape : List Item) (body : List ℕ) (vs : List Value) → IsBytes body → IsBody shape body vs → body_at shape body ≡ Ok vs
-unfolding body_at
+pub body_read : (shape : List Item) (body : List ℕ) (vs : List Value) → IsBytes body → IsBody shape body vs → body_values shape body ≡ Ok vs
+unfolding body_values
 body_read shape body vs fits h = rw (values_read shape body 0 vs h.behind fits h.stand, ended_finished body h.behind h.ends) refl
 
 -- ## Values of a shape are of its kinds
@@ -153,6 +153,6 @@ values_fit (kind ∷ kinds) body place [] after h = absurd h
 pub body_fits : (shape : List Item) (body : List ℕ) (vs : List Value) → IsBody shape body vs → fitted shape vs ≡ vs
 body_fits shape body vs h = values_fit shape body 0 vs h.behind h.stand
 
-pub found_if : (shape : List Item) (body : List ℕ) (result : Result (List Value) BodyFault) → IsBytes body → Gives (λ v. v) result (body_at shape body) → IfOk result (λ vs. IsBody shape body vs)
+pub found_if : (shape : List Item) (body : List ℕ) (result : Result (List Value) BodyFault) → IsBytes body → Gives (λ v. v) result (body_values shape body) → IfOk result (λ vs. IsBody shape body vs)
 found_if shape body (Ok vs) fits gives = body_found shape body vs fits gives
 found_if shape body (Err e) fits gives = tt

@@ -9,3 +9,4 @@ pub mod Pieces
 pub mod Exact
 pub mod Back
 pub mod Calls
+pub mod Carried

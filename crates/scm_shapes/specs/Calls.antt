@@ -4,13 +4,13 @@ use Rattle.ndr_body.specs.declared.fault.BodyFault.{BodyFault}
 use Rattle.ndr_body.specs.Reading.{◌>>=◌}
 use Rattle.scm_shapes.specs.declared.item.Item.{Item}
 use Rattle.scm_shapes.specs.declared.item.Value.{Value}
-use Rattle.scm_shapes.specs.Shapes.{body_at, fitted}
+use Rattle.scm_shapes.specs.Shapes.{body_values, fitted}
 use Rattle.scm_shapes.specs.Bodies.{IsBody}
 use Rattle.scm_shapes.specs.Laws.{as_read}
 
 -- what a body of a shape is read as, or the first fault
 abbrev pub read_as : {R : Type 0} → List Item → (List Value → R) → List ℕ → Result R BodyFault
-read_as shape from body = body_at shape body >>= λ vs. Ok (from vs)
+read_as shape from body = body_values shape body >>= λ vs. Ok (from vs)
 
 -- bytes are a body of this kind, and hold r
 pub record Spells {Kind R : Type 0} (shape_of : Kind → List Item) (kind_of : R → Option Kind) (values_of : R → List Value) (kind : Kind) (bytes : List ℕ) (r : R) : Type 0 where

@@ -4,7 +4,9 @@ pub mod Words
 pub mod Ranges
 pub mod Sized
 pub mod Shapes
+pub mod Plain
 pub mod Bodies
+pub mod Written
 pub mod Laws
 pub mod Widths
 pub mod Calls

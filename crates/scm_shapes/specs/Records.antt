@@ -122,8 +122,8 @@ shown_of (kind ∷ start ∷ error ∷ to_path ∷ to_group ∷ tag ∷ ns) (pat
 shown_of ns texts = None
 
 -- the five texts of these numbers
-unfoldable pub pointed_at : Heads → List ℕ → ℕ → Result (Option Shown × ℕ) BodyFault
-pointed_at heads body place = each_at text_at 5 body place >>= λ texts. Ok (shown_of (numbers_in heads) texts.0, texts.1)
+unfoldable pub shown_texts_at : Heads → List ℕ → ℕ → Result (Option Shown × ℕ) BodyFault
+shown_texts_at heads body place = each_at text_at 5 body place >>= λ texts. Ok (shown_of (numbers_in heads) texts.0, texts.1)
 
 unfoldable pub shown_at : List ℕ → ℕ → Result (Option Shown × ℕ) BodyFault
 shown_at = record_at 9 shown_told shown_of

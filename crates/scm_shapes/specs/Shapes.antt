@@ -45,8 +45,8 @@ values_at (kind ∷ kinds) body place = do
   Ok (first.0 ∷ others.0, others.1)
 
 -- a whole body of a shape, or the first fault
-unfoldable pub body_at : List Item → List ℕ → Result (List Value) BodyFault
-body_at shape body = do
+unfoldable pub body_values : List Item → List ℕ → Result (List Value) BodyFault
+body_values shape body = do
   values ← values_at shape body 0
   ended ← finished body values.1
   Ok values.0
@@ -63,65 +63,65 @@ after zero vs = vs
 after (suc n) vs = after n (rest vs)
 
 -- the first value, where it is of this kind; these are the values of a shape's kinds
-abbrev pub handle_of : List Value → ℕ
-handle_of (value.Handle handle ∷ vs) = handle
-handle_of _ = 0
+abbrev pub first_handle : List Value → ℕ
+first_handle (value.Handle handle ∷ vs) = handle
+first_handle _ = 0
 
-abbrev pub number_of : List Value → ℕ
-number_of (value.Number number ∷ vs) = number
-number_of _ = 0
+abbrev pub first_number : List Value → ℕ
+first_number (value.Number number ∷ vs) = number
+first_number _ = 0
 
-abbrev pub text_of : List Value → List ℕ
-text_of (value.Text text ∷ vs) = text
-text_of _ = []
+abbrev pub first_text : List Value → List ℕ
+first_text (value.Text text ∷ vs) = text
+first_text _ = []
 
-abbrev pub some_text_of : List Value → Option (List ℕ)
-some_text_of (value.SomeText text ∷ vs) = text
-some_text_of _ = None
+abbrev pub first_some_text : List Value → Option (List ℕ)
+first_some_text (value.SomeText text ∷ vs) = text
+first_some_text _ = None
 
-abbrev pub some_number_of : List Value → Option ℕ
-some_number_of (value.SomeNumber number ∷ vs) = number
-some_number_of _ = None
+abbrev pub first_some_number : List Value → Option ℕ
+first_some_number (value.SomeNumber number ∷ vs) = number
+first_some_number _ = None
 
-abbrev pub some_bytes_of : List Value → Option (List ℕ)
-some_bytes_of (value.SomeBytes held ∷ vs) = held
-some_bytes_of _ = None
+abbrev pub first_some_bytes : List Value → Option (List ℕ)
+first_some_bytes (value.SomeBytes held ∷ vs) = held
+first_some_bytes _ = None
 
-abbrev pub size_of : List Value → ℕ
-size_of (value.Bytes size held ∷ vs) = size
-size_of _ = 0
+abbrev pub first_size : List Value → ℕ
+first_size (value.Bytes size held ∷ vs) = size
+first_size _ = 0
 
-abbrev pub bytes_of : List Value → List ℕ
-bytes_of (value.Bytes size held ∷ vs) = held
-bytes_of _ = []
+abbrev pub first_bytes : List Value → List ℕ
+first_bytes (value.Bytes size held ∷ vs) = held
+first_bytes _ = []
 
-abbrev pub words_of : List Value → Option (List (List ℕ))
-words_of (value.Words words ∷ vs) = words
-words_of _ = None
+abbrev pub first_words : List Value → Option (List (List ℕ))
+first_words (value.Words words ∷ vs) = words
+first_words _ = None
 
-abbrev pub lock_of : List Value → ℕ × Option (List ℕ) × ℕ
-lock_of (value.Lock held owner seconds ∷ vs) = (held, owner, seconds)
-lock_of _ = (0, None, 0)
+abbrev pub first_lock : List Value → ℕ × Option (List ℕ) × ℕ
+first_lock (value.Lock held owner seconds ∷ vs) = (held, owner, seconds)
+first_lock _ = (0, None, 0)
 
-abbrev pub shown_in : List Value → Option Shown
-shown_in (value.Shown shown ∷ vs) = shown
-shown_in _ = None
+abbrev pub first_shown : List Value → Option Shown
+first_shown (value.Shown shown ∷ vs) = shown
+first_shown _ = None
 
 -- the first value as one of a kind
 abbrev pub first_as : Item → List Value → Value
-first_as item.Handle vs = value.Handle (handle_of vs)
-first_as item.Number vs = value.Number (number_of vs)
-first_as (item.NumberTo most) vs = value.Number (number_of vs)
-first_as item.Text vs = value.Text (text_of vs)
-first_as item.SomeText vs = value.SomeText (some_text_of vs)
+first_as item.Handle vs = value.Handle (first_handle vs)
+first_as item.Number vs = value.Number (first_number vs)
+first_as (item.NumberTo most) vs = value.Number (first_number vs)
+first_as item.Text vs = value.Text (first_text vs)
+first_as item.SomeText vs = value.SomeText (first_some_text vs)
 first_as item.UnkeptText vs = value.UnkeptText
-first_as item.SomeNumber vs = value.SomeNumber (some_number_of vs)
-first_as item.SomeBytes vs = value.SomeBytes (some_bytes_of vs)
+first_as item.SomeNumber vs = value.SomeNumber (first_some_number vs)
+first_as item.SomeBytes vs = value.SomeBytes (first_some_bytes vs)
 first_as item.UnkeptBytes vs = value.UnkeptBytes
-first_as item.Bytes vs = value.Bytes (size_of vs) (bytes_of vs)
-first_as item.Words vs = value.Words (words_of vs)
-first_as item.Lock vs = value.Lock (lock_of vs).0 (lock_of vs).1 (lock_of vs).2
-first_as item.Shown vs = value.Shown (shown_in vs)
+first_as item.Bytes vs = value.Bytes (first_size vs) (first_bytes vs)
+first_as item.Words vs = value.Words (first_words vs)
+first_as item.Lock vs = value.Lock (first_lock vs).0 (first_lock vs).1 (first_lock vs).2
+first_as item.Shown vs = value.Shown (first_shown vs)
 
 -- values as those of a shape
 abbrev pub fitted : List Item → List Value → List Value

@@ -33,12 +33,13 @@ pub enum Item {
 }
 
 /// What an item holds. Nothing is known of an item that isn't kept.
-#[derive(Drop)]
+#[derive(Default, Drop)]
 pub enum Value {
     Handle(u64),
     Number(u32),
     Text(WText),
     SomeText(Option<WText>),
+    #[default]
     UnkeptText,
     SomeNumber(Option<u32>),
     SomeBytes(Option<Items<u8>>),

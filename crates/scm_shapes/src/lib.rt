@@ -12,4 +12,4 @@ mod writing;
 pub use item::{Item, Piece, Value};
 pub use reading::read_body;
 pub use values::Values;
-pub use writing::{put_pieces, write_pieces};
+pub use writing::write_pieces;

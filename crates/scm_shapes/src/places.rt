@@ -1,5 +1,5 @@
 ghost use Rattle.std.specs.Prelude.{◌≡◌, ◌+◌, ◌^◌, ◌<◌};
-ghost use Rattle.ndr_body.specs.Reading.{Gives, aligned};
+ghost use Rattle.ndr_body.specs.Reading.{FindsMemory, Gives, aligned};
 ghost use Rattle.scm_shapes.specs.Ranges.{within_at};
 
 use ndr_body::{BodyFault, NdrReader};
@@ -17,6 +17,7 @@ pub fn next_place(reader: &NdrReader) -> usize
 pub fn read_within(reader: &mut NdrReader, most: u32) -> Result<u32, BodyFault>
     ensures value { Gives (λ v. (v, reader.new.place)) result (within_at most reader.old.body reader.old.place) }
     ensures body { reader.new.body ≡ reader.old.body }
+    ensures memory { FindsMemory result }
 {
     let start = next_place(reader);
     let number = reader.number()?;

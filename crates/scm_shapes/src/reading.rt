@@ -1,8 +1,9 @@
 ghost use Rattle.std.specs.Prelude.{◌≡◌, ◌==◌, List, Ok, IfOk};
-ghost use Rattle.ndr_body.specs.Reading.{Gives};
+ghost use Rattle.ndr_body.specs.Reading.{FindsMemory, Gives};
 ghost use Rattle.scm_shapes.specs.Sized.{is_size, sized_at};
 ghost use Rattle.scm_shapes.specs.declared.item.Value.{Value as AValue};
-ghost use Rattle.scm_shapes.specs.Shapes.{item_at, values_at, body_at};
+ghost use Rattle.scm_shapes.specs.Shapes.{item_at, values_at, body_values};
+ghost use Rattle.scm_shapes.specs.Plain.{IsPlain, ArePlain};
 ghost use Rattle.scm_shapes.specs.Bodies.{IsBody};
 ghost use Rattle.scm_shapes.specs.Laws.{CanHoldAll};
 
@@ -45,6 +46,7 @@ fn read_sized(reader: &mut NdrReader, alloc: Global) -> Result<Option<Items<u8>>
 fn read_item(reader: &mut NdrReader, alloc: Global, item: Item) -> Result<Value, BodyFault>
     ensures value { Gives (λ v. (v, reader.new.place)) result (item_at item reader.old.body reader.old.place) }
     ensures body { reader.new.body ≡ reader.old.body }
+    ensures memory { IsPlain item → FindsMemory result }
 {
     match item {
         Item::Handle => Ok(Value::Handle(reader.handle()?)),
@@ -78,6 +80,7 @@ fn read_item(reader: &mut NdrReader, alloc: Global, item: Item) -> Result<Value,
 fn read_values(reader: &mut NdrReader, alloc: Global, shape: &[Item]) -> Result<Values, BodyFault>
     ensures value { Gives (λ v. (v, reader.new.place)) result (values_at shape.now reader.old.body reader.old.place) }
     ensures body { reader.new.body ≡ reader.old.body }
+    ensures memory { ArePlain shape.now → FindsMemory result }
 {
     let mut values = Values::with_room(alloc, shape.len())?;
     for item in shape {
@@ -87,9 +90,10 @@ fn read_values(reader: &mut NdrReader, alloc: Global, shape: &[Item]) -> Result<
     Ok(values)
 }
 
-#[tactic(auto, unfolding(crate::specs::Shapes::body_at))]
+#[tactic(auto, unfolding(crate::specs::Shapes::body_values))]
 fn values_of(alloc: Global, shape: &[Item], body: &[u8]) -> Result<Values, BodyFault>
-    ensures { Gives (λ v. v) result (body_at shape.now body.now) }
+    ensures values { Gives (λ v. v) result (body_values shape.now body.now) }
+    ensures memory { ArePlain shape.now → FindsMemory result }
 {
     let mut reader = NdrReader::new(body);
     let values = read_values(&mut reader, alloc, shape)?;
@@ -105,8 +109,10 @@ pub fn read_body(alloc: Global, shape: &[Item], body: &[u8]) -> Result<Values, B
     ensures only { (vs : List AValue) → IsBody shape.now body.now vs → Gives (λ v. v) result (Ok vs) }
     // No value is beyond the range of its item.
     ensures ranged { IfOk result (λ vs. CanHoldAll shape.now vs) }
+    // No memory is taken for a few numbers and handles.
+    ensures memory { ArePlain shape.now → FindsMemory result }
     // Which fault it is.
-    ensures exact { Gives (λ v. v) result (body_at shape.now body.now) }
+    ensures exact { Gives (λ v. v) result (body_values shape.now body.now) }
 {
     values_of(alloc, shape, body)
 }

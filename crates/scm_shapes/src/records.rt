@@ -3,7 +3,7 @@ ghost use Rattle.ndr_body.specs.Reading.{Gives, number_at};
 ghost use Rattle.scm_shapes.specs.declared.item.Value.TheVariants as value;
 ghost use Rattle.scm_shapes.specs.Shapes.{made};
 ghost use Rattle.scm_shapes.specs.Each.{each_at, put_each};
-ghost use Rattle.scm_shapes.specs.Records.{lock_at, lock_marks, lock_texts, begins_blank, is_blank, is_pointed, left_over, missing, misfit, numbers_in, pointed_at, shown_at, shown_marks, shown_texts, put_mark, put_marks, put_record};
+ghost use Rattle.scm_shapes.specs.Records.{lock_at, lock_marks, lock_texts, begins_blank, is_blank, is_pointed, left_over, missing, misfit, numbers_in, shown_texts_at, shown_at, shown_marks, shown_texts, put_mark, put_marks, put_record};
 
 use crate::item::Value;
 use crate::places::next_place;
@@ -121,9 +121,9 @@ fn read_heads(reader: &mut NdrReader) -> Result<Heads, BodyFault>
 }
 
 /// The configuration of these numbers, whose texts come next.
-#[tactic(auto, unfolding(crate::specs::Records::pointed_at, crate::specs::Each::each_at))]
+#[tactic(auto, unfolding(crate::specs::Records::shown_texts_at, crate::specs::Each::each_at))]
 fn read_texts(reader: &mut NdrReader, alloc: Global, heads: &Heads) -> Result<Shown, BodyFault>
-    ensures value { Gives (λ s. (Some s, reader.new.place)) result (pointed_at heads.now reader.old.body reader.old.place) }
+    ensures value { Gives (λ s. (Some s, reader.new.place)) result (shown_texts_at heads.now reader.old.body reader.old.place) }
     ensures body { reader.new.body ≡ reader.old.body }
 {
     let path = reader.text(alloc)?;
@@ -146,7 +146,7 @@ fn read_texts(reader: &mut NdrReader, alloc: Global, heads: &Heads) -> Result<Sh
 
 /// A configuration, or none where its numbers are 0. A number that doesn't fit to those before it is
 /// `BadCount` where it begins.
-#[tactic(auto, using(crate::proofs::Recorded::decides), unfolding(crate::specs::Records::shown_at, crate::specs::Records::record_at, crate::specs::Records::pointed_at))]
+#[tactic(auto, using(crate::proofs::Recorded::decides), unfolding(crate::specs::Records::shown_at, crate::specs::Records::record_at, crate::specs::Records::shown_texts_at))]
 pub fn read_shown(reader: &mut NdrReader, alloc: Global) -> Result<Option<Shown>, BodyFault>
     ensures value { Gives (λ v. (v, reader.new.place)) result (shown_at reader.old.body reader.old.place) }
     ensures body { reader.new.body ≡ reader.old.body }

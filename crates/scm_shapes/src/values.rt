@@ -1,47 +1,98 @@
-ghost use Rattle.std.specs.Prelude.{◌≡◌, ◌++◌, ◌∷◌, [], IfOk, OnOk, OnErr};
-ghost use Rattle.scm_shapes.specs.Shapes.{rest, handle_of, number_of, text_of, some_text_of, some_number_of, some_bytes_of, size_of, bytes_of, words_of, lock_of, shown_in};
+ghost use Rattle.std.specs.Prelude.{◌≡◌, ◌++◌, ◌∷◌, ◌<◌, ◌≤◌, [], length, IfOk, IsOk, MatchOption, OnOk, OnErr, option_to_list};
+ghost use Rattle.scm_shapes.specs.Shapes.{rest, first_handle, first_number, first_text, first_some_text, first_some_number, first_some_bytes, first_size, first_bytes, first_words, first_lock, first_shown};
 
 use crate::item::Value;
 use scm_model::Shown;
 use scm_text::{Items, OutOfMemory, WText};
+use smallvec::SmallVec;
 use std::alloc::Global;
-use std::collections::VecDeque;
 use std::marker::Model;
 
 /// The values of a body, which are taken from the first on. A value of another kind than the one
-/// that is asked for is taken as 0, empty or none: the values of a shape are of its kinds.
+/// that is asked for is taken as 0, empty or none: the values of a shape are of its kinds. Up to 16
+/// values lie in the struct itself.
 #[derive(Drop)]
 pub struct Values {
-    queue: VecDeque<Value>,
+    queue: SmallVec<Value, 16>,
 }
 
 impl Model for Values {
-    ghost use Rattle.std.specs.Prelude.{List};
+    ghost use Rattle.std.specs.Prelude.{◌≤◌, List};
     ghost use Rattle.scm_shapes.specs.declared.item.Value.{Value as AValue};
 
     ghost Value = { List AValue };
 
     ghost view = { λ v. v.queue.items };
+
+    ghost invariant = { λ v. 16 ≤ v.queue.capacity };
 }
 
+/// The first of the values as a handle, or 0.
+fn first_handle(values: &[Value]) -> u64
+    ensures { result ≡ first_handle values.now }
+{
+    match values {
+        [Value::Handle(handle), ..] => *handle,
+        _ => 0,
+    }
+}
+
+/// The first of the values as a number, or 0.
+fn first_number(values: &[Value]) -> u32
+    ensures { result ≡ first_number values.now }
+{
+    match values {
+        [Value::Number(number), ..] => *number,
+        _ => 0,
+    }
+}
+
+/// The first of the values as a number behind a pointer, or none.
+fn first_some_number(values: &[Value]) -> Option<u32>
+    ensures { result ≡ first_some_number values.now }
+{
+    match values {
+        [Value::SomeNumber(number), ..] => *number,
+        _ => None,
+    }
+}
+
+/// Lets a value go that isn't of the kind that is asked for.
+fn let_go(_value: Option<Value>) {}
+
 impl Values {
-    /// None yet, and room for so many.
+    /// None yet, and room for so many. It takes no memory for 16 or fewer.
     pub fn with_room(alloc: Global, room: usize) -> Result<Values, OutOfMemory>
-        ensures { IfOk result (λ values. values ≡ []) }
+        ensures ok { IfOk result (λ values. values ≡ []) }
+        ensures enough { room ≤ 16 → IsOk result }
     {
-        match VecDeque::with_capacity(alloc, room) {
+        match SmallVec::with_capacity(alloc, room) {
             Ok(queue) => Ok(Values { queue }),
             Err(_) => Err(OutOfMemory),
         }
     }
 
+    /// Adds a value behind the others. It takes no memory for the first 16.
     pub fn push(&mut self, value: Value) -> Result<(), OutOfMemory>
         ensures ok { OnOk result (self.new ≡ self.old ++ value ∷ []) }
         ensures err { OnErr result (self.new ≡ self.old) }
+        ensures enough { length self.old < 16 → IsOk result }
     {
-        match self.queue.push_back(value) {
+        match self.queue.push(value) {
             Ok(()) => Ok(()),
             Err(_) => Err(OutOfMemory),
+        }
+    }
+
+    /// Takes the first value, if there is one.
+    fn take(&mut self) -> Option<Value>
+        ensures parts { self.old ≡ option_to_list result ++ self.new }
+        ensures none { MatchOption result (self.new ≡ []) (λ _. Unit {0}) }
+    {
+        if self.queue.is_empty() {
+            None
+        } else {
+            Some(self.queue.remove(0))
         }
     }
 
@@ -49,109 +100,127 @@ impl Values {
     pub fn skip(&mut self)
         ensures { self.new ≡ rest self.old }
     {
-        let _value = self.queue.pop_front();
+        let_go(self.take());
     }
 
     pub fn handle(&mut self) -> u64
-        ensures value { result ≡ handle_of self.old }
+        ensures value { result ≡ first_handle self.old }
         ensures rest { self.new ≡ rest self.old }
     {
-        match self.queue.pop_front() {
-            Some(Value::Handle(handle)) => handle,
-            _ => 0,
-        }
+        let handle = first_handle(self.queue.as_slice());
+        self.skip();
+        handle
     }
 
     pub fn number(&mut self) -> u32
-        ensures value { result ≡ number_of self.old }
+        ensures value { result ≡ first_number self.old }
         ensures rest { self.new ≡ rest self.old }
     {
-        match self.queue.pop_front() {
-            Some(Value::Number(number)) => number,
-            _ => 0,
-        }
+        let number = first_number(self.queue.as_slice());
+        self.skip();
+        number
     }
 
     pub fn text(&mut self, alloc: Global) -> WText
-        ensures value { result ≡ text_of self.old }
+        ensures value { result ≡ first_text self.old }
         ensures rest { self.new ≡ rest self.old }
     {
-        match self.queue.pop_front() {
+        match self.take() {
             Some(Value::Text(text)) => text,
-            _ => WText::new(alloc),
+            other => {
+                let_go(other);
+                WText::new(alloc)
+            }
         }
     }
 
     pub fn some_text(&mut self) -> Option<WText>
-        ensures value { result ≡ some_text_of self.old }
+        ensures value { result ≡ first_some_text self.old }
         ensures rest { self.new ≡ rest self.old }
     {
-        match self.queue.pop_front() {
+        match self.take() {
             Some(Value::SomeText(text)) => text,
-            _ => None,
+            other => {
+                let_go(other);
+                None
+            }
         }
     }
 
     pub fn some_number(&mut self) -> Option<u32>
-        ensures value { result ≡ some_number_of self.old }
+        ensures value { result ≡ first_some_number self.old }
         ensures rest { self.new ≡ rest self.old }
     {
-        match self.queue.pop_front() {
-            Some(Value::SomeNumber(number)) => number,
-            _ => None,
-        }
+        let number = first_some_number(self.queue.as_slice());
+        self.skip();
+        number
     }
 
     pub fn some_bytes(&mut self) -> Option<Items<u8>>
-        ensures value { result ≡ some_bytes_of self.old }
+        ensures value { result ≡ first_some_bytes self.old }
         ensures rest { self.new ≡ rest self.old }
     {
-        match self.queue.pop_front() {
+        match self.take() {
             Some(Value::SomeBytes(held)) => held,
-            _ => None,
+            other => {
+                let_go(other);
+                None
+            }
         }
     }
 
     /// The size and the bytes.
     pub fn bytes(&mut self, alloc: Global) -> (u32, Items<u8>)
-        ensures size { result.0 ≡ size_of self.old }
-        ensures bytes { result.1 ≡ bytes_of self.old }
+        ensures size { result.0 ≡ first_size self.old }
+        ensures bytes { result.1 ≡ first_bytes self.old }
         ensures rest { self.new ≡ rest self.old }
     {
-        match self.queue.pop_front() {
+        match self.take() {
             Some(Value::Bytes(size, held)) => (size, held),
-            _ => (0, Items::new(alloc)),
+            other => {
+                let_go(other);
+                (0, Items::new(alloc))
+            }
         }
     }
 
     pub fn words(&mut self) -> Option<Items<WText>>
-        ensures value { result ≡ words_of self.old }
+        ensures value { result ≡ first_words self.old }
         ensures rest { self.new ≡ rest self.old }
     {
-        match self.queue.pop_front() {
+        match self.take() {
             Some(Value::Words(words)) => words,
-            _ => None,
+            other => {
+                let_go(other);
+                None
+            }
         }
     }
 
     /// Whether a lock is held, by whom, and for how many seconds.
     pub fn lock(&mut self) -> (u32, Option<WText>, u32)
-        ensures value { result ≡ lock_of self.old }
+        ensures value { result ≡ first_lock self.old }
         ensures rest { self.new ≡ rest self.old }
     {
-        match self.queue.pop_front() {
+        match self.take() {
             Some(Value::Lock(held, owner, seconds)) => (held, owner, seconds),
-            _ => (0, None, 0),
+            other => {
+                let_go(other);
+                (0, None, 0)
+            }
         }
     }
 
     pub fn shown(&mut self) -> Option<Shown>
-        ensures value { result ≡ shown_in self.old }
+        ensures value { result ≡ first_shown self.old }
         ensures rest { self.new ≡ rest self.old }
     {
-        match self.queue.pop_front() {
+        match self.take() {
             Some(Value::Shown(shown)) => shown,
-            _ => None,
+            other => {
+                let_go(other);
+                None
+            }
         }
     }
 }

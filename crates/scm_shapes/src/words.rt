@@ -6,11 +6,9 @@ ghost use Rattle.scm_shapes.specs.Words.{pointing, words_of, pointed_at, listed_
 
 use crate::places::{next_place, read_within};
 use ndr_body::{BodyFault, NdrReader, NdrWriter};
+use scm_model::codes::SC_MAX_ARGUMENTS;
 use scm_text::{Items, OutOfMemory, WText};
 use std::alloc::Global;
-
-/// The most words that a service may be started with.
-const MOST_WORDS: u32 = 1024;
 
 /// So many numbers.
 fn read_numbers(
@@ -137,7 +135,7 @@ pub fn read_words(reader: &mut NdrReader, alloc: Global) -> Result<Option<Items<
     ensures value { Gives (λ v. (v, reader.new.place)) result (words_at reader.old.body reader.old.place) }
     ensures body { reader.new.body ≡ reader.old.body }
 {
-    let argc = read_within(reader, MOST_WORDS)?;
+    let argc = read_within(reader, SC_MAX_ARGUMENTS)?;
     read_argv(reader, alloc, argc)
 }
 

@@ -1,9 +1,9 @@
-ghost use Rattle.std.specs.Prelude.{◌≡◌, ◌≤◌, ◌++◌, map, length, take, IsOk, IfOk, IfErr, OnOk, List, Ok};
+ghost use Rattle.std.specs.Prelude.{◌≡◌, ◌≤◌, map, length, take, IsOk, OnOk, List, Ok};
 ghost use Rattle.scm_shapes.specs.Sized.{put_sized};
 ghost use Rattle.scm_shapes.specs.declared.item.Item.{Item as AnItem};
-ghost use Rattle.scm_shapes.specs.Widths.{end_of, width_of};
+ghost use Rattle.scm_shapes.specs.Written.{IsWritten};
 ghost use Rattle.scm_shapes.specs.Laws.{CanHoldAll, as_read};
-ghost use Rattle.scm_shapes.specs.Shapes.{body_at, value_of, put_value, put_values, body_bytes};
+ghost use Rattle.scm_shapes.specs.Shapes.{body_values, value_of, put_value, put_values, body_bytes};
 
 use crate::item::Piece;
 use crate::records::{put_lock, put_shown};
@@ -68,7 +68,7 @@ fn first(bytes: &[u8], size: u32) -> &[u8]
 }
 
 /// Writes values one behind the other.
-pub fn put_pieces(writer: &mut NdrWriter, pieces: &[Piece]) -> Result<(), OutOfMemory>
+fn put_pieces(writer: &mut NdrWriter, pieces: &[Piece]) -> Result<(), OutOfMemory>
     ensures front { writer.new.front ≡ writer.old.front }
     ensures ok { OnOk result (writer.new.draft ≡ put_values (map value_of pieces.now) writer.old.draft) }
     ensures space { writer.old.space ≤ writer.new.space }
@@ -82,9 +82,7 @@ pub fn put_pieces(writer: &mut NdrWriter, pieces: &[Piece]) -> Result<(), OutOfM
 
 #[tactic(auto, unfolding(crate::specs::Shapes::body_bytes))]
 fn written(pieces: &[Piece], out: Buffer<u8>) -> Result<Buffer<u8>, (OutOfMemory, Buffer<u8>)>
-    ensures ok { IfOk result (λ written. written.items ≡ out.items ++ body_bytes (map value_of pieces.now)) }
-    ensures err { IfErr result (λ failed. failed.1.items ≡ out.items) }
-    ensures enough { length (body_bytes (map value_of pieces.now)) ≤ out.room → IsOk result }
+    ensures { IsWritten (map value_of pieces.now) out result }
 {
     let mut writer = NdrWriter::new(out);
     match put_pieces(&mut writer, pieces) {
@@ -98,12 +96,9 @@ pub fn write_pieces(
     pieces: &[Piece],
     out: Buffer<u8>,
 ) -> Result<Buffer<u8>, (OutOfMemory, Buffer<u8>)>
-    ensures ok { IfOk result (λ written. written.items ≡ out.items ++ body_bytes (map value_of pieces.now)) }
-    ensures err { IfErr result (λ failed. failed.1.items ≡ out.items) }
-    // It takes no memory where there is room for the body.
-    ensures enough { end_of (map width_of (map value_of pieces.now)) 0 ≤ out.room → IsOk result }
+    ensures written { IsWritten (map value_of pieces.now) out result }
     // Values that a shape can hold are read back from their body.
-    ensures back { (shape : List AnItem) → CanHoldAll shape (map value_of pieces.now) → body_at shape (body_bytes (map value_of pieces.now)) ≡ Ok (map as_read (map value_of pieces.now)) }
+    ensures back { (shape : List AnItem) → CanHoldAll shape (map value_of pieces.now) → body_values shape (body_bytes (map value_of pieces.now)) ≡ Ok (map as_read (map value_of pieces.now)) }
 {
     written(pieces, out)
 }

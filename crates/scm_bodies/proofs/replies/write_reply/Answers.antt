@@ -1,13 +1,20 @@
-use Rattle.std.proofs.Common.{◌≤◌, subst}
-use Rattle.scm_calls.specs.Replies.{kind_of, asked_size}
+use Rattle.std.proofs.Common.{◌≤◌, Some, refl, subst, arith}
+use Rattle.scm_model.specs.declared.calls.Reply.{Reply}
+use Rattle.scm_shapes.proofs.Calls.{held_again, spelled_again}
+use Rattle.scm_calls.specs.Replies.{reply_shape, reply_from, reply_values, kind_of, asked_size}
 use Rattle.scm_bodies.specs.Calls.{call_of, reply_kind}
-use Rattle.scm_bodies.proofs.Known.{bound_is}
+use Rattle.scm_bodies.proofs.Codecs.{reply_codec, reply_held}
+use Rattle.scm_bodies.proofs.Bounds.{bound_is, fits}
 use Rattle.scm_bodies.proofs.replies.write_reply.Goals as goal
 
 pub returns-clause-bounded : goal.returns-clause-bounded
 returns-clause-bounded c = λ request answers le.
     let is = bound_is (call_of request) (kind_of c.args.reply.now) (asked_size request) answers.0 in
-    c.write_reply.ensures.bounded (asked_size request) answers.1 (subst (λ n. n ≤ c.args.out.room) is le)
+    let room = subst (λ n. n ≤ c.args.out.room) is le in
+    c.put_reply.ensures.enough (omega (arith, room, fits c.args.reply.now (asked_size request) answers.1))
 
 pub returns-clause-back : goal.returns-clause-back
-returns-clause-back c = λ call bytes h. c.write_reply.ensures.back (reply_kind call) bytes h
+returns-clause-back c = λ call bytes h. spelled_again reply_shape reply_from (λ (r : Reply). Some (kind_of r)) reply_values reply_codec (reply_kind call) bytes c.args.reply.now h
+
+pub returns-clause-carried : goal.returns-clause-carried
+returns-clause-carried c = λ h. held_again reply_shape reply_from (λ (r : Reply). Some (kind_of r)) reply_values reply_codec (kind_of c.args.reply.now) c.args.reply.now refl (reply_held c.args.reply.now h)

@@ -1,0 +1,240 @@
+//! Requests and replies from words. A `-` is none, and a `.` in a text is left out. Without memory
+//! less is made, which is then another body.
+use scm_model::codes::{
+    R_CHANGE_SERVICE_CONFIG_W, R_CLOSE_SERVICE_HANDLE, R_CONTROL_SERVICE, R_CREATE_SERVICE_W,
+    R_DELETE_SERVICE, R_GET_SERVICE_DISPLAY_NAME_W, R_LOCK_SERVICE_DATABASE, R_OPEN_SC_MANAGER_W,
+    R_OPEN_SERVICE_W, R_QUERY_SERVICE_CONFIG_W, R_QUERY_SERVICE_LOCK_STATUS_W,
+    R_QUERY_SERVICE_STATUS, R_SET_SERVICE_STATUS, R_START_SERVICE_W, R_UNLOCK_SERVICE_DATABASE,
+};
+use scm_model::{ChangeService, NewService, Reply, Request, Shown, Status};
+use scm_text::{Items, OutOfMemory, WText};
+use std::alloc::Global;
+
+type Words<'a> = &'a [&'static str];
+
+fn word(words: Words, place: usize) -> &'static str {
+    words.get(place).copied().unwrap_or("")
+}
+
+/// The words behind the first.
+fn behind(words: Words) -> Words {
+    words.get(1..).unwrap_or(&[])
+}
+
+fn number(words: Words, place: usize) -> u32 {
+    u32::from_str_radix(word(words, place), 16).unwrap_or(0)
+}
+
+fn some_number(words: Words, place: usize) -> Option<u32> {
+    if word(words, place) == "-" {
+        None
+    } else {
+        Some(number(words, place))
+    }
+}
+
+fn append(text: &mut WText, byte: u8) -> Result<(), OutOfMemory> {
+    if 0 < byte && byte != b'.' {
+        text.append_unit(u16::from(byte))
+    } else {
+        Ok(())
+    }
+}
+
+fn text(alloc: Global, words: Words, place: usize) -> WText {
+    let mut text = WText::new(alloc);
+    for byte in word(words, place).as_bytes() {
+        let _appended = append(&mut text, *byte);
+    }
+    text
+}
+
+fn some_text(alloc: Global, words: Words, place: usize) -> Option<WText> {
+    if word(words, place) == "-" {
+        None
+    } else {
+        Some(text(alloc, words, place))
+    }
+}
+
+/// One name, as a body has a list of them.
+fn needs(alloc: Global, words: Words, place: usize) -> Option<Items<u8>> {
+    if word(words, place) == "-" {
+        return None;
+    }
+    let mut bytes = Items::new(alloc);
+    for byte in word(words, place).as_bytes() {
+        let _appended = bytes.append(&[*byte, 0]);
+    }
+    let _ended = bytes.append(&[0, 0, 0, 0]);
+    Some(bytes)
+}
+
+fn texts(alloc: Global, words: Words) -> Items<WText> {
+    let mut texts = Items::new(alloc);
+    for place in 0..words.len() {
+        let _pushed = texts.push(text(alloc, words, place)).is_ok();
+    }
+    texts
+}
+
+fn status(words: Words) -> Status {
+    Status {
+        kind: number(words, 0),
+        state: number(words, 1),
+        accepted: number(words, 2),
+        win32: number(words, 3),
+        specific: number(words, 4),
+        checkpoint: number(words, 5),
+        hint: number(words, 6),
+    }
+}
+
+fn change(alloc: Global, words: Words) -> ChangeService {
+    ChangeService {
+        handle: u64::from(number(words, 0)),
+        kind: number(words, 1),
+        start: number(words, 2),
+        error: number(words, 3),
+        path: some_text(alloc, words, 4),
+        group: some_text(alloc, words, 5),
+        tag: some_number(words, 6),
+        needs: needs(alloc, words, 7),
+        account: some_text(alloc, words, 8),
+        display: some_text(alloc, words, 9),
+    }
+}
+
+fn new_service(alloc: Global, words: Words) -> NewService {
+    NewService {
+        handle: u64::from(number(words, 0)),
+        name: text(alloc, words, 1),
+        display: some_text(alloc, words, 2),
+        access: number(words, 3),
+        kind: number(words, 4),
+        start: number(words, 5),
+        error: number(words, 6),
+        path: text(alloc, words, 7),
+        group: some_text(alloc, words, 8),
+        tag: some_number(words, 9),
+        needs: needs(alloc, words, 10),
+        account: some_text(alloc, words, 11),
+    }
+}
+
+/// What a request of the call asks.
+pub fn request(alloc: Global, opnum: u16, words: Words) -> Request {
+    let handle = u64::from(number(words, 0));
+    match opnum {
+        R_CLOSE_SERVICE_HANDLE => Request::Close { handle },
+        R_CONTROL_SERVICE => Request::Control {
+            handle,
+            control: number(words, 1),
+        },
+        R_DELETE_SERVICE => Request::Delete { handle },
+        R_LOCK_SERVICE_DATABASE => Request::Lock { handle },
+        R_QUERY_SERVICE_STATUS => Request::QueryStatus { handle },
+        R_SET_SERVICE_STATUS => Request::SetStatus {
+            handle,
+            status: status(behind(words)),
+        },
+        R_UNLOCK_SERVICE_DATABASE => Request::Unlock { handle },
+        R_QUERY_SERVICE_CONFIG_W => Request::QueryConfig {
+            handle,
+            size: number(words, 1),
+        },
+        R_QUERY_SERVICE_LOCK_STATUS_W => Request::QueryLock {
+            handle,
+            size: number(words, 1),
+        },
+        _ => request_with_texts(alloc, opnum, words, handle),
+    }
+}
+
+fn request_with_texts(alloc: Global, opnum: u16, words: Words, handle: u64) -> Request {
+    match opnum {
+        R_CHANGE_SERVICE_CONFIG_W => Request::Change(change(alloc, words)),
+        R_CREATE_SERVICE_W => Request::Create(new_service(alloc, words)),
+        R_OPEN_SC_MANAGER_W => Request::OpenManager {
+            database: some_text(alloc, words, 0),
+            access: number(words, 1),
+        },
+        R_OPEN_SERVICE_W => Request::OpenService {
+            handle,
+            name: text(alloc, words, 1),
+            access: number(words, 2),
+        },
+        R_START_SERVICE_W => Request::Start {
+            handle,
+            words: Some(texts(alloc, behind(words))),
+        },
+        R_GET_SERVICE_DISPLAY_NAME_W => Request::DisplayName {
+            handle,
+            name: text(alloc, words, 1),
+            size: number(words, 2),
+        },
+        _ => Request::KeyName {
+            handle,
+            name: text(alloc, words, 1),
+            size: number(words, 2),
+        },
+    }
+}
+
+fn some_shown(alloc: Global, words: Words) -> Option<Shown> {
+    if word(words, 0) == "-" {
+        return None;
+    }
+    Some(Shown {
+        kind: number(words, 0),
+        start: number(words, 1),
+        error: number(words, 2),
+        path: text(alloc, words, 3),
+        group: text(alloc, words, 4),
+        tag: number(words, 5),
+        needs: text(alloc, words, 6),
+        account: text(alloc, words, 7),
+        display: text(alloc, words, 8),
+    })
+}
+
+/// What a reply of the call tells. A configuration stands behind what it needs and the code.
+pub fn reply(alloc: Global, opnum: u16, words: Words) -> Reply {
+    match opnum {
+        R_CONTROL_SERVICE | R_QUERY_SERVICE_STATUS => Reply::State {
+            status: status(words),
+            code: number(words, 7),
+        },
+        R_CHANGE_SERVICE_CONFIG_W => Reply::Tag {
+            tag: some_number(words, 0),
+            code: number(words, 1),
+        },
+        R_CREATE_SERVICE_W => Reply::Made {
+            tag: some_number(words, 0),
+            handle: u64::from(number(words, 1)),
+            code: number(words, 2),
+        },
+        R_OPEN_SC_MANAGER_W => Reply::Handle {
+            handle: u64::from(number(words, 0)),
+            code: number(words, 1),
+        },
+        R_QUERY_SERVICE_CONFIG_W => Reply::Shown {
+            config: some_shown(alloc, behind(behind(words))),
+            needed: number(words, 0),
+            code: number(words, 1),
+        },
+        R_QUERY_SERVICE_LOCK_STATUS_W => Reply::LockState {
+            held: number(words, 0),
+            owner: some_text(alloc, words, 1),
+            seconds: number(words, 2),
+            needed: number(words, 3),
+            code: number(words, 4),
+        },
+        R_GET_SERVICE_DISPLAY_NAME_W => Reply::Name {
+            name: text(alloc, words, 0),
+            size: number(words, 1),
+            code: number(words, 2),
+        },
+        _ => Reply::Code(number(words, 0)),
+    }
+}

@@ -1,0 +1,126 @@
+-- Nothing is lost between requests or replies and the values of their bodies.
+use Rattle.std.proofs.Common.{◌≡◌, ℕ, List, map, length, IsTrue, Option, Some, None, refl}
+use Rattle.std.specs.Prelude.{IfSome, is_some}
+use Rattle.std.specs.List.{AllByRecursion}
+use Rattle.std.proofs.lemmas.Bool.{le-leb, leb-true}
+use Rattle.scm_model.specs.declared.codes.TheConstants.{MAX_CONFIG_SIZE, MAX_LOCK_STATUS_SIZE, SC_MAX_ARGUMENTS}
+use Rattle.scm_model.specs.declared.calls.Request.{Request}
+use Rattle.scm_model.specs.declared.calls.Request.TheVariants as request
+use Rattle.scm_model.specs.declared.calls.Reply.{Reply}
+use Rattle.scm_model.specs.declared.calls.Reply.TheVariants as reply
+use Rattle.scm_model.specs.Ranges.{are_few, in_range}
+use Rattle.scm_shapes.specs.declared.item.Value.{Value}
+use Rattle.scm_shapes.specs.Shapes.{fitted}
+use Rattle.scm_shapes.specs.Laws.{AreSent, CanHoldAll, IsCarried, as_read}
+use Rattle.ndr_body.specs.Laws.{IsSent}
+use Rattle.scm_shapes.specs.Calls.{Codec, shape_in, made_in}
+use Rattle.scm_calls.specs.declared.calls.Call.{Call as PlainCall}
+use Rattle.scm_calls.specs.declared.calls.Call.TheVariants as plain
+use Rattle.scm_calls.specs.declared.kinds.ReplyKind.{ReplyKind}
+use Rattle.scm_calls.specs.declared.kinds.ReplyKind.TheVariants as kind
+use Rattle.scm_calls.specs.Requests.{plain_shape, plain_from}
+use Rattle.scm_calls.specs.Replies.{reply_shape, reply_from, reply_values, kind_of}
+use Rattle.scm_calls_cfg.specs.declared.calls.Call.{Call as ConfigCall}
+use Rattle.scm_calls_cfg.specs.declared.calls.Call.TheVariants as config
+use Rattle.scm_calls_cfg.specs.Requests.{config_shape, config_from}
+use Rattle.scm_bodies.specs.declared.call.Call.{Call}
+use Rattle.scm_bodies.specs.declared.call.Call.TheVariants as call
+use Rattle.scm_bodies.specs.Calls.{call_of}
+use Rattle.scm_bodies.specs.Requests.{shape_of, asked_by, values_of, AreCarried}
+
+-- ## Requests
+
+request_again : (r : Request) → made_in asked_by (call_of r) (values_of r) r ≡ r
+request_again (request.Close handle) = refl
+request_again _ = refl
+
+request_same : (r : Request) → map as_read (values_of r) ≡ values_of r
+request_same (request.Close handle) = refl
+request_same _ = refl
+
+plain_kept : (c : PlainCall) (vs : List Value) → values_of (plain_from c vs) ≡ fitted (plain_shape c) vs
+plain_kept plain.Close vs = refl
+plain_kept _ vs = refl
+
+config_kept : (c : ConfigCall) (vs : List Value) → values_of (config_from c vs) ≡ fitted (config_shape c) vs
+config_kept config.Change vs = refl
+config_kept _ vs = refl
+
+request_kept : (c : Call) (vs : List Value) → values_of (asked_by c vs) ≡ fitted (shape_of c) vs
+request_kept (call.Plain c) vs = plain_kept c vs
+request_kept (call.Config c) vs = config_kept c vs
+
+plain_named : (c : PlainCall) (vs : List Value) → call_of (plain_from c vs) ≡ Some (call.Plain c)
+plain_named plain.Close vs = refl
+plain_named _ vs = refl
+
+config_named : (c : ConfigCall) (vs : List Value) → call_of (config_from c vs) ≡ Some (call.Config c)
+config_named config.Change vs = refl
+config_named _ vs = refl
+
+request_named : (c : Call) (vs : List Value) → call_of (asked_by c vs) ≡ Some c
+request_named (call.Plain c) vs = plain_named c vs
+request_named (call.Config c) vs = config_named c vs
+
+pub request_codec : Codec shape_of asked_by call_of values_of
+request_codec = record { again = request_again; same = request_same; kept = request_kept; named = request_named }
+
+is_of_a_call : (r : Request) → IsTrue (is_some (call_of r))
+is_of_a_call (request.Close handle) = refl
+is_of_a_call _ = refl
+
+content : {A : Type 0} (o : Option A) → IsTrue (is_some o) → (x : A) × (o ≡ Some x)
+content None h = absurd cc
+content (Some x) h = (x, refl)
+
+pub of_a_call : (r : Request) → (c : Call) × (call_of r ≡ Some c)
+of_a_call r = content (call_of r) (is_of_a_call r)
+
+-- ## Replies
+
+reply_again : (r : Reply) → reply_from (kind_of r) (reply_values r) ≡ r
+reply_again (reply.Code code) = refl
+reply_again _ = refl
+
+reply_same : (r : Reply) → map as_read (reply_values r) ≡ reply_values r
+reply_same (reply.Code code) = refl
+reply_same _ = refl
+
+reply_kept : (k : ReplyKind) (vs : List Value) → reply_values (reply_from k vs) ≡ fitted (reply_shape k) vs
+reply_kept kind.Code vs = refl
+reply_kept _ vs = refl
+
+reply_named : (k : ReplyKind) (vs : List Value) → Some (kind_of (reply_from k vs)) ≡ Some k
+reply_named kind.Code vs = refl
+reply_named _ vs = refl
+
+pub reply_codec : Codec reply_shape reply_from (λ r. Some (kind_of r)) reply_values
+reply_codec = record { again = reply_again; same = reply_same; kept = reply_kept; named = reply_named }
+
+-- ## Ranges
+
+few : (words : Option (List (List ℕ))) → IfSome words AreSent → IsTrue (are_few words)
+few None h = refl
+few (Some words) h = le-leb (length words) SC_MAX_ARGUMENTS h.few
+
+-- what a body can hold is in its ranges
+pub held_ranged : (r : Request) → CanHoldAll (shape_in shape_of (call_of r)) (values_of r) → IsTrue (in_range r)
+held_ranged (request.QueryLock handle size) h = le-leb size MAX_LOCK_STATUS_SIZE h.1.0.in_range
+held_ranged (request.QueryConfig handle size) h = le-leb size MAX_CONFIG_SIZE h.1.0.in_range
+held_ranged (request.Start handle words) h = few words h.1.0
+held_ranged _ h = refl
+
+words_held : (words : Option (List (List ℕ))) → IsTrue (are_few words) → IfSome words (λ words. AllByRecursion IsSent words) → IfSome words AreSent
+words_held None range h = tt
+words_held (Some words) range h = record { few = leb-true (length words) SC_MAX_ARGUMENTS range; sent = h }
+
+-- and what is in them can be held, where its parts can stand in a body
+pub ranged_held : (r : Request) → IsTrue (in_range r) → AreCarried r → CanHoldAll (shape_in shape_of (call_of r)) (values_of r)
+ranged_held (request.QueryLock handle size) range h = (h.0, (record { in_range = leb-true size MAX_LOCK_STATUS_SIZE range; small = h.1.0 }, tt))
+ranged_held (request.QueryConfig handle size) range h = (h.0, (record { in_range = leb-true size MAX_CONFIG_SIZE range; small = h.1.0 }, tt))
+ranged_held (request.Start handle words) range h = (h.0, (words_held words range h.1.0, tt))
+ranged_held _ range h = h
+
+pub reply_held : (r : Reply) → AllByRecursion IsCarried (reply_values r) → CanHoldAll (reply_shape (kind_of r)) (reply_values r)
+reply_held (reply.Code code) h = h
+reply_held _ h = h

@@ -1,2 +1,0 @@
-pub mod Codecs
-pub mod Bounds

@@ -1,0 +1,4 @@
+use Rattle.scm_calls_cfg.proofs.requests.put_change.Goals as goal
+
+pub returns : goal.returns
+returns c = c.write_pieces.ensures.written
