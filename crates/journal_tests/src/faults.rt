@@ -1,3 +1,4 @@
+use crate::bytes::end_in;
 use crate::values::{append, keeper};
 use record_journal::{Fate, Journal, KeepFault, MemoryKeeper};
 use scm_model::Change;
@@ -23,16 +24,29 @@ fn keeps(
     }
 }
 
+fn keep_each(
+    alloc: Global,
+    journal: &mut Journal,
+    keeper: &mut MemoryKeeper,
+    names: &str,
+    kept: &mut Vec<u8>,
+) -> Result<(), Fail> {
+    for name in names.as_bytes() {
+        if keeps(alloc, journal, keeper, *name)? {
+            kept.push(*name)?;
+        }
+    }
+    Ok(())
+}
+
 /// Appends the removals of some services, and tells the names of those that are kept.
 fn keep(alloc: Global, keeper: &mut MemoryKeeper, names: &str) -> Result<Vec<u8>, Fail> {
     let mut journal = Journal::empty();
     let mut kept = Vec::new(alloc);
-    for name in names.as_bytes() {
-        if keeps(alloc, &mut journal, keeper, *name)? {
-            kept.push(*name)?;
-        }
+    match keep_each(alloc, &mut journal, keeper, names, &mut kept) {
+        Ok(()) => Ok(kept),
+        Err(fault) => Err(fault),
     }
-    Ok(kept)
 }
 
 /// The bytes of a journal of these removals.
@@ -55,84 +69,109 @@ fn others(alloc: Global, place: usize, refused: usize) -> Result<Vec<u8>, Fail> 
     Ok(names)
 }
 
+/// A call fails when it has done so much.
+const FAILS_AT_0: Fate = Fate::Fails { done: 0 };
+
+const FAILS_AT_1: Fate = Fate::Fails { done: 1 };
+
+const FAILS_AT_3: Fate = Fate::Fails { done: 3 };
+
+const FAILS_AT_5: Fate = Fate::Fails { done: 5 };
+
+const FAILS_AT_99: Fate = Fate::Fails { done: 99 };
+
+/// What becomes of three calls, and how many removals are refused by them.
+const FATES: [([Fate; 3], usize); 9] = [
+    ([FAILS_AT_0, Fate::Succeeds, Fate::Succeeds], 1),
+    ([FAILS_AT_5, Fate::Succeeds, Fate::Succeeds], 1),
+    ([FAILS_AT_99, Fate::Succeeds, Fate::Succeeds], 1),
+    // the cut before the next append fails too
+    ([FAILS_AT_0, FAILS_AT_0, Fate::Succeeds], 2),
+    ([FAILS_AT_5, FAILS_AT_0, Fate::Succeeds], 2),
+    ([FAILS_AT_5, FAILS_AT_1, Fate::Succeeds], 2),
+    ([FAILS_AT_99, FAILS_AT_0, Fate::Succeeds], 2),
+    ([FAILS_AT_99, FAILS_AT_1, Fate::Succeeds], 2),
+    // the append behind the cut fails
+    ([FAILS_AT_99, Fate::Succeeds, FAILS_AT_5], 2),
+];
+
+/// Whether these names alone are kept, but for those that are refused from one place on.
+fn are_kept(
+    alloc: Global,
+    kept: &[u8],
+    bytes: &[u8],
+    place: usize,
+    refused: usize,
+) -> Result<bool, Fail> {
+    let want = others(alloc, place, refused)?;
+    let stated = stated(alloc, want.as_slice())?;
+    Ok(kept == want.as_slice() && bytes == stated.as_slice())
+}
+
+/// Whether faults from one call on refuse so many removals alone.
+fn are_refused(alloc: Global, call: usize, fates: &[Fate], refused: usize) -> Result<bool, Fail> {
+    let mut keeper = keeper(alloc, &[], call, fates)?;
+    match keep(alloc, &mut keeper, NAMES) {
+        Ok(kept) => are_kept(alloc, kept.as_slice(), keeper.bytes(), call, refused),
+        Err(fault) => Err(fault),
+    }
+}
+
 #[test]
 fn a_fault_at_any_call_refuses_its_change_alone(rt: HostRuntime) -> Result<(), Fail> {
-    let alloc = rt.alloc();
-    let some = |done| Fate::Fails { done };
     for call in 0..18 {
-        for (fates, refused) in [
-            ([some(0), Fate::Succeeds, Fate::Succeeds], 1),
-            ([some(5), Fate::Succeeds, Fate::Succeeds], 1),
-            ([some(99), Fate::Succeeds, Fate::Succeeds], 1),
-            // the cut before the next append fails too
-            ([some(0), some(0), Fate::Succeeds], 2),
-            ([some(5), some(0), Fate::Succeeds], 2),
-            ([some(5), some(1), Fate::Succeeds], 2),
-            ([some(99), some(0), Fate::Succeeds], 2),
-            ([some(99), some(1), Fate::Succeeds], 2),
-            // the append behind the cut fails
-            ([some(99), Fate::Succeeds, some(5)], 2),
-        ] {
-            let mut keeper = keeper(alloc, &[], call, &fates)?;
-            let kept = keep(alloc, &mut keeper, NAMES)?;
-            assert_eq!(rt; kept.as_slice(), others(alloc, call, refused)?.as_slice());
-            assert_eq!(rt; keeper.bytes(), stated(alloc, kept.as_slice())?.as_slice());
+        for (fates, refused) in FATES {
+            assert!(rt; are_refused(rt.alloc(), call, &fates, refused)?);
         }
     }
     Ok(())
 }
 
-#[test]
-fn a_fault_at_the_last_calls_refuses_that_change_alone(rt: HostRuntime) -> Result<(), Fail> {
-    let alloc = rt.alloc();
-    for call in 18..20 {
-        for done in [0, 5, 99] {
-            let mut keeper = keeper(alloc, &[], call, &[Fate::Fails { done }])?;
-            let kept = keep(alloc, &mut keeper, NAMES)?;
-            assert_eq!(rt; kept.as_slice(), others(alloc, call, 1)?.as_slice());
-        }
-    }
-    Ok(())
-}
-
-/// What a keeper holds, in hex, after the removals of services whose calls come to these fates.
-fn left(alloc: Global, names: &str, fates: &[Fate]) -> Result<String, Fail> {
+/// Whether a keeper holds these bytes after the removals of services whose calls come to these
+/// fates.
+fn is_left(alloc: Global, names: &str, fates: &[Fate], digits: &str) -> Result<bool, Fail> {
     let mut keeper = keeper(alloc, &[], 0, fates)?;
-    let _kept = keep(alloc, &mut keeper, names)?;
-    Ok(hex::encode(alloc, keeper.bytes())?)
+    match keep(alloc, &mut keeper, names) {
+        Ok(_) => Ok(end_in(alloc, keeper.bytes(), 0, digits)),
+        Err(fault) => Err(fault),
+    }
 }
+
+/// The names of the services, what becomes of the calls, and what is left.
+const ROWS: [(&str, [Fate; 2], &str); 8] = [
+    ("a", [FAILS_AT_0, Fate::Succeeds], ""),
+    ("a", [FAILS_AT_5, Fate::Succeeds], "53434d4a01"),
+    (
+        "a",
+        [FAILS_AT_99, Fate::Succeeds],
+        "53434d4a01000000 03 06000000 01000000 6100",
+    ),
+    ("ab", [FAILS_AT_5, FAILS_AT_0], "53434d4a01"),
+    ("ab", [FAILS_AT_5, FAILS_AT_1], ""),
+    (
+        "ab",
+        [FAILS_AT_5, Fate::Succeeds],
+        "53434d4a01000000 03 06000000 01000000 6200",
+    ),
+    (
+        "ab",
+        [Fate::Succeeds, FAILS_AT_3],
+        "53434d4a01000000 03 06000000 01000000 6100 030600",
+    ),
+    (
+        "abc",
+        [Fate::Succeeds, FAILS_AT_3],
+        "53434d4a01000000 03 06000000 01000000 6100 03 06000000 01000000 6300",
+    ),
+];
 
 #[test]
 fn a_fault_leaves_a_front_of_its_piece(rt: HostRuntime) -> Result<(), Fail> {
-    let some = |done| Fate::Fails { done };
-    let rows = [
-        ("a", [some(0), Fate::Succeeds], ""),
-        ("a", [some(5), Fate::Succeeds], "53434d4a01"),
-        (
-            "a",
-            [some(99), Fate::Succeeds],
-            "53434d4a010000000306000000010000006100",
-        ),
-        ("ab", [some(5), some(0)], "53434d4a01"),
-        ("ab", [some(5), some(1)], ""),
-        (
-            "ab",
-            [some(5), Fate::Succeeds],
-            "53434d4a010000000306000000010000006200",
-        ),
-        (
-            "ab",
-            [Fate::Succeeds, some(3)],
-            "53434d4a010000000306000000010000006100030600",
-        ),
-        (
-            "abc",
-            [Fate::Succeeds, some(3)],
-            "53434d4a0100000003060000000100000061000306000000010000006300",
-        ),
-    ];
-    for (names, fates, want) in rows {
-        assert_eq!(rt; left(rt.alloc(), names, &fates)?.as_str(), want);
+    for (names, fates, digits) in ROWS {
+        assert!(rt;
+            is_left(rt.alloc(), names, &fates, digits)?,
+            "{names}: {digits}"
+        );
     }
     Ok(())
 }

@@ -1,43 +1,57 @@
 //! What the tests build their values with.
 use record_journal::{Fate, Journal, KeepFault, MemoryKeeper};
 use scm_model::{Change, Config};
-use scm_text::{Items, WText};
+use scm_text::{Items, OutOfMemory, WText};
 use std::alloc::Global;
 use std::test::Fail;
 
-/// A text in ASCII, in which no 0 may stand.
-pub fn text(alloc: Global, text: &str) -> Result<WText, Fail> {
-    let mut units = Vec::new(alloc);
-    for byte in text.as_bytes() {
-        units.push(u16::from(*byte))?;
+fn append_unit(text: &mut WText, byte: u8) -> Result<(), OutOfMemory> {
+    if 0 < byte {
+        text.append_unit(u16::from(byte))
+    } else {
+        Ok(())
     }
-    Ok(
-        WText::from_units(alloc, units.as_slice())
-            .ok()
-            .ok_or("text")?,
-    )
+}
+
+fn append_all(text: &mut WText, ascii: &str) -> Result<(), OutOfMemory> {
+    for byte in ascii.as_bytes() {
+        append_unit(text, *byte)?;
+    }
+    Ok(())
+}
+
+/// A text in ASCII. A 0 is left out.
+pub fn text(alloc: Global, ascii: &str) -> Result<WText, OutOfMemory> {
+    let mut text = WText::new(alloc);
+    match append_all(&mut text, ascii) {
+        Ok(()) => Ok(text),
+        Err(fault) => Err(fault),
+    }
 }
 
 /// A service with this name, display name and path.
-pub fn plain(alloc: Global, name: &str, path: &str) -> Result<Config, Fail> {
-    Ok(Config {
-        name: text(alloc, name)?,
-        display: text(alloc, name)?,
-        kind: 0x10,
-        start: 3,
-        error: 1,
-        path: text(alloc, path)?,
-        group: WText::new(alloc),
-        tag: 0,
-        needs: Items::new(alloc),
-        description: WText::new(alloc),
-        reset: 0,
-        actions: Items::new(alloc),
-        command: WText::new(alloc),
-        on_exit: false,
-        delayed: false,
-        triggers: Items::new(alloc),
-    })
+pub fn plain(alloc: Global, name: &str, path: &str) -> Result<Config, OutOfMemory> {
+    match (text(alloc, name), text(alloc, name), text(alloc, path)) {
+        (Ok(name), Ok(display), Ok(path)) => Ok(Config {
+            name,
+            display,
+            kind: 0x10,
+            start: 3,
+            error: 1,
+            path,
+            group: WText::new(alloc),
+            tag: 0,
+            needs: Items::new(alloc),
+            description: WText::new(alloc),
+            reset: 0,
+            actions: Items::new(alloc),
+            command: WText::new(alloc),
+            on_exit: false,
+            delayed: false,
+            triggers: Items::new(alloc),
+        }),
+        _ => Err(OutOfMemory),
+    }
 }
 
 /// A keeper that holds these bytes. Its calls come to these fates, in their order, after so many

@@ -7,7 +7,7 @@ use Rattle.scm_model.specs.declared.steps.Change.{Change}
 use Rattle.record_journal.specs.declared.journal.Journal.{Journal}
 use Rattle.record_journal.specs.Format.{piece}
 use Rattle.record_journal.specs.Keepers.{IsEmptied}
-use Rattle.record_journal.specs.Bearing.{Bears, BearsMore, BearsSame, Borne, Puts, Tail, and_change, broken, kept_of, longer}
+use Rattle.record_journal.specs.Bearing.{Bears, BearsMore, BearsSame, Borne, Puts, Tail, and_change, broken, kept_of, journal_grown}
 
 -- what is kept are the bytes that the journal keeps
 kept_by : (good tail : List ℕ) (n : ℕ) (dirty : Bool) → n ≡ length good → Tail good dirty tail
@@ -20,7 +20,7 @@ kept good now j borne = ap (kept_of j) borne.holds ∙ kept_by good borne.tail j
 
 -- behind a piece more stands nothing
 added : (good bytes now : List ℕ) (j : Journal) (change : Change) → now ≡ kept_of j bytes ++ piece j.good change → Borne good j bytes
-    → Borne (good ++ piece (length good) change) (longer j (piece j.good change)) now
+    → Borne (good ++ piece (length good) change) (journal_grown j (piece j.good change)) now
 added good bytes now j change is borne = record {
   tail = [];
   holds = is ∙ (ap (λ (front : List ℕ). front ++ piece j.good change) (kept good bytes j borne)
@@ -30,7 +30,7 @@ added good bytes now j change is borne = record {
 }
 
 pub more : (change : Change) (j : Journal) (told told' : Option (List ℕ)) → Puts {E = Failed} (piece j.good change) j told told' (Ok tt)
-    → BearsMore change j told (longer j (piece j.good change)) told'
+    → BearsMore change j told (journal_grown j (piece j.good change)) told'
 unfolding BearsMore
 more change j told told' puts None bears = tt
 more change j (Some bytes) (Some now) puts (Some good) bears = added good bytes now j change puts bears

@@ -8,8 +8,8 @@ use Rattle.record_journal.specs.declared.journal.Journal.{Journal}
 -- ## What one call does to the bytes
 
 -- behind so many bytes more, with nothing else behind them
-abbrev pub longer : Journal → List ℕ → Journal
-longer j bytes = record { good = j.good + length bytes; dirty = false }
+abbrev pub journal_grown : Journal → List ℕ → Journal
+journal_grown j bytes = record { good = j.good + length bytes; dirty = false }
 
 -- a part of a piece may stand behind the bytes
 abbrev pub broken : Journal → Journal

@@ -3,16 +3,16 @@ use Rattle.std.specs.Prelude.{ℕ, ◌==◌, List, [], ◌∷◌, ◌++◌, leng
 use Rattle.std.specs.List.{flat_map}
 use Rattle.scm_model.specs.declared.steps.Change.{Change}
 use Rattle.scm_model.specs.declared.steps.Change.TheVariants.{Created, Changed, Removed}
-use Rattle.service_record.specs.Spelling.{IsConfig, IsNumber, IsText, number, spelling, text}
+use Rattle.service_record.specs.Spelling.{IsConfig, FitsNumber, FitsText, number, spelling, text}
 
 -- `SCMJ`, and 1 for the form
 abbrev pub header : List ℕ
 header = 0x53 ∷ 0x43 ∷ 0x4D ∷ 0x4A ∷ 1 ∷ 0 ∷ 0 ∷ 0 ∷ []
 
-abbrev pub kind_of : Change → ℕ
-kind_of (Created config) = 1
-kind_of (Changed config) = 2
-kind_of (Removed name) = 3
+abbrev pub entry_kind : Change → ℕ
+entry_kind (Created config) = 1
+entry_kind (Changed config) = 2
+entry_kind (Removed name) = 3
 
 -- a configuration, or a name
 abbrev pub body_of : Change → List ℕ
@@ -22,18 +22,18 @@ body_of (Removed name) = text name
 
 -- the kind, the length of the body, and the body
 unfoldable pub entry_bytes : Change → List ℕ
-entry_bytes change = kind_of change ∷ number (length (body_of change)) ++ body_of change
+entry_bytes change = entry_kind change ∷ number (length (body_of change)) ++ body_of change
 
 -- each number and each text of the body has its bytes
 abbrev pub HasBody : Change → Type 0
 HasBody (Created config) = IsConfig config
 HasBody (Changed config) = IsConfig config
-HasBody (Removed name) = IsText name
+HasBody (Removed name) = FitsText name
 
 -- and the length of the body has its four
 pub record HasEntry (change : Change) : Type 0 where
   pub body : HasBody change
-  pub length : IsNumber (length (body_of change))
+  pub length : FitsNumber (length (body_of change))
 
 -- a journal of changes: nothing, or the header and the entries in order
 abbrev pub journal_bytes : List Change → List ℕ

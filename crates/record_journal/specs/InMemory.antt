@@ -1,5 +1,6 @@
 -- A keeper in memory: its bytes, and what becomes of its calls.
-use Rattle.std.specs.Prelude.{ℕ, zero, suc, ◌≡◌, ◌+◌, ◌-◌, ◌^◌, Bool, true, false, IsTrue, List, length, take, min, Result, Err, slice_index_or, if◌then◌else◌}
+use Rattle.std.specs.Prelude.{ℕ, zero, suc, ◌≡◌, ◌-◌, Bool, true, false, IsTrue, List, length, take, Result, Err, slice_index_or, if◌then◌else◌}
+use Rattle.outside.specs.Fates.{later, one_more}
 use Rattle.record_journal.specs.declared.memory.Fate.{Fate}
 use Rattle.record_journal.specs.declared.memory.Fate.TheVariants.{Succeeds, Fails}
 use Rattle.record_journal.specs.declared.keeper.KeepFault.{KeepFault}
@@ -17,9 +18,6 @@ pub record InMemory : Type 0 where
 abbrev pub next_fate : List Fate → Fate
 next_fate fates = slice_index_or fates (length fates - 1) Succeeds
 
-abbrev pub later_fates : List Fate → List Fate
-later_fates fates = take (length fates - 1) fates
-
 abbrev pub is_to_fail : Fate → Bool
 is_to_fail Succeeds = false
 is_to_fail (Fails done) = true
@@ -28,13 +26,10 @@ is_to_fail (Fails done) = true
 abbrev pub fails_next : InMemory → Bool
 fails_next k = is_to_fail (next_fate k.fates)
 
-abbrev pub one_more : ℕ → ℕ
-one_more faults = min (faults + 1) (2 ^ 64 - 1)
-
 -- a call that is to fail has failed, and each that failed is counted once
 pub record IsTold (old new : InMemory) (failed : Bool) : Type 0 where
   pub told : IsTrue (fails_next old) → IsTrue failed
-  pub later : new.fates ≡ later_fates old.fates
+  pub later : new.fates ≡ later old.fates
   pub counted : new.faults ≡ (if failed then one_more old.faults else old.faults)
 
 -- a read failed, and not for want of memory

@@ -1,12 +1,10 @@
-ghost use Rattle.std.specs.Prelude.{◌≡◌, ◌<◌, ◌^◌, ◌++◌, All, OnOk, IfOk, IsOk};
-ghost use Rattle.std.specs.Int.{w16, to_le_bytes};
-ghost use Rattle.std.specs.List.{flat_map};
-ghost use Rattle.record_journal.specs.Format.{HasBody, HasEntry, body_of, entry_bytes, front_at, kind_of, piece};
-ghost use Rattle.service_record.specs.Spelling.{IsNumber, IsText, number, text};
+ghost use Rattle.std.specs.Prelude.{◌≡◌, ◌++◌, OnOk, IfOk, IsOk};
+ghost use Rattle.record_journal.specs.Format.{HasBody, HasEntry, body_of, entry_bytes, entry_kind, front_at, piece};
+ghost use Rattle.service_record.specs.Spelling.{FitsText, text};
 
 use scm_model::Change;
 use scm_text::{Items, OutOfMemory, WText};
-use service_record::record_bytes;
+use service_record::{put_count, put_text, record_bytes};
 use std::alloc::Global;
 
 /// What a journal begins with: `SCMJ`, and the form of its entries.
@@ -20,39 +18,18 @@ const CHANGED: u8 = 2;
 
 const REMOVED: u8 = 3;
 
-/// A count in four bytes. One that needs more is that of a list for which no memory would do.
-fn count_bytes(count: usize) -> Result<[u8; 4], OutOfMemory>
-    ensures bytes { IfOk result (λ bytes. bytes ≡ number count) }
-    ensures fits { IsOk result → IsNumber count }
-{
-    match u32::try_from(count) {
-        Ok(count) => Ok(count.to_le_bytes()),
-        Err(_) => Err(OutOfMemory),
-    }
-}
-
-fn append_units(out: &mut Items<u8>, units: &[u16]) -> Result<(), OutOfMemory>
-    ensures bytes { OnOk result (out.new ≡ out.old ++ flat_map (to_le_bytes w16) units.now) }
-    ensures fits { All (λ u. u < 2 ^ 16) units.now }
-{
-    for unit in units {
-        out.append(&unit.to_le_bytes())?;
-    }
-    Ok(())
-}
-
 /// A count of units, and these.
 fn text_bytes(alloc: Global, value: &WText) -> Result<Items<u8>, OutOfMemory>
     ensures bytes { IfOk result (λ bytes. bytes ≡ text value.now) }
-    ensures fits { IsOk result → IsText value.now }
+    ensures fits { IsOk result → FitsText value.now }
 {
-    let mut out = Items::from_slice(alloc, &count_bytes(value.units().len())?)?;
-    append_units(&mut out, value.units())?;
+    let mut out = Items::new(alloc);
+    put_text(&mut out, value)?;
     Ok(out)
 }
 
 fn kind_of(change: &Change) -> u8
-    ensures { result ≡ kind_of change.now }
+    ensures { result ≡ entry_kind change.now }
 {
     match change {
         Change::Created(_) => CREATED,
@@ -77,9 +54,9 @@ fn append_entry(alloc: Global, out: &mut Items<u8>, change: &Change) -> Result<(
     ensures fits { OnOk result (HasEntry change.now) }
 {
     let body = body_of(alloc, change)?;
-    let length = count_bytes(body.len())?;
     out.append(&[kind_of(change)])?;
-    out.append_pair(&length, body.as_slice())
+    put_count(out, body.len())?;
+    out.append(body.as_slice())
 }
 
 /// What comes before an entry behind so many bytes.

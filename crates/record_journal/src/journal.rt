@@ -1,7 +1,7 @@
 ghost use Rattle.std.specs.Prelude.{◌≡◌, ◌≤◌, ◌<◌, ◌+◌, ◌^◌, [], Some, length, true, false, OnOk, OnErr, IsErrOf};
 ghost use Rattle.outside.specs.Causes.{HasCause, Rose};
 ghost use Rattle.outside.specs.Written.{Writes};
-ghost use Rattle.record_journal.specs.Bearing.{Bears, BearsMore, BearsSame, Mends, Puts, broken, longer};
+ghost use Rattle.record_journal.specs.Bearing.{Bears, BearsMore, BearsSame, Mends, Puts, broken, journal_grown};
 ghost use Rattle.record_journal.specs.Format.{HasEntry, piece};
 
 use crate::entry::piece;
@@ -49,7 +49,7 @@ impl Journal {
     /// Appends a piece where nothing else stands behind what is kept.
     fn add<K: Keeper>(&mut self, keeper: &mut K, piece: &[u8]) -> Result<(), Failed>
         requires { self.old.good + length piece.now < 2 ^ 64 }
-        ensures ok { OnOk result (self.new ≡ longer self.old piece.now) }
+        ensures ok { OnOk result (self.new ≡ journal_grown self.old piece.now) }
         ensures err { OnErr result (self.new ≡ broken self.old) }
         ensures bytes { Writes (K.held keeper.old) (K.held keeper.new) result piece.now }
         ensures cause { HasCause (K.faults keeper.old) (K.faults keeper.new) result }
@@ -64,7 +64,7 @@ impl Journal {
     /// Appends a piece behind what is kept, and cuts what else stands there before.
     fn put<K: Keeper>(&mut self, keeper: &mut K, piece: &[u8]) -> Result<(), Failed>
         requires { self.old.good + length piece.now < 2 ^ 64 }
-        ensures ok { OnOk result (self.new ≡ longer self.old piece.now) }
+        ensures ok { OnOk result (self.new ≡ journal_grown self.old piece.now) }
         ensures err { OnErr result (self.new ≡ broken self.old) }
         ensures bytes { Puts piece.now self.old (K.held keeper.old) (K.held keeper.new) result }
         ensures cause { HasCause (K.faults keeper.old) (K.faults keeper.new) result }
@@ -87,7 +87,7 @@ impl Journal {
             (BearsSame self.old (K.held keeper.old) self.new (K.held keeper.new)) }
         ensures bytes { Puts (piece self.old.good change.now) self.old
             (K.held keeper.old) (K.held keeper.new) result }
-        ensures longer { OnOk result (self.new ≡ longer self.old (piece self.old.good change.now)) }
+        ensures journal_grown { OnOk result (self.new ≡ journal_grown self.old (piece self.old.good change.now)) }
         ensures fits { OnOk result (HasEntry change.now) }
         ensures broken { IsErrOf result KeepFault.Failed → self.new ≡ broken self.old }
         ensures memory { IsErrOf result KeepFault.OutOfMemory → self.new ≡ self.old }

@@ -1,8 +1,9 @@
 ghost use Rattle.std.specs.Prelude.{◌≡◌, ◌≤◌, ◌+◌, ◌-◌, ◌++◌, Some, IsTrue, IfOk, OnOk, OnErr, IsErrOf, is_err, length, vec_capacity, vec_len};
 ghost use Rattle.std.specs.Io.KnownBytes.{Keeps};
 ghost use Rattle.outside.specs.Causes.{HasCause, Rose};
+ghost use Rattle.outside.specs.Fates.{later, one_more};
 ghost use Rattle.outside.specs.Written.{Writes};
-ghost use Rattle.record_journal.specs.InMemory.{IsTold, cut_told, fails_next, front_told, has_failed, later_fates, next_fate, one_more};
+ghost use Rattle.record_journal.specs.InMemory.{IsTold, cut_told, fails_next, front_told, has_failed, next_fate};
 ghost use Rattle.record_journal.specs.Keepers.{Cuts, Opens, has_path};
 
 use super::keeper::{KeepFault, Keeper};
@@ -69,7 +70,7 @@ impl MemoryKeeper {
     /// What becomes of a call.
     fn take_fate(&mut self) -> Fate
         ensures fate { result ≡ next_fate self.old.fates }
-        ensures after { self.new ≡ record self.old { fates = later_fates self.old.fates } }
+        ensures after { self.new ≡ record self.old { fates = later self.old.fates } }
     {
         self.fates.pop().unwrap_or(Fate::Succeeds)
     }
