@@ -58,19 +58,22 @@ fn text_is_counted_and_copied(rt: HostRuntime) -> Result<(), Fail> {
     assert_eq!(rt; trail.text(), 6);
     let (moment, step) = trail.entry(1).ok().ok_or("memory")?;
     assert_eq!(rt; moment, 7);
-    match step {
-        Step::Call {
-            caller: 1,
-            request: Request::OpenService {
-                handle: 9,
-                name,
-                access: 4,
-            },
-            kept: Kept::Failed,
-        } => {
-            assert_eq!(rt; name.units(), [65, 66, 67].as_slice());
-        }
-        _ => return Err("another step".into()),
-    }
+    let Step::Call {
+        caller: 1,
+        request,
+        kept: Kept::Failed,
+    } = step
+    else {
+        return Err("another step".into());
+    };
+    let Request::OpenService {
+        handle: 9,
+        name,
+        access: 4,
+    } = request
+    else {
+        return Err("another request".into());
+    };
+    assert_eq!(rt; name.units(), [65, 66, 67].as_slice());
     Ok(())
 }

@@ -10,7 +10,7 @@ use Rattle.book_rule.specs.declared.view.View.{View}
 use Rattle.book_rule.specs.declared.view.Stage.TheVariants.{Merged}
 use Rattle.book_rule.specs.Ways.{Way}
 use Rattle.book_rule.specs.Views.{places_below, nobody, newcomer, in_company, having_taken, having_seen, having_made, having_left, having_joined, having_met}
-use Rattle.book_rule.specs.Rule.{Standing, has_turn, Stands, HasAll, IsAlone, Sole, Kept, Ruled}
+use Rattle.book_rule.specs.Rule.{Standing, has_turn, StandsSo, HasAll, IsAlone, Sole, Kept, Ruled}
 use Rattle.book_rule.specs.Transitions.{Transition, take, stay, look, commit, give_up, accompany, fork, merge, meet, Enabled, after, Preserves}
 use Rattle.book_rule.proofs.Prefixes.{longer_whole}
 use Rattle.book_rule.proofs.Seated.{seats_stay, seats_more}
@@ -54,7 +54,7 @@ module _ {X : Type 0} (w : Way X) (o : Opening) where
 
   sole_meet : (t : Standing X) (id : ℕ) (v : View) (theirs : List Entry) → get_elem? t.views id ≡ some v → v.stage ≡ Merged theirs → Kept w o t → Sole t.log t.views → Sole t.log (set t.views id (having_met v theirs))
   sole_meet t id v theirs at stage k old =
-      let stands : Stands (has_turn t.lock id) t.log v.seen (Merged theirs) = subst (Stands (has_turn t.lock id) t.log v.seen) stage (k.seats id v at).stands in
+      let stands : StandsSo (has_turn t.lock id) t.log v.seen (Merged theirs) = subst (StandsSo (has_turn t.lock id) t.log v.seen) stage (k.seats id v at).stands in
       sole_same t.views id v at t.log (having_met v theirs) old (λ s. s) (λ s. s)
       (λ _ all. record { seen = all.seen ∙ sym (longer_whole v.seen theirs (subst (λ (l : List Entry). IsPrefix theirs l) all.seen stands.1)); own = all.own })
 

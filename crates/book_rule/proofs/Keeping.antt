@@ -11,7 +11,7 @@ use Rattle.book_rule.specs.declared.view.Stage.{Stage}
 use Rattle.book_rule.specs.declared.view.Stage.TheVariants.{Away, Taken, Looked, Merged}
 use Rattle.book_rule.specs.Ways.{Way, Follows}
 use Rattle.book_rule.specs.Views.{nobody, newcomer, in_company, having_taken, having_seen, having_made, having_left, having_joined, having_met}
-use Rattle.book_rule.specs.Rule.{Lock, free, taken, Standing, has_turn, Stands, Knows, IsThere, Rests, Kept}
+use Rattle.book_rule.specs.Rule.{Lock, free, taken, Standing, has_turn, StandsSo, Knows, IsThere, Rests, Kept}
 use Rattle.book_rule.specs.Transitions.{Transition, take, stay, look, commit, give_up, accompany, fork, merge, meet, with_view, Enabled, after, Preserves}
 use Rattle.book_rule.proofs.Prefixes.{prefix_self, prefix_snoc, longer_begins}
 use Rattle.book_rule.proofs.Places.{at_below}
@@ -40,7 +40,7 @@ there_set : {X : Type 0} (w : Way X) (l : Lock X) (vs : List View) (id : ℕ) (v
 there_set w l vs id v there = subst (λ (n : ℕ). IsThere w n l) (sym (length-set vs id v)) there
 
 -- who hasn't the turn knows a prefix of the longer history too
-stands_more : (log : List Entry) (e : Entry) (seen : List Entry) (st : Stage) → Stands false log seen st → Stands false (log ++ e ∷ []) seen st
+stands_more : (log : List Entry) (e : Entry) (seen : List Entry) (st : Stage) → StandsSo false log seen st → StandsSo false (log ++ e ∷ []) seen st
 stands_more log e seen Away s = refl
 stands_more log e seen (Taken at) s = absurd (let b = s.0 in cc)
 stands_more log e seen Looked s = absurd (let b = s.0 in cc)
@@ -61,8 +61,8 @@ module _ {X : Type 0} (w : Way X) (o : Opening) where
 
   module _ (t : Standing X) (id : ℕ) (v : View) (at : get_elem? t.views id ≡ some v) (k : Kept w o t) where
     -- the seat, at another stage
-    stands_at : (st : Stage) → v.stage ≡ st → Stands (has_turn t.lock id) t.log v.seen st
-    stands_at st is = subst (Stands (has_turn t.lock id) t.log v.seen) is (k.seats id v at).stands
+    stands_at : (st : Stage) → v.stage ≡ st → StandsSo (has_turn t.lock id) t.log v.seen st
+    stands_at st is = subst (StandsSo (has_turn t.lock id) t.log v.seen) is (k.seats id v at).stands
 
     pub kept_take : (h : Box X Global) → t.lock ≡ free h → Kept w o (after w o t id v (take h))
     kept_take h lock =
@@ -129,7 +129,7 @@ module _ {X : Type 0} (w : Way X) (o : Opening) where
     kept_merge j d stage there gone =
         let mine = k.seats id v at in
         let theirs = k.seats j d there in
-        let free_of : has_turn t.lock j ≡ false = subst (Stands (has_turn t.lock j) t.log d.seen) gone theirs.stands in
+        let free_of : has_turn t.lock j ≡ false = subst (StandsSo (has_turn t.lock j) t.log d.seen) gone theirs.stands in
         let joined : Kept w o (with_view t id (having_joined v d)) = kept_seat t id (having_joined v d) (record { stands = (stands_at Away stage, theirs.seen); seen = mine.seen; same = mine.same }) k in
         kept_seat (with_view t id (having_joined v d)) j nobody (record { stands = free_of; seen = (t.log, refl); same = λ e. absurd (e refl) }) joined
 

@@ -11,7 +11,7 @@ use Rattle.book_rule.specs.declared.view.View.{View}
 use Rattle.book_rule.specs.declared.view.Stage.TheVariants.{Looked, Merged}
 use Rattle.book_rule.specs.Ways.{Has, Way, MadeAt, NamedAt, Follows, Claims, NamesOwn}
 use Rattle.book_rule.specs.Views.{nobody, newcomer, in_company, having_taken, having_seen, having_made, having_left, having_joined, having_met, longer}
-use Rattle.book_rule.specs.Rule.{Standing, has_turn, Stands, Kept, ClaimsOf, Owned}
+use Rattle.book_rule.specs.Rule.{Standing, has_turn, StandsSo, Kept, ClaimsOf, Owned}
 use Rattle.book_rule.specs.Transitions.{Transition, take, stay, look, commit, give_up, accompany, fork, merge, meet, with_view, Enabled, after, Preserves}
 use Rattle.book_rule.proofs.Prefixes.{prefix_length, longer_begins}
 use Rattle.book_rule.proofs.Places.{has_left, has_right, has_last, has_cases, has_one, made_more, made_last, made_within, made_cases, named_cases}
@@ -142,7 +142,7 @@ module _ {X : Type 0} (w : Way X) (o : Opening) where
 
   owned_commit : (t : Standing X) (id : ℕ) (v : View) (e : Entry) → get_elem? t.views id ≡ some v → v.stage ≡ Looked → Follows w o v.seen e → NamesOwn w v.names e → Kept w o t → Owned w o t → Owned w o (after w o t id v (commit e))
   owned_commit t id v e at stage next mine k old =
-      let stands : Stands (has_turn t.lock id) t.log v.seen Looked = subst (Stands (has_turn t.lock id) t.log v.seen) stage (k.seats id v at).stands in
+      let stands : StandsSo (has_turn t.lock id) t.log v.seen Looked = subst (StandsSo (has_turn t.lock id) t.log v.seen) stage (k.seats id v at).stands in
       let all : v.seen ≡ t.log = stands.1 in
       subst (λ (l : List Entry). Owned w o record { lock = t.lock; log = l ++ e ∷ []; views = set t.views id (having_made w o v e) }) all
       (owned_made w o v.seen e next t id v (sym all) old at refl mine (subst (λ (l : List Entry). (j : ℕ) (d : View) → get_elem? t.views j ≡ some d → length d.seen ≤ length l) (sym all) (seen_within t k))
@@ -161,7 +161,7 @@ module _ {X : Type 0} (w : Way X) (o : Opening) where
 
   owned_meet : (t : Standing X) (id : ℕ) (v : View) (theirs : List Entry) → get_elem? t.views id ≡ some v → v.stage ≡ Merged theirs → Kept w o t → Owned w o t → Owned w o (after w o t id v (meet theirs))
   owned_meet t id v theirs at stage k old =
-      let stands : Stands (has_turn t.lock id) t.log v.seen (Merged theirs) = subst (Stands (has_turn t.lock id) t.log v.seen) stage (k.seats id v at).stands in
+      let stands : StandsSo (has_turn t.lock id) t.log v.seen (Merged theirs) = subst (StandsSo (has_turn t.lock id) t.log v.seen) stage (k.seats id v at).stands in
       owned_seat w o t id v at old (having_met v theirs) refl refl refl (prefix_length v.seen (longer v.seen theirs) (longer_begins v.seen theirs t.log (k.seats id v at).seen stands.1).0)
 
   pub owns : (t : Standing X) (id : ℕ) (v : View) (m : Transition X) → get_elem? t.views id ≡ some v → Enabled w o t id v m → Kept w o t × Owned w o t → Owned w o (after w o t id v m)

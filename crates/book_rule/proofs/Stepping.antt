@@ -13,7 +13,7 @@ use Rattle.book_rule.specs.declared.view.View.{View}
 use Rattle.book_rule.specs.declared.view.Stage.TheVariants.{Away, Taken, Looked, Merged}
 use Rattle.book_rule.specs.Ways.{Way, Follows, NamesOwn}
 use Rattle.book_rule.specs.Views.{first_view, nobody, newcomer, in_company, having_taken, having_seen, having_made, having_left, having_joined, having_met}
-use Rattle.book_rule.specs.Rule.{Lock, free, taken, Standing, laid_out, lock_word, lock_home, has_turn, Stands, Knows, ClaimsOf, Kept, Ruled, Turned}
+use Rattle.book_rule.specs.Rule.{Lock, free, taken, Standing, laid_out, lock_word, lock_home, has_turn, StandsSo, Knows, ClaimsOf, Kept, Ruled, Turned}
 use Rattle.book_rule.specs.Transitions.{Transition, take, stay, look, commit, give_up, accompany, fork, merge, meet, Enabled, after}
 use Rattle.book_rule.specs.Plays.{Learns, Met, took, looked, committed, freed, accompanied, met}
 use Rattle.book_rule.proofs.Prefixes.{snoc_last, longer_begins}
@@ -58,7 +58,7 @@ module _ {X : Type 0} (w : Way X) (o : Opening) where
   abbrev Goes : ℕ → Me S View → ℕ → (ℕ → ℕ) → (ℕ → Me S View → Type 0) → St → Type 0
   Goes id me i f then s = (d : View) × (a : Act S) × Valid s.homes me.1 a × Turned w o (stepped s i (f (get_or s.words i 0)) id me.1 d a) × then (get_or s.words i 0) (d, carried_after me.1 a)
 
-  stage_at : (t : Standing X) (id : ℕ) (v : View) → get_elem? t.views id ≡ some v → Kept w o t → Stands (has_turn t.lock id) t.log v.seen v.stage
+  stage_at : (t : Standing X) (id : ℕ) (v : View) → get_elem? t.views id ≡ some v → Kept w o t → StandsSo (has_turn t.lock id) t.log v.seen v.stage
   stage_at t id v at k = (k.seats id v at).stands
 
   learns_at : (t : Standing X) (id : ℕ) (v : View) (h : Box X Global) → get_elem? t.views id ≡ some v → Ruled w o t → w.fits o t.log (box_value h) → Learns w o v t.log h
@@ -92,7 +92,7 @@ module _ {X : Type 0} (w : Way X) (o : Opening) where
   looks_at : (slots id : ℕ) (v : View) (c : List (ℕ × S)) (log : List Entry) → v.stage ≡ Taken log → (t : Standing X) → Ruled w o t → get_elem? t.views id ≡ some v
       → Goes id (v, c) 1 (λ n. n) (looked w (step slots 1 0 0 none) (v, c)) (laid_out t)
   looks_at slots id v c log stage t r at =
-      let stands : Stands (has_turn t.lock id) t.log v.seen (Taken log) = subst (Stands (has_turn t.lock id) t.log v.seen) stage (stage_at t id v at r.kept) in (
+      let stands : StandsSo (has_turn t.lock id) t.log v.seen (Taken log) = subst (StandsSo (has_turn t.lock id) t.log v.seen) stage (stage_at t id v at r.kept) in (
         having_seen v t.log,
         act_keeps,
         tt,
@@ -119,7 +119,7 @@ module _ {X : Type 0} (w : Way X) (o : Opening) where
       → (t : Standing X) → Ruled w o t → get_elem? t.views id ≡ some v
       → Goes id (v, (0, Some h) ∷ []) 1 (λ n. (n + 1) % 2 ^ 64) (committed w (step slots 1 1 0 none) (v, (0, Some h) ∷ [])) (laid_out t)
   commits_at slots id v h e stage live told next own t r at =
-      let stands : Stands (has_turn t.lock id) t.log v.seen Looked = subst (Stands (has_turn t.lock id) t.log v.seen) stage (stage_at t id v at r.kept) in
+      let stands : StandsSo (has_turn t.lock id) t.log v.seen Looked = subst (StandsSo (has_turn t.lock id) t.log v.seen) stage (stage_at t id v at r.kept) in
       let all : v.seen ≡ t.log = stands.1 in
       let more : length (t.log ++ e ∷ []) ≡ length t.log + 1 = length-append t.log (e ∷ []) in
       let short : length t.log + 1 < 2 ^ 64 = subst (λ (l : List Entry). length l + 1 < 2 ^ 64) all next.short in
@@ -167,7 +167,7 @@ module _ {X : Type 0} (w : Way X) (o : Opening) where
   meets_at : (slots id : ℕ) (v : View) (c : List (ℕ × S)) (theirs : List Entry) → v.stage ≡ Merged theirs → (t : Standing X) → Ruled w o t → get_elem? t.views id ≡ some v
       → Goes id (v, c) 0 (λ n. n) (met w (step slots 0 0 0 none) (v, c)) (laid_out t)
   meets_at slots id v c theirs stage t r at =
-      let stands : Stands (has_turn t.lock id) t.log v.seen (Merged theirs) = subst (Stands (has_turn t.lock id) t.log v.seen) stage (stage_at t id v at r.kept) in
+      let stands : StandsSo (has_turn t.lock id) t.log v.seen (Merged theirs) = subst (StandsSo (has_turn t.lock id) t.log v.seen) stage (stage_at t id v at r.kept) in
       let begins = longer_begins v.seen theirs t.log (r.kept.seats id v at).seen stands.1 in (
         having_met v theirs,
         act_keeps,

@@ -43,14 +43,14 @@ module _ {X : Type 0} where
   laid_out t = record { words = lock_word t.lock ∷ length t.log ∷ []; homes = lock_home t.lock ∷ []; views = t.views }
 
 -- a seat has the turn exactly where it has taken it, and then the history is the one at which it did; where it has looked since, it has seen it all
-abbrev pub Stands : Bool → List Entry → List Entry → Stage → Type 0
-Stands turn log seen Away = turn ≡ false
-Stands turn log seen (Taken at) = (turn ≡ true) × (at ≡ log)
-Stands turn log seen Looked = (turn ≡ true) × (seen ≡ log)
-Stands turn log seen (Merged theirs) = (turn ≡ false) × IsPrefix theirs log
+abbrev pub StandsSo : Bool → List Entry → List Entry → Stage → Type 0
+StandsSo turn log seen Away = turn ≡ false
+StandsSo turn log seen (Taken at) = (turn ≡ true) × (at ≡ log)
+StandsSo turn log seen Looked = (turn ≡ true) × (seen ≡ log)
+StandsSo turn log seen (Merged theirs) = (turn ≡ false) × IsPrefix theirs log
 
 pub record Knows (o : Opening) (log : List Entry) (turn : Bool) (v : View) : Type 0 where
-  pub stands : Stands turn log v.seen v.stage
+  pub stands : StandsSo turn log v.seen v.stage
   pub seen : IsPrefix v.seen log
   pub same : v.opening ≢ None → v.opening ≡ Some o
 

@@ -14,6 +14,8 @@ use std::sync::Wait;
 
 /// How often a thread looks for the turn before it sleeps.
 const LOOKS: u32 = 100;
+/// How often it pauses between two looks, so that who has the turn isn't slowed by them.
+const PAUSES: u32 = 16;
 
 /// Whether the turn is taken.
 const TURN: usize = 0;
@@ -96,7 +98,7 @@ impl<H: Content> Turn<H> {
         }
         self.gate.arrive();
         for _ in rt.forever() {
-            if let Some(content) = self.try_enter(seat) {
+            if let Some(content) = self.spin(seat) {
                 self.gate.leave();
                 return content;
             }
@@ -179,7 +181,7 @@ impl<H: Content> Turn<H> {
         shared.exchange(seat, SLOT, None)
     }
 
-    /// Looks for the turn a while, or until other threads sleep.
+    /// Looks for the turn a while.
     fn spin(&self, seat: &mut TurnSeat<H>) -> Option<Box<H>>
         requires { Waits self.now seat.old }
         ensures some { IfSome result (λ h. Enters H.way self.now seat.old seat.new h) }
@@ -190,12 +192,10 @@ impl<H: Content> Turn<H> {
                 if let Some(content) = self.try_enter(seat) {
                     return Some(content);
                 }
-            } else if self.gate.has_waiting() {
-                return None;
             }
-            spin_loop();
+            rest();
         }
-        None
+        self.try_enter(seat)
     }
 
     /// Gives the turn up, and wakes a thread where one sleeps.
@@ -206,6 +206,13 @@ impl<H: Content> Turn<H> {
     {
         self.table.shared.store::<Free>(seat, TURN, 0);
         self.gate.wake_one(rt);
+    }
+}
+
+/// Pauses between two looks.
+fn rest() {
+    for _ in 0..PAUSES {
+        spin_loop();
     }
 }
 

@@ -18,7 +18,7 @@ use Rattle.book_rule.specs.Seats.{Identity, Waits, Merges, Forks}
 use Rattle.book_rule.proofs.Prefixes.{prefix_trans, longer_is}
 use Rattle.book_rule_tests.specs.declared.runs.Told.{Told}
 use Rattle.book_rule_tests.specs.declared.runs.Crowd.{Crowd}
-use Rattle.book_rule_tests.specs.Rolls.{callers_in, named_by, of_caller, leaves, has_gone, IsLegal}
+use Rattle.book_rule_tests.specs.Rolls.{callers_in, caller_told_of, entries_naming, is_going, has_gone, IsLegal}
 use Rattle.book_rule_tests.specs.Calls.{Made, visit_of, notes_of, Visits, Joins}
 use Rattle.book_rule_tests.specs.Runs.{from, IsTold, Came, IsCrowd}
 use Rattle.book_rule_tests.proofs.Histories.{of_gone, gone_append, or_cases}
@@ -30,18 +30,18 @@ or_right false b is = is
 or_left : (a b : Bool) → a ≡ true → (a || b) ≡ true
 or_left a b is = ap (λ (x : Bool). x || b) is
 
-gone_kept_by : (c : ℕ) (e : Entry) (es : List Entry) → (has_gone c (of_caller c es) ≡ true → has_gone c es ≡ true) → (b : Bool) → has_gone c (cond b (e ∷ of_caller c es) (of_caller c es)) ≡ true → has_gone c (e ∷ es) ≡ true
+gone_kept_by : (c : ℕ) (e : Entry) (es : List Entry) → (has_gone c (entries_naming c es) ≡ true → has_gone c es ≡ true) → (b : Bool) → has_gone c (cond b (e ∷ entries_naming c es) (entries_naming c es)) ≡ true → has_gone c (e ∷ es) ≡ true
 gone_kept_by c e es later true is =
-    ⊎_elim (λ (now : leaves c e.1 ≡ true). or_left (leaves c e.1) (has_gone c es) now) (λ (more : has_gone c (of_caller c es) ≡ true). or_right (leaves c e.1) (has_gone c es) (later more))
-    (or_cases (leaves c e.1) (has_gone c (of_caller c es)) is)
-gone_kept_by c e es later false is = or_right (leaves c e.1) (has_gone c es) (later is)
+    ⊎_elim (λ (now : is_going c e.1 ≡ true). or_left (is_going c e.1) (has_gone c es) now) (λ (more : has_gone c (entries_naming c es) ≡ true). or_right (is_going c e.1) (has_gone c es) (later more))
+    (or_cases (is_going c e.1) (has_gone c (entries_naming c es)) is)
+gone_kept_by c e es later false is = or_right (is_going c e.1) (has_gone c es) (later is)
 
 -- whose own entries tell of its going has gone
-gone_kept : (c : ℕ) (log : List Entry) → has_gone c (of_caller c log) ≡ true → has_gone c log ≡ true
+gone_kept : (c : ℕ) (log : List Entry) → has_gone c (entries_naming c log) ≡ true → has_gone c log ≡ true
 gone_kept c [] is = is
-gone_kept c (e ∷ es) is = gone_kept_by c e es (gone_kept c es) (eqb (named_by e.1) c) is
+gone_kept c (e ∷ es) is = gone_kept_by c e es (gone_kept c es) (eqb (caller_told_of e.1) c) is
 
-gone_told : (c mark : ℕ) (log notes : List Entry) → of_caller c log ≡ notes ++ (mark, Gone c) ∷ [] → has_gone c log ≡ true
+gone_told : (c mark : ℕ) (log notes : List Entry) → entries_naming c log ≡ notes ++ (mark, Gone c) ∷ [] → has_gone c log ≡ true
 gone_told c mark log notes is =
     gone_kept c log
     (ap (has_gone c) is ∙ (gone_append c notes ((mark, Gone c) ∷ []) ∙ or_right (has_gone c notes) (eqb c c || false) (or_left (eqb c c) false (eq-eqb c c refl))))

@@ -7,7 +7,7 @@ use Rattle.scm_model.specs.declared.steps.Step.{Step}
 use Rattle.scm_model.specs.declared.steps.Step.TheVariants.{Joined, Gone, NoMemory}
 use Rattle.book_rule.specs.declared.view.Opening.{Opening}
 use Rattle.book_rule.specs.Ways.{Has, MadeAt, NamedAt, Follows}
-use Rattle.book_rule_tests.specs.Rolls.{callers_in, leaves, has_gone, Lives, May, IsLegal, names_in, made_by, caller_after, way_of_rolls, MOST}
+use Rattle.book_rule_tests.specs.Rolls.{callers_in, is_going, has_gone, Lives, May, IsLegal, names_in, made_by, caller_after, way_of_rolls, MOST}
 use Rattle.book_rule_tests.proofs.Histories.{callers_append, callers_front, named_below, named_is, made_is, gone_snoc, not_gone, legal_snoc}
 
 caller_is : {a b : ℕ} → Caller a ≡ Caller b → a ≡ b
@@ -17,14 +17,14 @@ callers_more : (log : List Entry) (e : Entry) → callers_in log ≤ callers_in 
 callers_more log e = callers_front (log ++ e ∷ []) log (e ∷ []) refl
 
 -- who doesn't leave by the entry lives on
-lives_on : (log : List Entry) (e : Entry) (c : ℕ) → Lives log c → leaves c e.1 ≡ false → Lives (log ++ e ∷ []) c
+lives_on : (log : List Entry) (e : Entry) (c : ℕ) → Lives log c → is_going c e.1 ≡ false → Lives (log ++ e ∷ []) c
 lives_on log e c lives stays = record {
   some_one = lives.some_one;
   joined = let l = lives.joined in let m = callers_more log e in omega arith;
   stays = gone_snoc c log e ∙ ((λ i. lives.stays i || stays i));
 }
 
-not_leaving : (step : Step) (c : ℕ) → (Has (Caller c) (names_in step) → ⊥) → leaves c step ≡ false
+not_leaving : (step : Step) (c : ℕ) → (Has (Caller c) (names_in step) → ⊥) → is_going c step ≡ false
 not_leaving (Gone d) c other = ne_eqb d c (λ e. other (inl (ap Caller (sym e))))
 not_leaving step c other = refl
 

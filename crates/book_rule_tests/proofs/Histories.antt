@@ -10,14 +10,14 @@ use Rattle.scm_model.specs.declared.steps.Step.TheVariants.{Joined, Gone, NoMemo
 use Rattle.book_rule.specs.Ways.{Has}
 use Rattle.book_rule.proofs.Places.{snoc_cases}
 use Rattle.book_rule_tests.specs.declared.roll.Line.{Line}
-use Rattle.book_rule_tests.specs.Rolls.{step_of, entry_of, joins, callers_in, named_by, of_caller, leaves, has_gone, May, IsLegal, names_in, made_by, MOST}
+use Rattle.book_rule_tests.specs.Rolls.{step_of_what, entry_of, joins, callers_in, caller_told_of, entries_naming, is_going, has_gone, May, IsLegal, names_in, made_by, MOST}
 
 pub callers_append : (xs ys : List Entry) → callers_in (xs ++ ys) ≡ callers_in xs + callers_in ys
 callers_append [] ys = omega arith
 callers_append (x ∷ xs) ys = let r = callers_append xs ys in omega arith
 
 -- a roll of one line more
-pub callers_line : (lines : List Line) (line : Line) → callers_in (map entry_of (lines ++ line ∷ [])) ≡ callers_in (map entry_of lines) + joins (step_of line.what)
+pub callers_line : (lines : List Line) (line : Line) → callers_in (map entry_of (lines ++ line ∷ [])) ≡ callers_in (map entry_of lines) + joins (step_of_what line.what)
 callers_line lines line =
     let more = ap callers_in (map-append entry_of lines (line ∷ [])) in
     let r = callers_append (map entry_of lines) (entry_of line ∷ []) in omega arith
@@ -27,17 +27,17 @@ pub callers_front : (log front rest : List Entry) → log ≡ front ++ rest → 
 callers_front log front rest is = let r = ap callers_in is in let s = callers_append front rest in omega arith
 
 -- whom an entry names has joined before
-pub named_below : (front : List Entry) (step : Step) → May front step → named_by step ≤ callers_in front
+pub named_below : (front : List Entry) (step : Step) → May front step → caller_told_of step ≤ callers_in front
 named_below front (NoMemory c) may = may.joined
 named_below front (Gone c) may = may.joined
 named_below front step may = omega arith
 
-pub named_in : (step : Step) (c : ℕ) → c ≢ 0 → named_by step ≡ c → Has (Caller c) (names_in step)
+pub named_in : (step : Step) (c : ℕ) → c ≢ 0 → caller_told_of step ≡ c → Has (Caller c) (names_in step)
 named_in (NoMemory d) c some_one is = inl (ap Caller (sym is))
 named_in (Gone d) c some_one is = inl (ap Caller (sym is))
 named_in step c some_one is = absurd (some_one (sym is))
 
-pub named_is : (front : List Entry) (step : Step) (n : Name) → May front step → Has n (names_in step) → (c : ℕ) × (n ≡ Caller c) × (named_by step ≡ c)
+pub named_is : (front : List Entry) (step : Step) (n : Name) → May front step → Has n (names_in step) → (c : ℕ) × (n ≡ Caller c) × (caller_told_of step ≡ c)
 named_is front (NoMemory d) n may (inl is) = (d, is, refl)
 named_is front (NoMemory d) n may (inr bad) = absurd bad
 named_is front (Gone d) n may (inl is) = (d, is, refl)
@@ -54,19 +54,19 @@ pick : (b : Bool) (x : Entry) (xs ys : List Entry) → cond b (x ∷ xs) xs ++ y
 pick true x xs ys = refl
 pick false x xs ys = refl
 
-pub of_append : (c : ℕ) (xs ys : List Entry) → of_caller c (xs ++ ys) ≡ of_caller c xs ++ of_caller c ys
+pub of_append : (c : ℕ) (xs ys : List Entry) → entries_naming c (xs ++ ys) ≡ entries_naming c xs ++ entries_naming c ys
 of_append c [] ys = refl
-of_append c (x ∷ xs) ys = ap (λ (l : List Entry). cond (eqb (named_by x.1) c) (x ∷ l) l) (of_append c xs ys) ∙ sym (pick (eqb (named_by x.1) c) x (of_caller c xs) (of_caller c ys))
+of_append c (x ∷ xs) ys = ap (λ (l : List Entry). cond (eqb (caller_told_of x.1) c) (x ∷ l) l) (of_append c xs ys) ∙ sym (pick (eqb (caller_told_of x.1) c) x (entries_naming c xs) (entries_naming c ys))
 
 -- where no entry names a caller, it has none
-pub of_quiet : (c : ℕ) (log : List Entry) → ((front : List Entry) (e : Entry) (rest : List Entry) → log ≡ front ++ e ∷ rest → named_by e.1 ≢ c) → of_caller c log ≡ []
+pub of_quiet : (c : ℕ) (log : List Entry) → ((front : List Entry) (e : Entry) (rest : List Entry) → log ≡ front ++ e ∷ rest → caller_told_of e.1 ≢ c) → entries_naming c log ≡ []
 of_quiet c [] none = refl
 of_quiet c (e ∷ es) none =
-    let not : eqb (named_by e.1) c ≡ false = ne_eqb (named_by e.1) c (none [] e es refl) in
-    ap (λ (b : Bool). cond b (e ∷ of_caller c es) (of_caller c es)) not ∙ of_quiet c es (λ front d rest is. none (e ∷ front) d rest (ap (λ (l : List Entry). e ∷ l) is))
+    let not : eqb (caller_told_of e.1) c ≡ false = ne_eqb (caller_told_of e.1) c (none [] e es refl) in
+    ap (λ (b : Bool). cond b (e ∷ entries_naming c es) (entries_naming c es)) not ∙ of_quiet c es (λ front d rest is. none (e ∷ front) d rest (ap (λ (l : List Entry). e ∷ l) is))
 
-pub of_last : (c : ℕ) (e : Entry) → named_by e.1 ≡ c → of_caller c (e ∷ []) ≡ e ∷ []
-of_last c e is = ap (λ (b : Bool). cond b (e ∷ []) []) (eq-eqb (named_by e.1) c is)
+pub of_last : (c : ℕ) (e : Entry) → caller_told_of e.1 ≡ c → entries_naming c (e ∷ []) ≡ e ∷ []
+of_last c e is = ap (λ (b : Bool). cond b (e ∷ []) []) (eq-eqb (caller_told_of e.1) c is)
 
 or_last : (a b : Bool) → (a || (b || false)) ≡ (a || b)
 or_last true b = refl
@@ -79,16 +79,16 @@ or_more false b c = refl
 
 pub gone_append : (c : ℕ) (xs ys : List Entry) → has_gone c (xs ++ ys) ≡ (has_gone c xs || has_gone c ys)
 gone_append c [] ys = refl
-gone_append c (x ∷ xs) ys = ap (λ (b : Bool). leaves c x.1 || b) (gone_append c xs ys) ∙ or_more (leaves c x.1) (has_gone c xs) (has_gone c ys)
+gone_append c (x ∷ xs) ys = ap (λ (b : Bool). is_going c x.1 || b) (gone_append c xs ys) ∙ or_more (is_going c x.1) (has_gone c xs) (has_gone c ys)
 
-pub gone_snoc : (c : ℕ) (log : List Entry) (e : Entry) → has_gone c (log ++ e ∷ []) ≡ (has_gone c log || leaves c e.1)
-gone_snoc c log e = gone_append c log (e ∷ []) ∙ or_last (has_gone c log) (leaves c e.1)
+pub gone_snoc : (c : ℕ) (log : List Entry) (e : Entry) → has_gone c (log ++ e ∷ []) ≡ (has_gone c log || is_going c e.1)
+gone_snoc c log e = gone_append c log (e ∷ []) ∙ or_last (has_gone c log) (is_going c e.1)
 
 -- behind its going nobody lives
 pub gone_stays : (c : ℕ) (xs ys : List Entry) → has_gone c xs ≡ true → has_gone c (xs ++ ys) ≡ true
 gone_stays c xs ys is = gone_append c xs ys ∙ ap (λ (b : Bool). b || has_gone c ys) is
 
-leaves_named : (c : ℕ) (step : Step) → leaves c step ≡ true → named_by step ≡ c
+leaves_named : (c : ℕ) (step : Step) → is_going c step ≡ true → caller_told_of step ≡ c
 leaves_named c (Gone d) is = eqb-true d c is
 leaves_named c step is = absurd cc
 
@@ -101,12 +101,12 @@ gone_joined_at : (c : ℕ) (log : List Entry) → IsLegal log → (front rest : 
 gone_joined_at c log legal front [] is gone = absurd cc
 gone_joined_at c log legal front (e ∷ es) is gone =
     ⊎_elim
-    (λ (left : leaves c e.1 ≡ true).
+    (λ (left : is_going c e.1 ≡ true).
     let named = leaves_named c e.1 left in
     let le = named_below front e.1 (legal.each front e es is) in
     let more = callers_front log front (e ∷ es) is in omega arith)
     (λ (later : has_gone c es ≡ true). gone_joined_at c log legal (front ++ e ∷ []) es (is ∙ sym (append_assoc front (e ∷ []) es)) later)
-    (or_cases (leaves c e.1) (has_gone c es) gone)
+    (or_cases (is_going c e.1) (has_gone c es) gone)
 
 pub gone_joined : (c : ℕ) (log : List Entry) → IsLegal log → has_gone c log ≡ true → c ≤ callers_in log
 gone_joined c log legal gone = gone_joined_at c log legal [] log refl gone
@@ -117,7 +117,7 @@ not_gone c log legal late true is = absurd (let le = gone_joined c log legal is 
 not_gone c log legal late false is = refl
 
 -- who hasn't joined has no entries
-pub of_late : (c : ℕ) (log : List Entry) → IsLegal log → callers_in log < c → of_caller c log ≡ []
+pub of_late : (c : ℕ) (log : List Entry) → IsLegal log → callers_in log < c → entries_naming c log ≡ []
 of_late c log legal late = of_quiet c log (λ front e rest is same. let le = named_below front e.1 (legal.each front e rest is) in let more = callers_front log front (e ∷ rest) is in absurd (omega arith))
 
 legal_snoc_at : (log : List Entry) (e : Entry) → IsLegal log → May log e.1 → (front : List Entry) (d : Entry) (rest : List Entry) → log ++ e ∷ [] ≡ front ++ d ∷ rest → May front d.1
@@ -130,32 +130,32 @@ pub legal_snoc : (log : List Entry) (e : Entry) → IsLegal log → May log e.1 
 legal_snoc log e legal may room = record { each = legal_snoc_at log e legal may; short = let l = length-append log (e ∷ []) in omega arith }
 
 -- whoever an entry of a legal history names lives there, or is nobody
-lives_there : (front : List Entry) (step : Step) (c : ℕ) → c ≢ 0 → May front step → named_by step ≡ c → has_gone c front ≡ false
+lives_there : (front : List Entry) (step : Step) (c : ℕ) → c ≢ 0 → May front step → caller_told_of step ≡ c → has_gone c front ≡ false
 lives_there front (NoMemory d) c some_one may is = subst (λ (x : ℕ). has_gone x front ≡ false) is may.stays
 lives_there front (Gone d) c some_one may is = subst (λ (x : ℕ). has_gone x front ≡ false) is may.stays
 lives_there front step c some_one may is = absurd (some_one (sym is))
 
-names_none : (c : ℕ) (log front : List Entry) (e : Entry) (rest log' : List Entry) → c ≢ 0 → IsLegal log' → has_gone c log ≡ true → log' ≡ log ++ (front ++ e ∷ rest) → named_by e.1 ≡ c → ⊥
+names_none : (c : ℕ) (log front : List Entry) (e : Entry) (rest log' : List Entry) → c ≢ 0 → IsLegal log' → has_gone c log ≡ true → log' ≡ log ++ (front ++ e ∷ rest) → caller_told_of e.1 ≡ c → ⊥
 names_none c log front e rest log' some_one legal gone is same =
     let may = legal.each (log ++ front) e rest (is ∙ sym (append_assoc log front (e ∷ rest))) in
     let lives = lives_there (log ++ front) e.1 c some_one may same in
     let left = gone_stays c log front gone in cc
 
 -- a caller that has gone is named no more
-pub of_gone : (c : ℕ) (log log' : List Entry) → c ≢ 0 → IsLegal log' → has_gone c log ≡ true → IsPrefix log log' → of_caller c log' ≡ of_caller c log
+pub of_gone : (c : ℕ) (log log' : List Entry) → c ≢ 0 → IsLegal log' → has_gone c log ≡ true → IsPrefix log log' → entries_naming c log' ≡ entries_naming c log
 of_gone c log log' some_one legal gone p =
-    let none : of_caller c p.0 ≡ [] = of_quiet c p.0 (λ front e rest is same. names_none c log front e rest log' some_one legal gone (sym p.1 ∙ ap (λ (l : List Entry). log ++ l) is) same) in
-    ap (of_caller c) (sym p.1) ∙ (of_append c log p.0 ∙ (ap (λ (l : List Entry). of_caller c log ++ l) none ∙ append-nil (of_caller c log)))
+    let none : entries_naming c p.0 ≡ [] = of_quiet c p.0 (λ front e rest is same. names_none c log front e rest log' some_one legal gone (sym p.1 ∙ ap (λ (l : List Entry). log ++ l) is) same) in
+    ap (entries_naming c) (sym p.1) ∙ (of_append c log p.0 ∙ (ap (λ (l : List Entry). entries_naming c log ++ l) none ∙ append-nil (entries_naming c log)))
 
 joins_few : (step : Step) → joins step ≤ 1
 joins_few (Joined p) = omega arith
 joins_few step = omega arith
 
 -- what a roll keeps beside its lines
-pub line_kept : (lines lines' : List Line) (line : Line) (callers n : ℕ) → lines' ≡ lines ++ line ∷ [] → callers ≡ callers_in (map entry_of lines) → callers ≤ length lines → length lines < MOST → n ≡ joins (step_of line.what)
+pub line_kept : (lines lines' : List Line) (line : Line) (callers n : ℕ) → lines' ≡ lines ++ line ∷ [] → callers ≡ callers_in (map entry_of lines) → callers ≤ length lines → length lines < MOST → n ≡ joins (step_of_what line.what)
     → (callers + n ≡ callers_in (map entry_of lines')) × (callers + n ≤ length lines') × (length lines' ≤ MOST)
 line_kept lines lines' line callers n is count few room made =
     let more = callers_line lines line in
     let longer = ap length is ∙ length-append lines (line ∷ []) in
     let same = ap (λ (l : List Line). callers_in (map entry_of l)) is in
-    let one = joins_few (step_of line.what) in (omega arith, omega arith, omega arith)
+    let one = joins_few (step_of_what line.what) in (omega arith, omega arith, omega arith)

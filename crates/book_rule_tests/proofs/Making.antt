@@ -14,18 +14,18 @@ use Rattle.book_rule.specs.Views.{having_seen, having_made, having_left}
 use Rattle.book_rule_tests.specs.declared.roll.Line.{Line}
 use Rattle.book_rule_tests.specs.declared.roll.What.{What}
 use Rattle.book_rule_tests.specs.declared.roll.What.TheVariants as what
-use Rattle.book_rule_tests.specs.Rolls.{step_of, entry_of, of_caller, Lives, May, way_of_rolls, MOST}
+use Rattle.book_rule_tests.specs.Rolls.{step_of_what, entry_of, entries_naming, Lives, May, way_of_rolls, MOST}
 use Rattle.book_rule_tests.specs.Calls.{IsOwn, Made, Learnt}
 use Rattle.book_rule_tests.proofs.Histories.{of_append, of_quiet, named_in, legal_snoc}
 use Rattle.book_rule_tests.proofs.Following.{follows}
 
 -- what an entry of the seat's own asks, where the seat claims what it does
-may_make : (b : Identity) (log : List Entry) (v : View) (what : What) → IsOwn v (step_of what) → ClaimsOf way_of_rolls b.opening log v → May log (step_of what)
+may_make : (b : Identity) (log : List Entry) (v : View) (what : What) → IsOwn v (step_of_what what) → ClaimsOf way_of_rolls b.opening log v → May log (step_of_what what)
 may_make b log v what.Joined own claims = tt
 may_make b log v (what.Noted c) own claims = subst (Lives log) own.1 (claims.lives (λ none. own.0 (sym own.1 ∙ none)))
 may_make b log v (what.Gone c) own claims = subst (Lives log) own.1 (claims.lives (λ none. own.0 (sym own.1 ∙ none)))
 
-names_own : (b : Identity) (log : List Entry) (v : View) (mark : ℕ) (what : What) → IsOwn v (step_of what) → ClaimsOf way_of_rolls b.opening log v → NamesOwn way_of_rolls v.names (mark, step_of what)
+names_own : (b : Identity) (log : List Entry) (v : View) (mark : ℕ) (what : What) → IsOwn v (step_of_what what) → ClaimsOf way_of_rolls b.opening log v → NamesOwn way_of_rolls v.names (mark, step_of_what what)
 names_own b log v mark what.Joined own claims n has = absurd has
 names_own b log v mark (what.Noted c) own claims n (inl is) = subst (λ (m : Name). Has m v.names) (ap Caller own.1 ∙ sym is) (claims.caller (λ none. own.0 (sym own.1 ∙ none)))
 names_own b log v mark (what.Noted c) own claims n (inr bad) = absurd bad
@@ -33,9 +33,9 @@ names_own b log v mark (what.Gone c) own claims n (inl is) = subst (λ (m : Name
 names_own b log v mark (what.Gone c) own claims n (inr bad) = absurd bad
 
 -- between what the seat has seen and the end of the history nothing names its own
-quiet : (b : Identity) (log : List Entry) (v : View) → IsPrefix v.seen log → ClaimsOf way_of_rolls b.opening log v → (c : ℕ) → c ≢ 0 → Has (Caller c) v.names → of_caller c log ≡ of_caller c v.seen
+quiet : (b : Identity) (log : List Entry) (v : View) → IsPrefix v.seen log → ClaimsOf way_of_rolls b.opening log v → (c : ℕ) → c ≢ 0 → Has (Caller c) v.names → entries_naming c log ≡ entries_naming c v.seen
 quiet b log v longer claims c some_one named =
-    let none : of_caller c longer.0 ≡ [] =
+    let none : entries_naming c longer.0 ≡ [] =
     of_quiet c longer.0
     (λ front e rest is same.
     let at = claims.named (Caller c) named (length (v.seen ++ front)) (record {
@@ -49,7 +49,7 @@ quiet b log v longer claims c some_one named =
     let in_seen = claims.within (length (v.seen ++ front)) at in
     let l = length-append v.seen front in
     let bad : ⊥ = omega arith in bad) in
-    ap (of_caller c) (sym longer.1) ∙ (of_append c v.seen longer.0 ∙ (ap (λ (l : List Entry). of_caller c v.seen ++ l) none ∙ append-nil (of_caller c v.seen)))
+    ap (entries_naming c) (sym longer.1) ∙ (of_append c v.seen longer.0 ∙ (ap (λ (l : List Entry). entries_naming c v.seen ++ l) none ∙ append-nil (entries_naming c v.seen)))
 
 module _ (b : Identity) (s s1 : Seat (Option (Box (List Entry) Global)) View) (h : Box (List Entry) Global) (waits : Waits b s) (enters : Enters way_of_rolls b s s1 h) where
   sees : s1.me.0 ≡ having_seen s.me.0 enters.log
@@ -66,7 +66,7 @@ module _ (b : Identity) (s s1 : Seat (Option (Box (List Entry) Global)) View) (h
   pub at_end : (e : Entry) (l : List Entry) → l ≡ box_value h ++ e ∷ [] → l ≡ s1.me.0.seen ++ e ∷ []
   at_end e l told = told ∙ ap (λ (l : List Entry). l ++ e ∷ []) (enters.learns.fits ∙ sym (ap (λ m. m.0.seen) enters.me))
 
-  module _ (line : Line) (own : IsOwn s.me.0 (step_of line.what)) where
+  module _ (line : Line) (own : IsOwn s.me.0 (step_of_what line.what)) where
     pub one_more : (h' : Box (List Entry) Global) → length (box_value h) < MOST → box_value h' ≡ box_value h ++ entry_of line ∷ [] → IsOneMore way_of_rolls b s1.me.0 h'
     one_more h' room told =
         let learns = enters.learns in
@@ -77,7 +77,7 @@ module _ (b : Identity) (s s1 : Seat (Option (Box (List Entry) Global)) View) (h
           entry = entry_of line;
           trail = end;
           names = names_own b log s.me.0 line.mark line.what own learns.claims;
-          follows = follows b.opening log line.mark (step_of line.what) learns.run (may_make b log s.me.0 line.what own learns.claims) short;
+          follows = follows b.opening log line.mark (step_of_what line.what) learns.run (may_make b log s.me.0 line.what own learns.claims) short;
           fits = end;
         })
 

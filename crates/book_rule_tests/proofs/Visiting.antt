@@ -10,7 +10,7 @@ use Rattle.book_rule.specs.Ways.{Has}
 use Rattle.book_rule.specs.Views.{newcomer, in_company, longer}
 use Rattle.book_rule.proofs.Places.{has_left, has_right}
 use Rattle.book_rule.proofs.Prefixes.{prefix_self, prefix_trans, longer_is}
-use Rattle.book_rule_tests.specs.Rolls.{callers_in, of_caller, IsLegal}
+use Rattle.book_rule_tests.specs.Rolls.{callers_in, entries_naming, IsLegal}
 use Rattle.book_rule_tests.specs.Calls.{Made, notes_of, IsOf, Notes, Visits, Joins}
 use Rattle.book_rule_tests.proofs.Histories.{callers_append, of_append, of_last, of_late}
 
@@ -18,18 +18,18 @@ prefix_made : (seen before seen' : List Entry) (e : Entry) → IsPrefix seen bef
 prefix_made seen before seen' e p is = subst (IsPrefix seen) (sym is) (prefix_trans seen before (before ++ e ∷ []) p (e ∷ [], refl))
 
 -- what the history has of a caller, with one entry of its own more
-of_made : (c : ℕ) (v : View) (e : Entry) (v' : View) → IsOf v c → Made v e v' → of_caller c (e ∷ []) ≡ e ∷ [] → of_caller c v'.seen ≡ of_caller c v.seen ++ e ∷ []
+of_made : (c : ℕ) (v : View) (e : Entry) (v' : View) → IsOf v c → Made v e v' → entries_naming c (e ∷ []) ≡ e ∷ [] → entries_naming c v'.seen ≡ entries_naming c v.seen ++ e ∷ []
 of_made c v e v' of made own =
-    ap (of_caller c) made.seen ∙ (of_append c made.before (e ∷ []) ∙ (λ i. made.quiet c of.some_one of.named i ++ own i))
+    ap (entries_naming c) made.seen ∙ (of_append c made.before (e ∷ []) ∙ (λ i. made.quiet c of.some_one of.named i ++ own i))
 
 pub no_notes : (v : View) (mark c : ℕ) → IsOf v c → Notes v v mark c 0
-no_notes v mark c of = record { longer = prefix_self v.seen; entries = sym (append-nil (of_caller c v.seen)); of = of; alone = λ _. sym (append-nil v.seen); same = refl }
+no_notes v mark c of = record { longer = prefix_self v.seen; entries = sym (append-nil (entries_naming c v.seen)); of = of; alone = λ _. sym (append-nil v.seen); same = refl }
 
 pub more_notes : (v v' v'' : View) (mark c n : ℕ) → Notes v v' mark c n → Made v' (mark, NoMemory c) v'' → Notes v v'' mark c (suc n)
 more_notes v v' v'' mark c n notes made = record {
   longer = prefix_trans v.seen v'.seen v''.seen notes.longer (prefix_made v'.seen made.before v''.seen (mark, NoMemory c) made.longer made.seen);
   entries = of_made c v' (mark, NoMemory c) v'' notes.of made (of_last c (mark, NoMemory c) refl)
-      ∙ (ap (λ (l : List Entry). l ++ (mark, NoMemory c) ∷ []) notes.entries ∙ append_assoc (of_caller c v.seen) (notes_of mark c n) ((mark, NoMemory c) ∷ []));
+      ∙ (ap (λ (l : List Entry). l ++ (mark, NoMemory c) ∷ []) notes.entries ∙ append_assoc (entries_naming c v.seen) (notes_of mark c n) ((mark, NoMemory c) ∷ []));
   of = record { some_one = notes.of.some_one; caller = made.caller ∙ notes.of.caller; named = subst (Has (Caller c)) (sym made.names) (has_left (Caller c) v'.names [] notes.of.named) };
   alone = λ is. made.seen ∙ (ap (λ (l : List Entry). l ++ (mark, NoMemory c) ∷ []) (made.alone (notes.same ∙ is) ∙ notes.alone is) ∙ append_assoc v.seen (notes_of mark c n) ((mark, NoMemory c) ∷ []));
   same = made.same ∙ notes.same;
@@ -40,7 +40,7 @@ visited v v' v'' mark c n notes made = record {
   longer = prefix_trans v.seen v'.seen v''.seen notes.longer (prefix_made v'.seen made.before v''.seen (mark, Gone c) made.longer made.seen);
   legal = made.legal;
   entries = of_made c v' (mark, Gone c) v'' notes.of made (of_last c (mark, Gone c) refl)
-      ∙ (ap (λ (l : List Entry). l ++ (mark, Gone c) ∷ []) notes.entries ∙ append_assoc (of_caller c v.seen) (notes_of mark c n) ((mark, Gone c) ∷ []));
+      ∙ (ap (λ (l : List Entry). l ++ (mark, Gone c) ∷ []) notes.entries ∙ append_assoc (entries_naming c v.seen) (notes_of mark c n) ((mark, Gone c) ∷ []));
   alone = λ is. made.seen ∙ (ap (λ (l : List Entry). l ++ (mark, Gone c) ∷ []) (made.alone (notes.same ∙ is) ∙ notes.alone is) ∙ append_assoc v.seen (notes_of mark c n) ((mark, Gone c) ∷ []));
   same = made.same ∙ notes.same;
 }
@@ -52,11 +52,11 @@ legal_front log front rest is legal = record {
 }
 
 -- a join names nobody
-not_of : (c : ℕ) → c ≢ 0 → (mark : ℕ) → of_caller c ((mark, Joined Admin) ∷ []) ≡ []
+not_of : (c : ℕ) → c ≢ 0 → (mark : ℕ) → entries_naming c ((mark, Joined Admin) ∷ []) ≡ []
 not_of c some_one mark = ap (λ (b : Bool). cond b ((mark, Joined Admin) ∷ []) []) (ne_eqb 0 c (λ e. some_one (sym e)))
 
 -- after a join, whose number is that of the callers by then
-pub joined : (v : View) (mark c : ℕ) (v' : View) → Made v (mark, Joined Admin) v' → c ≡ callers_in v'.seen → IsOf v' c × (of_caller c v'.seen ≡ [])
+pub joined : (v : View) (mark c : ℕ) (v' : View) → Made v (mark, Joined Admin) v' → c ≡ callers_in v'.seen → IsOf v' c × (entries_naming c v'.seen ≡ [])
 joined v mark c v' made is =
     let e : Entry = (mark, Joined Admin) in
     let count : callers_in v'.seen ≡ callers_in made.before + 1 = let s = ap callers_in made.seen ∙ callers_append made.before (e ∷ []) in omega arith in
@@ -67,7 +67,7 @@ joined v mark c v' made is =
         caller = made.caller ∙ sym number;
         named = subst (Has (Caller c)) (sym made.names) (has_right (Caller c) v.names (Caller (callers_in made.before + 1) ∷ []) (inl (ap Caller number)));
       },
-      ap (of_caller c) made.seen ∙ (of_append c made.before (e ∷ []) ∙ (λ i. of_late c made.before legal (omega arith) i ++ not_of c (λ none. let bad : ⊥ = omega arith in bad) mark i)),
+      ap (entries_naming c) made.seen ∙ (of_append c made.before (e ∷ []) ∙ (λ i. of_late c made.before legal (omega arith) i ++ not_of c (λ none. let bad : ⊥ = omega arith in bad) mark i)),
     )
 
 pub joins : (by by' v : View) (mark c : ℕ) → Made (newcomer by) (mark, Joined Admin) v → c ≡ callers_in v.seen → by'.seen ≡ longer by.seen v.seen → Joins by by' v c

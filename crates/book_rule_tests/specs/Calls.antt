@@ -7,7 +7,7 @@ use Rattle.scm_model.specs.declared.steps.Step.{Step}
 use Rattle.scm_model.specs.declared.steps.Step.TheVariants.{Gone, NoMemory}
 use Rattle.book_rule.specs.declared.view.View.{View}
 use Rattle.book_rule.specs.Ways.{Has}
-use Rattle.book_rule_tests.specs.Rolls.{of_caller, IsLegal, made_by, caller_after}
+use Rattle.book_rule_tests.specs.Rolls.{entries_naming, IsLegal, made_by, caller_after}
 
 -- whose step it is: nobody's, or the seat's caller's
 abbrev pub IsOwn : View → Step → Type 0
@@ -25,7 +25,7 @@ pub record Made (v : View) (e : Entry) (v' : View) : Type 0 where
   pub own : v'.own ≡ v.own ++ length before ∷ []
   pub names : v'.names ≡ v.names ++ made_by before e.1
   pub caller : v'.caller ≡ caller_after before v.caller e.1
-  pub quiet : (c : ℕ) → c ≢ 0 → Has (Caller c) v.names → of_caller c before ≡ of_caller c v.seen
+  pub quiet : (c : ℕ) → c ≢ 0 → Has (Caller c) v.names → entries_naming c before ≡ entries_naming c v.seen
   pub alone : v.alone ≡ true → before ≡ v.seen
   pub same : v'.alone ≡ v.alone
 
@@ -57,7 +57,7 @@ pub record IsOf (v : View) (c : ℕ) : Type 0 where
 -- between its own entries stands nothing of a caller's; where its seat is alone, nothing at all
 pub record Notes (v v' : View) (mark c n : ℕ) : Type 0 where
   pub longer : IsPrefix v.seen v'.seen
-  pub entries : of_caller c v'.seen ≡ of_caller c v.seen ++ notes_of mark c n
+  pub entries : entries_naming c v'.seen ≡ entries_naming c v.seen ++ notes_of mark c n
   pub of : IsOf v' c
   pub alone : v.alone ≡ true → v'.seen ≡ v.seen ++ notes_of mark c n
   pub same : v'.alone ≡ v.alone
@@ -65,7 +65,7 @@ pub record Notes (v v' : View) (mark c n : ℕ) : Type 0 where
 pub record Visits (v v' : View) (mark c n : ℕ) : Type 0 where
   pub longer : IsPrefix v.seen v'.seen
   pub legal : IsLegal v'.seen
-  pub entries : of_caller c v'.seen ≡ of_caller c v.seen ++ visit_of mark c n
+  pub entries : entries_naming c v'.seen ≡ entries_naming c v.seen ++ visit_of mark c n
   pub alone : v.alone ≡ true → v'.seen ≡ v.seen ++ visit_of mark c n
   pub same : v'.alone ≡ v.alone
 
@@ -75,4 +75,4 @@ pub record Joins (by by' v : View) (c : ℕ) : Type 0 where
   pub seen : by'.seen ≡ v.seen
   pub legal : IsLegal v.seen
   pub of : IsOf v c
-  pub new : of_caller c v.seen ≡ []
+  pub new : entries_naming c v.seen ≡ []

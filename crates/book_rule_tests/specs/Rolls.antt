@@ -16,13 +16,13 @@ abbrev pub MOST : ℕ
 MOST = 2 ^ 40
 
 -- a note stands in the history as a call that found no memory
-abbrev pub step_of : What → Step
-step_of what.Joined = Joined Admin
-step_of (what.Noted caller) = NoMemory caller
-step_of (what.Gone caller) = Gone caller
+abbrev pub step_of_what : What → Step
+step_of_what what.Joined = Joined Admin
+step_of_what (what.Noted caller) = NoMemory caller
+step_of_what (what.Gone caller) = Gone caller
 
 abbrev pub entry_of : Line → Entry
-entry_of line = (line.mark, step_of line.what)
+entry_of line = (line.mark, step_of_what line.what)
 
 -- ## What a history says
 
@@ -39,23 +39,23 @@ abbrev pub IsCounted : List Line → ℕ → Type 0
 IsCounted lines callers = (callers ≡ callers_in (map entry_of lines)) × (callers ≤ length lines) × (length lines ≤ MOST)
 
 -- the caller that an entry names, or 0
-abbrev pub named_by : Step → ℕ
-named_by (NoMemory caller) = caller
-named_by (Gone caller) = caller
-named_by step = 0
+abbrev pub caller_told_of : Step → ℕ
+caller_told_of (NoMemory caller) = caller
+caller_told_of (Gone caller) = caller
+caller_told_of step = 0
 
 -- the entries that name a caller
-abbrev pub of_caller : ℕ → List Entry → List Entry
-of_caller c [] = []
-of_caller c (e ∷ es) = cond (named_by e.1 == c) (e ∷ of_caller c es) (of_caller c es)
+abbrev pub entries_naming : ℕ → List Entry → List Entry
+entries_naming c [] = []
+entries_naming c (e ∷ es) = cond (caller_told_of e.1 == c) (e ∷ entries_naming c es) (entries_naming c es)
 
-abbrev pub leaves : ℕ → Step → Bool
-leaves c (Gone caller) = caller == c
-leaves c step = false
+abbrev pub is_going : ℕ → Step → Bool
+is_going c (Gone caller) = caller == c
+is_going c step = false
 
 abbrev pub has_gone : ℕ → List Entry → Bool
 has_gone c [] = false
-has_gone c (e ∷ es) = leaves c e.1 || has_gone c es
+has_gone c (e ∷ es) = is_going c e.1 || has_gone c es
 
 -- the caller has joined, and hasn't gone
 pub record Lives (log : List Entry) (c : ℕ) : Type 0 where
@@ -91,8 +91,8 @@ caller_after log c (Gone caller) = 0
 caller_after log c step = c
 
 -- the rule asks for an opening, which a roll makes no use of
-abbrev pub opened : Opening
-opened = record {
+abbrev pub roll_opening : Opening
+roll_opening = record {
   limits = record { services = 0; handles = 0; registrations = 0; callers = 0; processes = 0; controls = 0; steps = 0; text = 0 };
   first = record {
     services = [];
@@ -114,7 +114,7 @@ opened = record {
 
 abbrev pub way_of_rolls : Way (List Entry)
 way_of_rolls = record {
-  opening = λ r. opened;
+  opening = λ r. roll_opening;
   trail = λ r. r;
   fits = λ o log r. r ≡ log;
   run = λ o log. IsLegal log;

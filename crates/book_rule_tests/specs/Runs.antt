@@ -5,7 +5,7 @@ use Rattle.scm_model.specs.Entries.{Entry}
 use Rattle.book_rule.specs.Seats.{Identity, Waits}
 use Rattle.book_rule_tests.specs.declared.runs.Told.{Told}
 use Rattle.book_rule_tests.specs.declared.runs.Crowd.{Crowd}
-use Rattle.book_rule_tests.specs.Rolls.{of_caller, IsLegal}
+use Rattle.book_rule_tests.specs.Rolls.{entries_naming, IsLegal}
 use Rattle.book_rule_tests.specs.Calls.{visit_of}
 
 -- so many numbers from one on
@@ -16,7 +16,7 @@ from low (suc n) = low ∷ from (low + 1) n
 -- what the history has of the caller is just its visit
 pub record IsTold (notes : ℕ) (log : List Entry) (t : Told) : Type 0 where
   pub some_one : t.caller ≢ 0
-  pub entries : of_caller t.caller log ≡ visit_of t.mark t.caller notes
+  pub entries : entries_naming t.caller log ≡ visit_of t.mark t.caller notes
 
 -- one visit for each of the marks
 pub record Came (notes low n : ℕ) (log : List Entry) (told : List Told) : Type 0 where

@@ -2,7 +2,7 @@
 ghost use Rattle.std.specs.Prelude.{◌≡◌, IfSome, IfNone};
 ghost use Rattle.book_rule.specs.Seats.{Waits};
 ghost use Rattle.book_rule_tests.specs.Calls.{IsOf, IsOwn, Joins, Learnt, Made, Visits};
-ghost use Rattle.book_rule_tests.specs.Rolls.{callers_in, entry_of, step_of};
+ghost use Rattle.book_rule_tests.specs.Rolls.{callers_in, entry_of, step_of_what};
 
 use crate::roll::{Line, Roll, What};
 use book_rule::{Turn, TurnSeat};
@@ -25,7 +25,7 @@ pub fn make<R: Wait>(
     line: Line,
 ) -> Option<u64>
     requires seat { Waits turn.now seat.old }
-    requires line { IsOwn seat.old.me.0 (step_of line.what) }
+    requires line { IsOwn seat.old.me.0 (step_of_what line.what) }
     ensures seat { Waits turn.now seat.new }
     ensures some { IfSome result (λ n. Made seat.old.me.0 (entry_of line) seat.new.me.0) }
     ensures callers { IfSome result (λ n. n ≡ callers_in seat.new.me.0.seen) }

@@ -1,6 +1,6 @@
 // The object: a roll of who came, noted something and went.
 ghost use Rattle.std.specs.Prelude.{◌≡◌, ◌<◌, ◌++◌, ◌∷◌, [], OnErr, OnOk, length};
-ghost use Rattle.book_rule_tests.specs.Rolls.{MOST, callers_in, entry_of, joins, step_of};
+ghost use Rattle.book_rule_tests.specs.Rolls.{MOST, callers_in, entry_of, joins, step_of_what};
 
 use book_rule::Content;
 use std::alloc::{AllocError, Global};
@@ -23,7 +23,7 @@ pub enum What {
 impl What {
     /// How many callers it makes.
     fn joined(self) -> u64
-        ensures { result ≡ joins (step_of self) }
+        ensures { result ≡ joins (step_of_what self) }
     {
         match self {
             What::Joined => 1,

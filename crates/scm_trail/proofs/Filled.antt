@@ -3,22 +3,22 @@ use Rattle.std.proofs.Common.{◌≡◌, ℕ, zero, suc, ◌+◌, ◌-◌, ◌*�
 use Rattle.std.proofs.lemmas.List.{nil_from_length, get_or_append_left, get_or-append_right}
 use Rattle.scm_model.specs.Entries.{Entry, text_in}
 use Rattle.scm_model.specs.Texts.{text_of}
-use Rattle.scm_trail.specs.Chunks.{AddsChunks, AreFilled, Chunk, joined}
+use Rattle.scm_trail.specs.Chunks.{AddsChunks, AreFilled, Chunk, all_entries}
 
-none_in : (cs : List Chunk) (n : ℕ) → n ≡ 0 → AreFilled cs n → joined cs ≡ []
+none_in : (cs : List Chunk) (n : ℕ) → n ≡ 0 → AreFilled cs n → all_entries cs ≡ []
 none_in [] n none filled = refl
 none_in (c ∷ cs) n none filled =
-    ap (λ xs. xs ++ joined cs) (nil_from_length c.items (omega (arith, none, filled.0)))
+    ap (λ xs. xs ++ all_entries cs) (nil_from_length c.items (omega (arith, none, filled.0)))
     ∙ none_in cs (n - 4096) (omega (arith, none)) filled.2
 
 -- the chunks have as many entries as they are filled with
-pub length_joined : (cs : List Chunk) (n : ℕ) → AreFilled cs n → length (joined cs) ≡ n
+pub length_joined : (cs : List Chunk) (n : ℕ) → AreFilled cs n → length (all_entries cs) ≡ n
 length_joined [] n filled = sym filled
 length_joined (c ∷ cs) n filled =
-    omega (arith, length-append c.items (joined cs), length_joined cs (n - 4096) filled.2, filled.0)
+    omega (arith, length-append c.items (all_entries cs), length_joined cs (n - 4096) filled.2, filled.0)
 
 -- one empty chunk more
-pub joined_more : (cs : List Chunk) (c : Chunk) → c.items ≡ [] → joined (cs ++ c ∷ []) ≡ joined cs
+pub joined_more : (cs : List Chunk) (c : Chunk) → c.items ≡ [] → all_entries (cs ++ c ∷ []) ≡ all_entries cs
 joined_more [] c none = ap (λ xs. xs ++ []) none
 joined_more (d ∷ cs) c none = ap (λ xs. d.items ++ xs) (joined_more cs c none)
 
@@ -44,15 +44,15 @@ chunk_at (c ∷ cs) (suc i) j n e within is below filled =
 module _ (e : Chunk) (x : Entry) (c : Chunk) where
   pub joined_push :
       (cs : List Chunk) (i j n : ℕ) → i < length cs → n ≡ 4096 * i + j → j < 4096
-      → c.items ≡ (get_or cs i e).items ++ x ∷ [] → AreFilled cs n → joined (set cs i c) ≡ joined cs ++ x ∷ []
+      → c.items ≡ (get_or cs i e).items ++ x ∷ [] → AreFilled cs n → all_entries (set cs i c) ≡ all_entries cs ++ x ∷ []
   joined_push [] i j n within is below more filled = absurd (omega (arith, within))
   joined_push (d ∷ cs) zero j n within is below more filled =
       let empty = none_in cs (n - 4096) (omega (arith, is, below)) filled.2 in
-      ap (λ xs. xs ++ joined cs) more ∙ ap (λ ys. (d.items ++ x ∷ []) ++ ys) empty ∙ append-nil (d.items ++ x ∷ [])
+      ap (λ xs. xs ++ all_entries cs) more ∙ ap (λ ys. (d.items ++ x ∷ []) ++ ys) empty ∙ append-nil (d.items ++ x ∷ [])
       ∙ sym (ap (λ ys. (d.items ++ ys) ++ x ∷ []) empty ∙ ap (λ ys. ys ++ x ∷ []) (append-nil d.items))
   joined_push (d ∷ cs) (suc i) j n within is below more filled =
       ap (λ xs. d.items ++ xs) (joined_push cs i j (n - 4096) (omega (arith, within)) (omega (arith, is)) below more filled.2)
-      ∙ sym (append_assoc d.items (joined cs) (x ∷ []))
+      ∙ sym (append_assoc d.items (all_entries cs) (x ∷ []))
 
   pub filled_push :
       (cs : List Chunk) (i j n : ℕ) → i < length cs → n ≡ 4096 * i + j → j < 4096
@@ -75,20 +75,20 @@ module _ (e : Chunk) (x : Entry) (c : Chunk) where
 -- an entry stands in the chunk of its place
 pub place_at :
     (e : Chunk) (x : Entry) (cs : List Chunk) (i j n p : ℕ) → p ≡ 4096 * i + j → p < n → j < 4096 → AreFilled cs n
-    → (i < length cs) × (j < length (get_or cs i e).items) × (get_or (joined cs) p x ≡ get_or (get_or cs i e).items j x)
+    → (i < length cs) × (j < length (get_or cs i e).items) × (get_or (all_entries cs) p x ≡ get_or (get_or cs i e).items j x)
 place_at e x [] i j n p is before below filled = absurd (omega (arith, before, filled))
 place_at e x (c ∷ cs) zero j n p is before below filled =
     let within : j < length c.items = omega (arith, is, before, below, filled.0) in
     let same : p ≡ j = omega (arith, is) in (
       omega arith,
       within,
-      ap (λ k. get_or (c.items ++ joined cs) k x) same ∙ get_or_append_left c.items (joined cs) x j within,
+      ap (λ k. get_or (c.items ++ all_entries cs) k x) same ∙ get_or_append_left c.items (all_entries cs) x j within,
     )
 place_at e x (c ∷ cs) (suc i) j n p is before below filled =
     let rest = place_at e x cs i j (n - 4096) (p - 4096) (omega (arith, is)) (omega (arith, is, before)) below filled.2 in (
       omega (arith, rest.0),
       rest.1,
-      get_or-append_right c.items (joined cs) 4096 p x (omega (arith, is, before, filled.0)) (omega (arith, is)) ∙ rest.2,
+      get_or-append_right c.items (all_entries cs) 4096 p x (omega (arith, is, before, filled.0)) (omega (arith, is)) ∙ rest.2,
     )
 
 -- an empty chunk more was added
@@ -96,7 +96,7 @@ pub one_added :
     (old cs new : List Chunk) (c : Chunk) → AddsChunks old cs → new ≡ cs ++ c ∷ [] → c.items ≡ [] → c.room ≡ 4096
     → AddsChunks old new
 one_added old cs new c added is none room = record {
-  same = ap joined is ∙ joined_more cs c none ∙ added.same;
+  same = ap all_entries is ∙ joined_more cs c none ∙ added.same;
   filled =
       λ n few filled.
       subst (λ chunks. AreFilled chunks n) (sym is)

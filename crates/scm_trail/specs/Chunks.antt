@@ -8,8 +8,8 @@ abbrev pub Chunk : Type 0
 Chunk = Roomed Entry
 
 -- the entries of all chunks
-abbrev pub joined : List Chunk → List Entry
-joined chunks = flat_map (λ c. c.items) chunks
+abbrev pub all_entries : List Chunk → List Entry
+all_entries chunks = flat_map (λ c. c.items) chunks
 
 -- chunks of 4096 places each have so many entries, from the front on: a chunk has none before the one in front of it is full
 abbrev pub AreFilled : List Chunk → ℕ → Type 0
@@ -22,11 +22,11 @@ pub record IsKept (chunks : List Chunk) (len room text text_room : ℕ) : Type 0
   pub filled : AreFilled chunks len
   pub places : len + room ≤ 4096 * length chunks
   pub entries_fit : len + room < 2 ^ 64
-  pub counted : text ≡ text_in (joined chunks)
+  pub counted : text ≡ text_in (all_entries chunks)
   pub text_fits : text + text_room < 2 ^ 64
 
 -- empty chunks stand behind those that were there
 pub record AddsChunks (old new : List Chunk) : Type 0 where
-  pub same : joined new ≡ joined old
+  pub same : all_entries new ≡ all_entries old
   pub filled : (count : ℕ) → count ≤ 4096 * length old → AreFilled old count → AreFilled new count
   pub more : length old ≤ length new

@@ -28,12 +28,12 @@ pub struct Trail {
 
 impl Model for Trail {
     ghost use Rattle.scm_trail.specs.Trailed.{Trailed};
-    ghost use Rattle.scm_trail.specs.Chunks.{IsKept, joined};
+    ghost use Rattle.scm_trail.specs.Chunks.{IsKept, all_entries};
 
     ghost Value = { Trailed };
 
     ghost view = { λ t. record {
-      entries = joined t.chunks.items;
+      entries = all_entries t.chunks.items;
       room = t.room;
       text_room = t.text_room;
     } };

@@ -1,7 +1,7 @@
 use Rattle.std.proofs.Common.{◌≡◌, ℕ, ◌<◌, ◌≤◌, ◌+◌, ◌-◌, ◌/◌, ◌%◌, ◌∷◌, [], ◌++◌, List, length, get_or, set, ap, ◌∙◌, arith, length-set}
 use Rattle.scm_model.specs.Entries.{Entry, text_in}
 use Rattle.scm_model.specs.Texts.{text_of}
-use Rattle.scm_trail.specs.Chunks.{Chunk, IsKept, joined}
+use Rattle.scm_trail.specs.Chunks.{Chunk, IsKept, all_entries}
 use Rattle.scm_trail.specs.Trailed.{Trailed}
 use Rattle.scm_trail.proofs.Filled.{chunk_at, filled_push, joined_push, text_push}
 use Rattle.scm_trail.proofs.trail.Trail.push.Goals as goal
@@ -23,7 +23,7 @@ module _
     more : new.items ≡ (get_or cs (len / 4096) old).items ++ x ∷ []
     more = items ∙ ap (λ (c : Chunk). c.items ++ x ∷ []) old_is
 
-    entries : joined (set cs (len / 4096) new) ≡ joined cs ++ x ∷ []
+    entries : all_entries (set cs (len / 4096) new) ≡ all_entries cs ++ x ∷ []
     entries = joined_push old x new cs (len / 4096) (len % 4096) len within (omega arith) (omega arith) more kept.filled
 
     keeps : (t : ℕ) → t ≡ text_of x.1 → t ≤ text_room → IsKept (set cs (len / 4096) new) (len + 1) (room - 1) (text + t) (text_room - t)
@@ -36,7 +36,7 @@ module _
       counted =
           let counted = kept.counted in
           let same = ap text_in entries in
-          omega (arith, counted, same, text_push (joined cs) x, t_is);
+          omega (arith, counted, same, text_push (all_entries cs) x, t_is);
       text_fits = let fit = kept.text_fits in omega (arith, fit, fits);
     }
 

@@ -3,7 +3,7 @@ use Rattle.std.proofs.lemmas.Option.{slice_get_read}
 use Rattle.std.specs.Prelude.{slice_get, Some}
 use Rattle.scm_model.specs.Entries.{Entry}
 use Rattle.scm_model.specs.declared.steps.Step.TheVariants.{Tick}
-use Rattle.scm_trail.specs.Chunks.{AreFilled, Chunk, joined}
+use Rattle.scm_trail.specs.Chunks.{AreFilled, Chunk, all_entries}
 use Rattle.scm_trail.specs.Trailed.{Trailed}
 use Rattle.scm_trail.proofs.Filled.{length_joined, place_at}
 use Rattle.scm_trail.proofs.trail.Trail.row.Goals as goal
@@ -11,11 +11,11 @@ use Rattle.scm_trail.proofs.trail.Trail.row.Goals as goal
 -- a place below the length has a chunk, and a row in it, which is the entry
 module _
     (cs : List Chunk) (n p : ℕ) (entries : List Entry)
-    (filled : AreFilled cs n) (is : joined cs ≡ entries) (before : p < length entries) where
+    (filled : AreFilled cs n) (is : all_entries cs ≡ entries) (before : p < length entries) where
   at :
       (e : Chunk) (x : Entry)
       → (p / 4096 < length cs) × (p % 4096 < length (get_or cs (p / 4096) e).items)
-      × (get_or (joined cs) p x ≡ get_or (get_or cs (p / 4096) e).items (p % 4096) x)
+      × (get_or (all_entries cs) p x ≡ get_or (get_or cs (p / 4096) e).items (p % 4096) x)
   at e x =
       let same = ap (λ (xs : List Entry). length xs) is in
       place_at e x cs (p / 4096) (p % 4096) n p (omega arith) (omega (arith, before, same, length_joined cs n filled)) (omega arith) filled
