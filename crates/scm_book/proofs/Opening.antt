@@ -1,0 +1,59 @@
+-- A new book stands at the empty history.
+use Rattle.std.proofs.Common.{◌≡◌, ℕ, ◌+◌, ◌-◌, ◌≤◌, ◌^◌, min, List, [], length, Option, refl, sym, ap, ◌∙◌, subst, arith}
+use Rattle.scm_model.specs.declared.flat.Flat.{Flat}
+use Rattle.scm_model.specs.declared.steps.Change.{Change}
+use Rattle.scm_rules.specs.Histories.{Legal, state}
+use Rattle.scm_rules.specs.Opening.{IsOpening}
+use Rattle.scm_rules.specs.Owed.{owed}
+use Rattle.scm_core.specs.Managed.{AreSmall, Managed}
+use Rattle.scm_runs.proofs.Histories.{state_none}
+use Rattle.scm_owed.proofs.Histories.{legal_none}
+use Rattle.scm_owed.proofs.Whole.{opened_owes}
+use Rattle.scm_history.specs.Kept.{kept_changes}
+use Rattle.scm_history.proofs.Kept.{law_of_kept}
+use Rattle.scm_trail.specs.Trailed.{Trailed}
+use Rattle.book_rule.specs.declared.view.Opening.{Opening}
+use Rattle.record_journal.specs.Bearing.{Bears, and_changes}
+use Rattle.record_journal.specs.declared.journal.Journal.{Journal}
+use Rattle.scm_book.specs.declared.held.Held.{Held}
+use Rattle.scm_book.specs.Holds.{Holds, Runs, way_of}
+
+-- what is asked of the parts of a new book
+pub record IsNew {K : Type 0} (tells : K → Option (List ℕ)) (h : Held K) : Type 0 where
+  pub begins : IsOpening h.manager.limits h.manager.flat
+  pub small : AreSmall h.manager.limits
+  pub steps : h.manager.steps ≡ 0
+  pub text : h.manager.text ≡ 0
+  pub journal : Bears (tells h.keeper) h.journal (tells h.keeper)
+  pub trail : h.trail.entries ≡ []
+
+module _ {K : Type 0} (tells : K → Option (List ℕ)) (faulted : K → ℕ) (h : Held K) (new : IsNew tells h) where
+  pub new_runs : Runs ((way_of tells faulted).opening h) []
+  new_runs = record {
+    opens = record { begins = new.begins; small = new.small };
+    legal = legal_none h.manager.limits h.manager.flat (let none = opened_owes h.manager.limits h.manager.flat new.begins in omega arith);
+  }
+
+  pub new_holds : Holds tells faulted ((way_of tells faulted).opening h) [] h
+  new_holds = record {
+    trail = new.trail;
+    limits = refl;
+    steps = new.steps;
+    text = new.text;
+    manager = sym (state_none h.manager.limits h.manager.flat);
+    journal = subst (λ (changes : List Change). Bears (and_changes (tells h.keeper) changes) h.journal (tells h.keeper)) (sym (law_of_kept h.manager.limits h.manager.flat).none) new.journal;
+    faults = omega arith;
+    room = let none = opened_owes h.manager.limits h.manager.flat new.begins in omega arith;
+    fits = omega arith;
+  }
+
+pub is_new : {K : Type 0} (tells : K → Option (List ℕ)) (h : Held K) (m : Managed) (t : Trailed) (j : Journal) (k : K) → h.manager ≡ m → h.trail ≡ t → h.journal ≡ j → h.keeper ≡ k
+    → IsOpening m.limits m.flat → AreSmall m.limits → m.steps ≡ 0 → m.text ≡ 0 → Bears (tells k) j (tells k) → t.entries ≡ [] → IsNew tells h
+is_new tells h m t j k manager trail journal keeper begins small steps text bears none = record {
+  begins = subst (λ (x : Managed). IsOpening x.limits x.flat) (sym manager) begins;
+  small = subst (λ (x : Managed). AreSmall x.limits) (sym manager) small;
+  steps = ap (λ (x : Managed). x.steps) manager ∙ steps;
+  text = ap (λ (x : Managed). x.text) manager ∙ text;
+  journal = subst (λ (x : Journal). Bears (tells h.keeper) x (tells h.keeper)) (sym journal) (subst (λ x. Bears (tells x) j (tells x)) (sym keeper) bears);
+  trail = ap (λ (x : Trailed). x.entries) trail ∙ none;
+}

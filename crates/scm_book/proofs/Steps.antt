@@ -1,0 +1,178 @@
+-- What one step more makes of what the holder of the turn has.
+use Rattle.std.proofs.Common.{ℕ, ◌≡◌, ◌∙◌, ◌+◌, ◌-◌, ◌^◌, ◌≤◌, min, true, IsTrue, List, [], ◌∷◌, ◌++◌, Option, None, Some, refl, ap, sym, subst, arith}
+use Rattle.outside.specs.Causes.{Rose}
+use Rattle.scm_model.specs.declared.flat.Flat.{Flat}
+use Rattle.scm_model.specs.declared.flat.Limits.{Limits}
+use Rattle.scm_model.specs.declared.steps.Answer.{Answer}
+use Rattle.scm_model.specs.declared.steps.Change.{Change}
+use Rattle.scm_model.specs.declared.steps.Kept.{Kept}
+use Rattle.scm_model.specs.declared.steps.Kept.TheVariants as appended
+use Rattle.scm_model.specs.declared.steps.Step.{Step}
+use Rattle.scm_model.specs.declared.steps.Step.TheVariants.{Call}
+use Rattle.scm_model.specs.Entries.{Entry, with_kept}
+use Rattle.scm_model.specs.Texts.{text_of}
+use Rattle.record_journal.specs.Bearing.{Bears, BearsMore, BearsSame, and_changes}
+use Rattle.scm_rules.specs.Histories.{answer, state}
+use Rattle.scm_rules.specs.Owed.{owed}
+use Rattle.scm_rules.specs.Room.{debt}
+use Rattle.scm_rules.specs.Steps.{keeps_right, may, may_come, step_of}
+use Rattle.scm_core.specs.Managed.{Managed, WasMadeFor}
+use Rattle.scm_trail.specs.Trailed.{Trailed}
+use Rattle.record_journal.specs.declared.journal.Journal.{Journal}
+use Rattle.scm_rules.specs.Verdicts.{change_of}
+use Rattle.scm_history.specs.Kept.{kept_change, one_or_none}
+use Rattle.scm_history.proofs.Kept.{law_of_kept}
+use Rattle.scm_book.specs.declared.held.Held.{Held}
+use Rattle.scm_book.specs.Holds.{RoseBy, one_failed}
+use Rattle.scm_book.specs.Steps.{Grows, IsAsItWas, IsPrepared, Keeps, Makes, has_room_in}
+use Rattle.scm_book.proofs.Room.{and_both, come_kept}
+
+-- ## The manager
+
+state_one : (l : Limits) (f : Flat) (moment : ℕ) (step : Step) → state l f ((moment, step) ∷ []) ≡ (step_of l f moment step).flat
+unfolding state
+state_one l f moment step = refl
+
+pub answer_one : (l : Limits) (f : Flat) (moment : ℕ) (step : Step) → answer l f ((moment, step) ∷ []) 0 ≡ Some (step_of l f moment step).answer
+unfolding answer
+answer_one l f moment step = refl
+
+pub grown : {K : Type 0} (h h' : Held K) (moment : ℕ) (step both copy : Step) (told : Answer) → both ≡ step → copy ≡ step
+    → IsTrue (may h.manager.limits h.manager.flat moment step)
+    → h'.trail.entries ≡ h.trail.entries ++ (moment, copy) ∷ []
+    → told ≡ (step_of h.manager.limits h.manager.flat moment both).answer
+    → h'.manager.flat ≡ (step_of h.manager.limits h.manager.flat moment both).flat
+    → h'.manager.limits ≡ h.manager.limits → h'.manager.steps ≡ h.manager.steps + 1 → h'.manager.text ≡ h.manager.text + text_of both
+    → Grows h h' moment step told
+grown h h' moment step both copy told one other may trail says flat limits steps text = record {
+  may = may;
+  trail = trail ∙ ap (λ (s : Step). h.trail.entries ++ (moment, s) ∷ []) other;
+  flat = flat ∙ (ap (λ (s : Step). (step_of h.manager.limits h.manager.flat moment s).flat) one ∙ sym (state_one h.manager.limits h.manager.flat moment step));
+  answer = answer_one h.manager.limits h.manager.flat moment step
+      ∙ ap (λ (a : Answer). Some a) (sym (says ∙ ap (λ (s : Step). (step_of h.manager.limits h.manager.flat moment s).answer) one));
+  limits = limits;
+  steps = steps;
+  text = text ∙ ap (λ (s : Step). h.manager.text + text_of s) one;
+}
+
+-- ## The keeper
+
+none_failed : (step : Step) → one_failed (with_kept step appended.NotAsked) ≡ 0
+none_failed (Call caller asked append) = refl
+none_failed step = refl
+
+kept_failed : (step : Step) → one_failed (with_kept step appended.Kept) ≡ 0
+kept_failed (Call caller asked append) = refl
+kept_failed step = refl
+
+failed_once : (step : Step) → one_failed (with_kept step appended.Failed) ≤ 1
+failed_once (Call caller asked append) = omega arith
+failed_once step = omega arith
+
+rose_none : (n a b : ℕ) → n ≡ 0 → a ≤ b → RoseBy n a b
+rose_none n a b none le = omega arith
+
+rose_once : (n a b : ℕ) → n ≤ 1 → Rose a b → RoseBy n a b
+rose_once n a b once rose = omega arith
+
+module _ {K : Type 0} (tells : K → Option (List ℕ)) (faulted : K → ℕ) (h h' : Held K) (step : Step) where
+  -- with no change
+  bears_none : (change : Option Change) → change ≡ None → (good : Option (List ℕ)) → Bears good h.journal (tells h.keeper) → Bears (and_changes good (one_or_none change)) h.journal (tells h.keeper)
+  bears_none change none good bears = subst (λ (c : Option Change). Bears (and_changes good (one_or_none c)) h.journal (tells h.keeper)) (sym none) bears
+
+  pub keeps_none : h' ≡ h → Keeps tells faulted h h' (with_kept step appended.NotAsked)
+  keeps_none same = subst (λ (g : Held K). Keeps tells faulted h g (with_kept step appended.NotAsked)) (sym same) (record {
+    bears = bears_none (kept_change h.manager.limits h.manager.flat (with_kept step appended.NotAsked)) ((law_of_kept h.manager.limits h.manager.flat).unasked h.manager.flat step);
+    faults = rose_none (one_failed (with_kept step appended.NotAsked)) (faulted h.keeper) (faulted h.keeper) (none_failed step) (omega arith);
+  })
+
+  pub keeps_kept : (change : Change) → change_of h.manager.limits h.manager.flat step ≡ Some change → BearsMore change h.journal (tells h.keeper) h'.journal (tells h'.keeper)
+      → faulted h.keeper ≤ faulted h'.keeper → Keeps tells faulted h h' (with_kept step appended.Kept)
+  unfolding BearsMore
+  keeps_kept change is more grows = record {
+    bears = λ good bears. subst (λ (c : Option Change). Bears (and_changes good (one_or_none c)) h'.journal (tells h'.keeper))
+        (sym ((law_of_kept h.manager.limits h.manager.flat).kept h.manager.flat step ∙ is)) (more good bears);
+    faults = rose_none (one_failed (with_kept step appended.Kept)) (faulted h.keeper) (faulted h'.keeper) (kept_failed step) grows;
+  }
+
+  pub keeps_failed : BearsSame h.journal (tells h.keeper) h'.journal (tells h'.keeper) → Rose (faulted h.keeper) (faulted h'.keeper) → Keeps tells faulted h h' (with_kept step appended.Failed)
+  unfolding BearsSame
+  keeps_failed stays rose = record {
+    bears = λ good bears. subst (λ (c : Option Change). Bears (and_changes good (one_or_none c)) h'.journal (tells h'.keeper))
+        (sym ((law_of_kept h.manager.limits h.manager.flat).failed h.manager.flat step)) (stays good bears);
+    faults = rose_once (one_failed (with_kept step appended.Failed)) (faulted h.keeper) (faulted h'.keeper) (failed_once step) rose;
+  }
+
+-- ## One after another
+
+module _ {K : Type 0} (h mid h' : Held K) where
+  pub still_as : IsAsItWas h mid → h'.manager ≡ mid.manager → h'.trail ≡ mid.trail → h'.journal ≡ mid.journal → h'.keeper ≡ mid.keeper → IsAsItWas h h'
+  still_as was manager trail journal keeper = record {
+    trail = ap (λ (t : Trailed). t.entries) trail ∙ was.trail;
+    flat = ap (λ (m : Managed). m.flat) manager ∙ was.flat;
+    limits = ap (λ (m : Managed). m.limits) manager ∙ was.limits;
+    steps = ap (λ (m : Managed). m.steps) manager ∙ was.steps;
+    text = ap (λ (m : Managed). m.text) manager ∙ was.text;
+    journal = journal ∙ was.journal;
+    keeper = keeper ∙ was.keeper;
+    room = let same = ap (λ (t : Trailed). t.room) trail in let r = was.room in omega arith;
+  }
+
+  -- the state, the limits and the entries are those of before
+  grown_from : (moment : ℕ) (step : Step) (told : Answer) → mid.trail.entries ≡ h.trail.entries → mid.manager.flat ≡ h.manager.flat → mid.manager.limits ≡ h.manager.limits
+      → mid.manager.steps ≡ h.manager.steps → mid.manager.text ≡ h.manager.text → Grows mid h' moment step told → Grows h h' moment step told
+  grown_from moment step told trail flat limits steps text grows = record {
+    may = (λ i. may (sym limits i) (sym flat i) moment step) ∙ grows.may;
+    trail = grows.trail ∙ ap (λ (l : List Entry). l ++ (moment, step) ∷ []) trail;
+    flat = grows.flat ∙ (λ i. state (limits i) (flat i) ((moment, step) ∷ []));
+    answer = (λ i. answer (sym limits i) (sym flat i) ((moment, step) ∷ []) 0) ∙ grows.answer;
+    limits = grows.limits ∙ limits;
+    steps = grows.steps ∙ ap (λ (n : ℕ). n + 1) steps;
+    text = grows.text ∙ ap (λ (n : ℕ). n + text_of step) text;
+  }
+
+  module _ (tells : K → Option (List ℕ)) (faulted : K → ℕ) (step : Step) (append : Kept) where
+    keeps_from : IsAsItWas h mid → Keeps tells faulted mid h' (with_kept step append) → Keeps tells faulted h h' (with_kept step append)
+    keeps_from was keeps = record {
+      bears = λ good bears. subst (λ (c : Option Change). Bears (and_changes good (one_or_none c)) h'.journal (tells h'.keeper)) (λ i. kept_change (was.limits i) (was.flat i) (with_kept step append))
+          (keeps.bears good (subst (λ (j : Journal). Bears good j (tells mid.keeper)) (sym was.journal) (subst (λ (k : K). Bears good h.journal (tells k)) (sym was.keeper) bears)));
+      faults = let f = ap faulted was.keeper in let k = keeps.faults in omega arith;
+    }
+
+    pub prepared : has_room_in h step ≡ true → IsAsItWas h mid → WasMadeFor mid.manager.room step → owed h.manager.flat + debt h.manager.flat step ≤ mid.trail.room → 1 ≤ mid.trail.room
+        → text_of step ≤ mid.trail.text_room → h'.manager ≡ mid.manager → h'.trail ≡ mid.trail → Keeps tells faulted mid h' (with_kept step append)
+        → IsTrue (keeps_right mid.manager.limits mid.manager.flat (with_kept step append)) → IsPrepared tells faulted h h' step append
+    prepared free was made room one text manager trail keeps right = record {
+      free = free;
+      trail = ap (λ (t : Trailed). t.entries) trail ∙ was.trail;
+      flat = ap (λ (m : Managed). m.flat) manager ∙ was.flat;
+      limits = ap (λ (m : Managed). m.limits) manager ∙ was.limits;
+      steps = ap (λ (m : Managed). m.steps) manager ∙ was.steps;
+      text = ap (λ (m : Managed). m.text) manager ∙ was.text;
+      keeps = keeps_from was keeps;
+      right = (λ i. keeps_right (sym was.limits i) (sym was.flat i) (with_kept step append)) ∙ right;
+      made = subst (λ (m : Managed). WasMadeFor m.room step) (sym manager) made;
+      room = subst (λ (t : Trailed). owed h.manager.flat + debt h.manager.flat step ≤ t.room) (sym trail) room;
+      one = subst (λ (t : Trailed). 1 ≤ t.room) (sym trail) one;
+      text_room = subst (λ (t : Trailed). text_of step ≤ t.text_room) (sym trail) text;
+    }
+
+    pub made : (moment : ℕ) (told : Answer) → IsPrepared tells faulted h mid step append → Grows mid h' moment (with_kept step append) told → h'.journal ≡ mid.journal → h'.keeper ≡ mid.keeper
+        → mid.trail.room ≤ h'.trail.room + 1 → Makes tells faulted h h' moment step told
+    made moment told p grows journal keeper room = record {
+      append = append;
+      free = p.free;
+      grows = grown_from moment (with_kept step append) told p.trail p.flat p.limits p.steps p.text grows;
+      keeps = record {
+        bears = λ good bears. subst (λ (j : Journal). Bears (and_changes good (one_or_none (kept_change h.manager.limits h.manager.flat (with_kept step append)))) j (tells h'.keeper)) (sym journal)
+            (subst (λ (k : K). Bears (and_changes good (one_or_none (kept_change h.manager.limits h.manager.flat (with_kept step append)))) mid.journal (tells k)) (sym keeper) (p.keeps.bears good bears));
+        faults = let f = ap faulted keeper in let k = p.keeps.faults in omega arith;
+      };
+      room = let r = p.room in omega arith;
+    }
+
+    -- what the step asks then
+    pub may_finish : (moment : ℕ) → IsPrepared tells faulted h mid step append → IsTrue (may_come h.manager.limits h.manager.flat moment step) → IsTrue (may mid.manager.limits mid.manager.flat moment (with_kept step append))
+    may_finish moment p come = (λ i. may (p.limits i) (p.flat i) moment (with_kept step append))
+        ∙ and_both (may_come h.manager.limits h.manager.flat moment (with_kept step append)) (keeps_right h.manager.limits h.manager.flat (with_kept step append))
+        (come_kept h.manager.limits h.manager.flat moment step append ∙ come) p.right

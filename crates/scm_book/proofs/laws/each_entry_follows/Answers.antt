@@ -1,0 +1,5 @@
+use Rattle.scm_book.proofs.Following.{follows}
+use Rattle.scm_book.proofs.laws.each_entry_follows.Goals as goal
+
+pub returns : goal.returns
+returns g c = λ o log e runs ok free. follows g.K.Keeper.held g.K.Keeper.faults o log e runs ok free

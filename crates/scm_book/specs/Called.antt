@@ -1,0 +1,90 @@
+-- What a caller's calls come to.
+use Rattle.std.specs.Prelude.{ℕ, ◌≡◌, ◌⊎◌, Bool, true, false, Option, None, Some, Result, Ok, Err}
+use Rattle.scm_model.specs.declared.codes.TheConstants.{ERROR_NOT_ENOUGH_MEMORY}
+use Rattle.scm_model.specs.declared.calls.Reply.{Reply}
+use Rattle.scm_model.specs.declared.calls.Request.{Request}
+use Rattle.scm_model.specs.declared.calls.Request.TheVariants as request
+use Rattle.scm_model.specs.declared.steps.Answer.{Answer}
+use Rattle.scm_model.specs.declared.steps.Answer.TheVariants as answers
+use Rattle.scm_model.specs.declared.steps.Kept.TheVariants as appended
+use Rattle.scm_model.specs.declared.steps.Step.{Step}
+use Rattle.scm_model.specs.declared.steps.Step.TheVariants.{Call, NoMemory}
+use Rattle.scm_model.specs.Refused.{refused}
+use Rattle.book_rule.specs.declared.view.Opening.{Opening}
+use Rattle.scm_book.specs.declared.answers.CallEnd.{CallEnd}
+use Rattle.scm_book.specs.declared.answers.CallEnd.TheVariants as calls
+use Rattle.scm_book.specs.declared.answers.StartEnd.{StartEnd}
+use Rattle.scm_book.specs.declared.answers.StartEnd.TheVariants as starts
+use Rattle.scm_book.specs.declared.fault.MakeFault.{MakeFault}
+use Rattle.scm_book.specs.declared.fault.MakeFault.TheVariants as makes
+use Rattle.scm_book.specs.Passes.{FindsNoMemory, FindsNoRoom, HasPlan, Known, MadeSo}
+
+-- a pass's call, as it is asked for
+abbrev pub called : Known → Request → Step
+called k asked = Call k.caller asked appended.NotAsked
+
+abbrev pub is_start : Request → Bool
+is_start (request.Start handle words) = true
+is_start asked = false
+
+-- ## Answers
+
+-- there was no memory for the call's effect: that stands in its place, and it is refused with 8
+pub record WantsMemory (o : Opening) (k : Known) (moment : ℕ) (asked : Request) (reply : Reply) (k' : Known) : Type 0 where
+  pub made : MadeSo o k moment (NoMemory k.caller) answers.Done k'
+  pub refused : reply ≡ refused asked ERROR_NOT_ENOUGH_MEMORY
+
+-- the call was made and told this, or there was no memory for it
+abbrev pub AnsweredSo : Opening → Known → ℕ → Request → Reply → Known → Type 0
+AnsweredSo o k moment asked reply k' = MadeSo o k moment (called k asked) (answers.Reply reply) k' ⊎ WantsMemory o k moment asked reply k'
+
+-- ## call
+
+abbrev pub Calls : Opening → Known → ℕ → Request → Known → CallEnd → Type 0
+Calls o k moment asked k' (calls.Answered reply) = AnsweredSo o k moment asked reply k'
+Calls o k moment asked k' calls.Full = FindsNoRoom o k (called k asked) k'
+Calls o k moment asked k' calls.OutOfMemory = FindsNoMemory o k (called k asked) k'
+
+-- ## begin_start
+
+-- the start waits, and its plan is the caller's
+pub record StartWaits (o : Opening) (k : Known) (moment : ℕ) (asked : Request) (plan : ℕ) (k' : Known) : Type 0 where
+  pub made : MadeSo o k moment (called k asked) (answers.Begun plan) k'
+  pub has : HasPlan o k' plan
+
+abbrev pub Starts : Opening → Known → ℕ → Request → Known → StartEnd → Type 0
+Starts o k moment asked k' (starts.Answered reply) = AnsweredSo o k moment asked reply k'
+Starts o k moment asked k' (starts.Waiting plan) = StartWaits o k moment asked plan k'
+Starts o k moment asked k' starts.Full = FindsNoRoom o k (called k asked) k'
+Starts o k moment asked k' starts.OutOfMemory = FindsNoMemory o k (called k asked) k'
+
+-- ## What is made of what a call was told
+
+abbrev pub IsReply : Answer → Type 0
+IsReply told = (reply : Reply) × (told ≡ answers.Reply reply)
+
+-- a start is told a reply, or the plan under which it waits
+abbrev pub Begun : Answer → StartEnd → Type 0
+Begun (answers.Reply reply) end = end ≡ starts.Answered reply
+Begun (answers.Begun plan) end = end ≡ starts.Waiting plan
+Begun told end = ⊥
+
+abbrev pub IsBegun : Answer → Type 0
+IsBegun told = (end : StartEnd) × Begun told end
+
+-- what was told, if something was, is so
+abbrev pub IfTold : (Answer → Type 0) → Result (Option Answer) MakeFault → Type 0
+IfTold P (Ok (Some told)) = P told
+IfTold P ended = Unit {0}
+
+abbrev pub CallTold : Result (Option Answer) MakeFault → Reply → CallEnd → Type 0
+CallTold (Ok (Some told)) refusal end = (reply : Reply) × (told ≡ answers.Reply reply) × (end ≡ calls.Answered reply)
+CallTold (Ok None) refusal end = end ≡ calls.Answered refusal
+CallTold (Err makes.Full) refusal end = end ≡ calls.Full
+CallTold (Err makes.OutOfMemory) refusal end = end ≡ calls.OutOfMemory
+
+abbrev pub StartTold : Result (Option Answer) MakeFault → Reply → StartEnd → Type 0
+StartTold (Ok (Some told)) refusal end = Begun told end
+StartTold (Ok None) refusal end = end ≡ starts.Answered refusal
+StartTold (Err makes.Full) refusal end = end ≡ starts.Full
+StartTold (Err makes.OutOfMemory) refusal end = end ≡ starts.OutOfMemory

@@ -1,0 +1,77 @@
+-- What the holder of the turn has at the end of a history.
+use Rattle.std.specs.Prelude.{ℕ, ◌≡◌, ◌≤◌, ◌+◌, ◌-◌, ◌^◌, min, IsTrue, List, [], ◌∷◌, length, Option}
+use Rattle.scm_model.specs.declared.flat.Limits.{Limits}
+use Rattle.scm_model.specs.declared.steps.Kept.TheVariants as appended
+use Rattle.scm_model.specs.declared.steps.Step.{Step}
+use Rattle.scm_model.specs.declared.steps.Step.TheVariants.{Call}
+use Rattle.scm_model.specs.Entries.{Entry, text_in}
+use Rattle.scm_model.specs.Rows.{is_caller}
+use Rattle.book_rule.specs.declared.view.Opening.{Opening}
+use Rattle.book_rule.specs.Ways.{Way}
+use Rattle.record_journal.specs.Bearing.{Bears, and_changes}
+use Rattle.scm_rules.specs.Histories.{Legal, state}
+use Rattle.scm_rules.specs.Opening.{IsOpening}
+use Rattle.scm_rules.specs.Owed.{owed}
+use Rattle.scm_core.specs.Managed.{AreSmall}
+use Rattle.scm_history.specs.Kept.{kept_changes}
+use Rattle.scm_book.specs.declared.held.Held.{Held}
+use Rattle.scm_book.specs.Naming.{names_made, named_in, whose_after}
+
+-- ## Faults
+
+-- 1 where a step tells that its change was not kept
+abbrev pub one_failed : Step → ℕ
+one_failed (Call caller asked appended.Failed) = 1
+one_failed step = 0
+
+-- how many entries tell that
+abbrev pub failures_in : List Entry → ℕ
+failures_in [] = 0
+failures_in (e ∷ es) = one_failed e.1 + failures_in es
+
+-- a count of faults rose by so many at least; at the greatest number that it can be it stays
+abbrev pub RoseBy : ℕ → ℕ → ℕ → Type 0
+RoseBy n before now = min (before + n) (2 ^ 64 - 1) ≤ now
+
+-- ## Histories
+
+-- a history begins in an opening state, under limits that a manager can have
+pub record Opens (o : Opening) : Type 0 where
+  pub begins : IsOpening o.limits o.first
+  pub small : AreSmall o.limits
+
+pub record Runs (o : Opening) (log : List Entry) : Type 0 where
+  pub opens : Opens o
+  pub legal : Legal o.limits o.first log
+
+-- the caller has joined, and hasn't gone
+abbrev pub Lives : Opening → List Entry → ℕ → Type 0
+Lives o log caller = IsTrue (is_caller (state o.limits o.first log) caller)
+
+module _ {K : Type 0} (tells : K → Option (List ℕ)) (faulted : K → ℕ) where
+  pub record Holds (o : Opening) (log : List Entry) (h : Held K) : Type 0 where
+    pub trail : h.trail.entries ≡ log
+    pub limits : h.manager.limits ≡ o.limits
+    pub steps : h.manager.steps ≡ length log
+    pub text : h.manager.text ≡ text_in log
+    pub manager : h.manager.flat ≡ state o.limits o.first log
+    -- the keeper holds what stood before and the kept changes in order, and perhaps a part of one more
+    pub journal : Bears (and_changes o.bytes (kept_changes o.limits o.first log)) h.journal (tells h.keeper)
+    -- each change that was not kept has a fault of the keeper
+    pub faults : RoseBy (failures_in log) o.faults (faulted h.keeper)
+    -- memory for the entries that are owed
+    pub room : owed h.manager.flat ≤ h.trail.room
+    -- the text is within its limit
+    pub fits : text_in log ≤ o.limits.text
+
+  abbrev pub way_of : Way (Held K)
+  way_of = record {
+    opening = λ h. record { limits = h.manager.limits; first = h.manager.flat; bytes = tells h.keeper; faults = faulted h.keeper };
+    trail = λ h. h.trail.entries;
+    fits = Holds;
+    run = Runs;
+    lives = Lives;
+    names = λ e. named_in e.1;
+    makes = λ o log e. names_made (state o.limits o.first log) e.1;
+    whose = λ o log caller e. whose_after (state o.limits o.first log) caller e.1;
+  }

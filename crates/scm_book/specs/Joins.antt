@@ -1,0 +1,92 @@
+-- What joins come to, and the passes that are made and taken in.
+use Rattle.std.specs.Prelude.{ℕ, ◌≡◌, Bool, true, false, nat_lt, List, [], length, Option, Result, Ok, Err, Box}
+use Rattle.std.specs.declared.alloc.Global.{Global}
+use mathlib.Core.List.{IsPrefix}
+use Rattle.atomic_table.specs.declared.badge.Badge.{Badge}
+use Rattle.atomic_table.specs.declared.shared.Seat.{Seat}
+use Rattle.scm_model.specs.declared.flat.Principal.{Principal}
+use Rattle.scm_model.specs.declared.steps.Answer.TheVariants as answers
+use Rattle.scm_model.specs.declared.steps.Step.TheVariants.{Joined}
+use Rattle.scm_model.specs.Entries.{Entry}
+use Rattle.scm_rules.specs.Histories.{Legal, state}
+use Rattle.book_rule.specs.declared.view.Opening.{Opening}
+use Rattle.book_rule.specs.declared.view.View.{View}
+use Rattle.book_rule.specs.Views.{longer}
+use Rattle.scm_book.specs.declared.answers.JoinFault.{JoinFault}
+use Rattle.scm_book.specs.declared.answers.JoinFault.TheVariants as joins
+use Rattle.scm_book.specs.declared.held.Held.{Held}
+use Rattle.scm_book.specs.Passes.{Known, Learnt, MadeSo, room_behind}
+use Rattle.scm_book.specs.Turns.{known, of_badge}
+
+-- ## Causes
+
+-- whether there are fewer callers than there may be behind a history
+abbrev pub has_place : Opening → List Entry → Bool
+has_place o log = nat_lt (length (state o.limits o.first log).callers) o.limits.callers
+
+-- why nobody joins behind a history
+abbrev pub JoinCauseAt : Opening → List Entry → Principal → JoinFault → Type 0
+JoinCauseAt o log principal joins.TooMany = has_place o log ≡ false
+JoinCauseAt o log principal joins.Full = (has_place o log ≡ true) × (room_behind o log (Joined principal) ≡ false)
+JoinCauseAt o log principal joins.OutOfMemory = (has_place o log ≡ true) × (room_behind o log (Joined principal) ≡ true)
+
+-- in the state that the pass has seen
+abbrev pub JoinCause : Opening → Known → Principal → JoinFault → Type 0
+JoinCause o k principal fault = JoinCauseAt o k.seen principal fault
+
+-- ## join_alone
+
+-- the pass is that of the caller whose number it was told
+abbrev pub BecomesCaller : Opening → Known → ℕ → Principal → Known → Type 0
+BecomesCaller o root moment principal pass = MadeSo o root moment (Joined principal) (answers.Caller pass.caller) pass
+
+-- the pass joined, and is the new caller's
+pub record JoinsAs (o : Opening) (k : Known) (moment : ℕ) (principal : Principal) (k' : Known) (number : ℕ) : Type 0 where
+  pub made : MadeSo o k moment (Joined principal) (answers.Caller number) k'
+  pub caller : k'.caller ≡ number
+
+-- it did, or nobody joined, for this cause in the state of the new history
+abbrev pub JoinEnds : Opening → Known → ℕ → Principal → Known → Result ℕ JoinFault → Type 0
+JoinEnds o k moment principal k' (Ok number) = JoinsAs o k moment principal k' number
+JoinEnds o k moment principal k' (Err fault) = Learnt o k k' × JoinCause o k' principal fault
+
+abbrev pub JoinEndsAt : {K : Type 0} → Opening → Seat (Option (Box (Held K) Global)) View → ℕ → Principal → Seat (Option (Box (Held K) Global)) View → Result ℕ JoinFault → Type 0
+JoinEndsAt o s moment principal s' r = JoinEnds o (known s) moment principal (known s') r
+
+abbrev pub JoinEndsBy : Opening → Badge View → ℕ → Principal → Badge View → Result ℕ JoinFault → Type 0
+JoinEndsBy o badge moment principal badge' r = JoinEnds o (of_badge badge) moment principal (of_badge badge') r
+
+-- ## join, join_runner
+
+-- what a new pass knows that has seen as much as another, before its first step
+abbrev pub fresh : Known → Known
+fresh k = record { table = k.table; opening = k.opening; caller = 0; names = []; seen = k.seen; own = []; alone = false }
+
+-- a pass by which others are made isn't the only one, and stays as it is otherwise
+abbrev pub accompanied : Known → Known
+accompanied k = record k { alone = false }
+
+-- a pass has seen another join, or not join: all that it had seen, and what that one has
+pub record Watches (o : Opening) (by by' : Known) : Type 0 where
+  pub same : by' ≡ record by { seen = by'.seen; alone = false }
+  pub longer : IsPrefix by.seen by'.seen
+  pub legal : Legal o.limits o.first by'.seen
+
+abbrev pub WatchesBy : Opening → Badge View → Badge View → Type 0
+WatchesBy o by by' = Watches o (of_badge by) (of_badge by')
+
+-- the new pass ends with its Joined, which stands behind all that the other had seen and is its one own place; the other has seen it join
+pub record Joins (o : Opening) (by : Known) (moment : ℕ) (principal : Principal) (by' p : Known) : Type 0 where
+  pub made : MadeSo o (fresh by) moment (Joined principal) (answers.Caller p.caller) p
+  pub seen : by'.seen ≡ p.seen
+
+abbrev pub JoinsBy : Opening → Badge View → ℕ → Principal → Badge View → Known → Type 0
+JoinsBy o by moment principal by' p = Joins o (of_badge by) moment principal (of_badge by') p
+
+-- ## leave
+
+-- a pass takes a spent one in: it goes on from the longer of the two histories, and both begin it
+pub record TakesIn (by spent by' : Known) : Type 0 where
+  pub same : by' ≡ record by { seen = longer by.seen spent.seen }
+  pub this : IsPrefix by.seen by'.seen
+  pub that : IsPrefix spent.seen by'.seen

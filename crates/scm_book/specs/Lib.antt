@@ -1,0 +1,12 @@
+pub mod Naming
+pub mod Holds
+pub mod Steps
+pub mod Laws
+pub mod Passes
+pub mod Turns
+pub mod Calls
+pub mod Joins
+pub mod Called
+pub mod Starts
+pub mod Processes
+pub mod Looks

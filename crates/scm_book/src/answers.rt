@@ -1,0 +1,55 @@
+// What the calls of the book answer.
+use crate::pass::Pass;
+use scm_model::Reply;
+
+/// Why a caller doesn't join.
+#[derive(Clone, Copy, Debug, Drop, PartialEq, Eq)]
+pub enum JoinFault {
+    /// There are as many callers as there may be.
+    TooMany,
+    /// The limits have no room for it.
+    Full,
+    /// There is no memory for it.
+    OutOfMemory,
+}
+
+/// A pass that didn't become a caller's, and why.
+#[derive(Drop)]
+pub struct NotJoined {
+    pub fault: JoinFault,
+    pub root: Pass,
+}
+
+/// What a call comes to.
+#[derive(Drop)]
+pub enum CallEnd {
+    /// It was made. Where there was no memory for its effect, this is its refusal with 8.
+    Answered(Reply),
+    /// The limits have no room for it. No step was made.
+    Full,
+    /// The history has no memory for an entry. No step was made.
+    OutOfMemory,
+}
+
+/// What the begin of a start comes to.
+#[derive(Drop)]
+pub enum StartEnd {
+    /// It was decided at once. Where there was no memory for its effect, this is its refusal with
+    /// 8.
+    Answered(Reply),
+    /// It waits, under the number of its plan.
+    Waiting(u64),
+    /// The limits have no room for it. No step was made.
+    Full,
+    /// The history has no memory for an entry. No step was made.
+    OutOfMemory,
+}
+
+/// What a look after a start that waits comes to.
+#[derive(Drop)]
+pub enum EndLook {
+    /// It was decided, and this is its answer.
+    Done(Reply),
+    /// It is undecided. No step was made.
+    Again,
+}

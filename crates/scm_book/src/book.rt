@@ -1,0 +1,317 @@
+// The book, and its calls.
+ghost use Rattle.std.specs.Prelude.{◌≡◌, ◌≢◌, false, true, IfErr, IfOk, IsTrue};
+ghost use Rattle.scm_model.specs.declared.steps.Kept.TheVariants as appended;
+ghost use Rattle.scm_model.specs.declared.steps.Step.TheVariants as steps;
+ghost use Rattle.scm_model.specs.Ranges.{in_range};
+ghost use Rattle.scm_rules.specs.Opening.{IsOpening};
+ghost use Rattle.scm_core.specs.Managed.{AreSmall};
+ghost use Rattle.record_journal.specs.Bearing.{Bears};
+ghost use Rattle.scm_book.specs.Called.{Calls, Starts, is_start};
+ghost use Rattle.scm_book.specs.Calls.{BeginsWith, Closes, Goes};
+ghost use Rattle.scm_book.specs.Joins.{BecomesCaller, JoinCause, Joins, TakesIn, Watches};
+ghost use Rattle.scm_book.specs.Joins.{accompanied, fresh};
+ghost use Rattle.scm_book.specs.Passes.{HasPlan, IsOf, KeepsAll, Learnt};
+ghost use Rattle.scm_book.specs.Starts.{EndKeeps, EndLooks};
+
+use crate::answers::{CallEnd, EndLook, JoinFault, NotJoined, StartEnd};
+use crate::bell::Bell;
+use crate::calling::{call_by, call_end, start_end};
+use crate::doubled::Doubled;
+use crate::ending::{end_by, end_look};
+use crate::held::Held;
+use crate::joining::{accompany, join_beside, join_by, take_in};
+use crate::owed::Owed;
+use crate::pass::{Pass, Spent};
+use crate::turning::owe_by;
+use book_rule::{Begun, Turn};
+use record_journal::{Journal, Keeper};
+use scm_core::Manager;
+use scm_model::codes::ERROR_NOT_ENOUGH_MEMORY;
+use scm_model::{Kept, Principal, Request, Step, refused};
+use scm_trail::Trail;
+use std::alloc::Global;
+use std::marker::Model;
+use std::sync::Wait;
+
+/// One legal history for all callers. Contracts see which book it is, and how its history opened.
+#[derive(Drop)]
+pub struct Book<K: Keeper> {
+    pub(crate) turn: Turn<Held<K>>,
+    pub(crate) bell: Bell,
+    pub(crate) alloc: Global,
+}
+
+/// A new book, and its one pass.
+#[derive(Drop)]
+pub struct Opened<K: Keeper> {
+    pub book: Book<K>,
+    pub pass: Pass,
+}
+
+/// What a book leaves: the whole history, the keeper, and how many services there are.
+#[derive(Drop)]
+pub struct Closed<K: Keeper> {
+    pub trail: Trail,
+    pub keeper: K,
+    pub services: u64,
+}
+
+impl<K: Keeper> Model for Book<K> {
+    ghost use Rattle.book_rule.specs.Seats.{Identity};
+    ghost use Rattle.scm_book.specs.Holds.{Opens};
+
+    ghost Value = { Identity };
+
+    ghost view = { λ b. b.turn };
+
+    ghost invariant = { λ b. Opens b.turn.opening };
+}
+
+impl<K: Keeper> Book<K> {
+    /// A book whose history is empty, over a manager that has made no step and the journal of its
+    /// configurations. Where memory is short the keeper comes back.
+    pub fn new(alloc: Global, manager: Manager, journal: Journal, keeper: K) -> Result<Opened<K>, K>
+        requires begins { IsOpening manager.limits manager.flat }
+        requires small { AreSmall manager.limits }
+        requires steps { manager.steps ≡ 0 }
+        requires text { manager.text ≡ 0 }
+        requires journal { Bears (K.held keeper) journal (K.held keeper) }
+        ensures ok { IfOk result (BeginsWith K.held K.faults manager keeper) }
+        ensures err { IfErr result (λ back. back ≡ keeper) }
+    {
+        let held = Held::new(alloc, manager, journal, keeper);
+        match Turn::new(alloc, held) {
+            Ok(Begun { turn, seat }) => {
+                let pass = Pass {
+                    badge: seat.into_badge(),
+                    caller: 0,
+                };
+                let book = Book {
+                    turn,
+                    bell: Bell::new(),
+                    alloc,
+                };
+                Ok(Opened { book, pass })
+            }
+            Err(held) => Err(held.into_keeper()),
+        }
+    }
+
+    /// Counts the entries that somebody waits for.
+    pub fn bell(&self) -> &Bell {
+        &self.bell
+    }
+
+    /// Ends the book, and hands out the whole history.
+    pub fn close<R: Wait>(self, rt: &R, last: Spent) -> Closed<K>
+        requires { IsOf self last }
+        ensures { Closes K.held K.faults self.opening last result }
+    {
+        let Spent { badge } = last;
+        let Book {
+            turn,
+            bell: _,
+            alloc: _,
+        } = self;
+        let Held {
+            manager,
+            trail,
+            journal: _,
+            keeper,
+            alloc: _,
+        } = turn.close(rt, badge.into_seat());
+        Closed {
+            trail,
+            keeper,
+            services: manager.services(),
+        }
+    }
+
+    /// Makes the one pass of the book a caller's. It stays the only one. A pass that didn't become
+    /// one comes back.
+    pub fn join_alone<R: Wait>(
+        &self,
+        rt: &R,
+        root: Pass,
+        moment: u64,
+        principal: Principal,
+    ) -> Result<Pass, NotJoined>
+        requires book { IsOf self.now root }
+        requires nobody { root.caller ≡ 0 }
+        requires alone { root.alone ≡ true }
+        ensures book { IfOk result (IsOf self.now) }
+        ensures ok { IfOk result (BecomesCaller self.now.opening root moment principal) }
+        ensures back { IfErr result (λ e. IsOf self.now e.root) }
+        ensures learnt { IfErr result (λ e. Learnt self.now.opening root e.root) }
+        ensures cause { IfErr result (λ e. JoinCause self.now.opening e.root principal e.fault) }
+    {
+        let Pass { mut badge, caller } = root;
+        let joined = join_by(
+            rt, &self.turn, &self.bell, self.alloc, &mut badge, moment, principal,
+        );
+        match joined {
+            Ok(caller) => Ok(Pass { badge, caller }),
+            Err(fault) => Err(NotJoined {
+                fault,
+                root: Pass { badge, caller },
+            }),
+        }
+    }
+
+    /// Joins a caller. Its pass has seen all that `by` had seen, and `by` has then seen all that
+    /// the new pass has, or that it didn't join.
+    pub fn join<R: Wait>(
+        &self,
+        rt: &R,
+        by: &mut Pass,
+        moment: u64,
+        principal: Principal,
+    ) -> Result<Pass, JoinFault>
+        requires book { IsOf self.now by.old }
+        ensures by_book { IsOf self.now by.new }
+        ensures by { Watches self.now.opening by.old by.new }
+        ensures book { IfOk result (IsOf self.now) }
+        ensures ok { IfOk result (Joins self.now.opening by.old moment principal by.new) }
+        ensures cause { IfErr result (JoinCause self.now.opening by.new principal) }
+    {
+        join_beside(
+            rt,
+            &self.turn,
+            &self.bell,
+            self.alloc,
+            &mut by.badge,
+            moment,
+            principal,
+        )
+    }
+
+    /// A pass that is nobody's, which has seen as much as `by`. It takes no memory and no turn.
+    pub fn join_runner(&self, by: &mut Pass) -> Pass
+        requires { IsOf self.now by.old }
+        ensures by { by.new ≡ accompanied by.old }
+        ensures runner { result ≡ fresh by.old }
+    {
+        accompany(&self.turn, &mut by.badge)
+    }
+
+    /// Takes a spent pass in. It takes no turn.
+    pub fn leave(&self, by: &mut Pass, spent: Spent)
+        requires by { IsOf self.now by.old }
+        requires spent { IsOf self.now spent }
+        ensures { TakesIn by.old spent by.new }
+    {
+        let Spent { badge } = spent;
+        take_in(&self.turn, &mut by.badge, badge);
+    }
+
+    /// Makes a call that is no start. What it is told is the answer of its entry, which stands at
+    /// the pass's last own place, whatever others did between.
+    pub fn call<R: Wait>(&self, rt: &R, pass: &mut Pass, moment: u64, request: Request) -> CallEnd
+        requires book { IsOf self.now pass.old }
+        requires caller { pass.old.caller ≢ 0 }
+        requires start { is_start request ≡ false }
+        requires ranged { IsTrue (in_range request) }
+        ensures book { IsOf self.now pass.new }
+        ensures calls { Calls self.now.opening pass.old moment request pass.new result }
+        ensures keeps { KeepsAll self.now.opening pass.old pass.new }
+    {
+        let refusal = refused(self.alloc, &request, ERROR_NOT_ENOUGH_MEMORY);
+        let call = called(self.alloc, pass.caller, request);
+        let caller = pass.caller;
+        let ended = call_by(
+            rt,
+            &self.turn,
+            &self.bell,
+            &mut pass.badge,
+            moment,
+            caller,
+            call,
+        );
+        call_end(ended, refusal)
+    }
+
+    /// Begins a start. What it is told is the answer of its entry, as with `call`.
+    pub fn begin_start<R: Wait>(
+        &self,
+        rt: &R,
+        pass: &mut Pass,
+        moment: u64,
+        request: Request,
+    ) -> StartEnd
+        requires book { IsOf self.now pass.old }
+        requires caller { pass.old.caller ≢ 0 }
+        requires start { is_start request ≡ true }
+        requires ranged { IsTrue (in_range request) }
+        ensures book { IsOf self.now pass.new }
+        ensures starts { Starts self.now.opening pass.old moment request pass.new result }
+        ensures keeps { KeepsAll self.now.opening pass.old pass.new }
+    {
+        let refusal = refused(self.alloc, &request, ERROR_NOT_ENOUGH_MEMORY);
+        let call = called(self.alloc, pass.caller, request);
+        let caller = pass.caller;
+        let ended = call_by(
+            rt,
+            &self.turn,
+            &self.bell,
+            &mut pass.badge,
+            moment,
+            caller,
+            call,
+        );
+        start_end(ended, refusal)
+    }
+
+    /// Looks whether a start that waits is decided, and answers it if so. It takes no memory.
+    pub fn end_start<R: Wait>(&self, rt: &R, pass: &mut Pass, moment: u64, plan: u64) -> EndLook
+        requires book { IsOf self.now pass.old }
+        requires plan { HasPlan self.now.opening pass.old plan }
+        ensures book { IsOf self.now pass.new }
+        ensures ends { EndLooks self.now.opening pass.old moment plan pass.new result }
+        ensures keeps { EndKeeps self.now.opening plan pass.old pass.new result }
+    {
+        let caller = pass.caller;
+        let ended = end_by(
+            rt,
+            &self.turn,
+            &self.bell,
+            &mut pass.badge,
+            moment,
+            caller,
+            plan,
+        );
+        end_look(ended)
+    }
+
+    /// The caller goes. That always takes place. A pass that is nobody's makes no step.
+    pub fn gone<R: Wait>(&self, rt: &R, pass: Pass, moment: u64) -> Spent
+        requires { IsOf self.now pass }
+        ensures book { IsOf self.now result }
+        ensures goes { Goes self.now.opening pass moment result }
+    {
+        let Pass { mut badge, caller } = pass;
+        if caller == 0 {
+            return Spent { badge };
+        }
+        let _done = owe_by(
+            rt,
+            &self.turn,
+            &self.bell,
+            &mut badge,
+            moment,
+            Owed::Gone { caller },
+        );
+        Spent { badge }
+    }
+}
+
+/// A caller's call, with a copy of it.
+fn called(alloc: Global, caller: u64, request: Request) -> Doubled
+    ensures { result.step ≡ steps.Call caller request appended.NotAsked }
+{
+    let step = Step::Call {
+        caller,
+        request,
+        kept: Kept::NotAsked,
+    };
+    Doubled::new(alloc, step)
+}

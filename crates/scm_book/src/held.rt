@@ -1,0 +1,219 @@
+// What the holder of the turn has, and the steps that it makes.
+ghost use Rattle.std.specs.Prelude.{◌≡◌, ◌≤◌, ◌<◌, ◌+◌, ◌^◌, [], true, IsSome, IsTrue};
+ghost use Rattle.std.specs.Prelude.{IfErr, IfOk, OnErr, OnOk};
+ghost use Rattle.scm_model.specs.Entries.{with_kept};
+ghost use Rattle.scm_model.specs.Texts.{text_of};
+ghost use Rattle.scm_rules.specs.Room.{debt, need};
+ghost use Rattle.scm_core.specs.Managed.{AreSmall, WasMadeFor};
+ghost use Rattle.scm_book.specs.Steps.{Adds, Grows, HasMemory, IsAsItWas, IsPrepared, KeepsAs};
+ghost use Rattle.scm_book.specs.Steps.{Makes, TellsRight, Why, has_room_in, may_come_in, may_in};
+ghost use Rattle.scm_book.specs.Steps.{owed_step};
+
+use crate::doubled::Doubled;
+use crate::fault::MakeFault;
+use crate::owed::Owed;
+use book_rule::Content;
+use record_journal::{Journal, KeepFault, Keeper};
+use scm_core::Manager;
+use scm_model::{Answer, Kept, Step};
+use scm_text::OutOfMemory;
+use scm_trail::Trail;
+use std::alloc::Global;
+
+/// What the holder of the turn has: the manager, the trail of the steps that it made, and the
+/// journal of the changes that were kept, with its keeper.
+#[derive(Drop)]
+pub struct Held<K: Keeper> {
+    pub manager: Manager,
+    pub trail: Trail,
+    pub journal: Journal,
+    pub keeper: K,
+    pub(crate) alloc: Global,
+}
+
+impl<K: Keeper> Content for Held<K> {
+    ghost use Rattle.scm_book.specs.Holds.{way_of};
+
+    ghost way = { way_of K.held K.faults };
+}
+
+impl<K: Keeper> Held<K> {
+    /// With no history yet.
+    pub fn new(alloc: Global, manager: Manager, journal: Journal, keeper: K) -> Held<K>
+        ensures manager { result.manager ≡ manager }
+        ensures trail { result.trail ≡ record { entries = []; room = 0; text_room = 0 } }
+        ensures journal { result.journal ≡ journal }
+        ensures keeper { result.keeper ≡ keeper }
+    {
+        Held {
+            manager,
+            trail: Trail::new(alloc),
+            journal,
+            keeper,
+            alloc,
+        }
+    }
+
+    pub(crate) fn into_keeper(self) -> K
+        ensures { result ≡ self.keeper }
+    {
+        let Held {
+            manager: _,
+            trail: _,
+            journal: _,
+            keeper,
+            alloc: _,
+        } = self;
+        keeper
+    }
+
+    /// How many entries a step may add and leave owed, or more.
+    #[tactic(auto, using(crate::proofs::Room::need_some))]
+    fn debt(&self, step: &Step) -> u64
+        requires room { has_room_in self.now step.now ≡ true }
+        requires small { AreSmall self.now.manager.limits }
+        ensures least { debt self.now.manager.flat step.now ≤ result }
+        ensures most { result ≤ need self.now.manager.flat step.now }
+        ensures one { 1 ≤ result }
+    {
+        if matches!(step, Step::Tick) {
+            1
+        } else {
+            self.manager.need(step)
+        }
+    }
+
+    /// Makes all memory that a step and the entries which come to be owed can use.
+    fn reserve_for(&mut self, step: &Step) -> Result<(), OutOfMemory>
+        requires room { has_room_in self.old step.now ≡ true }
+        requires small { AreSmall self.old.manager.limits }
+        ensures same { IsAsItWas self.old self.new }
+        ensures made { OnOk result (WasMadeFor self.new.manager.room step.now) }
+        ensures room { OnOk result (HasMemory self.old step.now self.new) }
+        ensures one { OnOk result (1 ≤ self.new.trail.room) }
+        ensures text { OnOk result (text_of step.now ≤ self.new.trail.text_room) }
+    {
+        let entries = self.manager.owed() + self.debt(step);
+        self.trail.reserve(entries, step.text() as u64)?;
+        self.manager.reserve_for(step)
+    }
+
+    /// Appends the change that a step makes, where it makes one, and says what became of it.
+    fn keep(&mut self, step: &Step) -> Result<Kept, OutOfMemory>
+        requires { WasMadeFor self.old.manager.room step.now }
+        ensures manager { self.new.manager ≡ self.old.manager }
+        ensures trail { self.new.trail ≡ self.old.trail }
+        ensures keeps { IfOk result (KeepsAs K.held K.faults self.old self.new step.now) }
+        ensures told { IfOk result (TellsRight self.old step.now) }
+        ensures journal { OnErr result (self.new.journal ≡ self.old.journal) }
+        ensures keeper { OnErr result (self.new.keeper ≡ self.old.keeper) }
+    {
+        let Some(change) = self.manager.change_made(step) else {
+            return Ok(Kept::NotAsked);
+        };
+        match self.journal.append(self.alloc, &mut self.keeper, change) {
+            Ok(()) => Ok(Kept::Kept),
+            Err(KeepFault::Failed) => Ok(Kept::Failed),
+            Err(KeepFault::OutOfMemory) => Err(OutOfMemory),
+        }
+    }
+
+    /// Does a step for which there is all memory. The trail keeps the copy.
+    fn grow(&mut self, moment: u64, step: Step, copy: Step) -> Answer
+        requires copy { copy ≡ step }
+        requires may { IsTrue (may_in self.old moment step) }
+        requires made { WasMadeFor self.old.manager.room step }
+        requires steps { self.old.manager.steps < 2 ^ 50 }
+        requires text { self.old.manager.text + text_of step < 2 ^ 63 }
+        requires room { 1 ≤ self.old.trail.room }
+        requires text_room { text_of step ≤ self.old.trail.text_room }
+        ensures grows { Grows self.old self.new moment step result }
+        ensures journal { self.new.journal ≡ self.old.journal }
+        ensures keeper { self.new.keeper ≡ self.old.keeper }
+        ensures room { self.old.trail.room ≤ self.new.trail.room + 1 }
+    {
+        let answer = self.manager.step(moment, step);
+        self.trail.push(moment, copy);
+        answer
+    }
+
+    /// Makes all that a step can use, appends its change where it makes one, and says what became
+    /// of that.
+    fn prepare(&mut self, doubled: &Doubled) -> Result<Kept, MakeFault>
+        requires small { AreSmall self.old.manager.limits }
+        ensures ok { IfOk result (IsPrepared K.held K.faults self.old self.new doubled.now.step) }
+        ensures copied { OnOk result (IsSome doubled.now.copy) }
+        ensures err { OnErr result (IsAsItWas self.old self.new) }
+        ensures why { IfErr result (λ fault. Why self.old doubled.now.step fault) }
+    {
+        if !self.manager.room(&doubled.step) {
+            return Err(MakeFault::Full);
+        }
+        if doubled.copy.is_none() {
+            return Err(MakeFault::OutOfMemory);
+        }
+        let Ok(()) = self.reserve_for(&doubled.step) else {
+            return Err(MakeFault::OutOfMemory);
+        };
+        match self.keep(&doubled.step) {
+            Ok(kept) => Ok(kept),
+            Err(OutOfMemory) => Err(MakeFault::OutOfMemory),
+        }
+    }
+
+    /// Makes a step that isn't owed, with a copy of it that was made before. What it tells of what
+    /// became of its change plays no part: that is told by what the append of the change came to.
+    /// All memory is made first.
+    pub fn make_doubled(&mut self, moment: u64, doubled: Doubled) -> Result<Answer, MakeFault>
+        requires may { IsTrue (may_come_in self.old moment doubled.step) }
+        requires small { AreSmall self.old.manager.limits }
+        ensures ok { IfOk result (Makes K.held K.faults self.old self.new moment doubled.step) }
+        ensures err { OnErr result (IsAsItWas self.old self.new) }
+        ensures why { IfErr result (λ fault. Why self.old doubled.step fault) }
+    {
+        let kept = self.prepare(&doubled)?;
+        Ok(self.finish(moment, doubled, kept))
+    }
+
+    /// Does a step that was prepared.
+    fn finish(&mut self, moment: u64, doubled: Doubled, kept: Kept) -> Answer
+        requires copied { IsSome doubled.copy }
+        requires may { IsTrue (may_in self.old moment (with_kept doubled.step kept)) }
+        requires made { WasMadeFor self.old.manager.room doubled.step }
+        requires steps { self.old.manager.steps < 2 ^ 50 }
+        requires text { self.old.manager.text + text_of doubled.step < 2 ^ 63 }
+        requires room { 1 ≤ self.old.trail.room }
+        requires text_room { text_of doubled.step ≤ self.old.trail.text_room }
+        ensures grows { Grows self.old self.new moment (with_kept doubled.step kept) result }
+        ensures journal { self.new.journal ≡ self.old.journal }
+        ensures keeper { self.new.keeper ≡ self.old.keeper }
+        ensures room { self.old.trail.room ≤ self.new.trail.room + 1 }
+    {
+        let Doubled { step, copy } = doubled;
+        let Some(copy) = copy else { unreachable!() };
+        self.grow(moment, step.with_kept(kept), copy.with_kept(kept))
+    }
+
+    /// Makes a step that isn't owed, as `make_doubled` does, and copies it itself.
+    pub fn make(&mut self, moment: u64, step: Step) -> Result<Answer, MakeFault>
+        requires may { IsTrue (may_come_in self.old moment step) }
+        requires small { AreSmall self.old.manager.limits }
+        ensures ok { IfOk result (Makes K.held K.faults self.old self.new moment step) }
+        ensures err { OnErr result (IsAsItWas self.old self.new) }
+        ensures why { IfErr result (λ fault. Why self.old step fault) }
+    {
+        self.make_doubled(moment, Doubled::new(self.alloc, step))
+    }
+
+    /// Makes a step that is owed. Its room was made when it came to be owed, so it always takes
+    /// place.
+    pub fn add(&mut self, moment: u64, owed: Owed) -> Answer
+        requires may { IsTrue (may_come_in self.old moment (owed_step owed)) }
+        requires steps { self.old.manager.steps < 2 ^ 50 }
+        requires text { self.old.manager.text < 2 ^ 63 }
+        requires room { 1 ≤ self.old.trail.room }
+        ensures { Adds self.old self.new moment (owed_step owed) result }
+    {
+        self.grow(moment, owed.step(), owed.step())
+    }
+}

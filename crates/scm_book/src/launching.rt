@@ -1,0 +1,117 @@
+// The launch that is wanted first is taken in hand, and its line handed out.
+ghost use Rattle.std.specs.Prelude.{◌≡◌, ◌≤◌, ◌<◌, ◌+◌, ◌^◌, [], IfOk, IsTrue};
+ghost use Rattle.scm_rules.specs.Steps.{wants_launch};
+ghost use Rattle.book_rule.specs.Seats.{Holding, Waits};
+ghost use Rattle.scm_book.specs.Holds.{Holds, Runs};
+ghost use Rattle.scm_book.specs.Processes.{DidLaunch, HoldsLaunch, TakesBy};
+ghost use Rattle.scm_book.specs.Turns.{IsSeated, of_badge};
+
+use crate::bell::Bell;
+use crate::held::Held;
+use atomic_table::Badge;
+use book_rule::{Turn, TurnSeat, View};
+use record_journal::Keeper;
+use scm_model::Step;
+use scm_text::{Items, OutOfMemory, TextRoom, WText};
+use std::alloc::Global;
+use std::mem;
+use std::sync::Wait;
+
+/// How many units a path may have.
+const PATH_UNITS: u32 = 2048;
+
+/// Where a launch leaves its line. The memory for the path is made before the turn is taken.
+#[derive(Drop)]
+pub struct LaunchRoom {
+    /// The program's path, in UTF-16 units. It has room for 2,048.
+    pub path: TextRoom,
+    /// The words that follow it on the command line.
+    pub words: Items<WText>,
+}
+
+impl LaunchRoom {
+    /// An empty line, with room for a path.
+    pub fn new(alloc: Global) -> Result<LaunchRoom, OutOfMemory>
+        ensures path { IfOk result (λ room. room.path ≡ record { units = []; room = 2048 }) }
+        ensures words { IfOk result (λ room. room.words ≡ []) }
+    {
+        Ok(LaunchRoom {
+            path: TextRoom::new(alloc, PATH_UNITS)?,
+            words: Items::new(alloc),
+        })
+    }
+}
+
+/// A process that was taken in hand, and the words of its line.
+#[derive(Drop)]
+pub struct TakenLaunch {
+    pub process: u64,
+    pub words: Items<WText>,
+}
+
+impl<K: Keeper> Held<K> {
+    /// Takes the launch that is wanted first in hand, leaves its path in `path` and hands out its
+    /// words. `None` where nothing is wanted; nothing then changes. It takes no memory.
+    pub(crate) fn take_launch(&mut self, moment: u64, path: &mut TextRoom) -> Option<TakenLaunch>
+        requires path { 2048 ≤ path.old.room }
+        requires steps { self.old.manager.steps < 2 ^ 50 }
+        requires text { self.old.manager.text < 2 ^ 63 }
+        requires room { IsTrue (wants_launch self.old.manager.flat.wanted) → 1 ≤ self.old.trail.room }
+        ensures { HoldsLaunch self.old self.new moment path.old path.new result }
+    {
+        match self.manager.take_launch(moment, path) {
+            Some((process, words)) => {
+                self.trail.push(moment, Step::LaunchTaken);
+                Some(TakenLaunch { process, words })
+            }
+            None => None,
+        }
+    }
+}
+
+/// Takes the launch that is wanted first in hand, with the turn held.
+fn add_taken<K: Keeper, R: Wait>(
+    rt: &R,
+    turn: &Turn<Held<K>>,
+    bell: &Bell,
+    seat: &mut TurnSeat<Held<K>>,
+    mut held: Box<Held<K>>,
+    moment: u64,
+    path: &mut TextRoom,
+) -> Option<TakenLaunch>
+    requires seat { Holding turn.now seat.old }
+    requires holds { Holds K.held K.faults turn.now.opening seat.old.me.0.seen held.value }
+    requires runs { Runs turn.now.opening seat.old.me.0.seen }
+    requires path { 2048 ≤ path.old.room }
+    ensures did { DidLaunch K.held K.faults turn.now seat.old seat.new moment path.old path.new result }
+    ensures waits { Waits turn.now seat.new }
+{
+    let Some(taken) = held.take_launch(moment, path) else {
+        turn.give_back(rt, seat, held);
+        return None;
+    };
+    turn.commit(rt, seat, held);
+    bell.ring(rt);
+    Some(taken)
+}
+
+/// Takes the launch that is wanted first in hand, at the end of the history.
+pub fn take_by<K: Keeper, R: Wait>(
+    rt: &R,
+    turn: &Turn<Held<K>>,
+    bell: &Bell,
+    badge: &mut Badge<View>,
+    moment: u64,
+    path: &mut TextRoom,
+) -> Option<TakenLaunch>
+    requires badge { IsSeated turn.now badge.old }
+    requires path { 2048 ≤ path.old.room }
+    ensures badge { IsSeated turn.now badge.new }
+    ensures takes { TakesBy turn.now.opening (of_badge badge.old) moment path.old path.new result (of_badge badge.new) }
+{
+    let mut seat = mem::replace(badge, Badge::blank()).into_seat();
+    let held = turn.enter(rt, &mut seat);
+    let taken = add_taken(rt, turn, bell, &mut seat, held, moment, path);
+    *badge = seat.into_badge();
+    taken
+}

@@ -1,0 +1,18 @@
+// What the laws of the manager come to for the rule of turns.
+ghost use Rattle.scm_book.specs.Laws.{EachFollows, KeepsStanding};
+
+use record_journal::Keeper;
+
+/// An entry that may be made behind a legal history, and is owed or finds room, is all that a
+/// commit asks: the longer history is legal, whom the entry makes nobody made or named before, and
+/// callers whom it doesn't name live on.
+pub fn each_entry_follows<K: Keeper>()
+    ensures { EachFollows K.held K.faults }
+{}
+
+/// What the holder of the turn has stands at the end of the longer history, once it made a step:
+/// its manager in that history's state, its trail and its counts, its keeper with the changes that
+/// were kept, and memory for all that is owed then.
+pub fn standing_is_kept<K: Keeper>()
+    ensures { KeepsStanding K.held K.faults }
+{}
