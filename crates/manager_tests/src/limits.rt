@@ -1,5 +1,11 @@
-//! The limits of the managers that are tested.
+//! The managers that are tested: those of nobody and nothing, with limits of their own.
+ghost use Rattle.std.specs.Prelude.{◌≡◌, IfOk};
+ghost use Rattle.scm_core.specs.Managed.{AreSmall};
+
+use scm_core::Manager;
 use scm_model::Limits;
+use scm_text::{Items, OutOfMemory};
+use std::alloc::Global;
 
 pub const LIMITS: Limits = Limits {
     services: 512,
@@ -23,3 +29,23 @@ pub const ONE: Limits = Limits {
     steps: 4_194_304,
     text: 268_435_456,
 };
+
+/// Six steps may be made.
+pub const SIX_STEPS: Limits = Limits {
+    services: 512,
+    handles: 1024,
+    registrations: 64,
+    callers: 2,
+    processes: 32,
+    controls: 16,
+    steps: 6,
+    text: 268_435_456,
+};
+
+/// A manager without services and callers, at moment 0.
+pub fn new_manager(alloc: Global, limits: Limits) -> Result<Manager, OutOfMemory>
+    requires { AreSmall limits }
+    ensures { IfOk result (λ manager. (manager.steps ≡ 0) × (manager.text ≡ 0)) }
+{
+    Manager::new(alloc, limits, Items::new(alloc), Items::new(alloc), 0)
+}

@@ -1,4 +1,4 @@
-use crate::limits::LIMITS;
+use crate::limits::{LIMITS, new_manager};
 use scm_core::Manager;
 use scm_model::{Answer, Kept, NewService, Principal, Reply, Request, Status, Step};
 use scm_text::{Items, OutOfMemory, TextRoom, WText};
@@ -167,21 +167,9 @@ fn step_of(event: Event) -> Step {
     }
 }
 
-/// The call, if it is one, with its change kept, if it makes one.
-fn kept(manager: &Manager, step: Step) -> Result<Step, OutOfMemory> {
-    let changes = manager.change_of(&step)?.is_some();
-    match step {
-        Step::Call {
-            caller,
-            request,
-            kept: _,
-        } => Ok(Step::Call {
-            caller,
-            request,
-            kept: if changes { Kept::Kept } else { Kept::NotAsked },
-        }),
-        _ => Ok(step),
-    }
+/// Whether the step makes a change. That it does is told without want of memory.
+fn changes(manager: &Manager, step: &Step) -> Result<bool, OutOfMemory> {
+    Ok(manager.change_of(step)?.is_some())
 }
 
 fn code_of(reply: Reply) -> u32 {
@@ -210,15 +198,24 @@ fn told_by(answer: Answer) -> Told {
     }
 }
 
-/// Does a step that may be done.
-fn done(manager: &mut Manager, moment: u64, step: Step) -> Result<Told, Fail> {
+/// Makes a step, whose change is kept if it makes one, where it may be made.
+fn made(manager: &mut Manager, moment: u64, step: Step, changes: bool) -> Result<Told, Fail> {
+    let step = step.with_kept(if changes { Kept::Kept } else { Kept::NotAsked });
     if manager.reserve_for(&step).is_err() {
         return Err("no memory".into());
     }
     if !manager.admits(moment, &step) || !manager.fits(&step) {
-        return Err("the step may not be done".into());
+        return Err("the step may not be made".into());
     }
     Ok(told_by(manager.step(moment, step)))
+}
+
+/// The same, of a step that is asked first whether it makes a change.
+fn done(manager: &mut Manager, moment: u64, step: Step) -> Result<Told, Fail> {
+    match changes(manager, &step) {
+        Ok(changes) => made(manager, moment, step, changes),
+        Err(_) => Err("no memory".into()),
+    }
 }
 
 /// Takes the launch that is wanted first, which has the one letter of a service for its path, and
@@ -244,10 +241,7 @@ fn answered(alloc: Global, manager: &mut Manager, moment: u64, event: Event) -> 
         return take(alloc, manager, moment);
     }
     match call_of(alloc, event)? {
-        Some(call) => {
-            let step = kept(manager, call)?;
-            done(manager, moment, step)
-        }
+        Some(call) => done(manager, moment, call),
         None => done(manager, moment, step_of(event)),
     }
 }
@@ -266,7 +260,7 @@ fn run(alloc: Global, manager: &mut Manager, rows: &[Row]) -> Result<(), Fail> {
 }
 
 fn expect(alloc: Global, rows: &[Row]) -> Result<(), Fail> {
-    match Manager::new(alloc, LIMITS, Items::new(alloc), Items::new(alloc), 0) {
+    match new_manager(alloc, LIMITS) {
         Ok(mut manager) => run(alloc, &mut manager, rows),
         Err(_) => Err("no memory".into()),
     }

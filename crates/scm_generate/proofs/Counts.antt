@@ -2,7 +2,7 @@
 use Rattle.std.proofs.Common.{ℕ, zero, suc, ◌≡◌, ◌+◌, ◌*◌, List, [], ◌∷◌, ◌++◌, length, length-append, refl, ◌∙◌, arith}
 use Rattle.scm_model.specs.Entries.{Entry}
 use Rattle.scm_model.specs.declared.steps.Step.TheVariants.{EndStart, Gone}
-use Rattle.scm_generate.specs.Listed.{at_once, begun, created, creations, downs, generated, line_of, lines_to, started, starts, up, ups}
+use Rattle.scm_generate.specs.Listed.{at_once, opening_calls, creation_of, creations, downs, generated, depth_of, lines_to, start_of, starts, up, ups}
 use Rattle.scm_generate.specs.Summary.{launches}
 
 launches_both : (xs ys : List Entry) → launches (xs ++ ys) ≡ launches xs + launches ys
@@ -13,7 +13,7 @@ launches_both (x ∷ xs) ys = let rest = launches_both xs ys in omega (arith, re
 
 long_creations : (n : ℕ) → length (creations n) ≡ n
 long_creations zero = refl
-long_creations (suc n) = length-append (creations n) (created (suc n) ∷ []) ∙ (let rest = long_creations n in omega (arith, rest))
+long_creations (suc n) = length-append (creations n) (creation_of (suc n) ∷ []) ∙ (let rest = long_creations n in omega (arith, rest))
 
 long_ups : (first k : ℕ) → length (ups first k) ≡ 3 * k
 long_ups first zero = refl
@@ -23,9 +23,9 @@ long_downs : (first k : ℕ) → length (downs first k) ≡ 2 * k
 long_downs first zero = refl
 long_downs first (suc k) = let rest = long_downs first k in omega (arith, rest)
 
-long_started : (i process plan : ℕ) → length (started i process plan) ≡ 2 + 5 * line_of i
+long_started : (i process plan : ℕ) → length (start_of i process plan) ≡ 2 + 5 * depth_of i
 long_started i process plan =
-    let d = line_of i in
+    let d = depth_of i in
     let both = length-append (ups process d) (at_once (EndStart 1 plan) ∷ downs process d) in
     let upward = long_ups process d in
     let downward = long_downs process d in
@@ -34,16 +34,16 @@ long_started i process plan =
 long_starts : (n process plan : ℕ) → length (starts n process plan) ≡ 2 * n + 5 * lines_to n
 long_starts zero process plan = refl
 long_starts (suc n) process plan =
-    let both = length-append (started (suc n) process plan) (starts n (process + line_of (suc n)) (plan + 1)) in
+    let both = length-append (start_of (suc n) process plan) (starts n (process + depth_of (suc n)) (plan + 1)) in
     let one = long_started (suc n) process plan in
-    let rest = long_starts n (process + line_of (suc n)) (plan + 1) in
+    let rest = long_starts n (process + depth_of (suc n)) (plan + 1) in
     omega (arith, both, one, rest)
 
 pub all_steps : (n : ℕ) → length (generated n) ≡ 3 + 3 * n + 5 * lines_to n
 unfolding generated
 all_steps n =
     let end = at_once (Gone 1) ∷ [] in
-    let begin = length-append begun (creations n ++ (starts n 1 1 ++ end)) in
+    let begin = length-append opening_calls (creations n ++ (starts n 1 1 ++ end)) in
     let both = length-append (creations n) (starts n 1 1 ++ end) in
     let last = length-append (starts n 1 1) end in
     let made = long_creations n in
@@ -54,7 +54,7 @@ all_steps n =
 
 launched_creations : (n : ℕ) → launches (creations n) ≡ 0
 launched_creations zero = refl
-launched_creations (suc n) = launches_both (creations n) (created (suc n) ∷ []) ∙ (let rest = launched_creations n in omega (arith, rest))
+launched_creations (suc n) = launches_both (creations n) (creation_of (suc n) ∷ []) ∙ (let rest = launched_creations n in omega (arith, rest))
 
 launched_ups : (first k : ℕ) → launches (ups first k) ≡ k
 launched_ups first zero = refl
@@ -64,9 +64,9 @@ launched_downs : (first k : ℕ) → launches (downs first k) ≡ 0
 launched_downs first zero = refl
 launched_downs first (suc k) = let rest = launched_downs first k in omega (arith, rest)
 
-launched_started : (i process plan : ℕ) → launches (started i process plan) ≡ line_of i
+launched_started : (i process plan : ℕ) → launches (start_of i process plan) ≡ depth_of i
 launched_started i process plan =
-    let d = line_of i in
+    let d = depth_of i in
     let both = launches_both (ups process d) (at_once (EndStart 1 plan) ∷ downs process d) in
     let upward = launched_ups process d in
     let downward = launched_downs process d in
@@ -75,16 +75,16 @@ launched_started i process plan =
 launched_starts : (n process plan : ℕ) → launches (starts n process plan) ≡ lines_to n
 launched_starts zero process plan = refl
 launched_starts (suc n) process plan =
-    let both = launches_both (started (suc n) process plan) (starts n (process + line_of (suc n)) (plan + 1)) in
+    let both = launches_both (start_of (suc n) process plan) (starts n (process + depth_of (suc n)) (plan + 1)) in
     let one = launched_started (suc n) process plan in
-    let rest = launched_starts n (process + line_of (suc n)) (plan + 1) in
+    let rest = launched_starts n (process + depth_of (suc n)) (plan + 1) in
     omega (arith, both, one, rest)
 
 pub all_launches : (n : ℕ) → launches (generated n) ≡ lines_to n
 unfolding generated
 all_launches n =
     let end = at_once (Gone 1) ∷ [] in
-    let begin = launches_both begun (creations n ++ (starts n 1 1 ++ end)) in
+    let begin = launches_both opening_calls (creations n ++ (starts n 1 1 ++ end)) in
     let both = launches_both (creations n) (starts n 1 1 ++ end) in
     let last = launches_both (starts n 1 1) end in
     let made = launched_creations n in

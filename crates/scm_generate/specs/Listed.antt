@@ -24,32 +24,32 @@ called asked append = at_once (Call 1 asked append)
 -- ## The beginning
 
 -- an administrator joins, and opens the manager with every right that it may have; this is handle 1
-abbrev pub begun : List Entry
-begun = at_once (Joined Admin) ∷ called (request.OpenManager None 0x02000000) appended.NotAsked ∷ []
+abbrev pub opening_calls : List Entry
+opening_calls = at_once (Joined Admin) ∷ called (request.OpenManager None 0x02000000) appended.NotAsked ∷ []
 
 -- ## The services
 
-abbrev pub name_of : ℕ → List ℕ
-name_of i = codes "S" ++ decimal i
+abbrev pub nth_name : ℕ → List ℕ
+nth_name i = codes "S" ++ decimal i
 
 -- 16-bit units as bytes, the low one first
-abbrev pub bytes_of : List ℕ → List ℕ
-bytes_of [] = []
-bytes_of (unit ∷ units) = unit % 256 ∷ unit / 256 ∷ bytes_of units
+abbrev pub wide_bytes : List ℕ → List ℕ
+wide_bytes [] = []
+wide_bytes (unit ∷ units) = unit % 256 ∷ unit / 256 ∷ wide_bytes units
 
 -- a list of one name: the name is ended by a 0, and the list by one more
 abbrev pub alone : List ℕ → List ℕ
-alone name = bytes_of name ++ 0 ∷ 0 ∷ 0 ∷ 0 ∷ []
+alone name = wide_bytes name ++ 0 ∷ 0 ∷ 0 ∷ 0 ∷ []
 
 -- the need of the service with this number; there is none with number 0
-abbrev pub needing : ℕ → Option (List ℕ)
-needing j = if j == 0 then None else Some (alone (name_of j))
+abbrev pub nth_need : ℕ → Option (List ℕ)
+nth_need j = if j == 0 then None else Some (alone (nth_name j))
 
 -- a process of its own that is started on demand, of which an error is told
-abbrev pub new_service : ℕ → NewService
-new_service i = record {
+abbrev pub nth_service : ℕ → NewService
+nth_service i = record {
   handle = 1;
-  name = name_of i;
+  name = nth_name i;
   display = None;
   access = 0xF01FF;
   kind = 0x10;
@@ -58,23 +58,23 @@ new_service i = record {
   path = codes "/bin/true";
   group = None;
   tag = None;
-  needs = needing (i / 2);
+  needs = nth_need (i / 2);
   account = None;
 }
 
-abbrev pub created : ℕ → Entry
-created i = called (request.Create (new_service i)) appended.Kept
+abbrev pub creation_of : ℕ → Entry
+creation_of i = called (request.Create (nth_service i)) appended.Kept
 
 -- S1 to Sn are created in order, so that Si has handle i + 1
 abbrev pub creations : ℕ → List Entry
 creations zero = []
-creations (suc i) = creations i ++ created (suc i) ∷ []
+creations (suc i) = creations i ++ creation_of (suc i) ∷ []
 
 -- ## A start
 
 -- Si and all that it needs are as many services as i has binary digits: i, half of i, and so on down to 1
-abbrev pub line_of : ℕ → ℕ
-line_of i = length (digits_of 2 i)
+abbrev pub depth_of : ℕ → ℕ
+depth_of i = length (digits_of 2 i)
 
 -- a status that accepts these controls, without an error
 abbrev pub told : (state accepted : ℕ) → Status
@@ -103,22 +103,22 @@ asked_start i = called (request.Start (i + 1) (Some [])) appended.NotAsked
 
 -- Si is started with what it needs, the start is answered, and the processes end; this is the number of the first process,
 -- and that of the plan
-abbrev pub started : (i process plan : ℕ) → List Entry
-started i process plan =
+abbrev pub start_of : (i process plan : ℕ) → List Entry
+start_of i process plan =
     asked_start i
-    ∷ (ups process (line_of i) ++ (at_once (EndStart 1 plan) ∷ downs process (line_of i)))
+    ∷ (ups process (depth_of i) ++ (at_once (EndStart 1 plan) ∷ downs process (depth_of i)))
 
 -- this for Si down to S1; the numbers of processes and plans go on rising
 abbrev pub starts : (i process plan : ℕ) → List Entry
 starts zero process plan = []
-starts (suc i) process plan = started (suc i) process plan ++ starts i (process + line_of (suc i)) (plan + 1)
+starts (suc i) process plan = start_of (suc i) process plan ++ starts i (process + depth_of (suc i)) (plan + 1)
 
 -- ## All
 
 unfoldable pub generated : ℕ → List Entry
-generated n = begun ++ (creations n ++ (starts n 1 1 ++ (at_once (Gone 1) ∷ [])))
+generated n = opening_calls ++ (creations n ++ (starts n 1 1 ++ (at_once (Gone 1) ∷ [])))
 
 -- how many processes there are in it
 abbrev pub lines_to : ℕ → ℕ
 lines_to zero = 0
-lines_to (suc i) = lines_to i + line_of (suc i)
+lines_to (suc i) = lines_to i + depth_of (suc i)

@@ -12,8 +12,14 @@ Prints text held held_now Ended = Appends held held_now text
 Prints text held held_now WriteFault = AppendsFront held held_now text
 Prints text held held_now OutOfMemory = held_now ≡ held
 
+-- where there was memory, all steps were made
+abbrev pub IfMade : Generated → Type 0 → Type 0
+IfMade Ended P = P
+IfMade WriteFault P = P
+IfMade OutOfMemory P = Unit {0}
+
 -- a fault of the sink comes only where its count rose
-abbrev pub IsCaused : Generated → (faults faults_now : ℕ) → Type 0
-IsCaused Ended faults faults_now = Unit {0}
-IsCaused WriteFault faults faults_now = Rose faults faults_now
-IsCaused OutOfMemory faults faults_now = faults_now ≡ faults
+abbrev pub IsPrintCaused : Generated → (faults faults_now : ℕ) → Type 0
+IsPrintCaused Ended faults faults_now = Unit {0}
+IsPrintCaused WriteFault faults faults_now = Rose faults faults_now
+IsPrintCaused OutOfMemory faults faults_now = faults_now ≡ faults

@@ -1,10 +1,14 @@
 -- Where a run stands.
-use Rattle.std.specs.Prelude.{ℕ, ◌≡◌, ◌+◌, ◌≤◌, List, [], ◌∷◌, length}
+use Rattle.std.specs.Prelude.{ℕ, Bool, true, not, ◌≡◌, ◌+◌, ◌≤◌, IsTrue, List, [], ◌∷◌, length}
 use Rattle.scm_model.specs.declared.flat.Flat.{Flat}
 use Rattle.scm_model.specs.declared.flat.Limits.{Limits}
-use Rattle.scm_rules.specs.Opening.{opening}
+use Rattle.scm_model.specs.declared.steps.Answer.{Answer}
+use Rattle.scm_model.specs.declared.steps.Step.{Step}
+use Rattle.scm_model.specs.declared.steps.Step.TheVariants.{EndStart}
 use Rattle.scm_model.specs.Entries.{Entry}
-use Rattle.scm_rules.specs.Steps.{step_of}
+use Rattle.scm_rules.specs.Opening.{opening}
+use Rattle.scm_rules.specs.Runs.{EachStep, IsLegal}
+use Rattle.scm_rules.specs.Steps.{wants_launch, step_of}
 use Rattle.scm_generate.specs.declared.run.Run.TheInside.{Inside}
 use Rattle.scm_generate.specs.Summary.{four_lines, launch_in, running}
 
@@ -32,9 +36,27 @@ unfoldable pub after_one : Progress → Entry → Progress
 after_one p e = record { flat = (step_of p.limits p.flat e.0 e.1).flat; limits = p.limits; steps = p.steps + 1; launches = p.launches + launch_in e.1 }
 
 -- some entries further
-abbrev pub after : Progress → List Entry → Progress
-after p [] = p
-after p (e ∷ es) = after (after_one p e) es
+abbrev pub progress_after : Progress → List Entry → Progress
+progress_after p [] = p
+progress_after p (e ∷ es) = progress_after (after_one p e) es
+
+-- no launch is wanted any more where a start is ended
+abbrev pub is_quiet : Flat → Step → Bool
+is_quiet f (EndStart caller plan) = not (wants_launch f.wanted)
+is_quiet f step = true
+
+abbrev pub IsQuietStep : Flat → Entry → Answer → Flat → Type 0
+IsQuietStep before e told now = IsTrue (is_quiet before e.1)
+
+-- each entry may be made in the state before it, and each end of a start comes where no launch is wanted
+pub record CanBeMade (l : Limits) (f : Flat) (es : List Entry) : Type 0 where
+  pub legal : IsLegal l f es
+  pub quiet : EachStep IsQuietStep l f es
+
+-- these entries were made, one after another
+pub record Makes (p : Progress) (es : List Entry) (q : Progress) : Type 0 where
+  pub is : q ≡ progress_after p es
+  pub can : CanBeMade p.limits p.flat es
 
 abbrev pub summed_up : Progress → List ℕ
 summed_up p = four_lines p.steps (length p.flat.services) p.launches (running p.flat.services)

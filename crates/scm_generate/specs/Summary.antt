@@ -5,7 +5,7 @@ use Rattle.scm_model.specs.declared.flat.Limits.{Limits}
 use Rattle.scm_model.specs.declared.flat.Service.{Service}
 use Rattle.scm_model.specs.declared.steps.Step.{Step}
 use Rattle.scm_model.specs.declared.steps.Step.TheVariants.{LaunchTaken}
-use Rattle.scm_rules.specs.Runs.{state_of}
+use Rattle.scm_rules.specs.Runs.{run_state}
 use Rattle.scm_model.specs.Entries.{Entry}
 use Rattle.scm_model.specs.declared.codes.TheConstants.{SERVICE_RUNNING}
 
@@ -37,4 +37,4 @@ four_lines steps services taken running =
 -- of a list that is run from a state on: its length, the services that are there behind it, the launches that were taken in hand in it,
 -- and the services that are RUNNING behind it
 abbrev pub summary : Limits → Flat → List Entry → List ℕ
-summary l f h = four_lines (length h) (length (state_of l f h).services) (launches h) (running (state_of l f h).services)
+summary l f h = four_lines (length h) (length (run_state l f h).services) (launches h) (running (run_state l f h).services)

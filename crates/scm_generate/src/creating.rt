@@ -1,6 +1,6 @@
-ghost use Rattle.std.specs.Prelude.{◌≡◌, ◌<◌, ◌^◌, IfOk, OnOk};
-ghost use Rattle.scm_generate.specs.Listed.{begun, created, creations, new_service};
-ghost use Rattle.scm_generate.specs.Progress.{after, after_one};
+ghost use Rattle.std.specs.Prelude.{◌≡◌, ◌∷◌, [], IfOk, OnOk};
+ghost use Rattle.scm_generate.specs.Listed.{opening_calls, creation_of, creations, nth_service};
+ghost use Rattle.scm_generate.specs.Progress.{Makes};
 
 use super::naming::{name_of, needing, text_of};
 use super::run::Run;
@@ -20,7 +20,7 @@ const MANAGER: u64 = 1;
 
 /// The administrator joins, and opens the manager.
 pub fn begin(run: &mut Run) -> Result<(), OutOfMemory>
-    ensures { OnOk result (run.new ≡ after run.old begun) }
+    ensures { OnOk result (Makes run.old opening_calls run.new) }
 {
     run.make(Step::Joined {
         principal: Principal::Admin,
@@ -37,7 +37,7 @@ pub fn begin(run: &mut Run) -> Result<(), OutOfMemory>
 
 /// What is asked of the service with this number.
 fn new_service(alloc: Global, number: u32) -> Result<NewService, OutOfMemory>
-    ensures { IfOk result (λ new. new ≡ new_service number) }
+    ensures { IfOk result (λ new. new ≡ nth_service number) }
 {
     let name = name_of(alloc, number)?;
     let path = text_of(alloc, "/bin/true")?;
@@ -60,7 +60,7 @@ fn new_service(alloc: Global, number: u32) -> Result<NewService, OutOfMemory>
 
 /// Creates the service with this number.
 fn create(run: &mut Run, alloc: Global, number: u32) -> Result<(), OutOfMemory>
-    ensures { OnOk result (run.new ≡ after_one run.old (created number)) }
+    ensures { OnOk result (Makes run.old (creation_of number ∷ []) run.new) }
 {
     let new = new_service(alloc, number)?;
     run.make(Step::Call {
@@ -72,7 +72,7 @@ fn create(run: &mut Run, alloc: Global, number: u32) -> Result<(), OutOfMemory>
 
 /// Creates the services from the first one to the last.
 pub fn create_all(run: &mut Run, alloc: Global, services: u32) -> Result<(), OutOfMemory>
-    ensures { OnOk result (run.new ≡ after run.old (creations services)) }
+    ensures { OnOk result (Makes run.old (creations services) run.new) }
 {
     for before in 0..services {
         match create(run, alloc, before + 1) {

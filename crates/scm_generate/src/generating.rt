@@ -2,23 +2,22 @@ ghost use Rattle.std.specs.Prelude.{◌≡◌, ◌≤◌, [], IfOk, OnOk};
 ghost use Rattle.scm_core.specs.Managed.{AreSmall};
 ghost use Rattle.scm_rules.specs.Opening.{opening};
 ghost use Rattle.scm_generate.specs.Listed.{generated};
-ghost use Rattle.scm_generate.specs.Printed.{IsCaused, Prints};
-ghost use Rattle.scm_generate.specs.Progress.{after, summed_up};
+ghost use Rattle.scm_generate.specs.Printed.{IfMade, IsPrintCaused, Prints};
+ghost use Rattle.scm_generate.specs.Progress.{CanBeMade, Makes, progress_after, summed_up};
 ghost use Rattle.scm_generate.specs.Summary.{summary};
 
 use super::creating::{CALLER, begin, create_all};
 use super::generated::Generated;
 use super::run::Run;
 use super::starting::start_all;
-use outside::Failed;
-use rpc_session::{Sink, write_all};
+use outside::{Failed, Sink, write_all};
 use scm_model::{Limits, Step};
 use scm_text::{Items, OutOfMemory};
 use std::alloc::Global;
 
 /// Makes the whole list.
 fn make_all(run: &mut Run, alloc: Global, services: u32) -> Result<(), OutOfMemory>
-    ensures { OnOk result (run.new ≡ after run.old (generated services)) }
+    ensures { OnOk result (Makes run.old (generated services) run.new) }
 {
     begin(run)?;
     create_all(run, alloc, services)?;
@@ -28,7 +27,8 @@ fn make_all(run: &mut Run, alloc: Global, services: u32) -> Result<(), OutOfMemo
 
 /// Makes the whole list, and sums it up.
 fn summed_up(run: &mut Run, alloc: Global, services: u32) -> Result<Items<u8>, OutOfMemory>
-    ensures { IfOk result (λ text. text ≡ summed_up (after run.old (generated services))) }
+    ensures text { IfOk result (λ text. text ≡ summed_up (progress_after run.old (generated services))) }
+    ensures can { OnOk result (CanBeMade run.old.limits run.old.flat (generated services)) }
 {
     make_all(run, alloc, services)?;
     run.summary(alloc)
@@ -37,19 +37,26 @@ fn summed_up(run: &mut Run, alloc: Global, services: u32) -> Result<Items<u8>, O
 /// The summary of the list for so many services.
 fn summary_of(alloc: Global, limits: Limits, services: u32) -> Result<Items<u8>, OutOfMemory>
     requires { AreSmall limits }
-    ensures { IfOk result (λ text. text ≡ summary limits (opening limits [] [] 0) (generated services)) }
+    ensures text { IfOk result (λ text. text
+        ≡ summary limits (opening limits [] [] 0) (generated services)) }
+    ensures can { OnOk result (CanBeMade limits (opening limits [] [] 0) (generated services)) }
 {
     let mut run = Run::new(alloc, limits)?;
     summed_up(&mut run, alloc, services)
 }
 
-/// Makes the stated list of steps for so many services over a manager of its own, one step after another, and prints its summary.
-/// A step that may not be done in its state, as one past the limits, is answered as one without memory.
+/// Makes the stated list of steps for so many services over a manager of its own, one step after
+/// another, and prints its summary. A step that may not be made in its state, as one past the limits,
+/// is answered as one without memory, and so is the end of a start where a launch is still wanted.
 pub fn generate<O: Sink>(alloc: Global, limits: Limits, services: u32, output: &mut O) -> Generated
     requires { AreSmall limits }
-    ensures prints { Prints (summary limits (opening limits [] [] 0) (generated services)) (O.held output.old) (O.held output.new) result }
+    ensures prints { Prints (summary limits (opening limits [] [] 0) (generated services))
+        (O.held output.old) (O.held output.new) result }
+    // What is summed up is a legal history.
+    ensures can { IfMade result
+        (CanBeMade limits (opening limits [] [] 0) (generated services)) }
     ensures faults { O.faults output.old ≤ O.faults output.new }
-    ensures cause { IsCaused result (O.faults output.old) (O.faults output.new) }
+    ensures cause { IsPrintCaused result (O.faults output.old) (O.faults output.new) }
 {
     let Ok(text) = summary_of(alloc, limits, services) else {
         return Generated::OutOfMemory;

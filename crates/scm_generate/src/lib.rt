@@ -1,4 +1,5 @@
-//! The stated list of steps for some services, made by a manager, and the summary of a list of steps.
+//! The stated list of steps for some services, made by a manager, and the summary of a list of
+//! steps.
 #![tactic(auto)]
 
 mod creating;
@@ -14,6 +15,3 @@ pub use generated::Generated;
 pub use generating::generate;
 pub use laws::law_of_counts;
 pub use summary::summary_lines;
-
-#[cfg(test)]
-mod tests;

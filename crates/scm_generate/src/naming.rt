@@ -1,5 +1,5 @@
 ghost use Rattle.std.specs.Prelude.{◌≡◌, ◌==◌, IfOk, None, if◌then◌else◌};
-ghost use Rattle.scm_generate.specs.Listed.{alone, bytes_of, name_of, needing};
+ghost use Rattle.scm_generate.specs.Listed.{alone, wide_bytes, nth_name, nth_need};
 
 use scm_text::{Items, OutOfMemory, WText};
 use std::alloc::{AllocError, Global};
@@ -30,7 +30,7 @@ pub fn text_of(alloc: Global, text: &str) -> Result<WText, OutOfMemory>
 
 /// The name of the service with this number.
 pub fn name_of(alloc: Global, number: u32) -> Result<WText, OutOfMemory>
-    ensures { IfOk result (λ name. name ≡ name_of number) }
+    ensures { IfOk result (λ name. name ≡ nth_name number) }
 {
     match format!(in alloc; "S{}", number) {
         Ok(name) => text_of(alloc, name.as_str()),
@@ -40,7 +40,7 @@ pub fn name_of(alloc: Global, number: u32) -> Result<WText, OutOfMemory>
 
 /// Units as bytes, the low one first.
 fn bytes_of(alloc: Global, units: &[u16]) -> Result<Items<u8>, OutOfMemory>
-    ensures { IfOk result (λ bytes. bytes ≡ bytes_of units.now) }
+    ensures { IfOk result (λ bytes. bytes ≡ wide_bytes units.now) }
 {
     let mut bytes = Items::new(alloc);
     for unit in units {
@@ -60,7 +60,7 @@ fn alone(alloc: Global, name: &WText) -> Result<Items<u8>, OutOfMemory>
 
 /// The need of the service with this number; there is none with number 0.
 pub fn needing(alloc: Global, number: u32) -> Result<Option<Items<u8>>, OutOfMemory>
-    ensures { IfOk result (λ needs. needs ≡ needing number) }
+    ensures { IfOk result (λ needs. needs ≡ nth_need number) }
 {
     if number == 0 {
         return Ok(None);

@@ -1,9 +1,9 @@
-ghost use Rattle.std.specs.Prelude.{◌≡◌, ◌≤◌, ◌<◌, ◌+◌, ◌^◌, IfOk, IsTrue, OnOk, Some};
+ghost use Rattle.std.specs.Prelude.{◌≡◌, ◌≤◌, ◌<◌, ◌+◌, ◌^◌, ◌∷◌, [], IfOk, IsTrue, OnOk};
 ghost use Rattle.scm_core.specs.Managed.{AreSmall, WasMadeFor};
 ghost use Rattle.scm_rules.specs.Steps.{may, step_of};
 ghost use Rattle.scm_model.specs.Texts.{text_of};
 ghost use Rattle.scm_generate.specs.Listed.{at_once};
-ghost use Rattle.scm_generate.specs.Progress.{after_one, at_first, summed_up};
+ghost use Rattle.scm_generate.specs.Progress.{Makes, at_first, is_quiet, summed_up};
 ghost use Rattle.scm_generate.specs.Summary.{launch_in};
 
 use super::summary::summary_lines;
@@ -16,7 +16,8 @@ use std::marker::Model;
 /// The moment at which every step takes place, in milliseconds.
 const MOMENT: u64 = 0;
 
-/// A run of steps over a manager of its own, which counts its steps and the launches that it took in hand.
+/// A run of steps over a manager of its own, which counts its steps and the launches that it took in
+/// hand.
 #[derive(Drop)]
 pub struct Run {
     manager: Manager,
@@ -43,26 +44,28 @@ fn launch_in(step: &Step) -> u64
 {
     match step {
         Step::LaunchTaken => 1,
-        Step::Joined { .. }
-        | Step::Call { .. }
-        | Step::EndStart { .. }
-        | Step::Launched { .. }
-        | Step::LaunchFailed { .. }
-        | Step::Report { .. }
-        | Step::Ended { .. }
-        | Step::ControlTaken { .. }
-        | Step::Tick
-        | Step::Gone { .. }
-        | Step::NoMemory { .. } => 0,
+        _ => 0,
     }
 }
 
-/// Makes the room of a step, if it may be done. One that may not be done is answered as one without memory.
+/// Whether no launch is wanted any more, if the step ends a start.
+fn is_quiet(manager: &Manager, step: &Step) -> bool
+    ensures { result ≡ is_quiet manager.now.flat step.now }
+{
+    match step {
+        Step::EndStart { .. } => !manager.wanted(),
+        _ => true,
+    }
+}
+
+/// Makes the room of a step, if it may be made, and no launch is wanted if it ends a start. Any
+/// other is answered as one without memory.
 fn prepare(manager: &mut Manager, step: &Step) -> Result<(), OutOfMemory>
     ensures flat { manager.new.flat ≡ manager.old.flat }
     ensures limits { manager.new.limits ≡ manager.old.limits }
     ensures steps { manager.new.steps ≡ manager.old.steps }
     ensures may { OnOk result (IsTrue (may manager.new.limits manager.new.flat 0 step.now)) }
+    ensures quiet { OnOk result (IsTrue (is_quiet manager.new.flat step.now)) }
     ensures room { OnOk result (WasMadeFor manager.new.room step.now) }
     ensures count { OnOk result (manager.new.steps < 2 ^ 50) }
     ensures text { OnOk result (manager.new.text + text_of step.now < 2 ^ 63) }
@@ -71,7 +74,7 @@ fn prepare(manager: &mut Manager, step: &Step) -> Result<(), OutOfMemory>
         return Err(OutOfMemory);
     }
     manager.reserve_for(step)?;
-    if !manager.admits(MOMENT, step) {
+    if !manager.admits(MOMENT, step) || !is_quiet(manager, step) {
         return Err(OutOfMemory);
     }
     Ok(())
@@ -106,7 +109,7 @@ impl Run {
 
     /// Makes a step.
     pub fn make(&mut self, step: Step) -> Result<(), OutOfMemory>
-        ensures { OnOk result (self.new ≡ after_one self.old (at_once step)) }
+        ensures { OnOk result (Makes self.old (at_once step ∷ []) self.new) }
     {
         prepare(&mut self.manager, &step)?;
         self.launches += launch_in(&step);

@@ -1,6 +1,6 @@
-ghost use Rattle.std.specs.Prelude.{◌≡◌, ◌<◌, ◌≤◌, ◌+◌, ◌^◌, IfOk, OnOk};
-ghost use Rattle.scm_generate.specs.Listed.{asked_start, down, downs, line_of, started, starts, told, up, ups};
-ghost use Rattle.scm_generate.specs.Progress.{after, after_one};
+ghost use Rattle.std.specs.Prelude.{◌≡◌, ◌<◌, ◌≤◌, ◌+◌, ◌^◌, ◌∷◌, [], IfOk, OnOk};
+ghost use Rattle.scm_generate.specs.Listed.{asked_start, down, downs, depth_of, start_of, starts, told, up, ups};
+ghost use Rattle.scm_generate.specs.Progress.{Makes};
 
 use super::creating::CALLER;
 use super::run::Run;
@@ -11,9 +11,10 @@ use scm_model::{Kept, Request, Status, Step};
 use scm_text::{Items, OutOfMemory};
 use std::alloc::Global;
 
-/// How many services are started with the one of this number: it and all that it needs, as many as the number has binary digits.
+/// How many services are started with the one of this number: it and all that it needs, as many as
+/// the number has binary digits.
 fn line_of(number: u32) -> u32
-    ensures value { result ≡ line_of number }
+    ensures value { result ≡ depth_of number }
     ensures small { result ≤ 32 }
 {
     let mut count = 0;
@@ -42,7 +43,7 @@ fn told(state: u32, accepted: u32) -> Status
 
 /// Launches a process, which then runs.
 fn up(run: &mut Run, number: u32) -> Result<(), OutOfMemory>
-    ensures { OnOk result (run.new ≡ after run.old (up number)) }
+    ensures { OnOk result (Makes run.old (up number) run.new) }
 {
     let process = number as u64;
     run.make(Step::LaunchTaken)?;
@@ -59,7 +60,7 @@ fn up(run: &mut Run, number: u32) -> Result<(), OutOfMemory>
 /// Launches so many processes from a first one on.
 fn ups(run: &mut Run, first: u32, count: u32) -> Result<(), OutOfMemory>
     requires { first + count < 2 ^ 32 }
-    ensures { OnOk result (run.new ≡ after run.old (ups first count)) }
+    ensures { OnOk result (Makes run.old (ups first count) run.new) }
 {
     for before in 0..count {
         match up(run, first + before) {
@@ -72,7 +73,7 @@ fn ups(run: &mut Run, first: u32, count: u32) -> Result<(), OutOfMemory>
 
 /// Stops a process, which then ends.
 fn down(run: &mut Run, number: u32) -> Result<(), OutOfMemory>
-    ensures { OnOk result (run.new ≡ after run.old (down number)) }
+    ensures { OnOk result (Makes run.old (down number) run.new) }
 {
     let process = number as u64;
     run.make(Step::Report {
@@ -85,7 +86,7 @@ fn down(run: &mut Run, number: u32) -> Result<(), OutOfMemory>
 /// Ends so many processes from a first one on, the last one first.
 fn downs(run: &mut Run, first: u32, count: u32) -> Result<(), OutOfMemory>
     requires { first + count < 2 ^ 32 }
-    ensures { OnOk result (run.new ≡ after run.old (downs first count)) }
+    ensures { OnOk result (Makes run.old (downs first count) run.new) }
 {
     let mut left = count;
     while left > 0 {
@@ -100,7 +101,7 @@ fn downs(run: &mut Run, first: u32, count: u32) -> Result<(), OutOfMemory>
 
 /// Asks for the start of the service with this number.
 fn ask(run: &mut Run, alloc: Global, number: u32) -> Result<(), OutOfMemory>
-    ensures { OnOk result (run.new ≡ after_one run.old (asked_start number)) }
+    ensures { OnOk result (Makes run.old (asked_start number ∷ []) run.new) }
 {
     run.make(Step::Call {
         caller: CALLER,
@@ -112,8 +113,9 @@ fn ask(run: &mut Run, alloc: Global, number: u32) -> Result<(), OutOfMemory>
     })
 }
 
-/// Starts the service with this number and what it needs, and ends their processes, of which the first has the number `process`. Gives
-/// the number of the next process. A process whose number has more than 32 bits is answered as one without memory.
+/// Starts the service with this number and what it needs, and ends their processes, of which the
+/// first has the number `process`. Gives the number of the next process. A process whose number has
+/// more than 32 bits is answered as one without memory.
 fn start(
     run: &mut Run,
     alloc: Global,
@@ -121,8 +123,8 @@ fn start(
     process: u32,
     plan: u64,
 ) -> Result<u32, OutOfMemory>
-    ensures made { OnOk result (run.new ≡ after run.old (started number process plan)) }
-    ensures next { IfOk result (λ next. next ≡ process + line_of number) }
+    ensures made { OnOk result (Makes run.old (start_of number process plan) run.new) }
+    ensures next { IfOk result (λ next. next ≡ process + depth_of number) }
 {
     let count = line_of(number);
     let Some(next) = process.checked_add(count) else {
@@ -140,7 +142,7 @@ fn start(
 
 /// Starts and ends the services from the last one to the first.
 pub fn start_all(run: &mut Run, alloc: Global, services: u32) -> Result<(), OutOfMemory>
-    ensures { OnOk result (run.new ≡ after run.old (starts services 1 1)) }
+    ensures { OnOk result (Makes run.old (starts services 1 1) run.new) }
 {
     let mut process = 1;
     for before in 0..services {

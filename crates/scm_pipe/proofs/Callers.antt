@@ -20,8 +20,7 @@ use Rattle.start_plan.specs.Settle.{settled}
 use Rattle.start_plan.proofs.Enterings.{all_units}
 use Rattle.start_plan.proofs.Keeps.{keeps_all}
 use Rattle.scm_rules.specs.Steps.{at_moment, effect_of, finished, left_by, step_of}
-use Rattle.scm_rules.specs.Change.{with_new_config, asked_config}
-use Rattle.scm_rules.specs.Query.{service_in}
+use Rattle.scm_runs.proofs.Founds.{opened_keeps, started_keeps}
 use Rattle.scm_rules.specs.Verdicts.{done_of, told_refused, verdict}
 
 -- ## What comes behind each effect
@@ -51,12 +50,9 @@ of_answered : (code : ℕ) (told : Reply) (f : Flat) (done : Done) → done.flat
 of_answered code told f done e =
     elim (code == 0) as (λ b. (cond {A = Done} b done (record { reply = told; flat = f })).flat.callers ≡ f.callers) [ true ↦ e | false ↦ refl ]
 
-of_config : (f : Flat) (number : ℕ) (config : Option Config) → (with_new_config f number config).callers ≡ f.callers
-of_config f number None = refl
-of_config f number (Some config) = refl
-
 of_done : (l : Limits) (f : Flat) (caller : ℕ) (asked : Request) → (done_of l f caller asked).flat.callers ≡ f.callers
-of_done l f caller (request.Change change) = of_config f (service_in (opened f caller change.handle)) (asked_config f caller change)
+of_done l f caller (request.OpenService handle name access) = opened_keeps (λ g. g.callers ≡ f.callers) f caller name access refl (λ row is. refl)
+of_done l f caller (request.Start handle words) = started_keeps (λ g. g.callers ≡ f.callers) f caller handle words refl (λ row is. refl)
 of_done l f caller asked = refl
 
 pub callers_of_call : (l : Limits) (f : Flat) (moment caller : ℕ) (asked : Request) (append : Kept) → (step_of l f moment (Call caller asked append)).flat.callers ≡ f.callers

@@ -1,6 +1,6 @@
 -- What became of a request, as entries of the history.
-use Rattle.std.proofs.Common.{ℕ, ◌≡◌, ◌==◌, cond, Bool, true, false, IsTrue, List, [], ◌∷◌, Option, None, Some, refl, sym, ap, ◌∙◌, subst}
-use Rattle.std.specs.Prelude.{is_some, unwrap_or, ◌&&◌}
+use Rattle.std.proofs.Common.{ℕ, ◌≡◌, ◌==◌, cond, Bool, true, false, IsTrue, List, [], ◌∷◌, Option, None, Some, refl, sym, ap, ◌∙◌, ◌+◌, subst, arith}
+use Rattle.std.specs.Prelude.{is_some, unwrap_or, ◌&&◌, if◌then◌else◌}
 use Rattle.std.specs.List.{cons_option}
 use Rattle.std.proofs.lemmas.List.Elements.{All-nil, All-cons}
 use Rattle.scm_model.specs.declared.flat.Flat.{Flat}
@@ -18,26 +18,27 @@ use Rattle.scm_model.specs.declared.steps.Answer.TheVariants as answers
 use Rattle.scm_model.specs.Refused.{answered, refused}
 use Rattle.scm_model.specs.Rows.{is_caller}
 use Rattle.scm_model.specs.Changes.{with_moment}
-use Rattle.start_plan.specs.Decided.{caller_of, code_of}
+use Rattle.start_plan.specs.Decided.{plan_caller, code_of}
 use Rattle.start_plan.specs.Settle.{settled}
 use Rattle.scm_calls.specs.declared.kinds.ReplyKind.{ReplyKind}
 use Rattle.scm_calls.specs.declared.kinds.ReplyKind.TheVariants as kind
 use Rattle.scm_calls.specs.Replies.{kind_of, Fits}
 use Rattle.scm_bodies.specs.Replies.{Answers}
 use Rattle.scm_model.specs.Ranges.{in_range}
+use Rattle.scm_rules.specs.Delete.{is_failed}
 use Rattle.scm_rules.specs.Launches.{first_wanted, is_taken, process_of}
 use Rattle.scm_rules.specs.Start.{can_end, is_caller_of, start_done, start_verdict}
-use Rattle.scm_rules.specs.Steps.{answer_of, answered_by, finished, is_wanted, may, step_of}
+use Rattle.scm_rules.specs.Steps.{call_answer, answered_by, finished, wants_launch, may, step_of}
 use Rattle.scm_model.specs.Entries.{Entry}
 use Rattle.scm_model.specs.Outcomes.{Done}
 use Rattle.scm_rules.specs.Verdicts.{call_of, change_of_call, tells_right}
-use Rattle.scm_pipe.specs.Histories.{Follows, IsNotLost, IsServed, replies, told_by}
+use Rattle.scm_pipe.specs.Histories.{Follows, IsServed, failed_in, replies, heard_by}
 use Rattle.scm_pipe.specs.Bodies.{reply_to}
 use Rattle.scm_pipe.specs.Calling.{Called, HasRun, Heard, IsMine, IsSpoken, StillWaits, Waited}
 use Rattle.scm_pipe.proofs.Histories.{IsTold, is_told, pair_silent, waits_reply}
 use Rattle.scm_pipe.proofs.Owning.{mine_begun, mine_failed, mine_taken}
-use Rattle.scm_pipe.proofs.Replying.{of_call, of_refused}
-use Rattle.scm_pipe.proofs.Running.{AllShort, all_short, sound_run, taken_of_run}
+use Rattle.scm_answers.proofs.Calls.{AllShort, of_call, of_refused}
+use Rattle.scm_pipe.proofs.Running.{all_short, sound_run, taken_of_run}
 
 -- ## What may be done
 
@@ -53,9 +54,12 @@ right : (b : Bool) (k : Kept) → k ≡ cond b appended.Kept appended.NotAsked �
 right true k e = rw e refl
 right false k e = rw e refl
 
-pub not_lost : (b : Bool) (k : Kept) → k ≡ cond b appended.Kept appended.NotAsked → IsNotLost k
-not_lost true k e = rw e tt
-not_lost false k e = rw e tt
+pub not_lost : (b : Bool) (k : Kept) → k ≡ cond b appended.Kept appended.NotAsked → is_failed k ≡ false
+not_lost true k e = rw e refl
+not_lost false k e = rw e refl
+
+none_failed : (moment : ℕ) (asked : Request) (k : Kept) (es : List Entry) → is_failed k ≡ false → failed_in es ≡ 0 → failed_in ((moment, Call 1 asked k) ∷ es) ≡ 0
+none_failed moment asked k es kept more = ap (λ b. (if b then 1 else 0) + failed_in es) kept ∙ omega (arith, more)
 
 -- a call's change is told rightly
 pub may_call : (l : Limits) (f : Flat) (moment : ℕ) (asked : Request) (k : Kept) → IsTrue (is_caller f 1) → IsTrue (in_range asked)
@@ -65,8 +69,8 @@ may_call l f moment asked k joined ranged e =
     all (is_caller f 1 && in_range asked) (tells_right changes k) (all (is_caller f 1) (in_range asked) joined ranged) (right changes k e)
 
 -- a launch that is wanted may be taken in hand
-pub may_take : (l : Limits) (f : Flat) (moment : ℕ) → is_wanted f.wanted ≡ true → IsTrue (may l f moment LaunchTaken)
-may_take l f moment e = both (is_wanted f.wanted) e
+pub may_take : (l : Limits) (f : Flat) (moment : ℕ) → wants_launch f.wanted ≡ true → IsTrue (may l f moment LaunchTaken)
+may_take l f moment e = both (wants_launch f.wanted) e
 
 -- a launch that was taken in hand may fail
 pub may_fail : (l : Limits) (f : Flat) (moment process : ℕ) → is_taken (process_of f process) ≡ true → IsTrue (may l f moment (LaunchFailed process 1054))
@@ -74,17 +78,17 @@ may_fail l f moment process e = rw e refl
 
 ends_by : (f : Flat) (plan code : ℕ) → IsMine f plan → code_of f.plans plan ≡ Some code → IsTrue (can_end f 1 plan)
 ends_by f plan code mine decided =
-    all (is_caller_of (caller_of f.plans plan) 1) (is_some (code_of f.plans plan)) (ap (λ o. is_caller_of o 1) mine) (ap (λ (o : Option ℕ). is_some o) decided)
+    all (is_caller_of (plan_caller f.plans plan) 1) (is_some (code_of f.plans plan)) (ap (λ o. is_caller_of o 1) mine) (ap (λ (o : Option ℕ). is_some o) decided)
 
 -- a start of its own that is decided may end
 pub may_end : (l : Limits) (f : Flat) (moment plan code : ℕ) → IsTrue (is_caller f 1) → IsMine f plan → code_of f.plans plan ≡ Some code → IsTrue (may l f moment (EndStart 1 plan))
 may_end l f moment plan code joined mine decided = both (is_caller f 1 && can_end f 1 plan) (all (is_caller f 1) (can_end f 1 plan) joined (ends_by f plan code mine decided))
 
 -- and so may the one that was wanted first
-pub may_fail_then : (l k : Limits) (f mid : Flat) (m n process : ℕ) → is_wanted f.wanted ≡ true → HasRun l f
-    → mid ≡ (step_of l f m LaunchTaken).flat → process ≡ first_wanted f.wanted → IsTrue (may k mid n (LaunchFailed process 1054))
-may_fail_then l k f mid m n process wanted run taken first =
-    may_fail k mid n process (ap (λ x. is_taken (process_of mid x)) first ∙ ap (λ x. is_taken (process_of x (first_wanted f.wanted))) taken ∙ taken_of_run l f m run wanted)
+pub may_fail_then : (l k : Limits) (f mid : Flat) (m n process : ℕ) → HasRun l f
+    → mid ≡ (step_of l f m LaunchTaken).flat → first_wanted f.wanted ≡ Some process → IsTrue (may k mid n (LaunchFailed process 1054))
+may_fail_then l k f mid m n process run taken first =
+    may_fail k mid n process (ap (λ x. is_taken (process_of x process)) taken ∙ taken_of_run l f m process run first)
 
 -- ## A start that waits
 
@@ -97,37 +101,38 @@ module _ (tells : ℕ → Type 0) (l : Limits) where
     told = All-cons (λ (e : Entry). tells e.0) (moment, EndStart 1 plan) [] told (All-nil (λ (e : Entry). tells e.0));
     legal = (ok, tt);
     waits = refl;
+    kept = refl;
     answer = ap (λ (o : Option ℕ). Some (Code (unwrap_or o 0)) ∷ []) e;
     state = refl;
   }
 
   -- a launch failed
-  pub waits_on : (f : Flat) (m n plan : ℕ) → tells m → tells n
-      → IsTrue (may l f m LaunchTaken) → IsTrue (may l (step_of l f m LaunchTaken).flat n (LaunchFailed (first_wanted f.wanted) 1054)) → code_of f.plans plan ≡ None
-      → StillWaits tells l f (step_of l (step_of l f m LaunchTaken).flat n (LaunchFailed (first_wanted f.wanted) 1054)).flat plan
-  waits_on f m n plan told told_then ok ok_then e = λ h code w.
+  pub waits_on : (f : Flat) (m n plan process : ℕ) → tells m → tells n → first_wanted f.wanted ≡ Some process
+      → IsTrue (may l f m LaunchTaken) → IsTrue (may l (step_of l f m LaunchTaken).flat n (LaunchFailed process 1054)) → code_of f.plans plan ≡ None
+      → StillWaits tells l f (step_of l (step_of l f m LaunchTaken).flat n (LaunchFailed process 1054)).flat plan
+  waits_on f m n plan process told told_then first ok ok_then e = λ h code w.
       let taken : Entry = (m, LaunchTaken) in
-      let failed : Entry = (n, LaunchFailed (first_wanted f.wanted) 1054) in
+      let failed : Entry = (n, LaunchFailed process 1054) in
       record {
         entries = taken ∷ failed ∷ w.entries;
         told = All-cons (λ (e : Entry). tells e.0) taken (failed ∷ w.entries) told (All-cons (λ (e : Entry). tells e.0) failed w.entries told_then w.told);
         legal = (ok, (ok_then, w.legal));
-        waits = (e, refl, refl, w.waits);
-        answer = pair_silent l f 1 (first_wanted f.wanted) 1054 taken failed w.entries refl refl ∙ w.answer;
+        waits = (e, refl, (process, first, refl), w.waits);
+        kept = omega (arith, w.kept);
+        answer = pair_silent l f 1 process 1054 taken failed w.entries refl refl ∙ w.answer;
         state = w.state;
       }
 
   -- the same under other names of its states
-  pub waits_by : (k : Limits) (f mid g : Flat) (m n plan process : ℕ) → tells m → tells n → is_wanted f.wanted ≡ true → HasRun l f
-      → k ≡ l → mid ≡ (step_of l f m LaunchTaken).flat → process ≡ first_wanted f.wanted → g ≡ (step_of k mid n (LaunchFailed process 1054)).flat
+  pub waits_by : (k : Limits) (f mid g : Flat) (m n plan process : ℕ) → tells m → tells n → wants_launch f.wanted ≡ true → HasRun l f
+      → k ≡ l → mid ≡ (step_of l f m LaunchTaken).flat → first_wanted f.wanted ≡ Some process → g ≡ (step_of k mid n (LaunchFailed process 1054)).flat
       → code_of f.plans plan ≡ None → StillWaits tells l f g plan
   waits_by k f mid g m n plan process told told_then wanted run limits taken first failed undecided =
       let same = failed
       ∙ ap (λ x. (step_of x mid n (LaunchFailed process 1054)).flat) limits
-      ∙ ap (λ x. (step_of l x n (LaunchFailed process 1054)).flat) taken
-      ∙ ap (λ x. (step_of l (step_of l f m LaunchTaken).flat n (LaunchFailed x 1054)).flat) first in
+      ∙ ap (λ x. (step_of l x n (LaunchFailed process 1054)).flat) taken in
       subst (λ s. StillWaits tells l f s plan) (sym same)
-      (waits_on f m n plan told told_then (may_take l f m wanted) (may_fail l (step_of l f m LaunchTaken).flat n (first_wanted f.wanted) (taken_of_run l f m run wanted)) undecided)
+      (waits_on f m n plan process told told_then first (may_take l f m wanted) (may_fail l (step_of l f m LaunchTaken).flat n process (taken_of_run l f m process run first)) undecided)
 
   pub mine_by : (k : Limits) (f mid g : Flat) (m n plan process : ℕ) → mid ≡ (step_of l f m LaunchTaken).flat → g ≡ (step_of k mid n (LaunchFailed process 1054)).flat → IsMine f plan → IsMine g plan
   mine_by k f mid g m n plan process taken failed mine =
@@ -150,6 +155,7 @@ called_none tells l f moment asked told joined = record {
   told = All-cons (λ (e : Entry). tells e.0) (moment, NoMemory 1) [] told (All-nil (λ (e : Entry). tells e.0));
   legal = (both (is_caller f 1) joined, tt);
   served = (refl, refl);
+  kept = refl;
   answer = refl;
   replied = refl;
   state = refl;
@@ -157,22 +163,23 @@ called_none tells l f moment asked told joined = record {
 
 -- it was made and answered
 pub called_call : (tells : ℕ → Type 0) (l : Limits) (f : Flat) (moment : ℕ) (asked : Request) (k : Kept) (reply : Reply) → tells moment
-    → IsTrue (may l f moment (Call 1 asked k)) → IsNotLost k → (step_of l f moment (Call 1 asked k)).answer ≡ answers.Reply reply
+    → IsTrue (may l f moment (Call 1 asked k)) → is_failed k ≡ false → (step_of l f moment (Call 1 asked k)).answer ≡ answers.Reply reply
     → Called tells l f (step_of l f moment (Call 1 asked k)).flat asked reply
 called_call tells l f moment asked k reply told legal kept e = record {
   entries = (moment, Call 1 asked k) ∷ [];
   heard = Some reply;
   told = All-cons (λ (e : Entry). tells e.0) (moment, Call 1 asked k) [] told (All-nil (λ (e : Entry). tells e.0));
   legal = (legal, tt);
-  served = ((refl, refl, kept), subst (λ a. Follows l (step_of l f moment (Call 1 asked k)).flat 1 a []) (sym e) refl);
-  answer = ap (λ a. cons_option (told_by 1 (Call 1 asked k) a) []) e;
+  served = ((refl, refl), subst (λ a. Follows l (step_of l f moment (Call 1 asked k)).flat 1 a []) (sym e) refl);
+  kept = none_failed moment asked k [] kept refl;
+  answer = ap (λ a. cons_option (heard_by 1 (Call 1 asked k) a) []) e;
   replied = refl;
   state = refl;
 }
 
 -- it began a start, which waited
 pub called_start : (tells : ℕ → Type 0) (l : Limits) (f h : Flat) (moment : ℕ) (asked : Request) (k : Kept) (plan code : ℕ) → tells moment
-    → IsTrue (may l f moment (Call 1 asked k)) → IsNotLost k → (step_of l f moment (Call 1 asked k)).answer ≡ answers.Begun plan
+    → IsTrue (may l f moment (Call 1 asked k)) → is_failed k ≡ false → (step_of l f moment (Call 1 asked k)).answer ≡ answers.Begun plan
     → Waited tells l (step_of l f moment (Call 1 asked k)).flat h plan code
     → Called tells l f h asked (Code code)
 called_start tells l f h moment asked k plan code told legal kept e w =
@@ -182,15 +189,16 @@ called_start tells l f h moment asked k plan code told legal kept e w =
       heard = Some (Code code);
       told = All-cons (λ (e : Entry). tells e.0) (moment, Call 1 asked k) w.entries told w.told;
       legal = (legal, w.legal);
-      served = ((refl, refl, kept), subst (λ a. Follows l g 1 a w.entries) (sym e) w.waits);
-      answer = ap (λ a. cons_option (told_by 1 (Call 1 asked k) a) (replies l g 1 w.entries)) e ∙ w.answer;
+      served = ((refl, refl), subst (λ a. Follows l g 1 a w.entries) (sym e) w.waits);
+      kept = none_failed moment asked k w.entries kept w.kept;
+      answer = ap (λ a. cons_option (heard_by 1 (Call 1 asked k) a) (replies l g 1 w.entries)) e ∙ w.answer;
       replied = refl;
       state = w.state;
     }
 
 -- it was made, and its caller heard this
 pub called_heard : (tells : ℕ → Type 0) (l : Limits) (f h : Flat) (moment : ℕ) (asked : Request) (k : Kept) (answer : Answer) (reply : Reply) → tells moment
-    → IsTrue (may l f moment (Call 1 asked k)) → IsNotLost k → (step_of l f moment (Call 1 asked k)).answer ≡ answer
+    → IsTrue (may l f moment (Call 1 asked k)) → is_failed k ≡ false → (step_of l f moment (Call 1 asked k)).answer ≡ answer
     → Heard tells l (step_of l f moment (Call 1 asked k)).flat h answer reply → Called tells l f h asked reply
 called_heard tells l f h moment asked k (answers.Reply told) reply m ok kept e heard =
     subst (λ r. Called tells l f h asked r) (sym heard.0)
@@ -244,7 +252,7 @@ by_decision : (handle : ℕ) (words : Option (List (List ℕ))) (plan : ℕ) (co
 by_decision handle words plan None = λ code. (refl, tt)
 by_decision handle words plan (Some code) = (refl, tt)
 
-right_start : (handle : ℕ) (words : Option (List (List ℕ))) (f : Flat) (begins : Bool) (plan : ℕ) (told : Reply) → IsCode told → IsRight (request.Start handle words) (finished f (answer_of begins plan told)).answer
+right_start : (handle : ℕ) (words : Option (List (List ℕ))) (f : Flat) (begins : Bool) (plan : ℕ) (told : Reply) → IsCode told → IsRight (request.Start handle words) (finished f (call_answer begins plan told)).answer
 right_start handle words f true plan told h = by_decision handle words plan (code_of f.plans plan)
 right_start handle words f false plan told h = h
 
@@ -257,7 +265,7 @@ right_answer l f m of (request.Start handle words) k short range =
 right_answer l f m of x k short range = of_call l (with_moment f m) of x k short range
 
 by_answer : (l : Limits) (g : Flat) (x : Request) (k : Kept) (es : List Entry) (answer : Answer) (heard : Option Reply) (reply : Reply)
-    → IsRight x answer → IsTold answer → Follows l g 1 answer es → cons_option (told_by 1 (Call 1 x k) answer) (replies l g 1 es) ≡ heard ∷ [] → reply_to x heard ≡ reply → Answers x reply
+    → IsRight x answer → IsTold answer → Follows l g 1 answer es → cons_option (heard_by 1 (Call 1 x k) answer) (replies l g 1 es) ≡ heard ∷ [] → reply_to x heard ≡ reply → Answers x reply
 by_answer l g x k es (answers.Reply y) heard reply h s follows e p =
     let is : ◌≡◌ {A = Option Reply} (Some y) heard = cc in
     subst (Answers x) (ap (reply_to x) is ∙ p) h

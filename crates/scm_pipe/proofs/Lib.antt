@@ -2,7 +2,6 @@ pub mod Callers
 pub mod Histories
 pub mod Talking
 pub mod Running
-pub mod Replying
 pub mod Owning
 pub mod Calls
 pub mod Walking

@@ -1,5 +1,5 @@
 -- What is true of a state that a run leads to, and of a manager after a step.
-use Rattle.std.proofs.Common.{ℕ, ◌≡◌, ◌+◌, ◌<◌, ◌^◌, ◌++◌, Bool, true, false, cond, IsTrue, List, [], ◌∷◌, Some, find, sym, ap, ◌∙◌, subst, arith}
+use Rattle.std.proofs.Common.{ℕ, ◌≡◌, ◌+◌, ◌<◌, ◌^◌, ◌++◌, Bool, true, false, cond, IsTrue, List, [], ◌∷◌, Option, None, Some, sym, ap, ◌∙◌, subst, arith}
 use Rattle.std.specs.Prelude.{All, IfSome}
 use Rattle.std.proofs.lemmas.List.Elements.{All-head, All-tail}
 use Rattle.scm_text.specs.Fold.{same_text}
@@ -13,16 +13,22 @@ use Rattle.scm_model.specs.declared.steps.Step.TheVariants.{Call, LaunchTaken}
 use Rattle.scm_model.specs.Rows.{is_caller, named, displayed}
 use Rattle.scm_core.specs.Managed.{Managed}
 use Rattle.scm_core.proofs.Opened.{opens_empty}
-use Rattle.scm_rules.specs.Launches.{first_wanted, is_taken, process_of}
+use Rattle.scm_rules.specs.Launches.{first_wanted, is_taken, launch_taken, launch_told, process_of}
 use Rattle.scm_rules.specs.Opening.{opening}
 use Rattle.scm_model.specs.Entries.{Entry}
-use Rattle.scm_rules.specs.Steps.{is_wanted, may, step_of}
+use Rattle.scm_rules.specs.Steps.{finished, may, step_of}
+use Rattle.scm_model.specs.Changes.{with_moment}
+use Rattle.scm_model.specs.declared.steps.Answer.{Answer}
+use Rattle.scm_model.specs.declared.steps.Answer.TheVariants as answers
+use Rattle.start_plan.specs.Settle.{settled}
 use Rattle.scm_model.specs.Texts.{text_of, text_of_call}
-use Rattle.scm_laws.proofs.Along.{at_end}
-use Rattle.scm_laws.proofs.Calls.{keeps}
-use Rattle.scm_laws.proofs.Sizes.{AreShort, all_short as short_where_sound}
-use Rattle.scm_laws.proofs.Sound.{Sound, begun}
-use Rattle.scm_laws.proofs.Wanted.{taken_is_listed}
+use Rattle.scm_answers.proofs.Calls.{AllShort}
+use Rattle.scm_runs.proofs.Along.{at_end}
+use Rattle.scm_runs.proofs.Founds.{launch_is}
+use Rattle.scm_runs.proofs.Calls.{keeps}
+use Rattle.scm_runs.proofs.Sizes.{AreShort, all_short as short_where_sound}
+use Rattle.scm_runs.proofs.Sound.{Sound, begun}
+use Rattle.scm_runs.proofs.Wanted.{taken_is_listed}
 use Rattle.scm_pipe.specs.Calling.{HasRun}
 use Rattle.scm_pipe.specs.Ready.{IsReady, IsSame, Stays}
 use Rattle.scm_pipe.proofs.Callers.{callers_of_call}
@@ -43,30 +49,25 @@ pub sound_run : (l : Limits) (f : Flat) → HasRun l f → Sound f
 sound_run l f r = subst Sound r.state (at_end Sound l (keeps l) (opening l [] [] r.opened) r.history (begun l (opening l [] [] r.opened) (opens_empty l r.opened)) r.legal)
 
 -- after LaunchTaken the process that was wanted first is in hand
-pub taken_of_run : (l : Limits) (f : Flat) (moment : ℕ) → HasRun l f → is_wanted f.wanted ≡ true
-    → is_taken (process_of (step_of l f moment LaunchTaken).flat (first_wanted f.wanted)) ≡ true
-taken_of_run l f moment r wanted = taken_is_listed l f moment (sound_run l f r) wanted
+pub taken_of_run : (l : Limits) (f : Flat) (moment process : ℕ) → HasRun l f → first_wanted f.wanted ≡ Some process
+    → is_taken (process_of (step_of l f moment LaunchTaken).flat process) ≡ true
+taken_of_run l f moment process r first = taken_is_listed l f moment process (sound_run l f r) first
+
+told_first : (g : Flat) (found : Option ℕ) (process : ℕ) → (finished g (launch_told found)).answer ≡ answers.Launch process → found ≡ Some process
+told_first g None process e = absurd cc
+told_first g (Some first) process e = (let same : first ≡ process = cc in ap (λ (n : ℕ). Some n) same)
+
+pub tells_first : (l : Limits) (f : Flat) (moment process : ℕ) → first_wanted f.wanted ≡ Some process → (step_of l f moment LaunchTaken).answer ≡ answers.Launch process
+tells_first l f moment process e = launch_is (settled l (launch_taken (with_moment f moment)).flat) (first_wanted f.wanted) process e
+
+-- LaunchTaken tells which process that is
+pub first_told : (l : Limits) (f : Flat) (moment process : ℕ) → (step_of l f moment LaunchTaken).answer ≡ answers.Launch process → first_wanted f.wanted ≡ Some process
+first_told l f moment process e = told_first (settled l (launch_taken (with_moment f moment)).flat) (first_wanted f.wanted) process e
 
 -- ## Texts
 
--- every text of a configuration is short
-abbrev pub AllShort : Flat → Type 0
-AllShort f = All (λ (row : Service). AreShort row.config) f.services
-
 pub all_short : (l : Limits) (f : Flat) → HasRun l f → AllShort f
 all_short l f r = short_where_sound f (sound_run l f r)
-
--- a row that is found has what all have
-found_has : {X : Type 0} (P : X → Type 0) (p : X → Bool) (xs : List X) → All P xs → IfSome (find p xs) P
-found_has P p [] all = tt
-found_has P p (x ∷ xs) all =
-    elim (p x) as (λ b. IfSome (cond b (Some x) (find p xs)) P) [ true ↦ All-head P x xs all | false ↦ found_has P p xs (All-tail P x xs all) ]
-
-pub short_by_name : (f : Flat) (name : List ℕ) → AllShort f → IfSome (named f name) (λ row. AreShort row.config)
-short_by_name f name short = found_has (λ (row : Service). AreShort row.config) (λ (row : Service). same_text row.config.name name) f.services short
-
-pub short_by_display : (f : Flat) (display : List ℕ) → AllShort f → IfSome (displayed f display) (λ row. AreShort row.config)
-short_by_display f display short = found_has (λ (row : Service). AreShort row.config) (λ (row : Service). same_text row.config.display display) f.services short
 
 -- ## Managers
 

@@ -1,5 +1,5 @@
 -- Items that are answered, one after another.
-use Rattle.std.proofs.Common.{ℕ, ◌≡◌, List, [], ◌∷◌, ◌++◌, Option, None, Some, Result, Ok, Err, refl, sym, ap, ◌∙◌, subst, append_assoc, append-nil}
+use Rattle.std.proofs.Common.{ℕ, ◌≡◌, List, [], ◌∷◌, ◌++◌, Option, None, Some, Result, Ok, Err, refl, sym, ap, ◌∙◌, subst, append_assoc, append-nil, arith}
 use Rattle.std.specs.List.{cons_option}
 use Rattle.std.proofs.lemmas.Bool.{false≢true}
 use Rattle.std.proofs.lemmas.List.Elements.{All-nil, All-append, filter_map-append}
@@ -11,27 +11,27 @@ use Rattle.scm_model.specs.declared.flat.Flat.{Flat}
 use Rattle.scm_model.specs.declared.flat.Limits.{Limits}
 use Rattle.scm_model.specs.declared.calls.Request.{Request as Call_}
 use Rattle.scm_model.specs.declared.calls.Reply.{Reply}
-use Rattle.scm_rules.specs.Runs.{IsLegal, state_of}
+use Rattle.scm_rules.specs.Runs.{IsLegal, run_state}
 use Rattle.scm_model.specs.Entries.{Entry}
 use Rattle.std.specs.Prelude.{IfSome, IsSome}
-use Rattle.rpc_session.specs.Replies.{reply_bytes as fragments_of}
+use Rattle.rpc_session.specs.Replies.{reply_fragments as fragments_of}
 use Rattle.rpc_session.specs.declared.state.Terms.{Terms}
 use Rattle.rpc_session.specs.declared.state.Incoming.{Incoming}
 use Rattle.rpc_session.specs.declared.state.Incoming.TheVariants.{Local, Request}
 use Rattle.rpc_session.specs.declared.state.RequestItem.{RequestItem}
-use Rattle.scm_pipe.specs.Bodies.{asked, asked_by, asked_of, call_in, answer_to, behind, spoken, response, fault, reply_to}
+use Rattle.scm_pipe.specs.Bodies.{asked, asked_by, asked_of, call_in, answer_to, replies_behind, spoken, response, fault, reply_to}
 use Rattle.scm_pipe.specs.Histories.{AreServed, AsMany, IsServed, replies}
 use Rattle.scm_pipe.specs.Talks.{Talks, Answers, CutsShort}
 use Rattle.scm_pipe.specs.Calling.{Called}
-use Rattle.scm_pipe.specs.Along.{Answered, stopped}
-use Rattle.scm_pipe.proofs.Histories.{legal_append, replies_append, replies_as_many, served_append, state_append}
+use Rattle.scm_pipe.specs.Along.{Answered, write_stopped}
+use Rattle.scm_pipe.proofs.Histories.{failed_append, legal_append, replies_append, replies_as_many, served_append, state_append}
 
 -- ## What is spoken, one after another
 
 request_spoken : (r : RequestItem) (o : Result Call_ ℕ) (is js : List Incoming) (rs qs : List (Option Reply))
     → ((ts : List (Option Reply)) → AsMany (asked is) ts → spoken (is ++ js) (ts ++ qs) ≡ spoken is ts ++ spoken js qs)
     → AsMany (cons_option (call_in o) (asked is)) rs
-    → answer_to r o (rs ++ qs) ++ spoken (is ++ js) (behind (call_in o) (rs ++ qs)) ≡ (answer_to r o rs ++ spoken is (behind (call_in o) rs)) ++ spoken js qs
+    → answer_to r o (rs ++ qs) ++ spoken (is ++ js) (replies_behind (call_in o) (rs ++ qs)) ≡ (answer_to r o rs ++ spoken is (replies_behind (call_in o) rs)) ++ spoken js qs
 request_spoken r (Err status) is js rs qs more h =
     let text = fault r status in
     ap (λ x. text ++ x) (more rs h) ∙ sym (append_assoc text (spoken is rs) (spoken js qs))
@@ -51,11 +51,11 @@ spoken_append (Request r ∷ is) js rs qs h =
 -- ## Talks
 
 pub spoken_both : (l : Limits) (c : ℕ) (f m : Flat) (is js : List Incoming) (es ds : List Entry)
-    → AreServed l f c (asked is) es → state_of l f es ≡ m
+    → AreServed l f c (asked is) es → run_state l f es ≡ m
     → spoken (is ++ js) (replies l f c (es ++ ds)) ≡ spoken is (replies l f c es) ++ spoken js (replies l m c ds)
 spoken_both l c f m is js es ds p e =
     ap (spoken (is ++ js)) (replies_append l f c es ds)
-    ∙ spoken_append is js (replies l f c es) (replies l (state_of l f es) c ds) (replies_as_many l f c (asked is) es p)
+    ∙ spoken_append is js (replies l f c es) (replies l (run_state l f es) c ds) (replies_as_many l f c (asked is) es p)
     ∙ ap (λ g. spoken is (replies l f c es) ++ spoken js (replies l g c ds)) e
 
 abbrev pub talks_none : (tells : ℕ → Type 0) (l : Limits) (c : ℕ) (f : Flat) → Talks tells l c f f [] []
@@ -64,6 +64,7 @@ talks_none tells l c f = record {
   asked = refl;
   moments = All-nil (λ (e : Entry). tells e.0);
   legal = tt;
+  kept = refl;
   state = refl;
   answered = refl;
 }
@@ -74,6 +75,7 @@ talks_local tells l c f bytes = record {
   asked = refl;
   moments = All-nil (λ (e : Entry). tells e.0);
   legal = tt;
+  kept = refl;
   state = refl;
   answered = append-nil bytes;
 }
@@ -86,7 +88,8 @@ talks_append tells l c f m g is js x y p q = record {
       (served_append l f c (asked is) (asked js) p.calls q.calls p.asked (subst (λ s. AreServed l s c (asked js) q.calls) (sym p.state) q.asked));
   moments = All-append (λ (e : Entry). tells e.0) p.calls q.calls p.moments q.moments;
   legal = legal_append l f p.calls q.calls p.legal (subst (λ s. IsLegal l s q.calls) (sym p.state) q.legal);
-  state = state_append l f p.calls q.calls ∙ ap (λ s. state_of l s q.calls) p.state ∙ q.state;
+  kept = failed_append p.calls q.calls ∙ omega (arith, p.kept, q.kept);
+  state = state_append l f p.calls q.calls ∙ ap (λ s. run_state l s q.calls) p.state ∙ q.state;
   answered = spoken_both l c f m is js p.calls q.calls p.asked p.state ∙ ap (λ t. t ++ spoken js (replies l m c q.calls)) p.answered ∙ ap (λ t. x ++ t) q.answered;
 }
 
@@ -105,6 +108,7 @@ talks_fault tells l c f r status e = record {
   asked = none_asked l f c (asked_of r) status e;
   moments = All-nil (λ (e : Entry). tells e.0);
   legal = tt;
+  kept = refl;
   state = refl;
   answered = fault_said r (asked_of r) status e;
 }
@@ -125,6 +129,7 @@ talks_call tells l f g r x reply e called = record {
   asked = one_asked l f (asked_of r) x called.entries e called.served;
   moments = called.told;
   legal = called.legal;
+  kept = called.kept;
   state = called.state;
   answered = reply_said r (asked_of r) x (replies l f 1 called.entries) called.heard reply e called.answer called.replied;
 }
@@ -157,25 +162,33 @@ cut_one tells l c f g o p item text bytes t w front = record {
 front_append : {A : Type 0} (x a b : List A) → Begins a b → Begins (x ++ a) (x ++ b)
 front_append x a b h = (h.0, ap (λ t. x ++ t) h.1 ∙ sym (append_assoc x a h.0))
 
+-- all but the last of the later items have their text, and so have the earlier items
+pub cut_both : (tells : ℕ → Type 0) (l : Limits) (c : ℕ) (f m g : Flat) (o p q : Option (List ℕ)) (is js : List Incoming)
+    → Answers tells l c f m o p is → CutsShort tells l c m g p q js → (cut : CutsShort tells l c f g o q (is ++ js)) × Begins is cut.earlier
+cut_both tells l c f m g o p q is js a b = (
+  record {
+    text = a.text ++ b.text;
+    talks = talks_append tells l c f m g is js a.text b.text a.talks b.talks;
+    bytes = a.text ++ b.bytes;
+    written = Appends-trans o p q a.text b.bytes a.written b.written;
+    front = front_append a.text b.bytes b.text b.front;
+    earlier = is ++ b.earlier;
+    last = b.last;
+    order = ap (λ x. is ++ x) b.order ∙ sym (append_assoc is b.earlier (b.last ∷ []));
+    whole =
+        let said = spoken_both l c f m is b.earlier a.talks.calls b.talks.calls a.talks.asked a.talks.state ∙ ap (λ t. t ++ spoken b.earlier (replies l m c b.talks.calls)) a.talks.answered in
+        subst (λ t. Begins t (a.text ++ b.bytes)) (sym said) (front_append a.text (spoken b.earlier (replies l m c b.talks.calls)) b.bytes b.whole);
+  },
+  (b.earlier, refl),
+)
+
 pub cut_append : (tells : ℕ → Type 0) (l : Limits) (c : ℕ) (f m g : Flat) (o p q : Option (List ℕ)) (is js : List Incoming)
     → Answers tells l c f m o p is → CutsShort tells l c m g p q js → CutsShort tells l c f g o q (is ++ js)
-cut_append tells l c f m g o p q is js a b = record {
-  text = a.text ++ b.text;
-  talks = talks_append tells l c f m g is js a.text b.text a.talks b.talks;
-  bytes = a.text ++ b.bytes;
-  written = Appends-trans o p q a.text b.bytes a.written b.written;
-  front = front_append a.text b.bytes b.text b.front;
-  earlier = is ++ b.earlier;
-  last = b.last;
-  order = ap (λ x. is ++ x) b.order ∙ sym (append_assoc is b.earlier (b.last ∷ []));
-  whole =
-      let said = spoken_both l c f m is b.earlier a.talks.calls b.talks.calls a.talks.asked a.talks.state ∙ ap (λ t. t ++ spoken b.earlier (replies l m c b.talks.calls)) a.talks.answered in
-      subst (λ t. Begins t (a.text ++ b.bytes)) (sym said) (front_append a.text (spoken b.earlier (replies l m c b.talks.calls)) b.bytes b.whole);
-}
+cut_append tells l c f m g o p q is js a b = (cut_both tells l c f m g o p q is js a b).0
 
 -- an item whose text was written, or a front of it
 pub answered_by : (tells : ℕ → Type 0) (l : Limits) (f g : Flat) (o p : Option (List ℕ)) (item : Incoming) (text : List ℕ) (w : Result (Unit {0}) Failed)
-    → Talks tells l 1 f g (item ∷ []) text → Writes o p w text → Answered tells l 1 f g o p item (stopped w)
+    → Talks tells l 1 f g (item ∷ []) text → Writes o p w text → Answered tells l 1 f g o p item (write_stopped w)
 answered_by tells l f g o p item text (Ok done) t h = record { text = text; talks = t; written = h }
 answered_by tells l f g o p item text (Err fault) t h = cut_one tells l 1 f g o p item text h.front t h.held h.begins
 

@@ -12,8 +12,8 @@ use Rattle.rpc_session.specs.declared.session.SessionFault.TheVariants as faults
 use Rattle.scm_pipe.specs.declared.stop.Stop.{Stop}
 use Rattle.scm_pipe.specs.declared.stop.Stop.TheVariants as stop
 use Rattle.scm_pipe.specs.Talks.{Answers, CutsShort}
-use Rattle.scm_pipe.specs.Along.{Point, GaveMore, IsFront, GoesOn, GoesBad, Lacks, Breaks, Fed, Answered, stop_of}
-use Rattle.scm_pipe.specs.Serves.{Turned, ended_by, fed}
+use Rattle.scm_pipe.specs.Along.{Point, GaveMore, IsFront, GoesOn, GoesBad, Lacks, Breaks, FedOn, Answered, stop_of}
+use Rattle.scm_pipe.specs.Serves.{ReadOnce, served_by, fed}
 use Rattle.scm_pipe.proofs.Talking.{answers_append, cut_append, talks_none}
 
 -- a stretch on which all items that were given are answered
@@ -92,7 +92,7 @@ module _ (tells : ℕ → Type 0) (l : Limits) (a : Point) where
   }
 
   stops : (T : Type 0) (m b : Point) (item : Incoming) (why : Stop) → Stretch tells l 1 a m → GaveMore (λ stream. stream) m.session b.session (item ∷ [])
-      → Answered {T = T} tells l 1 m.flat b.flat m.held b.held item (Err why) → Fed {T = T} tells l 1 (λ stream. stream) a b (Err why)
+      → Answered {T = T} tells l 1 m.flat b.flat m.held b.held item (Err why) → FedOn {T = T} tells l 1 (λ stream. stream) a b (Err why)
   stops T m b item (stop.Bad place _) on gave h = absurd h
   stops T m b item (stop.TooLong length) on gave h = absurd h
   stops T m b item stop.WriteFault on gave h = one_cut m b item on gave h
@@ -100,7 +100,7 @@ module _ (tells : ℕ → Type 0) (l : Limits) (a : Point) where
 
   -- an item stops the serving
   pub one_stops : (T : Type 0) (k : Limits) (m b : Point) (item : Incoming) (why : Stop) → k ≡ l → Stretch tells l 1 a m → GaveMore (λ stream. stream) m.session b.session (item ∷ [])
-      → Answered {T = T} tells k 1 m.flat b.flat m.held b.held item (Err why) → Fed {T = T} tells l 1 (λ stream. stream) a b (Err why)
+      → Answered {T = T} tells k 1 m.flat b.flat m.held b.held item (Err why) → FedOn {T = T} tells l 1 (λ stream. stream) a b (Err why)
   one_stops T k m b item why same on gave h =
       stops T m b item why on gave (subst (λ x. Answered {T = T} tells x 1 m.flat b.flat m.held b.held item (Err why)) same h)
 
@@ -134,7 +134,7 @@ module _ (tells : ℕ → Type 0) (l : Limits) (a : Point) where
   -- a session's fault stops the serving
   pub fault_stops : (T : Type 0) (m : Point) (t : Seen) (fault : SessionFault) → Stretch tells l 1 a m
       → ((stream : List ℕ) (given : List Incoming) → Gave stream given m.session → Says stream given t (Err fault))
-      → Fed {T = T} tells l 1 (λ stream. stream) a (record { session = t; flat = m.flat; held = m.held }) (Err (stop_of fault))
+      → FedOn {T = T} tells l 1 (λ stream. stream) a (record { session = t; flat = m.flat; held = m.held }) (Err (stop_of fault))
   fault_stops T m t (faults.BadPdu place kind) on says = bad_end m t (BadPdu place kind) on says
   fault_stops T m t (faults.TooLong length) on says = bad_end m t (TooLong length) on says
   fault_stops T m t faults.OutOfMemory on says = none_lacks m t on
@@ -161,7 +161,7 @@ module _ (tells : ℕ → Type 0) (l : Limits) (piece : List ℕ) (a : Point) (s
     answers = on.answers;
   }
 
-  pub fed_piece : {T : Type 0} (b : Point) (result : Result T Stop) → Fed tells l 1 (λ stream. stream) taken b result → Fed tells l 1 (fed piece) a b result
+  pub fed_piece : {T : Type 0} (b : Point) (result : Result T Stop) → FedOn tells l 1 (λ stream. stream) taken b result → FedOn tells l 1 (fed piece) a b result
   fed_piece b (Ok done) on = goes_on b on
   fed_piece b (Err (stop.Bad place kind)) on = goes_bad b (BadPdu place kind) on
   fed_piece b (Err (stop.TooLong length)) on = goes_bad b (TooLong length) on
@@ -188,7 +188,7 @@ piece_lacks tells l piece a t = record {
 
 -- why a piece stops the serving is how the connection ends
 pub turned_by : (T : Type 0) (tells : ℕ → Type 0) (l : Limits) (a b : Point) (left_now : Option (List ℕ)) (read : List ℕ) (why : Stop)
-    → Fed {T = T} tells l 1 (fed read) a b (Err why) → Turned tells l 1 a b left_now read (Err (ended_by why))
+    → FedOn {T = T} tells l 1 (fed read) a b (Err why) → ReadOnce tells l 1 a b left_now read (Err (served_by why))
 turned_by T tells l a b left_now read (stop.Bad place _) h = h
 turned_by T tells l a b left_now read (stop.TooLong length) h = h
 turned_by T tells l a b left_now read stop.WriteFault h = h

@@ -56,12 +56,12 @@ pub record Breaks (tells : ℕ → Type 0) (l : Limits) (caller : ℕ) (grown : 
   pub front : IsFront grown a.session given
   pub answers : CutsShort tells l caller a.flat b.flat a.held b.held given
 
-abbrev pub Fed : {T : Type 0} → (tells : ℕ → Type 0) → Limits → ℕ → (List ℕ → List ℕ) → Point → Point → Result T Stop → Type 0
-Fed tells l caller grown a b (Ok done) = GoesOn tells l caller grown a b
-Fed tells l caller grown a b (Err (stop.Bad place kind)) = GoesBad tells l caller grown a b (BadPdu place kind)
-Fed tells l caller grown a b (Err (stop.TooLong length)) = GoesBad tells l caller grown a b (TooLong length)
-Fed tells l caller grown a b (Err stop.WriteFault) = Breaks tells l caller grown a b
-Fed tells l caller grown a b (Err stop.OutOfMemory) = Lacks tells l caller grown a b
+abbrev pub FedOn : {T : Type 0} → (tells : ℕ → Type 0) → Limits → ℕ → (List ℕ → List ℕ) → Point → Point → Result T Stop → Type 0
+FedOn tells l caller grown a b (Ok done) = GoesOn tells l caller grown a b
+FedOn tells l caller grown a b (Err (stop.Bad place kind)) = GoesBad tells l caller grown a b (BadPdu place kind)
+FedOn tells l caller grown a b (Err (stop.TooLong length)) = GoesBad tells l caller grown a b (TooLong length)
+FedOn tells l caller grown a b (Err stop.WriteFault) = Breaks tells l caller grown a b
+FedOn tells l caller grown a b (Err stop.OutOfMemory) = Lacks tells l caller grown a b
 
 -- why a session's fault stops the serving
 abbrev pub stop_of : SessionFault → Stop
@@ -70,9 +70,9 @@ stop_of (faults.TooLong length) = stop.TooLong length
 stop_of faults.OutOfMemory = stop.OutOfMemory
 
 -- a write that failed stops the serving
-abbrev pub stopped : {E : Type 0} → Result (Unit {0}) E → Result (Unit {0}) Stop
-stopped (Ok done) = Ok done
-stopped (Err fault) = Err stop.WriteFault
+abbrev pub write_stopped : {E : Type 0} → Result (Unit {0}) E → Result (Unit {0}) Stop
+write_stopped (Ok done) = Ok done
+write_stopped (Err fault) = Err stop.WriteFault
 
 -- what became of one item
 abbrev pub Answered : {T : Type 0} → (tells : ℕ → Type 0) → Limits → ℕ → (f g : Flat) (before now : Option (List ℕ)) → Incoming → Result T Stop → Type 0

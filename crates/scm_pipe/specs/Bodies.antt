@@ -10,7 +10,7 @@ use Rattle.scm_bodies.specs.Calls.{call_at}
 use Rattle.scm_bodies.specs.Requests.{request_at}
 use Rattle.scm_bodies.specs.Replies.{reply_bytes as body_of}
 use Rattle.rpc_pdu.specs.Written.{fault_bytes}
-use Rattle.rpc_session.specs.Replies.{reply_bytes as fragments_of}
+use Rattle.rpc_session.specs.Replies.{reply_fragments as fragments_of}
 use Rattle.rpc_session.specs.declared.contexts.Interface.{Interface}
 use Rattle.rpc_session.specs.declared.contexts.Interface.TheVariants.{Svcctl, Trigger}
 use Rattle.rpc_session.specs.declared.state.Incoming.{Incoming}
@@ -77,11 +77,11 @@ answer_of (Local bytes) replies = bytes
 answer_of (Request r) replies = answer_to r (asked_of r) replies
 
 -- the replies that are left behind a request
-abbrev pub behind : Option Call → List (Option Reply) → List (Option Reply)
-behind None replies = replies
-behind (Some request) replies = drop 1 replies
+abbrev pub replies_behind : Option Call → List (Option Reply) → List (Option Reply)
+replies_behind None replies = replies
+replies_behind (Some request) replies = drop 1 replies
 
 -- what a connection is answered: each item its own bytes, or those of the next reply
 abbrev pub spoken : List Incoming → List (Option Reply) → List ℕ
 spoken [] replies = []
-spoken (item ∷ items) replies = answer_of item replies ++ spoken items (behind (asked_by item) replies)
+spoken (item ∷ items) replies = answer_of item replies ++ spoken items (replies_behind (asked_by item) replies)

@@ -7,11 +7,11 @@ use Rattle.scm_model.specs.declared.calls.Reply.{Reply}
 use Rattle.scm_model.specs.declared.calls.Reply.TheVariants.{Code}
 use Rattle.scm_model.specs.declared.steps.Answer.{Answer}
 use Rattle.scm_model.specs.declared.steps.Answer.TheVariants as answers
-use Rattle.start_plan.specs.Decided.{caller_of}
+use Rattle.start_plan.specs.Decided.{plan_caller}
 use Rattle.scm_rules.specs.Opening.{opening}
-use Rattle.scm_rules.specs.Runs.{IsLegal, state_of}
+use Rattle.scm_rules.specs.Runs.{IsLegal, run_state}
 use Rattle.scm_model.specs.Entries.{Entry}
-use Rattle.scm_pipe.specs.Histories.{IsServed, Waits, replies}
+use Rattle.scm_pipe.specs.Histories.{IsServed, Waits, failed_in, replies}
 use Rattle.scm_bodies.specs.Replies.{reply_bytes as body_of}
 use Rattle.scm_pipe.specs.Bodies.{reply_to}
 
@@ -20,7 +20,7 @@ pub record HasRun (l : Limits) (f : Flat) : Type 0 where
   pub opened : ℕ
   pub history : List Entry
   pub legal : IsLegal l (opening l [] [] opened) history
-  pub state : state_of l (opening l [] [] opened) history ≡ f
+  pub state : run_state l (opening l [] [] opened) history ≡ f
 
 -- ## A start that waits
 
@@ -30,8 +30,9 @@ pub record Waited (tells : ℕ → Type 0) (l : Limits) (f g : Flat) (plan code 
   pub told : All (λ (e : Entry). tells e.0) entries
   pub legal : IsLegal l f entries
   pub waits : Waits l f 1 plan entries
+  pub kept : failed_in entries ≡ 0
   pub answer : replies l f 1 entries ≡ Some (Code code) ∷ []
-  pub state : state_of l f entries ≡ g
+  pub state : run_state l f entries ≡ g
 
 -- a start of caller 1 waits from f to g: however it ends from g on, it ends from f on
 abbrev pub StillWaits : (ℕ → Type 0) → Limits → Flat → Flat → (plan : ℕ) → Type 0
@@ -39,7 +40,7 @@ StillWaits tells l f g plan = (h : Flat) (code : ℕ) → Waited tells l g h pla
 
 -- the start is caller 1's
 abbrev pub IsMine : Flat → (plan : ℕ) → Type 0
-IsMine f plan = caller_of f.plans plan ≡ Some 1
+IsMine f plan = plan_caller f.plans plan ≡ Some 1
 
 -- one look at a start that waits: it ended, or it waits still
 abbrev pub Looked : (ℕ → Type 0) → Limits → Flat → Flat → (plan : ℕ) → Option ℕ → Type 0
@@ -67,9 +68,10 @@ pub record Called (tells : ℕ → Type 0) (l : Limits) (f g : Flat) (request : 
   pub told : All (λ (e : Entry). tells e.0) entries
   pub legal : IsLegal l f entries
   pub served : IsServed l f 1 request entries
+  pub kept : failed_in entries ≡ 0
   pub answer : replies l f 1 entries ≡ heard ∷ []
   pub replied : reply_to request heard ≡ reply
-  pub state : state_of l f entries ≡ g
+  pub state : run_state l f entries ≡ g
 
 -- a request of caller 1 was made, and this is the body of its reply
 pub record Replied (tells : ℕ → Type 0) (l : Limits) (f g : Flat) (request : Request) (body : List ℕ) : Type 0 where

@@ -13,7 +13,7 @@ use Rattle.rpc_session.specs.Items.{StreamEnd, AtRest, Unfinished, BadPdu, TooLo
 use Rattle.scm_pipe.specs.declared.served.Served.{Served}
 use Rattle.scm_pipe.specs.declared.served.Served.TheVariants as served
 use Rattle.scm_pipe.specs.Bodies.{asked, spoken}
-use Rattle.scm_pipe.specs.Histories.{AreRequests, AsMany, Made, own, replies}
+use Rattle.scm_pipe.specs.Histories.{AreRequests, AsMany, Made, made_by_caller, replies}
 
 -- ## What was served
 
@@ -40,10 +40,23 @@ pub record SoFarServed (read : List ℕ) (done : List Incoming) (told : List (Op
   pub goes_on : IsOpenEnd ending
   pub served : AllServed read done ending told written
 
+-- how many bytes are read at once
+abbrev pub piece_size : ℕ
+piece_size = 4096
+
+-- at most one piece was read behind bytes whose items are all answered
+pub record IsAhead (read : List ℕ) (answered : List Incoming) : Type 0 where
+  pub front : List ℕ
+  pub piece : List ℕ
+  pub split : read ≡ front ++ piece
+  pub short : length piece ≤ piece_size
+  pub all : Begins (items front).items answered
+
 -- the first items have their whole text
 pub record FirstServed (read : List ℕ) (done : List Incoming) (told : List (Option Reply)) (written : List ℕ) : Type 0 where
   pub first : Begins done (items read).items
   pub text : written ≡ spoken done told
+  pub ahead : IsAhead read done
 
 -- the first items were served, and what is written of their text has all but the last one's
 pub record CutShort (read : List ℕ) (done : List Incoming) (told : List (Option Reply)) (written : List ℕ) : Type 0 where
@@ -53,6 +66,7 @@ pub record CutShort (read : List ℕ) (done : List Incoming) (told : List (Optio
   pub last : Incoming
   pub order : done ≡ earlier ++ last ∷ []
   pub whole : Begins (spoken earlier told) written
+  pub ahead : IsAhead read earlier
 
 -- How far a connection came, by what it answered.
 abbrev pub Reached : Served → (read : List ℕ) → (left : Option (List ℕ)) → List Incoming → List (Option Reply) → (written : List ℕ) → Type 0
@@ -68,15 +82,15 @@ Reached served.OutOfMemory read left done told written = FirstServed read done t
 -- ## Causes
 
 -- a fault of the source or the sink comes only where its count rose
-abbrev pub IsCaused : Served → (source source_now sink sink_now : ℕ) → Type 0
-IsCaused served.ReadFault source source_now sink sink_now = Rose source source_now
-IsCaused served.WriteFault source source_now sink sink_now = Rose sink sink_now
-IsCaused served.Ended source source_now sink sink_now = Unit {0}
-IsCaused served.Truncated source source_now sink sink_now = Unit {0}
-IsCaused (served.BadPdu place _) source source_now sink sink_now = Unit {0}
-IsCaused (served.TooLong length) source source_now sink sink_now = Unit {0}
-IsCaused served.Worn source source_now sink sink_now = Unit {0}
-IsCaused served.OutOfMemory source source_now sink sink_now = Unit {0}
+abbrev pub IsServedFor : Served → (source source_now sink sink_now : ℕ) → Type 0
+IsServedFor served.ReadFault source source_now sink sink_now = Rose source source_now
+IsServedFor served.WriteFault source source_now sink sink_now = Rose sink sink_now
+IsServedFor served.Ended source source_now sink sink_now = Unit {0}
+IsServedFor served.Truncated source source_now sink sink_now = Unit {0}
+IsServedFor (served.BadPdu place _) source source_now sink sink_now = Unit {0}
+IsServedFor (served.TooLong length) source source_now sink sink_now = Unit {0}
+IsServedFor served.Worn source source_now sink sink_now = Unit {0}
+IsServedFor served.OutOfMemory source source_now sink sink_now = Unit {0}
 
 -- ## The connection
 
@@ -97,7 +111,7 @@ pub record IsSeen (talk : Talk) (left left_now held held_now : Option (List ℕ)
 -- and the talk came as far as it is answered with the replies that this history gives there.
 pub record IsConnection (tells : ℕ → Type 0) (l : Limits) (f : Flat) (caller : ℕ) (how : Served) (talk : Talk) (left_now : Option (List ℕ)) : Type 0 where
   pub legal : IsLegal l f talk.history
-  pub requests : AreRequests caller (asked talk.done) (own l f caller talk.history)
-  pub moments : All (λ (made : Made). tells made.moment) (own l f caller talk.history)
+  pub requests : AreRequests caller (asked talk.done) (made_by_caller l f caller talk.history)
+  pub moments : All (λ (made : Made). tells made.moment) (made_by_caller l f caller talk.history)
   pub replied : AsMany (asked talk.done) (replies l f caller talk.history)
   pub reached : Reached how talk.read left_now talk.done (replies l f caller talk.history) talk.written

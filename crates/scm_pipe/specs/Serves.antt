@@ -30,26 +30,26 @@ abbrev pub fed : List ℕ → List ℕ → List ℕ
 fed read stream = stream ++ read
 
 -- how a connection ends that isn't served on
-abbrev pub ended_by : Stop → Served
-ended_by (stop.Bad place kind) = served.BadPdu place kind
-ended_by (stop.TooLong length) = served.TooLong length
-ended_by stop.WriteFault = served.WriteFault
-ended_by stop.OutOfMemory = served.OutOfMemory
+abbrev pub served_by : Stop → Served
+served_by (stop.Bad place kind) = served.BadPdu place kind
+served_by (stop.TooLong length) = served.TooLong length
+served_by stop.WriteFault = served.WriteFault
+served_by stop.OutOfMemory = served.OutOfMemory
 
 -- what one read came to, by the count of bytes or by how the connection ends
-abbrev pub Turned : (tells : ℕ → Type 0) → Limits → ℕ → Point → Point → (left_now : Option (List ℕ)) → (read : List ℕ) → Result ℕ Served → Type 0
-Turned tells l caller a b left_now read (Ok n) = (n ≡ length read) × (0 < n) × GoesOn tells l caller (fed read) a b
-Turned tells l caller a b left_now read (Err served.ReadFault) = (read ≡ []) × (b ≡ a)
-Turned tells l caller a b left_now read (Err served.Ended) = (read ≡ []) × (b ≡ a) × IsAtEnd left_now × (is_at_rest a.session ≡ true)
-Turned tells l caller a b left_now read (Err served.Truncated) = (read ≡ []) × (b ≡ a) × IsAtEnd left_now × (is_at_rest a.session ≡ false)
-Turned tells l caller a b left_now read (Err (served.BadPdu place kind)) = GoesBad tells l caller (fed read) a b (BadPdu place kind)
-Turned tells l caller a b left_now read (Err (served.TooLong length)) = GoesBad tells l caller (fed read) a b (TooLong length)
-Turned tells l caller a b left_now read (Err served.WriteFault) = Breaks tells l caller (fed read) a b
-Turned tells l caller a b left_now read (Err served.OutOfMemory) = Lacks tells l caller (fed read) a b
-Turned tells l caller a b left_now read (Err served.Worn) = ⊥
+abbrev pub ReadOnce : (tells : ℕ → Type 0) → Limits → ℕ → Point → Point → (left_now : Option (List ℕ)) → (read : List ℕ) → Result ℕ Served → Type 0
+ReadOnce tells l caller a b left_now read (Ok n) = (n ≡ length read) × (0 < n) × GoesOn tells l caller (fed read) a b
+ReadOnce tells l caller a b left_now read (Err served.ReadFault) = (read ≡ []) × (b ≡ a)
+ReadOnce tells l caller a b left_now read (Err served.Ended) = (read ≡ []) × (b ≡ a) × IsAtEnd left_now × (is_at_rest a.session ≡ true)
+ReadOnce tells l caller a b left_now read (Err served.Truncated) = (read ≡ []) × (b ≡ a) × IsAtEnd left_now × (is_at_rest a.session ≡ false)
+ReadOnce tells l caller a b left_now read (Err (served.BadPdu place kind)) = GoesBad tells l caller (fed read) a b (BadPdu place kind)
+ReadOnce tells l caller a b left_now read (Err (served.TooLong length)) = GoesBad tells l caller (fed read) a b (TooLong length)
+ReadOnce tells l caller a b left_now read (Err served.WriteFault) = Breaks tells l caller (fed read) a b
+ReadOnce tells l caller a b left_now read (Err served.OutOfMemory) = Lacks tells l caller (fed read) a b
+ReadOnce tells l caller a b left_now read (Err served.Worn) = ⊥
 
 pub record Turn (tells : ℕ → Type 0) (l : Limits) (caller : ℕ) (a b : Point) (left left_now : Option (List ℕ)) (room : ℕ) (result : Result ℕ Served) : Type 0 where
   pub read : List ℕ
   pub consumed : Consumes left left_now read
   pub short : length read ≤ room
-  pub turned : Turned tells l caller a b left_now read result
+  pub turned : ReadOnce tells l caller a b left_now read result

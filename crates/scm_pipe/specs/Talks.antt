@@ -4,19 +4,20 @@ use Rattle.std.specs.Io.KnownBytes.{Appends}
 use Rattle.outside.specs.Written.{Begins}
 use Rattle.scm_model.specs.declared.flat.Flat.{Flat}
 use Rattle.scm_model.specs.declared.flat.Limits.{Limits}
-use Rattle.scm_rules.specs.Runs.{IsLegal, state_of}
+use Rattle.scm_rules.specs.Runs.{IsLegal, run_state}
 use Rattle.scm_model.specs.Entries.{Entry}
 use Rattle.rpc_session.specs.declared.state.Incoming.{Incoming}
 use Rattle.scm_pipe.specs.Bodies.{asked, spoken}
-use Rattle.scm_pipe.specs.Histories.{AreServed, replies}
+use Rattle.scm_pipe.specs.Histories.{AreServed, failed_in, replies}
 
--- Requests of these items lead from f to g, and the items are answered this.
+-- Requests of these items lead from f to g, their changes are kept, and the items are answered this.
 pub record Talks (tells : ℕ → Type 0) (l : Limits) (caller : ℕ) (f g : Flat) (items : List Incoming) (text : List ℕ) : Type 0 where
   pub calls : List Entry
   pub asked : AreServed l f caller (asked items) calls
   pub moments : All (λ (e : Entry). tells e.0) calls
   pub legal : IsLegal l f calls
-  pub state : state_of l f calls ≡ g
+  pub kept : failed_in calls ≡ 0
+  pub state : run_state l f calls ≡ g
   pub answered : spoken items (replies l f caller calls) ≡ text
 
 -- the items are answered, and the sink holds the whole text more

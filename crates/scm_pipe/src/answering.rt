@@ -1,7 +1,7 @@
 ghost use Rattle.std.specs.Prelude.{◌≡◌, ◌≤◌, ◌++◌, IfOk, IsTrue, OnErr, Some, length};
 ghost use Rattle.scm_bodies.specs.Replies.{reply_bytes as body_of};
 ghost use Rattle.scm_model.specs.Ranges.{in_range};
-ghost use Rattle.scm_pipe.specs.Along.{Answered, HasStopCause, stopped};
+ghost use Rattle.scm_pipe.specs.Along.{Answered, HasStopCause, write_stopped};
 ghost use Rattle.scm_pipe.specs.Calling.{Replied};
 ghost use Rattle.scm_pipe.specs.Ready.{IsReady, Stays};
 ghost use Rattle.rpc_session.specs.Moves.{IsFor};
@@ -9,10 +9,9 @@ ghost use Rattle.rpc_session.specs.declared.state.Incoming.TheVariants as items;
 
 use super::asking::asked;
 use super::calling::call;
-use super::clock::Clock;
 use super::stop::Stop;
-use outside::Failed;
-use rpc_session::{Incoming, RequestItem, Session, Sink, write_all};
+use outside::{Clock, Failed, Sink, write_all};
+use rpc_session::{Incoming, RequestItem, Session};
 use scm_bodies::{reply_bound, write_reply};
 use scm_core::Manager;
 use scm_model::{Reply, Request};
@@ -25,7 +24,7 @@ pub const CALLER: u64 = 1;
 
 /// Why writing stopped.
 fn stopped(written: Result<(), Failed>) -> Result<(), Stop>
-    ensures { result ≡ stopped written }
+    ensures { result ≡ write_stopped written }
 {
     match written {
         Ok(()) => Ok(()),

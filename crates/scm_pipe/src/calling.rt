@@ -7,8 +7,8 @@ ghost use Rattle.scm_pipe.specs.Calling.{Called, Heard, IsSpoken};
 ghost use Rattle.scm_pipe.specs.Ready.{IsPreparedIf, IsReady, IsSame, Stays};
 
 use super::answering::CALLER;
-use super::clock::Clock;
 use super::waiting::wait;
+use outside::Clock;
 use scm_core::Manager;
 use scm_model::codes::ERROR_NOT_ENOUGH_MEMORY;
 use scm_model::{Answer, Kept, Reply, Request, Step, refused};

@@ -1,12 +1,12 @@
 ghost use Rattle.std.specs.Prelude.{◌≡◌, ◌≤◌};
-ghost use Rattle.scm_pipe.specs.Along.{Fed, HasStopCause, stop_of};
+ghost use Rattle.scm_pipe.specs.Along.{FedOn, HasStopCause, stop_of};
 ghost use Rattle.scm_pipe.specs.Ready.{IsReady, Stays};
 ghost use Rattle.scm_pipe.specs.Serves.{fed};
 
 use super::answering::answer;
-use super::clock::Clock;
 use super::stop::Stop;
-use rpc_session::{Session, SessionFault, Sink};
+use outside::{Clock, Sink};
+use rpc_session::{Session, SessionFault};
 use scm_core::Manager;
 use std::alloc::Global;
 use std::sync::Wait;
@@ -32,7 +32,7 @@ fn drain<R: Wait, O: Sink, C: Clock>(
     clock: &C,
 ) -> Result<(), Stop>
     requires { IsReady manager.old }
-    ensures fed { Fed (C.tells clock.now) manager.old.limits 1 (λ stream. stream)
+    ensures fed { FedOn (C.tells clock.now) manager.old.limits 1 (λ stream. stream)
         (record { session = session.old; flat = manager.old.flat; held = O.held output.old })
         (record { session = session.new; flat = manager.new.flat; held = O.held output.new })
         result }
@@ -62,7 +62,7 @@ pub fn feed<R: Wait, O: Sink, C: Clock>(
     clock: &C,
 ) -> Result<(), Stop>
     requires { IsReady manager.old }
-    ensures fed { Fed (C.tells clock.now) manager.old.limits 1 (fed piece.now)
+    ensures fed { FedOn (C.tells clock.now) manager.old.limits 1 (fed piece.now)
         (record { session = session.old; flat = manager.old.flat; held = O.held output.old })
         (record { session = session.new; flat = manager.new.flat; held = O.held output.new })
         result }

@@ -4,7 +4,6 @@
 mod answering;
 mod asking;
 mod calling;
-mod clock;
 mod feeding;
 mod served;
 mod serving;
@@ -12,7 +11,6 @@ mod stop;
 mod waiting;
 
 pub use answering::CALLER;
-pub use clock::{Clock, FixedClock};
 pub use served::Served;
 pub use serving::serve;
 pub use stop::Stop;

@@ -1,13 +1,13 @@
 ghost use Rattle.std.specs.Prelude.{◌≡◌, ◌≤◌, ◌<◌, length, IfErr};
-ghost use Rattle.scm_pipe.specs.Connection.{IsCaused};
+ghost use Rattle.scm_pipe.specs.Connection.{IsServedFor};
 ghost use Rattle.scm_pipe.specs.Ready.{IsReady, Stays};
-ghost use Rattle.scm_pipe.specs.Serves.{Serves, Turn, ended_by};
+ghost use Rattle.scm_pipe.specs.Serves.{Serves, Turn, served_by};
 
-use super::clock::Clock;
 use super::feeding::feed;
 use super::served::Served;
 use super::stop::Stop;
-use rpc_session::{Session, Sink, Source};
+use outside::{Clock, Sink, Source};
+use rpc_session::Session;
 use scm_core::Manager;
 use std::alloc::Global;
 use std::sync::Wait;
@@ -20,7 +20,7 @@ const PIECE: u64 = 4096;
 
 /// How a connection ends that isn't served on.
 fn ended_by(stop: Stop) -> Served
-    ensures { result ≡ ended_by stop }
+    ensures { result ≡ served_by stop }
 {
     match stop {
         Stop::Bad(place, kind) => Served::BadPdu(place, kind),
@@ -50,7 +50,7 @@ fn turn<R: Wait, I: Source, O: Sink, C: Clock>(
     ensures stays { Stays manager.old manager.new }
     ensures input { I.faults input.old ≤ I.faults input.new }
     ensures output { O.faults output.old ≤ O.faults output.new }
-    ensures cause { IfErr result (λ how. IsCaused how (I.faults input.old) (I.faults input.new) (O.faults output.old) (O.faults output.new)) }
+    ensures cause { IfErr result (λ how. IsServedFor how (I.faults input.old) (I.faults input.new) (O.faults output.old) (O.faults output.new)) }
 {
     let Ok(n) = input.read(into) else {
         return Err(Served::ReadFault);
@@ -83,7 +83,7 @@ pub fn serve<R: Wait, I: Source, O: Sink, C: Clock>(
     ensures stays { Stays manager.old manager.new }
     ensures input { I.faults input.old ≤ I.faults input.new }
     ensures output { O.faults output.old ≤ O.faults output.new }
-    ensures cause { IsCaused result (I.faults input.old) (I.faults input.new) (O.faults output.old) (O.faults output.new) }
+    ensures cause { IsServedFor result (I.faults input.old) (I.faults input.new) (O.faults output.old) (O.faults output.new) }
 {
     let mut session = Session::new(alloc);
     let mut piece = [0u8; 4096];

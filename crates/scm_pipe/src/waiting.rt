@@ -4,7 +4,7 @@ ghost use Rattle.scm_pipe.specs.Calling.{IsMine, Looked, StillWaits, Waited};
 ghost use Rattle.scm_pipe.specs.Ready.{IsReady, Stays};
 
 use super::answering::CALLER;
-use super::clock::Clock;
+use outside::Clock;
 use scm_core::Manager;
 use scm_model::codes::ERROR_SERVICE_NO_THREAD;
 use scm_model::{Answer, Step};

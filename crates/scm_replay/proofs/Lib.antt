@@ -1,5 +1,5 @@
-mod Numbers
 mod Lines
 mod Stretches
-mod Ends
+mod Bad
+pub mod Ends
 mod Admitted

@@ -1,57 +1,86 @@
 -- Stretches of an input, one after another.
-use Rattle.std.proofs.Common.{ℕ, ◌≡◌, ◌+◌, ◌<◌, take, drop, get_or, length, arith, List, [], ◌∷◌, ◌++◌, Err, refl, sym, ap, ◌∙◌, subst, append_assoc}
+use Rattle.std.proofs.Common.{inl, ℕ, ◌≡◌, ◌+◌, ◌<◌, take, drop, get_or, length, arith, List, [], ◌∷◌, ◌++◌, Err, refl, sym, ap, ◌∙◌, subst, append_assoc, append-nil}
 use Rattle.std.proofs.KnownBytes.{Appends-nil, Appends-trans}
 use Rattle.std.proofs.lemmas.List.{take_more, drop_more, take-append-drop}
 use Rattle.scm_model.specs.declared.flat.Limits.{Limits}
 use Rattle.scm_replay.specs.declared.stop.Stop.{Stop}
 use Rattle.scm_replay.specs.declared.stop.Stop.TheVariants as stop
-use Rattle.scm_replay.specs.Replay.{Told, behind}
+use Rattle.scm_replay.specs.Replay.{IsOneLine, Told, text_behind, replayed_from}
 use Rattle.scm_core.specs.Managed.{Managed}
-use Rattle.scm_replay.specs.Along.{Point, told_at, IsOneLine, GoesOn, Breaks, Fed, Keeps}
+use Rattle.scm_replay.specs.Along.{Point, GoesOn, LinesFed, Halts, HaltsIn, IsFeed, Keeps}
 
-behind_both : (x y : List ℕ) (t : Told) → behind x (behind y t) ≡ behind (x ++ y) t
-behind_both x y t = ap (λ z. record { text = z; ending = t.ending }) (sym (append_assoc x y t.text))
+behind_both : (x y : List ℕ) (t : Told) → text_behind x (text_behind y t) ≡ text_behind (x ++ y) t
+behind_both x y t = ap (λ z. record { text = z; ending = t.ending; at = t.at }) (sym (append_assoc x y t.text))
+
+is_feed : (why : Stop) → IsFeed why 10
+is_feed stop.BadLine = refl
+is_feed stop.WriteFault = refl
+is_feed stop.OutOfMemory = tt
 
 module _ (l : Limits) where
   -- nothing yet
   pub goes_nowhere : (a : Point) → IsOneLine a.pending → GoesOn l [] a a
-  goes_nowhere a clean = record { text = []; written = Appends-nil a.held; told = λ more. refl; clean = clean }
+  goes_nowhere a clean = record {
+    lines = [];
+    text = [];
+    parts = append-nil a.pending;
+    written = Appends-nil a.held;
+    told = λ more. refl;
+    clean = clean;
+  }
 
   -- two stretches
   pub goes_further : (xs ys : List ℕ) (a m b : Point) → GoesOn l xs a m → GoesOn l ys m b → GoesOn l (xs ++ ys) a b
   goes_further xs ys a m b p q = record {
+    lines = p.lines ++ q.lines;
     text = p.text ++ q.text;
+    parts =
+        sym (append_assoc a.pending xs ys) ∙ ap (λ z. z ++ ys) p.parts ∙ append_assoc p.lines m.pending ys ∙ ap (λ z. p.lines ++ z) q.parts
+        ∙ sym (append_assoc p.lines q.lines b.pending);
     written = Appends-trans a.held m.held b.held p.text q.text p.written q.written;
-    told = λ more. ap (told_at l a) (append_assoc xs ys more) ∙ p.told (ys ++ more) ∙ ap (behind p.text) (q.told more) ∙ behind_both p.text q.text (told_at l b more);
+    told = λ more.
+        ap (replayed_from l a.at a.number) (append_assoc p.lines q.lines more) ∙ p.told (q.lines ++ more) ∙ ap (text_behind p.text) (q.told more)
+        ∙ behind_both p.text q.text (replayed_from l b.at b.number more);
     clean = q.clean;
   }
 
-  -- what is told from a stretch on that lies within a piece
-  from_there : (piece xs ys zs : List ℕ) (a m : Point) → piece ≡ xs ++ (ys ++ zs) → (p : GoesOn l xs a m) → (more : List ℕ)
-      → told_at l a (piece ++ more) ≡ behind p.text (told_at l m (ys ++ (zs ++ more)))
-  from_there piece xs ys zs a m e p more =
-      ap (λ x. told_at l a (x ++ more)) e ∙ ap (told_at l a) (append_assoc xs (ys ++ zs) more) ∙ p.told ((ys ++ zs) ++ more)
-      ∙ ap (λ x. behind p.text (told_at l m x)) (append_assoc ys zs more)
-
-  breaks_there : (piece xs ys zs : List ℕ) (a m b : Point) → piece ≡ xs ++ (ys ++ zs) → GoesOn l xs a m → Breaks l ys m b → Breaks l piece a b
-  breaks_there piece xs ys zs a m b e p q = record {
-    text = p.text ++ q.text;
-    written = Appends-trans a.held m.held b.held p.text q.text p.written q.written;
-    front = λ more.
-        let rest = q.front (zs ++ more) in
-        (rest.0, ap (λ (t : Told). t.text) (from_there piece xs ys zs a m e p more) ∙ ap (λ t. p.text ++ t) rest.1 ∙ sym (append_assoc p.text q.text rest.0));
+  -- a byte at which a line stops the run
+  halts_at : (a b : Point) (byte : ℕ) (why : Stop) → IsOneLine a.pending → IsFeed why byte
+      → Halts l a.number a.pending a.at b.at a.held b.held why → HaltsIn l (byte ∷ []) a b why
+  halts_at a b byte why clean feed halts = record {
+    before = [];
+    byte = byte;
+    rest = [];
+    point = a;
+    parts = refl;
+    on = goes_nowhere a clean;
+    feed = feed;
+    halts = halts;
   }
+
+  -- a line stops the run
+  pub line_stops : (a b : Point) (why : Stop) → IsOneLine a.pending → Halts l a.number a.pending a.at b.at a.held b.held why → HaltsIn l (10 ∷ []) a b why
+  line_stops a b why clean halts = halts_at a b 10 why clean (is_feed why) halts
+
+  -- there is no memory for a byte more
+  pub byte_lost : (a b : Point) (byte : ℕ) → IsOneLine a.pending → b.at ≡ a.at → b.held ≡ a.held → HaltsIn l (byte ∷ []) a b stop.OutOfMemory
+  byte_lost a b byte clean at held = halts_at a b byte stop.OutOfMemory clean tt (inl at, held)
 
   -- a part of a piece stops the run
-  pub stops_there : (T : Type 0) (piece xs ys zs : List ℕ) (a m b : Point) (why : Stop) → piece ≡ xs ++ (ys ++ zs)
-      → GoesOn l xs a m → Fed {T = T} l ys m b (Err why) → Fed {T = T} l piece a b (Err why)
-  stops_there T piece xs ys zs a m b stop.BadLine e p q = record {
-    text = p.text ++ q.text;
-    written = Appends-trans a.held m.held b.held p.text q.text p.written q.written;
-    told = λ more. from_there piece xs ys zs a m e p more ∙ ap (behind p.text) (q.told (zs ++ more));
+  pub stops_there : (piece xs ys zs : List ℕ) (a m b : Point) (why : Stop) → piece ≡ xs ++ (ys ++ zs)
+      → GoesOn l xs a m → HaltsIn l ys m b why → HaltsIn l piece a b why
+  stops_there piece xs ys zs a m b why e p q = record {
+    before = xs ++ q.before;
+    byte = q.byte;
+    rest = q.rest ++ zs;
+    point = q.point;
+    parts =
+        e ∙ ap (λ y. xs ++ (y ++ zs)) q.parts ∙ ap (λ y. xs ++ y) (append_assoc q.before (q.byte ∷ q.rest) zs)
+        ∙ sym (append_assoc xs q.before (q.byte ∷ (q.rest ++ zs)));
+    on = goes_further xs q.before a m q.point p q.on;
+    feed = q.feed;
+    halts = q.halts;
   }
-  stops_there T piece xs ys zs a m b stop.WriteFault e p q = breaks_there piece xs ys zs a m b e p q
-  stops_there T piece xs ys zs a m b stop.OutOfMemory e p q = breaks_there piece xs ys zs a m b e p q
 
   -- one byte more of a piece
   pub one_more : (piece : List ℕ) (i x : ℕ) (a m b : Point) → i < length piece → get_or piece i 0 ≡ x
@@ -61,9 +90,9 @@ module _ (l : Limits) where
 
   -- a byte of a piece stops the run
   pub one_stops : (T : Type 0) (piece : List ℕ) (i x : ℕ) (a m b : Point) (why : Stop) → i < length piece → get_or piece i 0 ≡ x
-      → GoesOn l (take i piece) a m → Fed {T = T} l (x ∷ []) m b (Err why) → Fed {T = T} l piece a b (Err why)
+      → GoesOn l (take i piece) a m → LinesFed {T = T} l (x ∷ []) m b (Err why) → LinesFed {T = T} l piece a b (Err why)
   one_stops T piece i x a m b why lt at p q =
-      stops_there T piece (take i piece) (x ∷ []) (drop (i + 1) piece) a m b why
+      stops_there piece (take i piece) (x ∷ []) (drop (i + 1) piece) a m b why
       (sym (take-append-drop i piece) ∙ ap (λ r. take i piece ++ r) (drop_more piece i 0 lt ∙ ap (λ y. y ∷ drop (i + 1) piece) at)) p q
 
 -- what a manager keeps over two stretches

@@ -1,17 +1,18 @@
 -- What became of the bytes on a stretch of an input.
-use Rattle.std.specs.Prelude.{ℕ, ◌≡◌, ◌+◌, ◌<◌, ◌≤◌, ◌^◌, ◌==◌, true, false, List, [], ◌++◌, length, All, Option, Result, Ok, Err, IsErrOf}
+use Rattle.std.specs.Prelude.{ℕ, ◌≡◌, ◌+◌, ◌<◌, ◌≤◌, ◌^◌, ◌==◌, ◌⊎◌, true, false, List, [], ◌∷◌, ◌++◌, length, Option, Result, Ok, Err, IsErrOf}
 use Rattle.std.specs.Io.KnownBytes.{Appends, Consumes, IsAtEnd}
 use Rattle.outside.specs.Causes.{Rose}
-use Rattle.outside.specs.Written.{AppendsFront, Begins}
+use Rattle.outside.specs.Written.{AppendsFront}
 use Rattle.scm_model.specs.declared.flat.Limits.{Limits}
 use Rattle.scm_core.specs.Managed.{Managed}
 use Rattle.scm_replay.specs.declared.replayed.Replayed.{Replayed}
 use Rattle.scm_replay.specs.declared.replayed.Replayed.TheVariants as ended
+use Rattle.scm_replay.specs.declared.feeding.Reading.{Reading}
 use Rattle.scm_replay.specs.declared.stop.Stop.{Stop}
 use Rattle.scm_replay.specs.declared.stop.Stop.TheVariants as stop
-use Rattle.scm_replay.specs.Outcomes.{Standing, goes_on, outcome_at}
+use Rattle.scm_replay.specs.Outcomes.{Standing, goes_on, outcome_at, standing}
 use Rattle.scm_replay.specs.Answers.{answer_line}
-use Rattle.scm_replay.specs.Replay.{BadLine, Told, behind, replayed_from}
+use Rattle.scm_replay.specs.Replay.{IsOneLine, text_behind, replayed_from}
 
 -- where a run stands: the manager, the number of the next line, what was read of it, and the sink
 pub record Point : Type 0 where
@@ -20,47 +21,51 @@ pub record Point : Type 0 where
   pub pending : List ℕ
   pub held : Option (List ℕ)
 
--- what an input is answered from a point on
-abbrev pub told_at : Limits → Point → List ℕ → Told
-told_at l p input = replayed_from l p.at p.number (p.pending ++ input)
+abbrev pub point : Managed → Reading → Option (List ℕ) → Point
+point m reading held = record { at = standing m; number = reading.number; pending = reading.pending.items; held = held }
 
--- no line feed stands in it
-abbrev pub IsOneLine : List ℕ → Type 0
-IsOneLine bytes = All (λ b. (b == 10) ≡ false) bytes
-
--- these bytes are answered, whatever follows
+-- these bytes, behind what was read of the line, are lines that are answered, whatever follows, and what was read of the next one
 pub record GoesOn (l : Limits) (piece : List ℕ) (a b : Point) : Type 0 where
+  pub lines : List ℕ
   pub text : List ℕ
+  pub parts : a.pending ++ piece ≡ lines ++ b.pending
   pub written : Appends a.held b.held text
-  pub told : (more : List ℕ) → told_at l a (piece ++ more) ≡ behind text (told_at l b more)
+  pub told : (more : List ℕ) → replayed_from l a.at a.number (lines ++ more) ≡ text_behind text (replayed_from l b.at b.number more)
   pub clean : IsOneLine b.pending
 
--- a line that ends in these bytes is bad, and all before it are answered
-pub record GoesBad (l : Limits) (piece : List ℕ) (a b : Point) : Type 0 where
-  pub text : List ℕ
-  pub written : Appends a.held b.held text
-  pub told : (more : List ℕ) → told_at l a (piece ++ more) ≡ record { text = text; ending = BadLine }
-
--- a front of the answer to these bytes is written
-pub record Breaks (l : Limits) (piece : List ℕ) (a b : Point) : Type 0 where
-  pub text : List ℕ
-  pub written : Appends a.held b.held text
-  pub front : (more : List ℕ) → Begins text (told_at l a (piece ++ more)).text
-
-abbrev pub Fed : {T : Type 0} → Limits → (piece : List ℕ) → Point → Point → Result T Stop → Type 0
-Fed l piece a b (Ok done) = GoesOn l piece a b
-Fed l piece a b (Err stop.BadLine) = GoesBad l piece a b
-Fed l piece a b (Err stop.WriteFault) = Breaks l piece a b
-Fed l piece a b (Err stop.OutOfMemory) = Breaks l piece a b
+-- what became of a line at which the run stopped
+abbrev pub Halts : Limits → (number : ℕ) → (line : List ℕ) → (s t : Standing) → (before now : Option (List ℕ)) → Stop → Type 0
+Halts l number line s t before now stop.BadLine =
+    (goes_on (outcome_at l s line).0 ≡ false) × (t ≡ (outcome_at l s line).1) × Appends before now (answer_line number (outcome_at l s line).0)
+Halts l number line s t before now stop.WriteFault =
+    (t ≡ (outcome_at l s line).1) × AppendsFront before now (answer_line number (outcome_at l s line).0)
+Halts l number line s t before now stop.OutOfMemory = ((t ≡ s) ⊎ (t ≡ (outcome_at l s line).1)) × (now ≡ before)
 
 -- what became of one line
 abbrev pub Lined : {T : Type 0} → Limits → (number : ℕ) → (line : List ℕ) → (s t : Standing) → (before now : Option (List ℕ)) → Result T Stop → Type 0
 Lined l number line s t before now (Ok done) =
     (goes_on (outcome_at l s line).0 ≡ true) × (t ≡ (outcome_at l s line).1) × Appends before now (answer_line number (outcome_at l s line).0)
-Lined l number line s t before now (Err stop.BadLine) =
-    (goes_on (outcome_at l s line).0 ≡ false) × Appends before now (answer_line number (outcome_at l s line).0)
-Lined l number line s t before now (Err stop.WriteFault) = AppendsFront before now (answer_line number (outcome_at l s line).0)
-Lined l number line s t before now (Err stop.OutOfMemory) = now ≡ before
+Lined l number line s t before now (Err why) = Halts l number line s t before now why
+
+-- a line is answered where its line feed is read; memory may be wanting at any byte
+abbrev pub IsFeed : Stop → ℕ → Type 0
+IsFeed stop.OutOfMemory byte = Unit {0}
+IsFeed other byte = byte ≡ 10
+
+-- the bytes up to one of these go on, and there the run stopped
+pub record HaltsIn (l : Limits) (piece : List ℕ) (a b : Point) (why : Stop) : Type 0 where
+  pub before : List ℕ
+  pub byte : ℕ
+  pub rest : List ℕ
+  pub point : Point
+  pub parts : piece ≡ before ++ byte ∷ rest
+  pub on : GoesOn l before a point
+  pub feed : IsFeed why byte
+  pub halts : Halts l point.number point.pending point.at b.at point.held b.held why
+
+abbrev pub LinesFed : {T : Type 0} → Limits → (piece : List ℕ) → Point → Point → Result T Stop → Type 0
+LinesFed l piece a b (Ok done) = GoesOn l piece a b
+LinesFed l piece a b (Err why) = HaltsIn l piece a b why
 
 -- the count of faults never falls, and it rose where the sink is said to have failed
 pub record HasStopCause {T : Type 0} (before now : ℕ) (result : Result T Stop) : Type 0 where
@@ -80,29 +85,29 @@ pub record IsFit (m : Managed) (line more : ℕ) : Type 0 where
   pub lines : line + more ≤ 2 ^ 50
 
 -- what one read came to
-abbrev pub Turned : Limits → Point → Point → (left_now : Option (List ℕ)) → (read : List ℕ) → Result ℕ Replayed → Type 0
-Turned l a b left_now read (Ok n) = (n ≡ length read) × (0 < n) × GoesOn l read a b
-Turned l a b left_now read (Err ended.ReadFault) = (read ≡ []) × (b ≡ a)
-Turned l a b left_now read (Err ended.Ended) = (read ≡ []) × (b ≡ a) × IsAtEnd left_now × ((length a.pending == 0) ≡ true)
-Turned l a b left_now read (Err ended.Truncated) = (read ≡ []) × (b ≡ a) × IsAtEnd left_now × ((length a.pending == 0) ≡ false)
-Turned l a b left_now read (Err ended.BadLine) = GoesBad l read a b
-Turned l a b left_now read (Err ended.WriteFault) = Breaks l read a b
-Turned l a b left_now read (Err ended.OutOfMemory) = Breaks l read a b
-Turned l a b left_now read (Err ended.Worn) = ⊥
+abbrev pub LinesRead : Limits → Point → Point → (left_now : Option (List ℕ)) → (read : List ℕ) → Result ℕ Replayed → Type 0
+LinesRead l a b left_now read (Ok n) = (n ≡ length read) × (0 < n) × GoesOn l read a b
+LinesRead l a b left_now read (Err ended.ReadFault) = (read ≡ []) × (b ≡ a)
+LinesRead l a b left_now read (Err ended.Ended) = (read ≡ []) × (b ≡ a) × IsAtEnd left_now × ((length a.pending == 0) ≡ true)
+LinesRead l a b left_now read (Err ended.Truncated) = (read ≡ []) × (b ≡ a) × IsAtEnd left_now × ((length a.pending == 0) ≡ false)
+LinesRead l a b left_now read (Err ended.BadLine) = HaltsIn l read a b stop.BadLine
+LinesRead l a b left_now read (Err ended.WriteFault) = HaltsIn l read a b stop.WriteFault
+LinesRead l a b left_now read (Err ended.OutOfMemory) = HaltsIn l read a b stop.OutOfMemory
+LinesRead l a b left_now read (Err ended.Worn) = ⊥
 
 pub record Turn (l : Limits) (a b : Point) (left left_now : Option (List ℕ)) (room : ℕ) (result : Result ℕ Replayed) : Type 0 where
   pub read : List ℕ
   pub consumed : Consumes left left_now read
   pub short : length read ≤ room
-  pub turned : Turned l a b left_now read result
+  pub turned : LinesRead l a b left_now read result
 
 -- how a run ends whose bytes aren't answered on
-abbrev pub ended_by : Stop → Replayed
-ended_by stop.BadLine = ended.BadLine
-ended_by stop.WriteFault = ended.WriteFault
-ended_by stop.OutOfMemory = ended.OutOfMemory
+abbrev pub replay_ended : Stop → Replayed
+replay_ended stop.BadLine = ended.BadLine
+replay_ended stop.WriteFault = ended.WriteFault
+replay_ended stop.OutOfMemory = ended.OutOfMemory
 
 -- a write that failed ends it
-abbrev pub stopped : {E : Type 0} → Result (Unit {0}) E → Result (Unit {0}) Stop
-stopped (Ok done) = Ok done
-stopped (Err fault) = Err stop.WriteFault
+abbrev pub line_stopped : {E : Type 0} → Result (Unit {0}) E → Result (Unit {0}) Stop
+line_stopped (Ok done) = Ok done
+line_stopped (Err fault) = Err stop.WriteFault

@@ -7,13 +7,14 @@ use Rattle.scm_model.specs.declared.calls.Request.{Request}
 use Rattle.scm_model.specs.declared.steps.Kept.TheVariants as appended
 use Rattle.scm_model.specs.declared.steps.Step.{Step}
 use Rattle.scm_model.specs.declared.steps.Step.TheVariants.{Joined, Call, EndStart, LaunchTaken, Launched, LaunchFailed, Report, Ended, ControlTaken, Tick, Gone, NoMemory}
+use Rattle.decimal_words.specs.Numbers.{number_at, number_below}
 use Rattle.scm_bodies.specs.Calls.{call_at as served_at}
 use Rattle.scm_bodies.specs.Requests.{request_at}
 use Rattle.scm_replay.specs.declared.line.Line.{Line}
 use Rattle.scm_replay.specs.declared.verb.Verb.{Verb}
 use Rattle.scm_replay.specs.declared.verb.Verb.TheVariants as verb
 use Rattle.scm_replay.specs.Verbs.{fails_by, verb_at}
-use Rattle.scm_replay.specs.Words.{◌>>=◌, words_of, number_at, number_below, bytes_at}
+use Rattle.scm_replay.specs.Words.{◌>>=◌, line_words, hex_at}
 
 -- ## What stands behind a verb
 
@@ -30,11 +31,11 @@ request_in opnum body = do
   result_ok (request_at asked body)
 
 -- a caller, an opnum of 16 bits and a body; it isn't said what becomes of the call's change
-unfoldable pub call_at : List ℕ → List ℕ → List ℕ → Option Step
-call_at who opnum body = do
+unfoldable pub call_in_words : List ℕ → List ℕ → List ℕ → Option Step
+call_in_words who opnum body = do
   caller ← number_at who
   number ← number_below (2 ^ 16) opnum
-  bytes ← bytes_at body
+  bytes ← hex_at body
   asked ← request_in number bytes
   Some (Call caller asked appended.NotAsked)
 
@@ -60,8 +61,8 @@ unlaunched_at process code = do
   Some (LaunchFailed number told)
 
 -- a status, by its seven numbers of 32 bits
-unfoldable pub status_at : List ℕ → List ℕ → List ℕ → List ℕ → List ℕ → List ℕ → List ℕ → Option Status
-status_at kind state accepted win32 specific checkpoint hint = do
+unfoldable pub status_in_words : List ℕ → List ℕ → List ℕ → List ℕ → List ℕ → List ℕ → List ℕ → Option Status
+status_in_words kind state accepted win32 specific checkpoint hint = do
   a ← number_below (2 ^ 32) kind
   b ← number_below (2 ^ 32) state
   c ← number_below (2 ^ 32) accepted
@@ -81,14 +82,14 @@ report_at process status = do
 -- the step of a verb and the words behind it: each verb has so many and no others
 abbrev pub step_at : Verb → List (List ℕ) → Option Step
 step_at verb.Join (name ∷ []) = joined_at name
-step_at verb.Call (who ∷ opnum ∷ body ∷ []) = call_at who opnum body
-step_at verb.FailCall (who ∷ opnum ∷ body ∷ []) = call_at who opnum body
+step_at verb.Call (who ∷ opnum ∷ body ∷ []) = call_in_words who opnum body
+step_at verb.FailCall (who ∷ opnum ∷ body ∷ []) = call_in_words who opnum body
 step_at verb.End (who ∷ plan ∷ []) = end_at who plan
 step_at verb.Take [] = Some LaunchTaken
 step_at verb.Launched (process ∷ pid ∷ []) = launched_at process pid
 step_at verb.Unlaunched (process ∷ code ∷ []) = unlaunched_at process code
 step_at verb.Report (process ∷ kind ∷ state ∷ accepted ∷ win32 ∷ specific ∷ checkpoint ∷ hint ∷ []) =
-    report_at process (status_at kind state accepted win32 specific checkpoint hint)
+    report_at process (status_in_words kind state accepted win32 specific checkpoint hint)
 step_at verb.Ended (process ∷ []) = option_map Ended (number_at process)
 step_at verb.Control (process ∷ []) = option_map ControlTaken (number_at process)
 step_at verb.Tick [] = Some Tick
@@ -99,8 +100,8 @@ step_at other words = None
 -- ## Whole lines
 
 -- a moment, a verb and the words behind it
-unfoldable pub line_of : List ℕ → List ℕ → List (List ℕ) → Option Line
-line_of moment name words = do
+unfoldable pub line_in_words : List ℕ → List ℕ → List (List ℕ) → Option Line
+line_in_words moment name words = do
   at ← number_at moment
   verb ← verb_at name
   step ← step_at verb words
@@ -108,8 +109,8 @@ line_of moment name words = do
 
 -- a line of these words, if it is one
 abbrev pub line_in : List (List ℕ) → Option Line
-line_in (moment ∷ name ∷ words) = line_of moment name words
+line_in (moment ∷ name ∷ words) = line_in_words moment name words
 line_in words = None
 
 abbrev pub line_at : List ℕ → Option Line
-line_at text = line_in (words_of text)
+line_at text = line_in (line_words text)

@@ -10,11 +10,11 @@ use Rattle.scm_model.specs.declared.steps.Step.TheVariants.{Joined, EndStart, La
 use Rattle.scm_model.specs.Entries.{with_kept}
 use Rattle.scm_model.specs.Outcomes.{Told}
 use Rattle.scm_model.specs.Texts.{text_of}
-use Rattle.start_plan.specs.Decided.{caller_of, code_of}
+use Rattle.start_plan.specs.Decided.{plan_caller, code_of}
 use Rattle.scm_rules.specs.Controls.{waiting}
 use Rattle.scm_rules.specs.Room.{has_room, is_owed}
-use Rattle.scm_rules.specs.Start.{is_due}
-use Rattle.scm_rules.specs.Steps.{is_wanted, may_come, step_of}
+use Rattle.scm_rules.specs.Due.{is_due}
+use Rattle.scm_rules.specs.Steps.{wants_launch, may_come, step_of}
 use Rattle.scm_rules.specs.Verdicts.{change_of}
 use Rattle.scm_core.specs.Managed.{Managed}
 use Rattle.scm_replay.specs.declared.line.Line.{Line}
@@ -37,7 +37,7 @@ standing m = record { flat = m.flat; steps = m.steps; text = m.text }
 
 -- a plan is there and undecided, whoever looks
 abbrev pub is_awaited : Flat → ℕ → Bool
-is_awaited f plan = is_some (caller_of f.plans plan) && is_none (code_of f.plans plan)
+is_awaited f plan = is_some (plan_caller f.plans plan) && is_none (code_of f.plans plan)
 
 abbrev pub when : Bool → Missed → Option Missed
 when lacking missed = if lacking then Some missed else None
@@ -50,7 +50,7 @@ missed_control (Some most) = when (most == 0) Empty
 -- what a step that only looks doesn't find; a tick looks at the greater of the two moments
 abbrev pub missed_by : Flat → ℕ → Step → Option Missed
 missed_by f moment (EndStart caller plan) = when (is_awaited f plan) Again
-missed_by f moment LaunchTaken = when (not (is_wanted f.wanted)) Empty
+missed_by f moment LaunchTaken = when (not (wants_launch f.wanted)) Empty
 missed_by f moment (ControlTaken process) = missed_control (waiting f process)
 missed_by f moment Tick = when (not (list_any (is_due (max f.moment moment)) f.dues)) Idle
 missed_by f moment step = None
@@ -77,15 +77,15 @@ abbrev pub finds_room : Limits → Standing → Step → Bool
 finds_room l s step = is_owed step || has_room l s.flat s.steps s.text step
 
 -- the step was made
-abbrev pub answered : Standing → Step → Told → Outcome × Standing
-answered s step done = (Answered done.answer, record { flat = done.flat; steps = s.steps + 1; text = s.text + text_of step })
+abbrev pub step_made : Standing → Step → Told → Outcome × Standing
+step_made s step done = (Answered done.answer, record { flat = done.flat; steps = s.steps + 1; text = s.text + text_of step })
 
 -- what the step of a line comes to that isn't a look in vain, and where the manager stands behind it
-unfoldable pub made_in : Limits → Standing → Line → Outcome × Standing
-made_in l s line =
+unfoldable pub outcome_made : Limits → Standing → Line → Outcome × Standing
+outcome_made l s line =
     if not (may_come l s.flat line.moment line.step) then (unmet line.step, s)
     else if not (finds_room l s line.step) then (Full, s)
-    else answered s line.step (step_of l s.flat line.moment (step_in l s.flat line))
+    else step_made s line.step (step_of l s.flat line.moment (step_in l s.flat line))
 
 -- a look in vain makes no step, and leaves the state and its moment
 abbrev pub unless_missed : Standing → Option Missed → Outcome × Standing → Outcome × Standing
@@ -96,7 +96,7 @@ unless_missed s (Some missed) made = (InVain missed, s)
 
 -- what a line that was read comes to, and where the manager stands behind it
 abbrev pub outcome_in : Limits → Standing → Line → Outcome × Standing
-outcome_in l s line = unless_missed s (missed_by s.flat line.moment line.step) (made_in l s line)
+outcome_in l s line = unless_missed s (missed_by s.flat line.moment line.step) (outcome_made l s line)
 
 -- what a line comes to, or a text that is none
 abbrev pub outcome_of : Limits → Standing → Option Line → Outcome × Standing

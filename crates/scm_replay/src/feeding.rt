@@ -1,12 +1,12 @@
 ghost use Rattle.std.specs.Prelude.{◌≡◌, ◌+◌, ◌≤◌, ◌<◌, ◌^◌, ◌∷◌, [], length};
-ghost use Rattle.scm_replay.specs.Along.{Fed, HasStopCause, IsFit, IsOneLine, Keeps, Lined, stopped};
+ghost use Rattle.scm_replay.specs.Along.{LinesFed, HasStopCause, IsFit, Keeps, Lined, point, line_stopped};
 ghost use Rattle.scm_replay.specs.Outcomes.{standing};
+ghost use Rattle.scm_replay.specs.Replay.{IsOneLine};
 
 use super::answers::answer_line;
 use super::making::outcome_at;
 use super::stop::Stop;
-use outside::Failed;
-use rpc_session::{Sink, write_all};
+use outside::{Failed, Sink, write_all};
 use scm_core::Manager;
 use std::alloc::Global;
 
@@ -19,7 +19,7 @@ pub struct Reading {
 
 /// Why writing stopped.
 fn stopped(written: Result<(), Failed>) -> Result<(), Stop>
-    ensures { result ≡ stopped written }
+    ensures { result ≡ line_stopped written }
 {
     match written {
         Ok(()) => Ok(()),
@@ -36,7 +36,8 @@ fn answer<O: Sink>(
     output: &mut O,
 ) -> Result<(), Stop>
     requires { IsFit manager.old 0 1 }
-    ensures lined { Lined manager.old.limits number line.now (standing manager.old) (standing manager.new)
+    ensures lined { Lined manager.old.limits number line.now
+        (standing manager.old) (standing manager.new)
         (O.held output.old) (O.held output.new) result }
     ensures keeps { Keeps manager.old manager.new 1 }
     ensures cause { HasStopCause (O.faults output.old) (O.faults output.new) result }
@@ -74,9 +75,9 @@ fn end_line<O: Sink>(
 ) -> Result<(), Stop>
     requires fit { IsFit manager.old reading.old.number 1 }
     requires clean { IsOneLine reading.old.pending.items }
-    ensures fed { Fed manager.old.limits (10 ∷ [])
-        (record { at = standing manager.old; number = reading.old.number; pending = reading.old.pending.items; held = O.held output.old })
-        (record { at = standing manager.new; number = reading.new.number; pending = reading.new.pending.items; held = O.held output.new })
+    ensures fed { LinesFed manager.old.limits (10 ∷ [])
+        (point manager.old reading.old (O.held output.old))
+        (point manager.new reading.new (O.held output.new))
         result }
     ensures keeps { Keeps manager.old manager.new 1 }
     ensures number { reading.new.number ≤ reading.old.number + 1 }
@@ -107,9 +108,9 @@ fn take<O: Sink>(
 ) -> Result<(), Stop>
     requires fit { IsFit manager.old reading.old.number 1 }
     requires clean { IsOneLine reading.old.pending.items }
-    ensures fed { Fed manager.old.limits (byte ∷ [])
-        (record { at = standing manager.old; number = reading.old.number; pending = reading.old.pending.items; held = O.held output.old })
-        (record { at = standing manager.new; number = reading.new.number; pending = reading.new.pending.items; held = O.held output.new })
+    ensures fed { LinesFed manager.old.limits (byte ∷ [])
+        (point manager.old reading.old (O.held output.old))
+        (point manager.new reading.new (O.held output.new))
         result }
     ensures keeps { Keeps manager.old manager.new 1 }
     ensures number { reading.new.number ≤ reading.old.number + 1 }
@@ -134,9 +135,9 @@ pub fn feed<O: Sink>(
 ) -> Result<(), Stop>
     requires fit { IsFit manager.old reading.old.number (length piece.now) }
     requires clean { IsOneLine reading.old.pending.items }
-    ensures fed { Fed manager.old.limits piece.now
-        (record { at = standing manager.old; number = reading.old.number; pending = reading.old.pending.items; held = O.held output.old })
-        (record { at = standing manager.new; number = reading.new.number; pending = reading.new.pending.items; held = O.held output.new })
+    ensures fed { LinesFed manager.old.limits piece.now
+        (point manager.old reading.old (O.held output.old))
+        (point manager.new reading.new (O.held output.new))
         result }
     ensures keeps { Keeps manager.old manager.new (length piece.now) }
     ensures number { reading.new.number ≤ reading.old.number + length piece.now }

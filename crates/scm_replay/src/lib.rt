@@ -15,9 +15,6 @@ mod stop;
 mod verb;
 mod words;
 
+pub use decimal_words::number_at;
 pub use replayed::Replayed;
 pub use replaying::replay;
-pub use words::number_at;
-
-#[cfg(test)]
-mod tests;

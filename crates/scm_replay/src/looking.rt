@@ -38,13 +38,6 @@ pub fn missed_by(manager: &Manager, moment: u64, step: &Step) -> Option<Missed>
         Step::LaunchTaken => when(!manager.wanted(), Missed::Empty),
         Step::ControlTaken { process } => missed_control(manager.waiting(*process)),
         Step::Tick => when(!manager.due(moment), Missed::Idle),
-        Step::Joined { .. }
-        | Step::Call { .. }
-        | Step::Launched { .. }
-        | Step::LaunchFailed { .. }
-        | Step::Report { .. }
-        | Step::Ended { .. }
-        | Step::Gone { .. }
-        | Step::NoMemory { .. } => None,
+        _ => None,
     }
 }

@@ -1,9 +1,9 @@
-ghost use Rattle.std.specs.Prelude.{◌≡◌, ◌+◌, ◌<◌, ◌^◌, IfOk, IsTrue, Some};
+ghost use Rattle.std.specs.Prelude.{◌≡◌, ◌+◌, ◌<◌, ◌^◌, IfOk, IsTrue, OnErr, Some};
 ghost use Rattle.scm_model.specs.Entries.{unkept, with_kept};
 ghost use Rattle.scm_model.specs.Texts.{text_of};
 ghost use Rattle.scm_replay.specs.Along.{IsFit, Keeps};
 ghost use Rattle.scm_rules.specs.Room.{is_owed};
-ghost use Rattle.scm_replay.specs.Outcomes.{finds_room, kept_as, made_in, outcome_at, outcome_in, standing, unmet};
+ghost use Rattle.scm_replay.specs.Outcomes.{finds_room, kept_as, outcome_made, outcome_at, outcome_in, standing, unmet};
 
 use super::line::Line;
 use super::looking::missed_by;
@@ -31,17 +31,7 @@ fn unmet(step: &Step) -> Outcome
 {
     match step {
         Step::Joined { .. } => Outcome::TooMany,
-        Step::Call { .. }
-        | Step::EndStart { .. }
-        | Step::LaunchTaken
-        | Step::Launched { .. }
-        | Step::LaunchFailed { .. }
-        | Step::Report { .. }
-        | Step::Ended { .. }
-        | Step::ControlTaken { .. }
-        | Step::Tick
-        | Step::Gone { .. }
-        | Step::NoMemory { .. } => Outcome::Bad,
+        _ => Outcome::Bad,
     }
 }
 
@@ -56,12 +46,7 @@ fn is_owed(step: &Step) -> bool
         | Step::LaunchFailed { .. }
         | Step::Ended { .. }
         | Step::Gone { .. } => true,
-        Step::Joined { .. }
-        | Step::Call { .. }
-        | Step::Report { .. }
-        | Step::ControlTaken { .. }
-        | Step::Tick
-        | Step::NoMemory { .. } => false,
+        _ => false,
     }
 }
 
@@ -88,11 +73,14 @@ fn makes_room(manager: &mut Manager, step: &Step) -> bool
 }
 
 /// Makes the step of a line that isn't a look in vain, if it may come and finds room.
-#[tactic(auto, unfolding(crate::specs::Outcomes::made_in))]
+#[tactic(auto, unfolding(crate::specs::Outcomes::outcome_made))]
 fn made_in(manager: &mut Manager, line: Line) -> Result<Outcome, OutOfMemory>
     requires { IsFit manager.old 0 1 }
-    ensures outcome { IfOk result (λ outcome. outcome ≡ (made_in manager.old.limits (standing manager.old) line).0) }
-    ensures standing { IfOk result (λ outcome. standing manager.new ≡ (made_in manager.old.limits (standing manager.old) line).1) }
+    ensures outcome { IfOk result (λ outcome. outcome
+        ≡ (outcome_made manager.old.limits (standing manager.old) line).0) }
+    ensures standing { IfOk result (λ outcome. standing manager.new
+        ≡ (outcome_made manager.old.limits (standing manager.old) line).1) }
+    ensures err { OnErr result (standing manager.new ≡ standing manager.old) }
     ensures keeps { Keeps manager.old manager.new 1 }
 {
     if !manager.may(line.moment, &line.step) {
@@ -112,8 +100,11 @@ fn made_in(manager: &mut Manager, line: Line) -> Result<Outcome, OutOfMemory>
 /// Makes the step of a line, unless it looks in vain, may not come or finds no room.
 fn outcome_in(manager: &mut Manager, line: Line) -> Result<Outcome, OutOfMemory>
     requires { IsFit manager.old 0 1 }
-    ensures outcome { IfOk result (λ outcome. outcome ≡ (outcome_in manager.old.limits (standing manager.old) line).0) }
-    ensures standing { IfOk result (λ outcome. standing manager.new ≡ (outcome_in manager.old.limits (standing manager.old) line).1) }
+    ensures outcome { IfOk result (λ outcome. outcome
+        ≡ (outcome_in manager.old.limits (standing manager.old) line).0) }
+    ensures standing { IfOk result (λ outcome. standing manager.new
+        ≡ (outcome_in manager.old.limits (standing manager.old) line).1) }
+    ensures err { OnErr result (standing manager.new ≡ standing manager.old) }
     ensures keeps { Keeps manager.old manager.new 1 }
 {
     match missed_by(manager, line.moment, &line.step) {
@@ -125,8 +116,11 @@ fn outcome_in(manager: &mut Manager, line: Line) -> Result<Outcome, OutOfMemory>
 /// Makes the step of a text, if it is a line and its step may come and finds room.
 pub fn outcome_at(alloc: Global, manager: &mut Manager, text: &[u8]) -> Result<Outcome, OutOfMemory>
     requires { IsFit manager.old 0 1 }
-    ensures outcome { IfOk result (λ outcome. outcome ≡ (outcome_at manager.old.limits (standing manager.old) text.now).0) }
-    ensures standing { IfOk result (λ outcome. standing manager.new ≡ (outcome_at manager.old.limits (standing manager.old) text.now).1) }
+    ensures outcome { IfOk result (λ outcome. outcome
+        ≡ (outcome_at manager.old.limits (standing manager.old) text.now).0) }
+    ensures standing { IfOk result (λ outcome. standing manager.new
+        ≡ (outcome_at manager.old.limits (standing manager.old) text.now).1) }
+    ensures err { OnErr result (standing manager.new ≡ standing manager.old) }
     ensures keeps { Keeps manager.old manager.new 1 }
 {
     match line_at(alloc, text)? {

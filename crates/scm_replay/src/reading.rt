@@ -2,14 +2,15 @@ ghost use Rattle.std.specs.Prelude.{◌≡◌, ◌^◌, IfOk, Result, map, optio
 ghost use Rattle.std.specs.Result.{result_ok};
 ghost use Rattle.scm_model.specs.declared.calls.Request.{Request};
 ghost use Rattle.scm_model.specs.declared.steps.Step.TheVariants.{ControlTaken, Ended, Gone, NoMemory};
+ghost use Rattle.decimal_words.specs.Numbers.{number_at, number_below};
 ghost use Rattle.ndr_body.specs.declared.fault.BodyFault.{BodyFault};
 ghost use Rattle.ndr_body.specs.Reading.{Gives};
-ghost use Rattle.scm_replay.specs.Lines.{call_at, end_at, joined_at, launched_at, line_at, line_in, line_of, report_at, request_in, status_at, step_at, unlaunched_at};
-ghost use Rattle.scm_replay.specs.Words.{number_at, number_below};
+ghost use Rattle.scm_replay.specs.Lines.{call_in_words, end_at, joined_at, launched_at, line_at, line_in, line_in_words, report_at, request_in, status_in_words, step_at, unlaunched_at};
 
 use super::line::Line;
 use super::verb::{Verb, verb_at};
-use super::words::{bytes_at, is, number_at, number_below, words_of};
+use super::words::{bytes_at, is, words_of};
+use decimal_words::{number_at, number_below};
 use ndr_body::BodyFault;
 use scm_model::{Kept, Principal, Request, Status, Step};
 use scm_text::OutOfMemory;
@@ -43,7 +44,8 @@ fn code_at(text: &[u8]) -> Option<u32>
 
 /// What a body that was read asks, or nothing of one that can't be.
 fn or_none(read: Result<Request, BodyFault>) -> Result<Option<Request>, OutOfMemory>
-    ensures { (at : Result Request BodyFault) → Gives (λ r. r) read at → IfOk result (λ told. told ≡ result_ok at) }
+    ensures { (at : Result Request BodyFault)
+        → Gives (λ r. r) read at → IfOk result (λ told. told ≡ result_ok at) }
 {
     match read {
         Ok(request) => Ok(Some(request)),
@@ -69,14 +71,14 @@ fn request_in(alloc: Global, opnum: u16, body: &[u8]) -> Result<Option<Request>,
 }
 
 /// A call, by the words behind its verb.
-#[tactic(auto, unfolding(crate::specs::Lines::call_at))]
+#[tactic(auto, unfolding(crate::specs::Lines::call_in_words))]
 fn call_at(
     alloc: Global,
     who: &[u8],
     opnum: &[u8],
     body: &[u8],
 ) -> Result<Option<Step>, OutOfMemory>
-    ensures { IfOk result (λ step. step ≡ call_at who.now opnum.now body.now) }
+    ensures { IfOk result (λ step. step ≡ call_in_words who.now opnum.now body.now) }
 {
     let Some(caller) = number_at(who) else {
         return Ok(None);
@@ -128,7 +130,7 @@ fn unlaunched_at(process: &[u8], code: &[u8]) -> Option<Step>
 }
 
 /// A status, by its seven numbers.
-#[tactic(auto, unfolding(crate::specs::Lines::status_at))]
+#[tactic(auto, unfolding(crate::specs::Lines::status_in_words))]
 fn status_at(
     kind: &[u8],
     state: &[u8],
@@ -138,7 +140,8 @@ fn status_at(
     checkpoint: &[u8],
     hint: &[u8],
 ) -> Option<Status>
-    ensures { result ≡ status_at kind.now state.now accepted.now win32.now specific.now checkpoint.now hint.now }
+    ensures { result ≡ status_in_words kind.now state.now accepted.now
+        win32.now specific.now checkpoint.now hint.now }
 {
     Some(Status {
         kind: code_at(kind)?,
@@ -230,14 +233,15 @@ fn step_at(alloc: Global, verb: Verb, words: &[&[u8]]) -> Result<Option<Step>, O
 }
 
 /// A line, by its first two words and those behind them.
-#[tactic(auto, unfolding(crate::specs::Lines::line_of))]
+#[tactic(auto, unfolding(crate::specs::Lines::line_in_words))]
 fn line_of(
     alloc: Global,
     moment: &[u8],
     name: &[u8],
     words: &[&[u8]],
 ) -> Result<Option<Line>, OutOfMemory>
-    ensures { IfOk result (λ line. line ≡ line_of moment.now name.now (map (λ word. word.now) words.now)) }
+    ensures { IfOk result (λ line. line
+        ≡ line_in_words moment.now name.now (map (λ word. word.now) words.now)) }
 {
     let Some(moment) = number_at(moment) else {
         return Ok(None);

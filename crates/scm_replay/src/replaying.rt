@@ -1,12 +1,12 @@
 ghost use Rattle.std.specs.Prelude.{◌≡◌, ◌≤◌, ◌<◌, ◌+◌, length, IfErr, IfOk};
-ghost use Rattle.scm_replay.specs.Along.{IsFit, IsOneLine, Keeps, Turn, ended_by};
-ghost use Rattle.scm_replay.specs.Replay.{IsCaused, IsFresh, IsReplayed};
+ghost use Rattle.scm_replay.specs.Along.{IsFit, Keeps, Turn, replay_ended, point};
+ghost use Rattle.scm_replay.specs.Replay.{IsReplayCaused, IsFresh, IsOneLine, IsReplayed};
 ghost use Rattle.scm_replay.specs.Outcomes.{standing};
 
 use super::feeding::{Reading, feed};
 use super::replayed::Replayed;
 use super::stop::Stop;
-use rpc_session::{Sink, Source};
+use outside::{Sink, Source};
 use scm_core::Manager;
 use std::alloc::Global;
 
@@ -18,7 +18,7 @@ const PIECE: u64 = 4096;
 
 /// How a run ends whose bytes aren't answered on.
 fn ended_by(stop: Stop) -> Replayed
-    ensures { result ≡ ended_by stop }
+    ensures { result ≡ replay_ended stop }
 {
     match stop {
         Stop::BadLine => Replayed::BadLine,
@@ -40,14 +40,16 @@ fn turn<I: Source, O: Sink>(
     requires fit { IsFit manager.old reading.old.number (length into.old) }
     requires clean { IsOneLine reading.old.pending.items }
     ensures turned { Turn manager.old.limits
-        (record { at = standing manager.old; number = reading.old.number; pending = reading.old.pending.items; held = O.held output.old })
-        (record { at = standing manager.new; number = reading.new.number; pending = reading.new.pending.items; held = O.held output.new })
+        (point manager.old reading.old (O.held output.old))
+        (point manager.new reading.new (O.held output.new))
         (I.left input.old) (I.left input.new) (length into.old) result }
+    ensures limits { manager.new.limits ≡ manager.old.limits }
     ensures keeps { IfOk result (λ n. Keeps manager.old manager.new n) }
     ensures number { IfOk result (λ n. reading.new.number ≤ reading.old.number + n) }
     ensures input { I.faults input.old ≤ I.faults input.new }
     ensures output { O.faults output.old ≤ O.faults output.new }
-    ensures cause { IfErr result (λ how. IsCaused how (I.faults input.old) (I.faults input.new) (O.faults output.old) (O.faults output.new)) }
+    ensures cause { IfErr result (λ how. IsReplayCaused how
+        (I.faults input.old) (I.faults input.new) (O.faults output.old) (O.faults output.new)) }
 {
     let Ok(n) = input.read(into) else {
         return Err(Replayed::ReadFault);
@@ -65,9 +67,14 @@ fn turn<I: Source, O: Sink>(
     }
 }
 
-/// Makes the steps of the input's lines, each in the state that the step before it left, and writes for each line the one
-/// that answers it, before more is read. Nothing is appended anywhere: a `call`'s change is taken as kept, a `failcall`'s as
-/// one that couldn't be. `WriteFault` and `OutOfMemory` leave a front of the text, all else the whole text of what was read.
+/// Makes the steps of the input's lines, each in the state that the step before it left, and writes
+/// for each line the one that answers it, before more is read. Nothing is appended anywhere: a
+/// `call`'s change is taken as kept, a `failcall`'s as one that couldn't be. `WriteFault` and
+/// `OutOfMemory` leave a front of the text, all else the whole text of what was read.
+///
+/// The manager then stands where the steps that were made leave it. A line that is bad, full, too
+/// many or looked in vain made none. Beside the manager this holds one line, with what it says and
+/// its answer, and one piece of 4,096 bytes.
 pub fn replay<I: Source, O: Sink>(
     alloc: Global,
     manager: &mut Manager,
@@ -75,11 +82,13 @@ pub fn replay<I: Source, O: Sink>(
     output: &mut O,
 ) -> Replayed
     requires { IsFresh manager.old }
-    ensures replayed { IsReplayed manager.old.limits (standing manager.old)
+    ensures replayed { IsReplayed manager.old.limits (standing manager.old) (standing manager.new)
         (I.left input.old) (I.left input.new) (O.held output.old) (O.held output.new) result }
+    ensures limits { manager.new.limits ≡ manager.old.limits }
     ensures input { I.faults input.old ≤ I.faults input.new }
     ensures output { O.faults output.old ≤ O.faults output.new }
-    ensures cause { IsCaused result (I.faults input.old) (I.faults input.new) (O.faults output.old) (O.faults output.new) }
+    ensures cause { IsReplayCaused result
+        (I.faults input.old) (I.faults input.new) (O.faults output.old) (O.faults output.new) }
 {
     let mut reading = Reading {
         pending: Vec::new(alloc),

@@ -1,6 +1,6 @@
-ghost use Rattle.std.specs.Prelude.{◌≡◌, ◌==◌, ◌<◌, IfOk, IfSome, bytes_eq, map};
+ghost use Rattle.std.specs.Prelude.{◌≡◌, ◌==◌, IfOk, bytes_eq, map};
 ghost use Rattle.std.specs.List.{list_any};
-ghost use Rattle.scm_replay.specs.Words.{bytes_at, is_upper, number_at, number_below, words_of};
+ghost use Rattle.scm_replay.specs.Words.{hex_at, is_upper, line_words};
 
 use hex::FromHexError;
 use scm_text::{Items, OutOfMemory};
@@ -14,46 +14,19 @@ pub fn is(word: &[u8], name: &str) -> bool
 }
 
 fn split<'a>(alloc: Global, line: &'a [u8]) -> Result<Vec<&'a [u8]>, AllocError>
-    ensures { IfOk result (λ words. map (λ word. word.now) words.items ≡ words_of line.now) }
+    ensures { IfOk result (λ words. map (λ word. word.now) words.items ≡ line_words line.now) }
 {
     line.split(|b| *b == b' ').collect(alloc)
 }
 
 /// The words of a line.
 pub fn words_of<'a>(alloc: Global, line: &'a [u8]) -> Result<Vec<&'a [u8]>, OutOfMemory>
-    ensures { IfOk result (λ words. map (λ word. word.now) words.items ≡ words_of line.now) }
+    ensures { IfOk result (λ words. map (λ word. word.now) words.items ≡ line_words line.now) }
 {
     match split(alloc, line) {
         Ok(words) => Ok(words),
         Err(_) => Err(OutOfMemory),
     }
-}
-
-/// The number of which a word is the decimal form.
-pub fn number_at(text: &[u8]) -> Option<u64>
-    ensures { result ≡ number_at text.now }
-{
-    let Ok(digits) = std::str::from_utf8(text) else {
-        return None;
-    };
-    let Ok(number) = digits.parse::<u64>() else {
-        return None;
-    };
-    if is(text, itoa::Buffer::new().format(number)) {
-        Some(number)
-    } else {
-        None
-    }
-}
-
-/// The same of a number that has to be smaller than a limit.
-#[tactic(auto, unfolding(crate::specs::Words::number_below))]
-pub fn number_below(limit: u64, text: &[u8]) -> Option<u64>
-    ensures number { result ≡ number_below limit text.now }
-    ensures small { IfSome result (λ number. number < limit) }
-{
-    let number = number_at(text)?;
-    if number < limit { Some(number) } else { None }
 }
 
 fn is_upper(b: u8) -> bool
@@ -69,9 +42,9 @@ fn has_upper(text: &[u8]) -> bool
 }
 
 /// The bytes that a word in hexadecimal stands for.
-#[tactic(auto, unfolding(crate::specs::Words::bytes_at))]
+#[tactic(auto, unfolding(crate::specs::Words::hex_at))]
 pub fn bytes_at(alloc: Global, text: &[u8]) -> Result<Option<Items<u8>>, OutOfMemory>
-    ensures { IfOk result (λ bytes. bytes ≡ bytes_at text.now) }
+    ensures { IfOk result (λ bytes. bytes ≡ hex_at text.now) }
 {
     if has_upper(text) {
         return Ok(None);

@@ -10,20 +10,21 @@ use Rattle.scm_model.specs.Rows.{is_caller}
 use Rattle.scm_core.specs.Managed.{Managed}
 use Rattle.scm_rules.specs.Opening.{opening}
 use Rattle.scm_rules.specs.Steps.{step_of}
-use Rattle.scm_rules.specs.Runs.{state_of}
+use Rattle.scm_rules.specs.Runs.{run_state}
 use Rattle.scm_model.specs.Entries.{Entry}
-use Rattle.rpc_session.specs.Items.{items}
+use Rattle.rpc_session.specs.Items.{items, told_of_pdus}
+use Rattle.rpc_session.specs.Pdus.{pdus_behind}
 use Rattle.scm_pipe.specs.Bodies.{asked}
 use Rattle.scm_pipe.specs.declared.served.Served.{Served}
 use Rattle.scm_pipe.specs.declared.served.Served.TheVariants as served
-use Rattle.scm_pipe.specs.Histories.{AreRequests, AsMany, Made, own, replies}
+use Rattle.scm_pipe.specs.Histories.{AreRequests, AsMany, Made, failed_in, made_by_caller, replies}
 use Rattle.scmd.specs.Joining.{HasJoined}
 use Rattle.scm_pipe.specs.Calling.{HasRun}
 use Rattle.scm_pipe.specs.Ready.{IsReady}
 use Rattle.scm_pipe.specs.Serves.{Serves}
 use Rattle.scm_pipe.specs.Connection.{Reached}
 use Rattle.scmd.specs.Pipe.{IsPiped, program_limits}
-use Rattle.scm_pipe.proofs.Histories.{legal_append, made_requests, own_append, own_moments, replies_append, replies_as_many}
+use Rattle.scm_pipe.proofs.Histories.{failed_append, legal_append, made_requests, own_append, own_moments, replies_append, replies_as_many}
 
 both : (b : Bool) → IsTrue b → IsTrue (b && true)
 both true h = refl
@@ -65,10 +66,19 @@ told_calls principal opened joined gone calls =
 
 -- and its entries are its calls
 own_calls : (principal : Principal) (opened joined gone : ℕ) (calls : List Entry)
-    → own program_limits (opening program_limits [] [] opened) 1 (whole principal joined calls gone) ≡ own program_limits (joined_state principal opened joined) 1 calls
+    → made_by_caller program_limits (opening program_limits [] [] opened) 1 (whole principal joined calls gone) ≡ made_by_caller program_limits (joined_state principal opened joined) 1 calls
 own_calls principal opened joined gone calls =
     own_append program_limits (joined_state principal opened joined) 1 calls ((gone, Gone 1) ∷ [])
-    ∙ append-nil (own program_limits (joined_state principal opened joined) 1 calls)
+    ∙ append-nil (made_by_caller program_limits (joined_state principal opened joined) 1 calls)
+
+-- its coming and its going change nothing
+whole_kept : (principal : Principal) (joined gone : ℕ) (calls : List Entry) → failed_in calls ≡ 0 → failed_in (whole principal joined calls gone) ≡ 0
+whole_kept principal joined gone calls e = omega (arith, failed_append calls ((gone, Gone 1) ∷ []), e)
+
+-- where nothing was read no item is told
+nothing_told : (items []).items ≡ []
+unfolding items told_of_pdus pdus_behind
+nothing_told = refl
 
 piped : (tells : ℕ → Type 0) (principal : Principal) (opened joined gone : ℕ) (g : Flat) (left left_now held held_now : Option (List ℕ)) (how : Served)
     → tells opened → tells joined → tells gone
@@ -88,7 +98,7 @@ piped tells principal opened joined gone g left left_now held held_now how o j k
         legal = (
           search rules,
           legal_append program_limits f calls ((gone, Gone 1) ∷ []) s.talks.legal
-              (both (is_caller (state_of program_limits f calls) 1) (subst (λ x. IsTrue (is_caller x 1)) (sym s.talks.state) there), tt),
+              (both (is_caller (run_state program_limits f calls) 1) (subst (λ x. IsTrue (is_caller x 1)) (sym s.talks.state) there), tt),
         );
         requests = subst (λ (ms : List Made). AreRequests 1 (asked s.done) ms) mine (made_requests program_limits f 1 (asked s.done) calls s.talks.asked);
         moments = subst (λ (ms : List Made). All (λ (made : Made). tells made.moment) ms) mine (own_moments tells program_limits f 1 calls s.talks.moments);
@@ -96,6 +106,7 @@ piped tells principal opened joined gone g left left_now held held_now how o j k
         reached = subst (λ t. Reached how s.read left_now s.done t s.written) told s.reached;
       };
       alone = record { joined = joined; calls = calls; gone = gone; order = refl; asked = s.talks.asked };
+      kept = whole_kept principal joined gone calls s.talks.kept;
       opened_at = o;
       moments = All-cons (λ (e : Entry). tells e.0) (joined, Joined principal) _ j
           (All-append (λ (e : Entry). tells e.0) calls _ s.talks.moments
@@ -126,9 +137,14 @@ piped_none tells principal opened left held o =
         requests = refl;
         moments = All-nil (λ (made : Made). tells made.moment);
         replied = tt;
-        reached = record { first = ((items []).items, refl); text = refl };
+        reached = record {
+          first = ((items []).items, refl);
+          text = refl;
+          ahead = record { front = []; piece = []; split = refl; short = omega arith; all = ([], sym (append-nil (items []).items ∙ nothing_told)) };
+        };
       };
       alone = record { joined = opened; calls = []; gone = opened; order = refl; asked = refl };
+      kept = whole_kept principal opened opened [] refl;
       opened_at = o;
       moments = All-cons (λ (e : Entry). tells e.0) (opened, Joined principal) ((opened, Gone 1) ∷ []) o
           (All-cons (λ (e : Entry). tells e.0) (opened, Gone 1) [] o (All-nil (λ (e : Entry). tells e.0)));

@@ -1,16 +1,17 @@
 -- What each job comes to, and with which status.
-use Rattle.std.specs.Prelude.{ℕ, ◌≡◌, ◌<◌, ◌^◌, List, [], length, Option, IfSome}
+use Rattle.std.specs.Prelude.{ℕ, ◌≡◌, ◌<◌, ◌^◌, ◌↔◌, List, [], length, Option, IfSome, IsNone}
 use Rattle.outside.specs.Causes.{Rose}
 use Rattle.outside.specs.Written.{Begins}
 use Rattle.scm_generate.specs.Listed.{generated}
-use Rattle.scm_generate.specs.Printed.{Prints, IsCaused as IsCausedPrint}
+use Rattle.scm_generate.specs.Printed.{Prints, IfMade, IsPrintCaused}
+use Rattle.scm_generate.specs.Progress.{CanBeMade}
 use Rattle.scm_generate.specs.Summary.{summary}
 use Rattle.scm_generate.specs.declared.generated.Generated.{Generated}
 use Rattle.scm_generate.specs.declared.generated.Generated.TheVariants as printed
-use Rattle.scm_pipe.specs.Connection.{IsCaused}
+use Rattle.scm_pipe.specs.Connection.{IsServedFor}
 use Rattle.scm_pipe.specs.declared.served.Served.{Served}
 use Rattle.scm_replay.specs.Outcomes.{Standing}
-use Rattle.scm_replay.specs.Replay.{TextEnd, AtRest, Unfinished, BadLine, IsOpenEnd, IsReplayed, replayed, IsCaused as IsCausedReplay}
+use Rattle.scm_replay.specs.Replay.{TextEnd, AtRest, Unfinished, BadLine, IsOpenText, IsReplayed, replayed, IsReplayCaused}
 use Rattle.scm_replay.specs.declared.replayed.Replayed.{Replayed}
 use Rattle.scm_replay.specs.declared.replayed.Replayed.TheVariants as answered
 use Rattle.scm_model.specs.declared.flat.Flat.{Flat}
@@ -19,6 +20,7 @@ use Rattle.scm_rules.specs.Opening.{opening}
 use Rattle.scmd.specs.declared.words.Job.{Job}
 use Rattle.scmd.specs.declared.words.Job.TheVariants.{Pipe, Replay, Generate}
 use Rattle.scmd.specs.Pipe.{IsOrLacks, IsPiped, IsComplete, program_limits, status_of}
+use Rattle.scmd.specs.Words.{job_of}
 
 -- ## Statuses
 
@@ -57,26 +59,47 @@ pub record Sides : Type 0 where
   pub sink : ℕ
   pub sink_now : ℕ
 
+abbrev pub sides_of : (left left_now held held_now : Option (List ℕ)) → (source source_now sink sink_now : ℕ) → Sides
+sides_of left left_now held held_now source source_now sink sink_now = record {
+  left = left;
+  left_now = left_now;
+  held = held;
+  held_now = held_now;
+  source = source;
+  source_now = source_now;
+  sink = sink;
+  sink_now = sink_now;
+}
+
 -- one connection was served
 pub record HasPiped (tells : ℕ → Type 0) (principal : Principal) (s : Sides) (status : ℕ) : Type 0 where
   pub how : Served
   pub status_is : status ≡ status_of how
   pub piped : IsPiped tells principal how s.left s.left_now s.held s.held_now
-  pub cause : IsCaused how s.source s.source_now s.sink s.sink_now
+  pub cause : IsServedFor how s.source s.source_now s.sink s.sink_now
 
--- the input's lines were answered
+-- the input's lines were answered, and the manager stands somewhere behind them
+pub record LeavesReplayed (left left_now held held_now : Option (List ℕ)) (how : Replayed) : Type 0 where
+  pub now : Standing
+  pub replayed : IsReplayed program_limits program_start now left left_now held held_now how
+
 pub record HasReplayed (s : Sides) (status : ℕ) : Type 0 where
   pub how : Replayed
   pub status_is : status ≡ status_of_replay how
-  pub replayed : IsReplayed program_limits program_start s.left s.left_now s.held s.held_now how
-  pub cause : IsCausedReplay how s.source s.source_now s.sink s.sink_now
+  pub replayed : LeavesReplayed s.left s.left_now s.held s.held_now how
+  pub cause : IsReplayCaused how s.source s.source_now s.sink s.sink_now
 
--- the summary of the stated list was written, and nothing was read
-pub record HasGenerated (services : ℕ) (s : Sides) (status : ℕ) : Type 0 where
+-- the summary of the stated list was written, each of whose steps was made where it may be
+pub record HasPrinted (services : ℕ) (held held_now : Option (List ℕ)) (sink sink_now status : ℕ) : Type 0 where
   pub how : Generated
   pub status_is : status ≡ status_of_generate how
-  pub prints : Prints (summary program_limits program_opening (generated services)) s.held s.held_now how
-  pub cause : IsCausedPrint how s.sink s.sink_now
+  pub prints : Prints (summary program_limits program_opening (generated services)) held held_now how
+  pub can : IfMade how (CanBeMade program_limits program_opening (generated services))
+  pub cause : IsPrintCaused how sink sink_now
+
+-- and nothing was read
+pub record HasGenerated (services : ℕ) (s : Sides) (status : ℕ) : Type 0 where
+  pub printed : HasPrinted services s.held s.held_now s.sink s.sink_now status
   pub unread : s.left_now ≡ s.left
   pub untouched : s.source_now ≡ s.source
 
@@ -96,11 +119,23 @@ status_behind BadLine = 11
 -- Each end of the lines has its status; where more comes than an input may have and no bad line before that, it is 12.
 pub record EndsAsLines (bytes : List ℕ) (status : ℕ) : Type 0 where
   pub whole : length bytes < 2 ^ 40 → IsOrLacks (status_behind (replayed program_limits program_start bytes).ending) status
-  pub worn : (front : List ℕ) → Begins front bytes → length front ≡ 2 ^ 40 → IsOpenEnd (replayed program_limits program_start front).ending → IsOrLacks 12 status
+  pub worn : (front : List ℕ) → Begins front bytes → length front ≡ 2 ^ 40 → IsOpenText (replayed program_limits program_start front).ending → IsOrLacks 12 status
+
+-- a summary is written where the sink doesn't fail, unless memory ran out
+abbrev pub HasSummedUp : (sink sink_now status : ℕ) → Type 0
+HasSummedUp sink sink_now status = (Rose sink sink_now → ⊥) → IsOrLacks 0 status
 
 -- where no count rose and the input is told, the status is that of the job's end, or want of memory
 abbrev pub HasAllDone : Job → Sides → (status : ℕ) → Type 0
 HasAllDone (Pipe principal) s status = IsComplete s.left s.source s.source_now s.sink s.sink_now status
 HasAllDone Replay s status =
     IfSome s.left (λ bytes. (Rose s.source s.source_now → ⊥) → (Rose s.sink s.sink_now → ⊥) → EndsAsLines bytes status)
-HasAllDone (Generate services) s status = (Rose s.sink s.sink_now → ⊥) → IsOrLacks 0 status
+HasAllDone (Generate services) s status = HasSummedUp s.sink s.sink_now status
+
+-- ## The program
+
+-- what words came to: 5 exactly where they are no job, and else what the job came to
+pub record HasEnded (tells : ℕ → Type 0) (words : List (List ℕ)) (s : Sides) (status : ℕ) : Type 0 where
+  pub words_are : status ≡ 5 ↔ IsNone (job_of words)
+  pub run : IfSome (job_of words) (λ job. HasRun tells job s status)
+  pub complete : IfSome (job_of words) (λ job. HasAllDone job s status)

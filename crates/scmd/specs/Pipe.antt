@@ -8,14 +8,14 @@ use Rattle.scm_model.specs.declared.flat.Principal.{Principal}
 use Rattle.scm_model.specs.declared.calls.Request.{Request}
 use Rattle.scm_model.specs.declared.steps.Step.TheVariants.{Joined, Gone}
 use Rattle.scm_rules.specs.Opening.{opening}
-use Rattle.scm_rules.specs.Runs.{state_of}
+use Rattle.scm_rules.specs.Runs.{run_state}
 use Rattle.scm_model.specs.Entries.{Entry}
 use Rattle.rpc_session.specs.Items.{StreamEnd, AtRest, Unfinished, BadPdu, TooLong, items}
 use Rattle.scm_pipe.specs.declared.served.Served.{Served}
 use Rattle.scm_pipe.specs.declared.served.Served.TheVariants as served
 use Rattle.scm_pipe.specs.Bodies.{asked}
 use Rattle.scm_pipe.specs.Connection.{IsConnection, IsOpenEnd, IsSeen, Talk}
-use Rattle.scm_pipe.specs.Histories.{AreServed}
+use Rattle.scm_pipe.specs.Histories.{AreServed, failed_in}
 
 abbrev pub status_of : Served → ℕ
 status_of served.Ended = 0
@@ -46,7 +46,7 @@ pub record IsPipeHistory (principal : Principal) (l : Limits) (f : Flat) (reques
   pub calls : List Entry
   pub gone : ℕ
   pub order : history ≡ (joined, Joined principal) ∷ calls ++ (gone, Gone 1) ∷ []
-  pub asked : AreServed l (state_of l f ((joined, Joined principal) ∷ [])) 1 requests calls
+  pub asked : AreServed l (run_state l f ((joined, Joined principal) ∷ [])) 1 requests calls
 
 -- A pipe that ended so. But for the moments, and for where memory was wanting, all is fixed by the words and by what was read.
 pub record IsPiped (tells : ℕ → Type 0) (principal : Principal) (how : Served) (left left_now held held_now : Option (List ℕ)) : Type 0 where
@@ -55,6 +55,8 @@ pub record IsPiped (tells : ℕ → Type 0) (principal : Principal) (how : Serve
   pub seen : IsSeen talk left left_now held held_now
   pub connection : IsConnection tells program_limits (opening program_limits [] [] opened) 1 how talk left_now
   pub alone : IsPipeHistory principal program_limits (opening program_limits [] [] opened) (asked talk.done) talk.history
+  -- only the manager keeps changes, and so each is kept
+  pub kept : failed_in talk.history ≡ 0
   pub opened_at : tells opened
   pub moments : All (λ (e : Entry). tells e.0) talk.history
 
@@ -63,15 +65,15 @@ abbrev pub IsOrLacks : (due status : ℕ) → Type 0
 IsOrLacks due status = (status ≡ due) ⊎ (status ≡ 8)
 
 -- the status of an input that ends so
-abbrev pub status_at : StreamEnd → ℕ
-status_at AtRest = 0
-status_at Unfinished = 6
-status_at (BadPdu place _) = 7
-status_at (TooLong length) = 7
+abbrev pub pipe_status : StreamEnd → ℕ
+pipe_status AtRest = 0
+pipe_status Unfinished = 6
+pipe_status (BadPdu place _) = 7
+pipe_status (TooLong length) = 7
 
 -- Each end of the input has its status; where more comes than a connection may have and no end before that, it is 12.
 pub record EndsAs (bytes : List ℕ) (status : ℕ) : Type 0 where
-  pub whole : length bytes < 2 ^ 40 → IsOrLacks (status_at (items bytes).ending) status
+  pub whole : length bytes < 2 ^ 40 → IsOrLacks (pipe_status (items bytes).ending) status
   pub worn : (front : List ℕ) → Begins front bytes → length front ≡ 2 ^ 40 → IsOpenEnd (items front).ending → IsOrLacks 12 status
 
 -- Where no count rose and the input is told, the status is that of the input's end, or want of memory.

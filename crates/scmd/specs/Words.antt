@@ -4,7 +4,7 @@ use Rattle.std.specs.Cmp.Lexicographic.{pointwise}
 use Rattle.scm_model.specs.declared.flat.Principal.{Principal}
 use Rattle.scm_model.specs.declared.flat.Principal.TheVariants.{Admin, User}
 use Rattle.scmd.specs.declared.words.Job.{Job}
-use Rattle.scm_replay.specs.Words.{number_at}
+use Rattle.scm_replay.specs.Words.{decimal_at}
 use Rattle.scmd.specs.declared.words.Job.TheVariants.{Pipe, Replay, Generate}
 
 abbrev pub is_word : List ℕ → List ℕ → Bool
@@ -16,15 +16,15 @@ principal_named value =
     if is_word value (codes "user") then Some User else None
 
 -- an option and its value in one word
-abbrev pub principal_in : List ℕ → Option Principal
-principal_in word =
+abbrev pub principal_word : List ℕ → Option Principal
+principal_word word =
     if is_word word (codes "--as=admin") then Some Admin else
     if is_word word (codes "--as=user") then Some User else None
 
 -- whose connection a pipe serves: an administrator's, unless it is said
 abbrev pub principal_of_pipe : List (List ℕ) → Option Principal
 principal_of_pipe [] = Some Admin
-principal_of_pipe (word ∷ []) = principal_in word
+principal_of_pipe (word ∷ []) = principal_word word
 principal_of_pipe (word ∷ value ∷ []) = if is_word word (codes "--as") then principal_named value else None
 principal_of_pipe (word ∷ value ∷ other ∷ words) = None
 
@@ -40,7 +40,7 @@ within number = if nat_le 1 number && nat_le number 512 then Some number else No
 -- for how many services steps are generated
 abbrev pub generate_with : List (List ℕ) → Option Job
 generate_with [] = None
-generate_with (number ∷ []) = option_map Generate (option_and_then within (number_at number))
+generate_with (number ∷ []) = option_map Generate (option_and_then within (decimal_at number))
 generate_with (number ∷ other ∷ words) = None
 
 -- the job, or none where the words aren't in the set

@@ -2,40 +2,57 @@
 //! makes the steps that stand in the lines of its input and answers them, `scmd generate N` prints the summary of a stated list of steps.
 #![tactic(auto)]
 
+mod limits;
+mod lines;
 #[cfg(test)]
 mod rows;
-mod system;
+mod summary;
 #[cfg(test)]
 mod tests;
 mod top;
 mod words;
 
-use rpc_session::{ReadSource, WriteSink};
+use outside::{Clock, ReadSource, Sink, Source, SystemClock, WriteSink};
 use scm_text::{Items, Text};
-use std::alloc::{AllocError, Global};
-use std::io;
+use std::alloc::Global;
+use std::io::ErrorKind;
 use std::process::ExitCode;
 use std::rt::Env;
-use system::SystemClock;
-use top::{World, scmd_main};
+use std::sync::Wait;
+use top::{World, scmd_with};
+use words::NoWords;
 
 /// The words after the program's name.
-fn arguments<R: Env + AllocGlobal>(rt: &R) -> io::Result<Items<Text>> {
+fn arguments<R: Env + AllocGlobal>(rt: &R) -> Result<Items<Text>, NoWords> {
+    let args = match std::env::args(rt) {
+        Ok(args) => args,
+        Err(fault) if fault.kind() == ErrorKind::InvalidData => return Err(NoWords::NotText),
+        Err(_) => return Err(NoWords::OutOfMemory),
+    };
     let alloc: Global = rt.alloc();
     let mut words = Vec::new(alloc);
-    for word in std::env::args(rt)?.skip(1) {
-        words.push(Text::from_string(word))?;
+    for word in args.skip(1) {
+        let Ok(()) = words.push(Text::from_string(word)) else {
+            return Err(NoWords::OutOfMemory);
+        };
     }
     Ok(Items::from_vec(words))
 }
 
-fn main(rt: HostRuntime) -> io::Result<ExitCode> {
-    let words = arguments(&rt)?;
+/// The whole program. Its bounds give it no leave to write to standard error, nor to any place that it isn't handed.
+fn program<R: Env + AllocGlobal + Wait, I: Source + Drop, O: Sink + Drop, C: Clock + Drop>(
+    rt: &R,
+    world: World<I, O, C>,
+) -> ExitCode {
+    let (status, _world) = scmd_with(rt, rt.alloc(), arguments(rt), world);
+    ExitCode::from(status)
+}
+
+fn main(rt: HostRuntime) -> ExitCode {
     let world = World {
         input: ReadSource::new(rt.stdin()),
         output: WriteSink::new(rt.stdout()),
         clock: SystemClock::new(rt),
     };
-    let (status, _world) = scmd_main(&rt, rt.alloc(), &words, world);
-    Ok(ExitCode::from(status))
+    program(&rt, world)
 }

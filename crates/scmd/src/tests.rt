@@ -3,8 +3,7 @@
 //! here by the formats alone, from words, and nothing of the program is used.
 use super::rows::*;
 use super::top::{World, scmd_main};
-use rpc_session::{MemorySink, MemorySource};
-use scm_pipe::FixedClock;
+use outside::{FixedClock, MemorySink, MemorySource};
 use scm_text::{Items, Text};
 use std::alloc::Global;
 use std::process::Abort;

@@ -1,19 +1,19 @@
-ghost use Rattle.std.specs.Prelude.{◌≡◌, ◌≤◌, ◌↔◌, IfOk, IfSome, IsNone, IsTrue};
+ghost use Rattle.std.specs.Prelude.{◌≡◌, ◌≤◌, ◌↔◌, IfOk, IfSome, IsErrOf, IsNone, IsTrue};
 ghost use Rattle.scm_model.specs.Rows.{is_caller};
-ghost use Rattle.scm_pipe.specs.Connection.{IsCaused};
+ghost use Rattle.scm_pipe.specs.Connection.{IsServedFor};
 ghost use Rattle.scmd.specs.Joining.{HasJoined};
-ghost use Rattle.scm_replay.specs.Replay.{IsReplayed, IsCaused as IsCausedReplay};
-ghost use Rattle.scmd.specs.Jobs.{HasAllDone, HasRun, program_start, status_of_generate, status_of_replay};
-ghost use Rattle.scmd.specs.Pipe.{IsPiped, program_limits, status_of};
+ghost use Rattle.scmd.specs.Jobs.{HasAllDone, HasEnded, HasRun, sides_of};
+ghost use Rattle.scmd.specs.Pipe.{IsPiped, status_of};
 ghost use Rattle.scmd.specs.Words.{job_of};
 
-use super::words::{Job, job_of};
-use rpc_session::{Sink, Source};
+use super::limits::LIMITS;
+use super::lines::replay_main;
+use super::summary::generate_main;
+use super::words::{Job, NoWords, job_of};
+use outside::{Clock, Sink, Source};
 use scm_core::Manager;
-use scm_generate::{Generated, generate};
-use scm_model::{Limits, Principal, Step};
-use scm_pipe::{CALLER, Clock, Served, serve};
-use scm_replay::{Replayed, replay};
+use scm_model::{Principal, Step};
+use scm_pipe::{CALLER, Served, serve};
 use scm_text::{Items, OutOfMemory, Text};
 use std::alloc::Global;
 use std::sync::Wait;
@@ -25,17 +25,6 @@ pub struct World<I: Source, O: Sink, C: Clock> {
     pub output: O,
     pub clock: C,
 }
-
-const LIMITS: Limits = Limits {
-    services: 512,
-    handles: 1024,
-    registrations: 64,
-    callers: 64,
-    processes: 32,
-    controls: 16,
-    steps: 4_194_304,
-    text: 268_435_456,
-};
 
 /// The status of a program that served one connection.
 fn status_of(how: Served) -> u8
@@ -92,7 +81,7 @@ fn pipe<R: Wait, I: Source, O: Sink, C: Clock>(
         (I.left input.old) (I.left input.new) (O.held output.old) (O.held output.new) }
     ensures input { I.faults input.old ≤ I.faults input.new }
     ensures output { O.faults output.old ≤ O.faults output.new }
-    ensures cause { IsCaused result (I.faults input.old) (I.faults input.new) (O.faults output.old) (O.faults output.new) }
+    ensures cause { IsServedFor result (I.faults input.old) (I.faults input.new) (O.faults output.old) (O.faults output.new) }
 {
     let opened = clock.now();
     let Ok(mut manager) = joined(alloc, principal, opened, clock) else {
@@ -101,47 +90,6 @@ fn pipe<R: Wait, I: Source, O: Sink, C: Clock>(
     let how = serve(rt, alloc, &mut manager, input, output, clock);
     leave(&mut manager, clock.now());
     how
-}
-
-/// The status of a program that answered lines.
-fn status_of_replay(how: Replayed) -> u8
-    ensures { result ≡ status_of_replay how }
-{
-    match how {
-        Replayed::Ended => 0,
-        Replayed::ReadFault => 1,
-        Replayed::WriteFault => 2,
-        Replayed::Truncated => 6,
-        Replayed::OutOfMemory => 8,
-        Replayed::BadLine => 11,
-        Replayed::Worn => 12,
-    }
-}
-
-/// Answers the lines of the input, over a manager in which nobody and nothing is there at moment 0.
-fn answer_lines<I: Source, O: Sink>(alloc: Global, input: &mut I, output: &mut O) -> Replayed
-    ensures replayed { IsReplayed program_limits program_start
-        (I.left input.old) (I.left input.new) (O.held output.old) (O.held output.new) result }
-    ensures input { I.faults input.old ≤ I.faults input.new }
-    ensures output { O.faults output.old ≤ O.faults output.new }
-    ensures cause { IsCausedReplay result (I.faults input.old) (I.faults input.new) (O.faults output.old) (O.faults output.new) }
-{
-    let Ok(mut manager) = Manager::new(alloc, LIMITS, Items::new(alloc), Items::new(alloc), 0)
-    else {
-        return Replayed::OutOfMemory;
-    };
-    replay(alloc, &mut manager, input, output)
-}
-
-/// The status of a program that printed a summary.
-fn status_of_generate(how: Generated) -> u8
-    ensures { result ≡ status_of_generate how }
-{
-    match how {
-        Generated::Ended => 0,
-        Generated::WriteFault => 2,
-        Generated::OutOfMemory => 8,
-    }
 }
 
 /// Does a job, and answers the status of the program, which isn't that of words that are no job.
@@ -153,29 +101,22 @@ fn run<R: Wait, I: Source, O: Sink, C: Clock>(
     output: &mut O,
     clock: &C,
 ) -> u8
-    ensures run { HasRun (C.tells clock.now) job (record {
-      left = I.left input.old;
-      left_now = I.left input.new;
-      held = O.held output.old;
-      held_now = O.held output.new;
-      source = I.faults input.old;
-      source_now = I.faults input.new;
-      sink = O.faults output.old;
-      sink_now = O.faults output.new;
-    }) result }
+    ensures run { HasRun (C.tells clock.now) job (sides_of
+        (I.left input.old) (I.left input.new) (O.held output.old) (O.held output.new)
+        (I.faults input.old) (I.faults input.new) (O.faults output.old) (O.faults output.new)) result }
     ensures input { I.faults input.old ≤ I.faults input.new }
     ensures output { O.faults output.old ≤ O.faults output.new }
 {
     match job {
         Job::Pipe { principal } => status_of(pipe(rt, alloc, principal, input, output, clock)),
-        Job::Replay => status_of_replay(answer_lines(alloc, input, output)),
-        Job::Generate { services } => status_of_generate(generate(alloc, LIMITS, services, output)),
+        Job::Replay => replay_main(alloc, input, output),
+        Job::Generate { services } => generate_main(alloc, services, output),
     }
 }
 
 /// Does what the words ask for, and answers the status of the program: 0 done, 1 the input failed, 2 the output failed, 5 words
 /// that are no job, 6 an input that ends within a PDU, a request or a line, 7 a bad PDU or a request that is too long, 8 want of
-/// memory, 11 a bad line, 12 more input than there may be.
+/// memory, 11 a bad line, 12 as many bytes of input as are read at most, 2^40.
 pub fn scmd_main<R: Wait, I: Source, O: Sink, C: Clock>(
     rt: &R,
     alloc: Global,
@@ -190,27 +131,13 @@ pub fn scmd_main<R: Wait, I: Source, O: Sink, C: Clock>(
     ensures input { I.faults world.input ≤ I.faults result.1.input }
     ensures output { O.faults world.output ≤ O.faults result.1.output }
     // What was read, answered and written, and why the run ended.
-    ensures run { IfSome (job_of words.now) (λ job. HasRun (C.tells world.clock) job (record {
-      left = I.left world.input;
-      left_now = I.left result.1.input;
-      held = O.held world.output;
-      held_now = O.held result.1.output;
-      source = I.faults world.input;
-      source_now = I.faults result.1.input;
-      sink = O.faults world.output;
-      sink_now = O.faults result.1.output;
-    }) result.0) }
+    ensures run { IfSome (job_of words.now) (λ job. HasRun (C.tells world.clock) job (sides_of
+        (I.left world.input) (I.left result.1.input) (O.held world.output) (O.held result.1.output)
+        (I.faults world.input) (I.faults result.1.input) (O.faults world.output) (O.faults result.1.output)) result.0) }
     // Nothing else ends a run without faults.
-    ensures complete { IfSome (job_of words.now) (λ job. HasAllDone job (record {
-      left = I.left world.input;
-      left_now = I.left result.1.input;
-      held = O.held world.output;
-      held_now = O.held result.1.output;
-      source = I.faults world.input;
-      source_now = I.faults result.1.input;
-      sink = O.faults world.output;
-      sink_now = O.faults result.1.output;
-    }) result.0) }
+    ensures complete { IfSome (job_of words.now) (λ job. HasAllDone job (sides_of
+        (I.left world.input) (I.left result.1.input) (O.held world.output) (O.held result.1.output)
+        (I.faults world.input) (I.faults result.1.input) (O.faults world.output) (O.faults result.1.output)) result.0) }
 {
     let Some(job) = job_of(words) else {
         return (5, world);
@@ -227,4 +154,25 @@ pub fn scmd_main<R: Wait, I: Source, O: Sink, C: Clock>(
         clock,
     };
     (status, world)
+}
+
+/// `scmd_main` with the words that the program was given. Where they can't be had nothing is read or written: words that aren't
+/// text are no job, and else there was no memory for them.
+pub fn scmd_with<R: Wait, I: Source, O: Sink, C: Clock>(
+    rt: &R,
+    alloc: Global,
+    words: Result<Items<Text>, NoWords>,
+    world: World<I, O, C>,
+) -> (u8, World<I, O, C>)
+    ensures lacks { IsErrOf words NoWords.OutOfMemory → result ≡ (8, world) }
+    ensures not_text { IsErrOf words NoWords.NotText → result ≡ (5, world) }
+    ensures ended { IfOk words (λ w. HasEnded (C.tells world.clock) w (sides_of
+        (I.left world.input) (I.left result.1.input) (O.held world.output) (O.held result.1.output)
+        (I.faults world.input) (I.faults result.1.input) (O.faults world.output) (O.faults result.1.output)) result.0) }
+{
+    match words {
+        Ok(words) => scmd_main(rt, alloc, &words, world),
+        Err(NoWords::NotText) => (5, world),
+        Err(NoWords::OutOfMemory) => (8, world),
+    }
 }

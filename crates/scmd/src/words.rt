@@ -1,11 +1,19 @@
 ghost use Rattle.std.specs.Prelude.{◌≡◌};
 ghost use Rattle.std.specs.Prelude.{option_and_then};
-ghost use Rattle.scm_replay.specs.Words.{number_at};
-ghost use Rattle.scmd.specs.Words.{generate_with, job_of, principal_in, principal_named, principal_of_pipe, replay_with, within};
+ghost use Rattle.scm_replay.specs.Words.{decimal_at};
+ghost use Rattle.scmd.specs.Words.{generate_with, job_of, principal_word, principal_named, principal_of_pipe, replay_with, within};
 
 use scm_model::Principal;
 use scm_replay::number_at;
 use scm_text::{Items, Text};
+
+/// Why the words of the program can't be had.
+#[derive(Clone, Copy, Debug, PartialEq, Eq)]
+pub enum NoWords {
+    /// One of them isn't UTF-8.
+    NotText,
+    OutOfMemory,
+}
 
 /// What the program is to do.
 #[derive(Clone, Copy, Debug, PartialEq, Eq)]
@@ -32,7 +40,7 @@ fn principal_named(value: &str) -> Option<Principal>
 
 /// The value of an option that stands in one word with it.
 fn principal_in(word: &str) -> Option<Principal>
-    ensures { result ≡ principal_in word.now }
+    ensures { result ≡ principal_word word.now }
 {
     if word == "--as=admin" {
         Some(Principal::Admin)

@@ -1,5 +1,8 @@
-use Rattle.scm_generate.proofs.Along.{creations_more}
+use Rattle.scm_generate.proofs.Along.{creations_more, makes_none}
 use Rattle.scm_generate.proofs.creating.create_all.Goals as goal
+
+pub loop-before-init : goal.loop-before-init
+loop-before-init c = makes_none c.args.run.now
 
 pub loop-before-preserved : goal.loop-before-preserved
 loop-before-preserved c =

@@ -1,5 +1,4 @@
-use Rattle.scm_generate.proofs.Along.{on_ok}
-use Rattle.scm_generate.proofs.Ends.{made_all}
+use Rattle.scm_generate.proofs.Along.{made_all, on_ok}
 use Rattle.scm_generate.proofs.generating.make_all.Goals as goal
 
 pub returns : goal.returns

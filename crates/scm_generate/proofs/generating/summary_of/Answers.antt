@@ -1,6 +1,9 @@
 use Rattle.scm_generate.specs.Listed.{generated}
-use Rattle.scm_generate.proofs.Ends.{told_of}
+use Rattle.scm_generate.proofs.Ends.{can_of, told_of}
 use Rattle.scm_generate.proofs.generating.summary_of.Goals as goal
 
-pub returns : goal.returns
-returns c = told_of c.args.limits c.in_ok-run.run' (generated c.args.services) c.summed_up.result c.in_ok-run.ensures c.summed_up.ensures
+pub returns-clause-text : goal.returns-clause-text
+returns-clause-text c = told_of c.args.limits c.in_ok-run.run' (generated c.args.services) c.summed_up.result c.in_ok-run.ensures c.summed_up.ensures.text
+
+pub returns-clause-can : goal.returns-clause-can
+returns-clause-can c = can_of c.args.limits c.in_ok-run.run' (generated c.args.services) c.summed_up.result c.in_ok-run.ensures c.summed_up.ensures.can

@@ -1,5 +1,8 @@
-use Rattle.scm_generate.proofs.Along.{ups_more}
+use Rattle.scm_generate.proofs.Along.{makes_none, ups_more}
 use Rattle.scm_generate.proofs.starting.ups.Goals as goal
+
+pub loop-before-init : goal.loop-before-init
+loop-before-init c = makes_none c.args.run.now
 
 pub loop-before-preserved : goal.loop-before-preserved
 loop-before-preserved c =

@@ -1,7 +1,6 @@
-use Rattle.std.proofs.Common.{◌≡◌}
 use Rattle.scm_generate.specs.Listed.{ups}
-use Rattle.scm_generate.specs.Progress.{after}
+use Rattle.scm_generate.specs.Progress.{Makes}
 use Rattle.scm_generate.proofs.starting.ups.Given as goal
 
 abbrev pub invariant-loop-before : goal.invariant-loop-before
-invariant-loop-before l = l.run ≡ after l.fn.run (ups l.first l.before)
+invariant-loop-before l = Makes l.fn.run (ups l.first l.before) l.run

@@ -1,7 +1,7 @@
 use Rattle.std.proofs.Common.{[], ◌++◌, Err, refl, ◌∙◌, subst, arith, length-append}
 use Rattle.std.proofs.KnownBytes.{Consumes-nil, Consumes-trans}
 use Rattle.scm_pipe.specs.Along.{Point, GoesOn}
-use Rattle.scm_pipe.specs.Serves.{Turned, fed}
+use Rattle.scm_pipe.specs.Serves.{ReadOnce, fed}
 use Rattle.scm_pipe.proofs.Running.{stays_then}
 use Rattle.scm_pipe.proofs.Ends.{begins, read_more, serves_worn, serves_end}
 use Rattle.scm_pipe.proofs.serving.serve.Goals as goal
@@ -49,7 +49,8 @@ returns-in-Err-clause-served g c =
     serves_end tells c.args.manager.now.limits 1 c.args.manager.now.flat (g.O.Sink.held c.args.output.now) (g.I.Source.left c.args.input.now) (g.I.Source.left c.loop-read.input) (g.I.Source.left c.turn.new.input)
     m b before.bytes t.read c.in-Err.how before.on before.consumed (omega (arith, before.count, c.loop-read-test.true)) t.consumed
     (omega (arith, c.min-room.ensures, c.split_at_mut-into.ensures.front_len, t.short, before.count, before.most))
-    (subst (λ x. Turned tells x 1 m b (g.I.Source.left c.turn.new.input) t.read (Err c.in-Err.how)) before.stays.limits t.turned)
+    (omega (arith, c.min-room.ensures, c.split_at_mut-into.ensures.front_len, t.short))
+    (subst (λ x. ReadOnce tells x 1 m b (g.I.Source.left c.turn.new.input) t.read (Err c.in-Err.how)) before.stays.limits t.turned)
 
 pub returns-clause-served : goal.returns-clause-served
 returns-clause-served g c =

@@ -1,7 +1,7 @@
 use Rattle.std.proofs.Common.{◌++◌, Err, ◌∙◌, subst, arith, length-append}
 use Rattle.std.proofs.KnownBytes.{Consumes-trans}
 use Rattle.scm_replay.specs.Outcomes.{standing}
-use Rattle.scm_replay.specs.Along.{Point, GoesOn, Turned}
+use Rattle.scm_replay.specs.Along.{Point, GoesOn, LinesRead, point}
 use Rattle.scm_replay.proofs.Ends.{beginning, ends_so, worn}
 use Rattle.scm_replay.proofs.Stretches.{goes_further, keeps_more}
 use Rattle.scm_replay.proofs.replaying.replay.Goals as goal
@@ -11,8 +11,8 @@ loop-read-preserved g c =
     let l = c.args.manager.now.limits in
     let before = c.loop-read.invariant in
     let now = c.in-Ok.ensures in
-    let m : Point = record { at = standing c.loop-read.manager; number = c.loop-read.reading.number; pending = c.loop-read.reading.pending.items; held = g.O.Sink.held c.loop-read.output } in
-    let b : Point = record { at = standing c.turn.new.manager; number = c.turn.new.reading.number; pending = c.turn.new.reading.pending.items; held = g.O.Sink.held c.turn.new.output } in
+    let m : Point = point c.loop-read.manager c.loop-read.reading (g.O.Sink.held c.loop-read.output) in
+    let b : Point = point c.turn.new.manager c.turn.new.reading (g.O.Sink.held c.turn.new.output) in
     let t = now.turned in
     record {
       bytes = before.bytes ++ t.read;
@@ -30,17 +30,18 @@ loop-read-preserved g c =
 pub returns-in-Err-clause-replayed : goal.returns-in-Err-clause-replayed
 returns-in-Err-clause-replayed g c =
     let before = c.loop-read.invariant in
-    let m : Point = record { at = standing c.loop-read.manager; number = c.loop-read.reading.number; pending = c.loop-read.reading.pending.items; held = g.O.Sink.held c.loop-read.output } in
-    let b : Point = record { at = standing c.turn.new.manager; number = c.turn.new.reading.number; pending = c.turn.new.reading.pending.items; held = g.O.Sink.held c.turn.new.output } in
+    let m : Point = point c.loop-read.manager c.loop-read.reading (g.O.Sink.held c.loop-read.output) in
+    let b : Point = point c.turn.new.manager c.turn.new.reading (g.O.Sink.held c.turn.new.output) in
     let t = c.in-Err.ensures.turned in
     ends_so c.args.manager.now.limits (standing c.args.manager.now) (g.O.Sink.held c.args.output.now) (g.I.Source.left c.args.input.now) (g.I.Source.left c.loop-read.input) (g.I.Source.left c.turn.new.input)
     before.bytes t.read m b c.in-Err.how before.on before.consumed (omega (arith, before.count, c.loop-read-test.true)) t.consumed
     (omega (arith, c.min-room.ensures, c.split_at_mut-into.ensures.front_len, t.short, before.count, before.most))
-    (subst (λ x. Turned x m b (g.I.Source.left c.turn.new.input) t.read (Err c.in-Err.how)) before.keeps.limits t.turned)
+    (omega (arith, c.min-room.ensures, c.split_at_mut-into.ensures.front_len, t.short))
+    (subst (λ x. LinesRead x m b (g.I.Source.left c.turn.new.input) t.read (Err c.in-Err.how)) before.keeps.limits t.turned)
 
 pub returns-clause-replayed : goal.returns-clause-replayed
 returns-clause-replayed g c =
     let before = c.loop-read.invariant in
-    let m : Point = record { at = standing c.loop-read.manager; number = c.loop-read.reading.number; pending = c.loop-read.reading.pending.items; held = g.O.Sink.held c.loop-read.output } in
+    let m : Point = point c.loop-read.manager c.loop-read.reading (g.O.Sink.held c.loop-read.output) in
     worn c.args.manager.now.limits (standing c.args.manager.now) (g.O.Sink.held c.args.output.now) (g.I.Source.left c.args.input.now) (g.I.Source.left c.loop-read.input)
     before.bytes m before.on before.consumed (omega (arith, before.count, before.most, c.loop-read-test.false))

@@ -1,7 +1,7 @@
 use Rattle.std.proofs.Common.{ℕ, ◌≡◌, ◌+◌, ◌-◌, ◌≤◌, ◌^◌, List, length}
 use Rattle.std.specs.Io.KnownBytes.{Consumes}
 use Rattle.scm_replay.specs.Outcomes.{standing}
-use Rattle.scm_replay.specs.Along.{GoesOn, Keeps}
+use Rattle.scm_replay.specs.Along.{GoesOn, Keeps, point}
 use Rattle.scm_replay.proofs.Ends.{beginning}
 use Rattle.scm_replay.proofs.replaying.replay.Given as goal
 
@@ -13,7 +13,7 @@ invariant-loop-read g l = record {
   count : length bytes ≡ l.read;
   most : l.read ≤ 2 ^ 40;
   on : GoesOn l.fn.manager.limits bytes (beginning (standing l.fn.manager) (g.O.Sink.held l.fn.output))
-      (record { at = standing l.manager; number = l.reading.number; pending = l.reading.pending.items; held = g.O.Sink.held l.output });
+      (point l.manager l.reading (g.O.Sink.held l.output));
   keeps : Keeps l.fn.manager l.manager l.read;
   number : l.reading.number ≤ 1 + l.read;
   input : g.I.Source.faults l.fn.input ≤ g.I.Source.faults l.input;
