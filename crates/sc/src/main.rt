@@ -1,0 +1,40 @@
+//! `sc`: asks a service control manager for one thing, by the words behind the program's name.
+#![tactic(auto)]
+
+use outside::{Sink, WriteSink};
+use sc_dial::{Dialer, TcpDialer};
+use sc_top::{ScFault, sc_main, status_of};
+use scm_text::{Items, Text};
+use std::io::ErrorKind;
+use std::process::ExitCode;
+use std::rt::Env;
+
+/// The words after the program's name, each in UTF-8.
+fn arguments<R: Env + AllocGlobal>(rt: &R) -> Result<Items<Text>, ScFault> {
+    let mut words = Items::new(rt.alloc());
+    let args = match std::env::args(rt) {
+        Ok(args) => args,
+        Err(fault) if fault.kind() == ErrorKind::InvalidData => return Err(ScFault::Words),
+        Err(_) => return Err(ScFault::OutOfMemory),
+    };
+    for word in args.skip(1) {
+        if words.push(Text::from_string(word)).is_err() {
+            return Err(ScFault::OutOfMemory);
+        }
+    }
+    Ok(words)
+}
+
+/// The whole program. Its bounds give it no leave to write to standard error, nor to any place that it isn't handed.
+fn program<R: Env + AllocGlobal, D: Dialer, O: Sink>(rt: &R, dialer: &mut D, output: &mut O) -> u8 {
+    match arguments(rt) {
+        Ok(words) => sc_main(rt.alloc(), &words, dialer, output),
+        Err(fault) => status_of(Err(fault)),
+    }
+}
+
+fn main(rt: HostRuntime) -> ExitCode {
+    let mut dialer = TcpDialer::new(rt);
+    let mut output = WriteSink::new(rt.stdout());
+    ExitCode::from(program(&rt, &mut dialer, &mut output))
+}

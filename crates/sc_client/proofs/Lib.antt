@@ -1,0 +1,4 @@
+mod Fragments
+mod Following
+mod Turning
+mod WholeRuns

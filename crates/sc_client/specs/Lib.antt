@@ -1,0 +1,4 @@
+pub mod Requests
+pub mod Talks
+pub mod Runs
+pub mod Along

@@ -1,0 +1,44 @@
+ghost use Rattle.std.specs.Prelude.{◌≡◌};
+ghost use Rattle.sc_top.specs.Runs.{status_of, status_of_fault};
+
+use sc_client::ClientFault;
+use thiserror::Error;
+
+/// Why a run of the client didn't print its text.
+#[derive(Clone, Copy, Debug, PartialEq, Eq, Error)]
+pub enum ScFault {
+    #[error("the words are no command")]
+    Words,
+    #[error("the manager can't be reached")]
+    Dial,
+    #[error("{0}")]
+    Client(ClientFault),
+    #[error("the output can't be written to")]
+    Output,
+    #[error("out of memory")]
+    OutOfMemory,
+}
+
+/// The status of a run that didn't print its text.
+fn status_of_fault(fault: ScFault) -> u8
+    ensures { result ≡ status_of_fault fault }
+{
+    match fault {
+        ScFault::Words => 2,
+        ScFault::Dial | ScFault::Output => 3,
+        ScFault::Client(ClientFault::ReadFault | ClientFault::WriteFault) => 3,
+        ScFault::Client(ClientFault::BadReply(_) | ClientFault::Truncated) => 4,
+        ScFault::Client(ClientFault::OutOfMemory) | ScFault::OutOfMemory => 8,
+    }
+}
+
+/// The status of a run, by whether a call was refused or why its text wasn't printed.
+pub fn status_of(how: Result<bool, ScFault>) -> u8
+    ensures { result ≡ status_of how }
+{
+    match how {
+        Ok(false) => 0,
+        Ok(true) => 1,
+        Err(fault) => status_of_fault(fault),
+    }
+}

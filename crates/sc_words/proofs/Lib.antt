@@ -1,0 +1,5 @@
+mod Lists
+mod Pairs
+mod Counts
+mod Bytes
+mod Printed

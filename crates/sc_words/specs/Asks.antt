@@ -1,0 +1,143 @@
+-- What a command asks next.
+use Rattle.std.specs.Prelude.{ℕ, ◌+◌, ◌/◌, ◌%◌, ◌==◌, Bool, true, false, nat_lt, nat_le, ◌&&◌, List, [], ◌∷◌, ◌++◌, option_map, unwrap_or, Option, None, Some, if◌then◌else◌}
+use Rattle.std.specs.List.{flat_map}
+use Rattle.scm_model.specs.declared.calls.ChangeService.{ChangeService}
+use Rattle.scm_model.specs.declared.calls.NewService.{NewService}
+use Rattle.scm_model.specs.declared.calls.Request.{Request}
+use Rattle.scm_model.specs.declared.calls.Request.TheVariants as request
+use Rattle.scm_model.specs.declared.codes.TheConstants.{DELETE, SC_MANAGER_CONNECT, SC_MANAGER_CREATE_SERVICE, SERVICE_ALL_ACCESS, SERVICE_AUTO_START, SERVICE_CHANGE_CONFIG, SERVICE_CONTROL_CONTINUE, SERVICE_CONTROL_INTERROGATE, SERVICE_CONTROL_NETBINDDISABLE, SERVICE_CONTROL_PARAMCHANGE, SERVICE_CONTROL_PAUSE, SERVICE_CONTROL_STOP, SERVICE_DEMAND_START, SERVICE_DISABLED, SERVICE_ERROR_NORMAL, SERVICE_INTERROGATE, SERVICE_NO_CHANGE, SERVICE_PAUSE_CONTINUE, SERVICE_QUERY_STATUS, SERVICE_START, SERVICE_STOP, SERVICE_USER_DEFINED_CONTROL, SERVICE_WIN32_OWN_PROCESS}
+use Rattle.sc_words.specs.declared.asking.Asked.{Asked}
+use Rattle.sc_words.specs.declared.asking.Asked.TheVariants as asked
+use Rattle.sc_words.specs.declared.asking.Config2.{Config2}
+use Rattle.sc_words.specs.declared.asking.Config2.TheVariants as config2
+use Rattle.sc_words.specs.declared.calls.Heard.{Heard}
+use Rattle.sc_words.specs.declared.calls.Method.{Method}
+use Rattle.sc_words.specs.declared.calls.Method.TheVariants as method
+use Rattle.sc_words.specs.declared.command.Command.{Command}
+use Rattle.sc_words.specs.declared.command.Task.{Task}
+use Rattle.sc_words.specs.declared.command.Task.TheVariants as task
+use Rattle.sc_words.specs.declared.settings.Settings.{Settings}
+use Rattle.sc_words.specs.declared.values.StartType.{StartType}
+use Rattle.sc_words.specs.declared.values.StartType.TheVariants.{Auto, Demand, Disabled, DelayedAuto}
+use Rattle.sc_words.specs.Calls.{Standing, Asks, Failed, Done, stage_of, given, handle_before, closed}
+
+-- ## Rights
+
+abbrev pub manager_right : Task → ℕ
+manager_right (task.Create s) = SC_MANAGER_CREATE_SERVICE
+manager_right _ = SC_MANAGER_CONNECT
+
+-- the right that sending a control needs
+abbrev pub control_right : ℕ → ℕ
+control_right code =
+    if code == SERVICE_CONTROL_STOP then SERVICE_STOP
+    else if code == SERVICE_CONTROL_PAUSE then SERVICE_PAUSE_CONTINUE
+    else if code == SERVICE_CONTROL_CONTINUE then SERVICE_PAUSE_CONTINUE
+    else if code == SERVICE_CONTROL_INTERROGATE then SERVICE_INTERROGATE
+    else if nat_le SERVICE_CONTROL_PARAMCHANGE code && nat_le code SERVICE_CONTROL_NETBINDDISABLE then SERVICE_PAUSE_CONTINUE
+    else SERVICE_USER_DEFINED_CONTROL
+
+abbrev pub service_right : Task → ℕ
+service_right (task.Create s) = SERVICE_ALL_ACCESS
+service_right (task.Config s) = SERVICE_CHANGE_CONFIG
+service_right (task.Description text) = SERVICE_CHANGE_CONFIG
+service_right (task.Failure s) = SERVICE_CHANGE_CONFIG + SERVICE_START
+service_right (task.Start words) = SERVICE_START
+service_right (task.Control code) = control_right code
+service_right task.Query = SERVICE_QUERY_STATUS
+service_right task.Delete = DELETE
+
+-- ## Configurations
+
+abbrev pub start_code : StartType → ℕ
+start_code Auto = SERVICE_AUTO_START
+start_code DelayedAuto = SERVICE_AUTO_START
+start_code Demand = SERVICE_DEMAND_START
+start_code Disabled = SERVICE_DISABLED
+
+abbrev pub is_delayed : Option StartType → Bool
+is_delayed (Some DelayedAuto) = true
+is_delayed _ = false
+
+-- a tag is asked for by a number that isn't used
+abbrev pub tag_asked : Option Bool → Option ℕ
+tag_asked (Some true) = Some 0
+tag_asked _ = None
+
+-- units as bytes, the low one first
+abbrev pub bytes_of : List ℕ → List ℕ
+bytes_of [] = []
+bytes_of (unit ∷ units) = unit % 256 ∷ unit / 256 ∷ bytes_of units
+
+abbrev pub zero_ended : List ℕ → List ℕ
+zero_ended name = name ++ 0 ∷ []
+
+-- names, each ended by a 0 and all by one more
+unfoldable pub needs_bytes : List (List ℕ) → List ℕ
+needs_bytes names = bytes_of (flat_map zero_ended names ++ 0 ∷ [])
+
+abbrev pub creation : List ℕ → Settings → ℕ → NewService
+creation name s handle = record {
+  handle = handle;
+  name = name;
+  display = s.display;
+  access = SERVICE_ALL_ACCESS;
+  kind = unwrap_or s.kind SERVICE_WIN32_OWN_PROCESS;
+  start = unwrap_or (option_map start_code s.start) SERVICE_DEMAND_START;
+  error = unwrap_or s.error SERVICE_ERROR_NORMAL;
+  path = unwrap_or s.path [];
+  group = s.group;
+  tag = tag_asked s.tag;
+  needs = option_map needs_bytes s.needs;
+  account = s.account;
+}
+
+-- what no key says stays as it is
+abbrev pub change : Settings → ℕ → ChangeService
+change s handle = record {
+  handle = handle;
+  kind = unwrap_or s.kind SERVICE_NO_CHANGE;
+  start = unwrap_or (option_map start_code s.start) SERVICE_NO_CHANGE;
+  error = unwrap_or s.error SERVICE_NO_CHANGE;
+  path = s.path;
+  group = s.group;
+  tag = tag_asked s.tag;
+  needs = option_map needs_bytes s.needs;
+  account = s.account;
+  display = s.display;
+}
+
+-- ## Requests
+
+-- what a task asks of its service, or of the manager where it creates it
+abbrev pub task_asks : Command → Task → Method → ℕ → Asked
+task_asks c (task.Create s) method.ChangeServiceConfig2 handle = asked.Config2 handle (config2.Delayed (is_delayed s.start))
+task_asks c (task.Create s) m handle = asked.Request (request.Create (creation c.name s handle))
+task_asks c (task.Config s) method.ChangeServiceConfig2 handle = asked.Config2 handle (config2.Delayed (is_delayed s.start))
+task_asks c (task.Config s) m handle = asked.Request (request.Change (change s handle))
+task_asks c (task.Description text) m handle = asked.Config2 handle (config2.Description text)
+task_asks c (task.Failure s) m handle = asked.Config2 handle (config2.Failure (unwrap_or s.reset 0) s.command s.actions)
+task_asks c (task.Start words) m handle = asked.Request (request.Start handle (Some words))
+task_asks c (task.Control code) m handle = asked.Request (request.Control handle code)
+task_asks c task.Query m handle = asked.Request (request.QueryStatus handle)
+task_asks c task.Delete m handle = asked.Request (request.Delete handle)
+
+-- what a call asks by the handle that was given last
+abbrev pub method_asks : Command → Method → ℕ → Asked
+method_asks c method.OpenSCManager handle = asked.Request (request.OpenManager None (manager_right c.task))
+method_asks c method.OpenService handle = asked.Request (request.OpenService handle c.name (service_right c.task))
+method_asks c m handle = task_asks c c.task m handle
+
+-- the close of the handle that was given last among those that aren't closed
+abbrev pub close : Command → List Heard → Option Asked
+close c hs =
+    if nat_lt (closed c.task hs) (given c.task hs) then Some (asked.Request (request.Close (handle_before (closed c.task hs) c.task hs))) else None
+
+abbrev pub asks_at : Standing → Command → List Heard → Option Asked
+asks_at (Asks m) c hs = Some (method_asks c m (handle_before 0 c.task hs))
+asks_at (Failed m h) c hs = close c hs
+asks_at Done c hs = close c hs
+
+-- the next request of a command after these replies
+unfoldable pub asks : Command → List Heard → Option Asked
+asks c hs = asks_at (stage_of c.task hs) c hs

@@ -1,0 +1,112 @@
+-- The calls of a command: which they are, and how far they came.
+use Rattle.std.specs.Prelude.{ℕ, ◌+◌, ◌-◌, ◌==◌, Bool, true, false, nat_lt, nat_le, ◌&&◌, min, List, [], ◌∷◌, ◌++◌, length, slice_get, option_map, unwrap_or, Option, None, Some, if◌then◌else◌}
+use Rattle.std.specs.List.{flat_map}
+use Rattle.scm_model.specs.declared.calls.Reply.{Reply}
+use Rattle.scm_model.specs.declared.calls.Reply.TheVariants as reply
+use Rattle.sc_words.specs.declared.calls.Heard.{Heard}
+use Rattle.sc_words.specs.declared.calls.Heard.TheVariants as heard
+use Rattle.sc_words.specs.declared.calls.Method.{Method}
+use Rattle.sc_words.specs.declared.calls.Method.TheVariants as method
+use Rattle.sc_words.specs.declared.command.Task.{Task}
+use Rattle.sc_words.specs.declared.command.Task.TheVariants as task
+use Rattle.sc_words.specs.declared.values.StartType.{StartType}
+use Rattle.sc_words.specs.declared.values.StartType.TheVariants.{Auto, Demand, Disabled, DelayedAuto}
+
+-- ## Which calls
+
+-- whether a creation says that a service starts delayed: it can only say yes
+abbrev pub delay_of_creation : Option StartType → Option Bool
+delay_of_creation (Some DelayedAuto) = Some true
+delay_of_creation _ = None
+
+-- a change says yes or no wherever it makes a service start by itself
+abbrev pub delay_of_change : Option StartType → Option Bool
+delay_of_change (Some Auto) = Some false
+delay_of_change (Some DelayedAuto) = Some true
+delay_of_change _ = None
+
+abbrev pub and_delay : Option Bool → List Method
+and_delay None = []
+and_delay (Some on) = method.ChangeServiceConfig2 ∷ []
+
+-- the calls behind OpenSCManager, before the handles are closed
+abbrev pub methods_of : Task → List Method
+methods_of (task.Create s) = method.CreateService ∷ and_delay (delay_of_creation s.start)
+methods_of (task.Config s) = method.OpenService ∷ method.ChangeServiceConfig ∷ and_delay (delay_of_change s.start)
+methods_of (task.Description text) = method.OpenService ∷ method.ChangeServiceConfig2 ∷ []
+methods_of (task.Failure s) = method.OpenService ∷ method.ChangeServiceConfig2 ∷ []
+methods_of (task.Start words) = method.OpenService ∷ method.StartService ∷ []
+methods_of (task.Control code) = method.OpenService ∷ method.ControlService ∷ []
+methods_of task.Query = method.OpenService ∷ method.QueryServiceStatus ∷ []
+methods_of task.Delete = method.OpenService ∷ method.DeleteService ∷ []
+
+abbrev pub calls_of : Task → List Method
+calls_of t = method.OpenSCManager ∷ methods_of t
+
+-- ## How far they came
+
+abbrev pub code_heard : Reply → ℕ
+code_heard (reply.Code code) = code
+code_heard (reply.Handle handle code) = code
+code_heard (reply.State status code) = code
+code_heard (reply.Made tag handle code) = code
+code_heard (reply.Tag tag code) = code
+code_heard (reply.Shown config needed code) = code
+code_heard (reply.LockState held owner seconds needed code) = code
+code_heard (reply.Name name size code) = code
+
+-- a call succeeded
+abbrev pub is_good : Heard → Bool
+is_good (heard.Reply r) = code_heard r == 0
+is_good (heard.Fault status) = false
+
+-- how many calls succeeded before the first that didn't, or that isn't answered yet
+unfoldable pub succeeded : List Method → List Heard → ℕ
+succeeded [] hs = 0
+succeeded (m ∷ ms) [] = 0
+succeeded (m ∷ ms) (h ∷ hs) = if is_good h then succeeded ms hs + 1 else 0
+
+-- where the calls of a task stand
+pub data Standing : Type 0 where
+  -- this one is to be made
+  Asks : Method → Standing
+  -- this one was refused, or met a fault
+  Failed : Method → Heard → Standing
+  -- all succeeded
+  Done : Standing
+
+abbrev pub standing_by : Option Method → Option Heard → Standing
+standing_by None h = Done
+standing_by (Some m) None = Asks m
+standing_by (Some m) (Some h) = Failed m h
+
+unfoldable pub stage_of : Task → List Heard → Standing
+stage_of t hs = let n = succeeded (calls_of t) hs in standing_by (slice_get (calls_of t) n) (slice_get hs n)
+
+-- ## Handles
+
+abbrev pub handle_heard : Reply → ℕ
+handle_heard (reply.Handle handle code) = handle
+handle_heard (reply.Made tag handle code) = handle
+handle_heard _ = 0
+
+abbrev pub handle_in : Option Heard → ℕ
+handle_in (Some (heard.Reply r)) = handle_heard r
+handle_in _ = 0
+
+-- the first two calls give a handle each, the manager's and then the service's
+unfoldable pub given : Task → List Heard → ℕ
+given t hs = min 2 (succeeded (calls_of t) hs)
+
+-- the handle that was given before the last so many
+unfoldable pub handle_before : ℕ → Task → List Heard → ℕ
+handle_before last t hs = handle_in (slice_get hs (given t hs - 1 - last))
+
+-- how many replies came to the closes
+abbrev pub closed_by : Standing → Task → List Heard → ℕ
+closed_by (Asks m) t hs = 0
+closed_by (Failed m h) t hs = length hs - succeeded (calls_of t) hs - 1
+closed_by Done t hs = length hs - succeeded (calls_of t) hs
+
+unfoldable pub closed : Task → List Heard → ℕ
+closed t hs = closed_by (stage_of t hs) t hs

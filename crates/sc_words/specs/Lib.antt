@@ -1,0 +1,10 @@
+pub mod Places
+pub mod Texts
+pub mod Values
+pub mod Settings
+pub mod Words
+pub mod Along
+pub mod Calls
+pub mod Seen
+pub mod Asks
+pub mod Told

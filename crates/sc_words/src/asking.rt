@@ -1,0 +1,369 @@
+ghost use Rattle.std.specs.Prelude.{◌≡◌, ◌++◌, [], IfOk, OnOk, option_map, unwrap_or};
+ghost use Rattle.sc_words.specs.Asks.{asks, bytes_of, change, close, control_right, creation, is_delayed, manager_right, method_asks, needs_bytes, service_right, start_code, tag_asked, task_asks};
+ghost use Rattle.sc_words.specs.declared.asking.Config2.TheVariants as config2;
+ghost use Rattle.sc_words.specs.declared.asking.Asked.TheVariants as requests;
+
+use super::calls::{Heard, Method, Stage, closed, given, handle_before, stage_of};
+use super::command::{Command, Task};
+use super::settings::Settings;
+use super::values::StartType;
+use scm_model::codes::{
+    DELETE, SC_MANAGER_CONNECT, SC_MANAGER_CREATE_SERVICE, SERVICE_ALL_ACCESS, SERVICE_AUTO_START,
+    SERVICE_CHANGE_CONFIG, SERVICE_CONTROL_CONTINUE, SERVICE_CONTROL_INTERROGATE,
+    SERVICE_CONTROL_NETBINDDISABLE, SERVICE_CONTROL_PARAMCHANGE, SERVICE_CONTROL_PAUSE,
+    SERVICE_CONTROL_STOP, SERVICE_DEMAND_START, SERVICE_DISABLED, SERVICE_ERROR_NORMAL,
+    SERVICE_INTERROGATE, SERVICE_NO_CHANGE, SERVICE_PAUSE_CONTINUE, SERVICE_QUERY_STATUS,
+    SERVICE_START, SERVICE_STOP, SERVICE_USER_DEFINED_CONTROL, SERVICE_WIN32_OWN_PROCESS,
+};
+use scm_model::{Action, ChangeService, NewService, Request, copy_texts};
+use scm_text::{Items, OutOfMemory, WText};
+use std::alloc::Global;
+
+/// What `RChangeServiceConfig2W` changes, by its level: 1, 2 or 3.
+#[derive(Drop)]
+pub enum Config2 {
+    Description(WText),
+    Failure {
+        /// Seconds.
+        reset: u32,
+        command: Option<WText>,
+        actions: Option<Items<Action>>,
+    },
+    /// Whether the service starts some time after the others.
+    Delayed(bool),
+}
+
+/// What a command asks of its peer.
+#[derive(Drop)]
+pub enum Asked {
+    Request(Request),
+    /// `RChangeServiceConfig2W`, opnum 37, which is no `Request` yet.
+    Config2 { handle: u64, change: Config2 },
+}
+
+/// The right that is asked for on the manager.
+fn manager_right(task: &Task) -> u32
+    ensures { result ≡ manager_right task.now }
+{
+    match task {
+        Task::Create(_) => SC_MANAGER_CREATE_SERVICE,
+        _ => SC_MANAGER_CONNECT,
+    }
+}
+
+/// The right that sending a control needs.
+fn control_right(code: u32) -> u32
+    ensures { result ≡ control_right code }
+{
+    if code == SERVICE_CONTROL_STOP {
+        SERVICE_STOP
+    } else if code == SERVICE_CONTROL_PAUSE {
+        SERVICE_PAUSE_CONTINUE
+    } else if code == SERVICE_CONTROL_CONTINUE {
+        SERVICE_PAUSE_CONTINUE
+    } else if code == SERVICE_CONTROL_INTERROGATE {
+        SERVICE_INTERROGATE
+    } else if SERVICE_CONTROL_PARAMCHANGE <= code && code <= SERVICE_CONTROL_NETBINDDISABLE {
+        SERVICE_PAUSE_CONTINUE
+    } else {
+        SERVICE_USER_DEFINED_CONTROL
+    }
+}
+
+/// The rights that are asked for on the service.
+fn service_right(task: &Task) -> u32
+    ensures { result ≡ service_right task.now }
+{
+    match task {
+        Task::Create(_) => SERVICE_ALL_ACCESS,
+        Task::Config(_) | Task::Description(_) => SERVICE_CHANGE_CONFIG,
+        Task::Failure(_) => SERVICE_CHANGE_CONFIG + SERVICE_START,
+        Task::Start(_) => SERVICE_START,
+        Task::Control(code) => control_right(*code),
+        Task::Query => SERVICE_QUERY_STATUS,
+        Task::Delete => DELETE,
+    }
+}
+
+/// The number of a start type; that it is delayed is said elsewhere.
+fn start_code(start: StartType) -> u32
+    ensures { result ≡ start_code start }
+{
+    match start {
+        StartType::Auto | StartType::DelayedAuto => SERVICE_AUTO_START,
+        StartType::Demand => SERVICE_DEMAND_START,
+        StartType::Disabled => SERVICE_DISABLED,
+    }
+}
+
+/// The number of a start type, or another.
+fn start_or(start: Option<StartType>, other: u32) -> u32
+    ensures { result ≡ unwrap_or (option_map start_code start) other }
+{
+    match start {
+        Some(start) => start_code(start),
+        None => other,
+    }
+}
+
+fn is_delayed(start: Option<StartType>) -> bool
+    ensures { result ≡ is_delayed start }
+{
+    matches!(start, Some(StartType::DelayedAuto))
+}
+
+/// What asks for a tag.
+fn tag_asked(asked: Option<bool>) -> Option<u32>
+    ensures { result ≡ tag_asked asked }
+{
+    match asked {
+        Some(true) => Some(0),
+        _ => None,
+    }
+}
+
+/// Appends units as bytes, the low one first.
+fn append_units(bytes: &mut Items<u8>, units: &[u16]) -> Result<(), OutOfMemory>
+    ensures { OnOk result (bytes.new ≡ bytes.old ++ bytes_of units.now) }
+{
+    for unit in units {
+        bytes.append(&[(*unit % 256) as u8, (*unit / 256) as u8])?;
+    }
+    Ok(())
+}
+
+/// Names, each ended by a 0 and all by one more.
+#[tactic(auto, unfolding(crate::specs::Asks::needs_bytes))]
+fn needs_bytes(alloc: Global, names: &[WText]) -> Result<Items<u8>, OutOfMemory>
+    ensures { IfOk result (λ bytes. bytes ≡ needs_bytes names.now) }
+{
+    let mut bytes = Items::new(alloc);
+    for name in names {
+        append_units(&mut bytes, name.units())?;
+        bytes.append(&[0, 0])?;
+    }
+    bytes.append(&[0, 0])?;
+    Ok(bytes)
+}
+
+/// The bytes of names that may be absent.
+fn some_needs(alloc: Global, names: &Option<Items<WText>>) -> Result<Option<Items<u8>>, OutOfMemory>
+    ensures { IfOk result (λ bytes. bytes ≡ option_map needs_bytes names.now) }
+{
+    match names {
+        Some(names) => Ok(Some(needs_bytes(alloc, names.as_slice())?)),
+        None => Ok(None),
+    }
+}
+
+/// A copy of a text that may be absent.
+fn copy_of_text(alloc: Global, text: &Option<WText>) -> Result<Option<WText>, OutOfMemory>
+    ensures { IfOk result (λ copy. copy ≡ text.now) }
+{
+    match text {
+        Some(text) => Ok(Some(text.copy(alloc)?)),
+        None => Ok(None),
+    }
+}
+
+/// A copy of a text, or the empty one.
+fn text_or_empty(alloc: Global, text: &Option<WText>) -> Result<WText, OutOfMemory>
+    ensures { IfOk result (λ copy. copy ≡ unwrap_or text.now []) }
+{
+    match text {
+        Some(text) => text.copy(alloc),
+        None => Ok(WText::new(alloc)),
+    }
+}
+
+/// A copy of actions that may be absent.
+fn copy_of_actions(
+    alloc: Global,
+    actions: &Option<Items<Action>>,
+) -> Result<Option<Items<Action>>, OutOfMemory>
+    ensures { IfOk result (λ copy. copy ≡ actions.now) }
+{
+    match actions {
+        Some(actions) => match Vec::from_slice(alloc, actions.as_slice()) {
+            Ok(copy) => Ok(Some(Items::from_vec(copy))),
+            Err(_) => Err(OutOfMemory),
+        },
+        None => Ok(None),
+    }
+}
+
+/// What a creation asks.
+fn creation(
+    alloc: Global,
+    name: &WText,
+    settings: &Settings,
+    handle: u64,
+) -> Result<NewService, OutOfMemory>
+    ensures { IfOk result (λ new. new ≡ creation name.now settings.now handle) }
+{
+    let name = name.copy(alloc)?;
+    let display = copy_of_text(alloc, &settings.display)?;
+    let path = text_or_empty(alloc, &settings.path)?;
+    let group = copy_of_text(alloc, &settings.group)?;
+    let needs = some_needs(alloc, &settings.needs)?;
+    let account = copy_of_text(alloc, &settings.account)?;
+    Ok(NewService {
+        handle,
+        name,
+        display,
+        access: SERVICE_ALL_ACCESS,
+        kind: settings.kind.unwrap_or(SERVICE_WIN32_OWN_PROCESS),
+        start: start_or(settings.start, SERVICE_DEMAND_START),
+        error: settings.error.unwrap_or(SERVICE_ERROR_NORMAL),
+        path,
+        group,
+        tag: tag_asked(settings.tag),
+        needs,
+        account,
+    })
+}
+
+/// What a change asks.
+fn change(alloc: Global, settings: &Settings, handle: u64) -> Result<ChangeService, OutOfMemory>
+    ensures { IfOk result (λ asked. asked ≡ change settings.now handle) }
+{
+    let path = copy_of_text(alloc, &settings.path)?;
+    let group = copy_of_text(alloc, &settings.group)?;
+    let needs = some_needs(alloc, &settings.needs)?;
+    let account = copy_of_text(alloc, &settings.account)?;
+    let display = copy_of_text(alloc, &settings.display)?;
+    Ok(ChangeService {
+        handle,
+        kind: settings.kind.unwrap_or(SERVICE_NO_CHANGE),
+        start: start_or(settings.start, SERVICE_NO_CHANGE),
+        error: settings.error.unwrap_or(SERVICE_NO_CHANGE),
+        path,
+        group,
+        tag: tag_asked(settings.tag),
+        needs,
+        account,
+        display,
+    })
+}
+
+/// What failure actions ask.
+fn failure(alloc: Global, settings: &Settings) -> Result<Config2, OutOfMemory>
+    ensures { IfOk result (λ change. change ≡ config2.Failure (unwrap_or settings.now.reset 0) settings.now.command settings.now.actions) }
+{
+    let command = copy_of_text(alloc, &settings.command)?;
+    let actions = copy_of_actions(alloc, &settings.actions)?;
+    Ok(Config2::Failure {
+        reset: settings.reset.unwrap_or(0),
+        command,
+        actions,
+    })
+}
+
+/// Whether the service starts delayed is asked by a call of its own.
+fn delay(handle: u64, settings: &Settings) -> Asked
+    ensures { result ≡ requests.Config2 handle (config2.Delayed (is_delayed settings.now.start)) }
+{
+    Asked::Config2 {
+        handle,
+        change: Config2::Delayed(is_delayed(settings.start)),
+    }
+}
+
+/// What a task asks by a handle.
+fn task_asks(
+    alloc: Global,
+    command: &Command,
+    method: Method,
+    handle: u64,
+) -> Result<Asked, OutOfMemory>
+    ensures { IfOk result (λ asked. asked ≡ task_asks command.now command.now.task method handle) }
+{
+    match &command.task {
+        Task::Create(settings) => {
+            if method == Method::ChangeServiceConfig2 {
+                return Ok(delay(handle, settings));
+            }
+            let new = creation(alloc, &command.name, settings, handle)?;
+            Ok(Asked::Request(Request::Create(new)))
+        }
+        Task::Config(settings) => {
+            if method == Method::ChangeServiceConfig2 {
+                return Ok(delay(handle, settings));
+            }
+            let change = change(alloc, settings, handle)?;
+            Ok(Asked::Request(Request::Change(change)))
+        }
+        Task::Description(text) => Ok(Asked::Config2 {
+            handle,
+            change: Config2::Description(text.copy(alloc)?),
+        }),
+        Task::Failure(settings) => Ok(Asked::Config2 {
+            handle,
+            change: failure(alloc, settings)?,
+        }),
+        Task::Start(words) => Ok(Asked::Request(Request::Start {
+            handle,
+            words: Some(copy_texts(words.as_slice(), alloc)?),
+        })),
+        Task::Control(code) => Ok(Asked::Request(Request::Control {
+            handle,
+            control: *code,
+        })),
+        Task::Query => Ok(Asked::Request(Request::QueryStatus { handle })),
+        Task::Delete => Ok(Asked::Request(Request::Delete { handle })),
+    }
+}
+
+/// What a call asks by the handle that was given last.
+fn method_asks(
+    alloc: Global,
+    command: &Command,
+    method: Method,
+    handle: u64,
+) -> Result<Asked, OutOfMemory>
+    ensures { IfOk result (λ asked. asked ≡ method_asks command.now method handle) }
+{
+    match method {
+        Method::OpenSCManager => Ok(Asked::Request(Request::OpenManager {
+            database: None,
+            access: manager_right(&command.task),
+        })),
+        Method::OpenService => Ok(Asked::Request(Request::OpenService {
+            handle,
+            name: command.name.copy(alloc)?,
+            access: service_right(&command.task),
+        })),
+        _ => task_asks(alloc, command, method, handle),
+    }
+}
+
+/// The close of the handle that was given last among those that aren't closed.
+fn close(command: &Command, heard: &[Heard]) -> Option<Asked>
+    ensures { result ≡ close command.now heard.now }
+{
+    let task = &command.task;
+    let closed = closed(task, heard);
+    if closed < given(task, heard) {
+        let handle = handle_before(closed, task, heard);
+        Some(Asked::Request(Request::Close { handle }))
+    } else {
+        None
+    }
+}
+
+/// The next request of a command after these replies, or none where all is asked: the calls in order, each by the handle that
+/// was given last, up to the first that doesn't succeed; and then the closes, the handle that was given last first.
+#[tactic(auto, unfolding(crate::specs::Asks::asks))]
+pub fn next_request(
+    alloc: Global,
+    command: &Command,
+    heard: &[Heard],
+) -> Result<Option<Asked>, OutOfMemory>
+    ensures { IfOk result (λ asked. asked ≡ asks command.now heard.now) }
+{
+    let Stage::Asks(method) = stage_of(&command.task, heard) else {
+        return Ok(close(command, heard));
+    };
+    let handle = handle_before(0, &command.task, heard);
+    Ok(Some(method_asks(alloc, command, method, handle)?))
+}

@@ -1,0 +1,240 @@
+ghost use Rattle.std.specs.Prelude.{◌≡◌, ◌≤◌, ◌∷◌, Some, length};
+ghost use Rattle.sc_words.specs.Calls.{and_delay, calls_of, closed, code_heard, delay_of_change, delay_of_creation, given, handle_before, handle_in, handle_heard, is_good, stage_of, succeeded};
+ghost use Rattle.sc_words.specs.Seen.{seen_standing};
+ghost use Rattle.sc_words.specs.declared.calls.Method.TheVariants.{ChangeServiceConfig, CreateService, OpenSCManager, OpenService};
+
+use super::command::Task;
+use super::values::StartType;
+use scm_model::Reply;
+use scm_model::codes::ERROR_SUCCESS;
+
+/// A call of the manager, under the name that is printed.
+#[derive(Clone, Copy, Debug, PartialEq, Eq)]
+pub enum Method {
+    OpenSCManager,
+    OpenService,
+    CreateService,
+    ChangeServiceConfig,
+    ChangeServiceConfig2,
+    StartService,
+    ControlService,
+    QueryServiceStatus,
+    DeleteService,
+}
+
+/// What the peer answered a request.
+#[derive(Drop)]
+pub enum Heard {
+    Reply(Reply),
+    /// The status of a fault (C706, appendix E).
+    Fault(u32),
+}
+
+/// Where the calls of a task stand.
+#[derive(Clone, Copy)]
+pub enum Stage<'a> {
+    /// This call is to be made.
+    Asks(Method),
+    /// This call was refused, or met a fault.
+    Failed(Method, &'a Heard),
+    /// All succeeded.
+    Done,
+}
+
+static CREATE: [Method; 2] = [Method::OpenSCManager, Method::CreateService];
+
+static CREATE_DELAYED: [Method; 3] = [
+    Method::OpenSCManager,
+    Method::CreateService,
+    Method::ChangeServiceConfig2,
+];
+
+static CONFIG: [Method; 3] = [
+    Method::OpenSCManager,
+    Method::OpenService,
+    Method::ChangeServiceConfig,
+];
+
+static CONFIG_DELAY: [Method; 4] = [
+    Method::OpenSCManager,
+    Method::OpenService,
+    Method::ChangeServiceConfig,
+    Method::ChangeServiceConfig2,
+];
+
+static CONFIG2: [Method; 3] = [
+    Method::OpenSCManager,
+    Method::OpenService,
+    Method::ChangeServiceConfig2,
+];
+
+static START: [Method; 3] = [
+    Method::OpenSCManager,
+    Method::OpenService,
+    Method::StartService,
+];
+
+static CONTROL: [Method; 3] = [
+    Method::OpenSCManager,
+    Method::OpenService,
+    Method::ControlService,
+];
+
+static QUERY: [Method; 3] = [
+    Method::OpenSCManager,
+    Method::OpenService,
+    Method::QueryServiceStatus,
+];
+
+static DELETE: [Method; 3] = [
+    Method::OpenSCManager,
+    Method::OpenService,
+    Method::DeleteService,
+];
+
+/// The calls of a creation.
+fn creation_calls(start: Option<StartType>) -> &'static [Method]
+    ensures { result.now ≡ OpenSCManager ∷ CreateService ∷ and_delay (delay_of_creation start) }
+{
+    match start {
+        Some(StartType::DelayedAuto) => &CREATE_DELAYED,
+        _ => &CREATE,
+    }
+}
+
+/// The calls of a change.
+fn change_calls(start: Option<StartType>) -> &'static [Method]
+    ensures { result.now ≡ OpenSCManager ∷ OpenService ∷ ChangeServiceConfig ∷ and_delay (delay_of_change start) }
+{
+    match start {
+        Some(StartType::Auto | StartType::DelayedAuto) => &CONFIG_DELAY,
+        _ => &CONFIG,
+    }
+}
+
+/// The calls of a task, before its handles are closed.
+fn calls_of(task: &Task) -> &'static [Method]
+    ensures { result.now ≡ calls_of task.now }
+{
+    match task {
+        Task::Create(settings) => creation_calls(settings.start),
+        Task::Config(settings) => change_calls(settings.start),
+        Task::Description(_) | Task::Failure(_) => &CONFIG2,
+        Task::Start(_) => &START,
+        Task::Control(_) => &CONTROL,
+        Task::Query => &QUERY,
+        Task::Delete => &DELETE,
+    }
+}
+
+/// The code of a reply.
+pub fn code_heard(reply: &Reply) -> u32
+    ensures { result ≡ code_heard reply.now }
+{
+    match reply {
+        Reply::Code(code) => *code,
+        Reply::Handle { code, .. } => *code,
+        Reply::State { code, .. } => *code,
+        Reply::Made { code, .. } => *code,
+        Reply::Tag { code, .. } => *code,
+        Reply::Shown { code, .. } => *code,
+        Reply::LockState { code, .. } => *code,
+        Reply::Name { code, .. } => *code,
+    }
+}
+
+/// The handle that a reply gives, or 0.
+fn handle_heard(reply: &Reply) -> u64
+    ensures { result ≡ handle_heard reply.now }
+{
+    match reply {
+        Reply::Handle { handle, .. } => *handle,
+        Reply::Made { handle, .. } => *handle,
+        _ => 0,
+    }
+}
+
+impl Heard {
+    /// Whether the call succeeded.
+    fn is_good(&self) -> bool
+        ensures { result ≡ is_good self.now }
+    {
+        match self {
+            Heard::Reply(reply) => code_heard(reply) == ERROR_SUCCESS,
+            Heard::Fault(_) => false,
+        }
+    }
+
+    /// The handle that was given, or 0.
+    fn handle(&self) -> u64
+        ensures { result ≡ handle_in (Some self.now) }
+    {
+        match self {
+            Heard::Reply(reply) => handle_heard(reply),
+            Heard::Fault(_) => 0,
+        }
+    }
+}
+
+/// How many calls succeeded before the first that didn't.
+fn succeeded(methods: &[Method], heard: &[Heard]) -> usize
+    ensures value { result ≡ succeeded methods.now heard.now }
+    ensures bound { result ≤ length methods.now }
+{
+    let most = methods.len().min(heard.len());
+    for place in 0..most {
+        if !heard[place].is_good() {
+            return place;
+        }
+    }
+    most
+}
+
+/// Where the calls of a task stand.
+#[tactic(auto, unfolding(crate::specs::Calls::stage_of))]
+pub fn stage_of<'a>(task: &Task, heard: &'a [Heard]) -> Stage<'a>
+    ensures { seen_standing result ≡ stage_of task.now heard.now }
+{
+    let methods = calls_of(task);
+    let count = succeeded(methods, heard);
+    if count == methods.len() {
+        return Stage::Done;
+    }
+    match heard.get(count) {
+        Some(heard) => Stage::Failed(methods[count], heard),
+        None => Stage::Asks(methods[count]),
+    }
+}
+
+/// How many handles were given.
+#[tactic(auto, unfolding(crate::specs::Calls::given))]
+pub fn given(task: &Task, heard: &[Heard]) -> usize
+    ensures { result ≡ given task.now heard.now }
+{
+    succeeded(calls_of(task), heard).min(2)
+}
+
+/// The handle that was given before the last so many.
+#[tactic(auto, unfolding(crate::specs::Calls::handle_before))]
+pub fn handle_before(last: usize, task: &Task, heard: &[Heard]) -> u64
+    ensures { result ≡ handle_before last task.now heard.now }
+{
+    let place = given(task, heard).saturating_sub(1).saturating_sub(last);
+    match heard.get(place) {
+        Some(heard) => heard.handle(),
+        None => 0,
+    }
+}
+
+/// How many replies came to the closes.
+#[tactic(auto, unfolding(crate::specs::Calls::closed))]
+pub fn closed(task: &Task, heard: &[Heard]) -> usize
+    ensures { result ≡ closed task.now heard.now }
+{
+    let behind = heard.len().saturating_sub(succeeded(calls_of(task), heard));
+    match stage_of(task, heard) {
+        Stage::Asks(_) => 0,
+        Stage::Failed(_, _) => behind.saturating_sub(1),
+        Stage::Done => behind,
+    }
+}

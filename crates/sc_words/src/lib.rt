@@ -1,0 +1,23 @@
+//! Commands of `sc` as words, what they ask of a manager, and what is printed of its answers.
+#![tactic(auto)]
+
+mod asking;
+mod calls;
+mod command;
+mod fault;
+mod reading;
+mod settings;
+mod showing;
+mod texts;
+mod values;
+mod verb;
+
+pub use asking::{Asked, Config2, next_request};
+pub use calls::{Heard, Method};
+pub use command::{Command, Task};
+pub use fault::WordsFault;
+pub use reading::read_words;
+pub use settings::{Key, Settings};
+pub use showing::{is_refused, show_reply};
+pub use values::StartType;
+pub use verb::Verb;

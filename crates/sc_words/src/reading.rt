@@ -1,0 +1,171 @@
+ghost use Rattle.std.specs.Prelude.{drop};
+ghost use Rattle.sc_words.specs.Places.{AnswersAs, fits, no_word_at, seen_word, word_at};
+ghost use Rattle.sc_words.specs.Words.{without_rest, command_of, creation_in, failure_in, number_in, task_of, one_text, text_in_place, texts_from};
+
+use super::command::{Command, Task};
+use super::fault::WordsFault;
+use super::settings::{Settings, settings_from};
+use super::texts::word_text;
+use super::values::word_number;
+use super::verb::{Verb, verb_named};
+use scm_model::codes::{
+    SERVICE_CONTROL_CONTINUE, SERVICE_CONTROL_INTERROGATE, SERVICE_CONTROL_PAUSE,
+    SERVICE_CONTROL_STOP,
+};
+use scm_text::{Items, Text, WText};
+use std::alloc::Global;
+
+/// Where the words behind `ADDRESS VERB NAME` begin.
+const REST: usize = 3;
+
+/// The word at a place.
+#[tactic(auto, unfolding(crate::specs::Places::word_at))]
+fn word_at(words: &[Text], place: usize) -> Result<&str, WordsFault>
+    ensures { AnswersAs (seen_word result) (word_at place words.now) }
+{
+    match words.get(place) {
+        Some(word) => Ok(word.as_str()),
+        None => Err(WordsFault::BadWord(words.len())),
+    }
+}
+
+/// That no word stands at a place or behind it.
+#[tactic(auto, unfolding(crate::specs::Places::no_word_at))]
+fn no_word_at(words: &[Text], place: usize) -> Result<(), WordsFault>
+    ensures { AnswersAs result (no_word_at place words.now) }
+{
+    if words.len() <= place {
+        Ok(())
+    } else {
+        Err(WordsFault::BadWord(place))
+    }
+}
+
+/// What a word at a place stands for.
+fn fits<T: Drop>(place: usize, value: Option<T>) -> Result<T, WordsFault>
+    ensures { AnswersAs result (fits place value) }
+{
+    match value {
+        Some(value) => Ok(value),
+        None => Err(WordsFault::BadWord(place)),
+    }
+}
+
+/// The text that the word at a place is.
+#[tactic(auto, unfolding(crate::specs::Words::text_in_place))]
+fn text_in_place(alloc: Global, words: &[Text], place: usize) -> Result<WText, WordsFault>
+    ensures { AnswersAs result (text_in_place place words.now) }
+{
+    let word = word_at(words, place)?;
+    fits(place, word_text(alloc, word)?)
+}
+
+/// The one text of the rest.
+#[tactic(auto, unfolding(crate::specs::Words::one_text))]
+fn one_text(alloc: Global, words: &[Text]) -> Result<WText, WordsFault>
+    ensures { AnswersAs result (one_text words.now) }
+{
+    let text = text_in_place(alloc, words, REST)?;
+    no_word_at(words, REST + 1)?;
+    Ok(text)
+}
+
+/// The one number of the rest.
+#[tactic(auto, unfolding(crate::specs::Words::number_in))]
+fn number_in(words: &[Text]) -> Result<u32, WordsFault>
+    ensures { AnswersAs result (number_in words.now) }
+{
+    let word = word_at(words, REST)?;
+    let number = fits(REST, word_number(word))?;
+    no_word_at(words, REST + 1)?;
+    Ok(number)
+}
+
+/// The words from a place on as texts.
+fn texts_from(alloc: Global, words: &[Text], start: usize) -> Result<Items<WText>, WordsFault>
+    ensures { AnswersAs result (texts_from start (drop start words.now)) }
+{
+    let mut texts = Items::new(alloc);
+    for place in start..words.len() {
+        let Some(text) = word_text(alloc, words[place].as_str())? else {
+            return Err(WordsFault::BadWord(place));
+        };
+        if texts.push(text).is_err() {
+            return Err(WordsFault::OutOfMemory);
+        }
+    }
+    Ok(texts)
+}
+
+/// The settings of a creation, which has a path.
+#[tactic(auto, unfolding(crate::specs::Words::creation_in, crate::specs::Words::settings_in))]
+fn creation(alloc: Global, words: &[Text]) -> Result<Settings, WordsFault>
+    ensures { AnswersAs result (creation_in words.now) }
+{
+    let settings = settings_from(alloc, Verb::Create, REST, words)?;
+    if settings.path.is_some() {
+        Ok(settings)
+    } else {
+        Err(WordsFault::BadWord(words.len()))
+    }
+}
+
+/// The settings of failure actions: a reset and actions come together.
+#[tactic(auto, unfolding(crate::specs::Words::failure_in, crate::specs::Words::settings_in))]
+fn failure(alloc: Global, words: &[Text]) -> Result<Settings, WordsFault>
+    ensures { AnswersAs result (failure_in words.now) }
+{
+    let settings = settings_from(alloc, Verb::Failure, REST, words)?;
+    if settings.reset.is_some() == settings.actions.is_some() {
+        Ok(settings)
+    } else {
+        Err(WordsFault::BadWord(words.len()))
+    }
+}
+
+/// A task that goes by no further word.
+fn without_rest(task: Task, words: &[Text]) -> Result<Task, WordsFault>
+    ensures { AnswersAs result (without_rest task words.now) }
+{
+    no_word_at(words, REST)?;
+    Ok(task)
+}
+
+/// What a verb does by the words.
+#[tactic(auto, unfolding(crate::specs::Words::settings_in))]
+fn task_of(alloc: Global, verb: Verb, words: &[Text]) -> Result<Task, WordsFault>
+    ensures { AnswersAs result (task_of verb words.now) }
+{
+    match verb {
+        Verb::Create => Ok(Task::Create(creation(alloc, words)?)),
+        Verb::Config => Ok(Task::Config(settings_from(alloc, verb, REST, words)?)),
+        Verb::Description => Ok(Task::Description(one_text(alloc, words)?)),
+        Verb::Failure => Ok(Task::Failure(failure(alloc, words)?)),
+        Verb::Start => Ok(Task::Start(texts_from(alloc, words, REST)?)),
+        Verb::Stop => without_rest(Task::Control(SERVICE_CONTROL_STOP), words),
+        Verb::Pause => without_rest(Task::Control(SERVICE_CONTROL_PAUSE), words),
+        Verb::Continue => without_rest(Task::Control(SERVICE_CONTROL_CONTINUE), words),
+        Verb::Interrogate => without_rest(Task::Control(SERVICE_CONTROL_INTERROGATE), words),
+        Verb::Control => Ok(Task::Control(number_in(words)?)),
+        Verb::Query => without_rest(Task::Query, words),
+        Verb::Delete => without_rest(Task::Delete, words),
+    }
+}
+
+/// What the words `ADDRESS VERB NAME REST` ask for.
+#[tactic(auto, unfolding(crate::specs::Words::command_of))]
+pub fn read_words(alloc: Global, words: &Items<Text>) -> Result<Command, WordsFault>
+    // A command exactly where there is one, else the first word that doesn't fit.
+    ensures { AnswersAs result (command_of words.now) }
+{
+    let words = words.as_slice();
+    let address = word_at(words, 0)?;
+    let verb = fits(1, verb_named(word_at(words, 1)?))?;
+    let name = text_in_place(alloc, words, 2)?;
+    let task = task_of(alloc, verb, words)?;
+    Ok(Command {
+        address: Text::from_str(alloc, address)?,
+        name,
+        task,
+    })
+}
