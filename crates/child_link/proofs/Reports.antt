@@ -1,0 +1,251 @@
+-- Reports and their lines.
+use Rattle.std.proofs.Common.{inl, inr, arith, ℕ, suc, ◌≡◌, ◌+◌, ◌-◌, ◌*◌, ◌^◌, ◌%◌, ◌<◌, ◌≤◌, ◌==◌, ◌&&◌, ◌⊎◌, Bool, true, false, cond, List, [], ◌∷◌, ◌++◌, length, map, take, drop, Option, None, Some, refl, sym, ap, ◌∙◌, subst, append_assoc, true≢false}
+use Rattle.std.specs.Prelude.{nat_lt, is_none, bytes_eq, codes, decimal, option_and_then, option_map, unwrap_or, slice_get, slice_index_or}
+use Rattle.std.specs.List.{All, join_with_byte}
+use Rattle.std.specs.Str.Parse.{digits_value}
+use Rattle.std.proofs.lemmas.Bool.{ltb-true, lt-ltb, ne_eqb, eqb-true, eq-eqb}
+use Rattle.std.proofs.lemmas.Fmt.{decimal_by_steps, length-decimal-le}
+use Rattle.std.proofs.lemmas.List.{length-append}
+use Rattle.std.proofs.lemmas.List.Elements.{All-head, All-tail, All-nil, All-cons, All-append, All-push, All-weaker, All-from_recursion, recursion_from_All}
+use Rattle.std.proofs.lemmas.List.Splits.{join_with_byte-slice_split}
+use Rattle.std.proofs.lemmas.Slice.Eq.{bytes_eq-Decides}
+use Rattle.std.proofs.Math.Seq.{take-suc, take-length, take-append_seam, get_or-append_seam}
+use Rattle.scm_model.specs.declared.flat.Status.{Status}
+use Rattle.decimal_words.specs.Numbers.{number_at, below, number_below}
+use Rattle.decimal_words.proofs.Numbers.{number_is}
+use Rattle.child_link.specs.Words.{words_in, nth_word, code_of}
+use Rattle.child_link.specs.Lines.{numbers_of, report_text, IsReport, front_of, line_text, status_in, report_in, reported}
+use Rattle.child_link.proofs.Splits.{IsOneWord, same_some, none_some, split_joined}
+
+-- ## Options
+
+if_some : {A : Type 0} (b : Bool) (x y : A) → cond b (Some x) None ≡ Some y → (b ≡ true) × (x ≡ y)
+if_some true x y e = (refl, same_some x y e)
+if_some false x y e = absurd (none_some None y refl e)
+
+if_then : {A : Type 0} (b : Bool) (o : Option A) (y : A) → cond b o None ≡ Some y → (b ≡ true) × (o ≡ Some y)
+if_then true o y e = (refl, e)
+if_then false o y e = absurd (none_some None y refl e)
+
+and_then_some : {A B : Type 0} (f : A → Option B) (o : Option A) (y : B) → option_and_then f o ≡ Some y → (x : A) × (o ≡ Some x) × (f x ≡ Some y)
+and_then_some f None y e = absurd (none_some None y refl e)
+and_then_some f (Some x) y e = (x, refl, e)
+
+map_some : {A B : Type 0} (f : A → B) (o : Option A) (y : B) → option_map f o ≡ Some y → (x : A) × (o ≡ Some x) × (f x ≡ y)
+map_some f None y e = absurd (none_some None y refl e)
+map_some f (Some x) y e = (x, refl, same_some (f x) y e)
+
+both_right : (b c : Bool) → (b && c) ≡ true → c ≡ true
+both_right true c e = e
+both_right false c e = absurd (true≢false (sym e))
+
+-- ## Numbers
+
+-- a word is the decimal form of the number that it is read as
+number_text : (limit : ℕ) (text : List ℕ) (n : ℕ) → number_below limit text ≡ Some n → (text ≡ decimal n) × (n < limit)
+unfolding number_below number_at
+number_text limit text n e =
+    let at = and_then_some (below limit) (number_at text) n e in
+    let low = if_some (nat_lt at.0 limit) at.0 n at.2 in
+    let value = digits_value 10 text in
+    let read = if_some (nat_lt value (2 ^ 64) && bytes_eq text (decimal value)) value at.0 at.1 in
+    let form = (bytes_eq-Decides text (decimal value)).0 (both_right (nat_lt value (2 ^ 64)) (bytes_eq text (decimal value)) read.0) in
+    (form ∙ ap decimal (read.1 ∙ low.1), subst (λ m. m < limit) low.1 (ltb-true at.0 limit low.0))
+
+-- and a decimal form is read as its number
+number_again : (n : ℕ) → n < 2 ^ 32 → number_below (2 ^ 32) (decimal n) ≡ Some n
+unfolding number_below
+number_again n small =
+    ap (option_and_then (below (2 ^ 32))) (number_is (decimal n) n (omega (arith, small)) refl)
+    ∙ ap (λ b. cond b (Some n) None) (lt-ltb n (2 ^ 32) small)
+
+code_read : (words : List (List ℕ)) (n : ℕ) → code_of (slice_get words 0) ≡ Some n → (words ≡ decimal n ∷ drop 1 words) × (n < 2 ^ 32)
+code_read [] n e = absurd (none_some None n refl e)
+code_read (word ∷ words) n e = let h = number_text (2 ^ 32) word n e in (ap (λ text. text ∷ words) h.0, h.1)
+
+words_end : (words : List (List ℕ)) → is_none (slice_get words 0) ≡ true → words ≡ []
+words_end [] e = refl
+words_end (word ∷ words) e = absurd (true≢false (sym e))
+
+-- the bytes of a decimal form
+digits_high : (n : ℕ) → n < 2 ^ 64 → All (λ b. 48 ≤ b) (decimal n)
+digits_high n small = decimal_by_steps (λ n ds. All (λ b. 48 ≤ b) ds)
+    (λ n low. All-cons (λ b. 48 ≤ b) (48 + n) [] (omega arith) (All-nil (λ b. 48 ≤ b)))
+    (λ n ds high all. All-push (λ b. 48 ≤ b) ds (48 + n % 10) all (omega arith))
+    n small
+
+-- ## Words
+
+abbrev AreSmall : List ℕ → Type 0
+AreSmall numbers = All (λ n. n < 2 ^ 32) numbers
+
+words_clean : (numbers : List ℕ) → AreSmall numbers → All IsOneWord (map decimal numbers)
+words_clean [] small = All-nil IsOneWord
+words_clean (n ∷ numbers) small =
+    All-cons IsOneWord (decimal n) (map decimal numbers)
+    (All-weaker (λ b. 48 ≤ b) (λ b. (b == 32) ≡ false) (λ b high. ne_eqb b 32 (λ e. omega (arith, high, e))) (decimal n)
+    (digits_high n (omega (arith, All-head (λ n. n < 2 ^ 32) n numbers small))))
+    (words_clean numbers (All-tail (λ n. n < 2 ^ 32) n numbers small))
+
+-- no carriage return is among these bytes
+abbrev HasNoReturn : List ℕ → Type 0
+HasNoReturn bytes = All (λ b. (b == 13) ≡ false) bytes
+
+joined_clean : (word : List ℕ) (numbers : List ℕ) → HasNoReturn word → AreSmall numbers → HasNoReturn (join_with_byte 32 (word ∷ map decimal numbers))
+joined_clean word [] clean small = clean
+joined_clean word (n ∷ numbers) clean small =
+    All-append (λ b. (b == 13) ≡ false) word (32 ∷ join_with_byte 32 (decimal n ∷ map decimal numbers)) clean
+    (All-cons (λ b. (b == 13) ≡ false) 32 (join_with_byte 32 (decimal n ∷ map decimal numbers)) refl
+    (joined_clean (decimal n) numbers
+    (All-weaker (λ b. 48 ≤ b) (λ b. (b == 13) ≡ false) (λ b high. ne_eqb b 13 (λ e. omega (arith, high, e))) (decimal n)
+    (digits_high n (omega (arith, All-head (λ n. n < 2 ^ 32) n numbers small))))
+    (All-tail (λ n. n < 2 ^ 32) n numbers small)))
+
+joined_short : (word : List ℕ) (numbers : List ℕ) → AreSmall numbers
+    → length (join_with_byte 32 (word ∷ map decimal numbers)) ≤ length word + 11 * length numbers
+joined_short word [] small = omega arith
+joined_short word (n ∷ numbers) small =
+    let rest = joined_short (decimal n) numbers (All-tail (λ n. n < 2 ^ 32) n numbers small) in
+    let low = All-head (λ n. n < 2 ^ 32) n numbers small in
+    let digits = length-decimal-le 10 n (omega arith) (omega (arith, low)) (omega (arith, low)) in
+    omega (arith, rest, digits, length-append word (32 ∷ join_with_byte 32 (decimal n ∷ map decimal numbers)))
+
+-- ## Statuses
+
+-- words that are read as a status are its numbers
+abbrev AreNumbers : List (List ℕ) → Status → Type 0
+AreNumbers words status = (words ≡ map decimal (numbers_of status)) × AreSmall (numbers_of status)
+
+status_read : (words : List (List ℕ)) (status : Status) → status_in words ≡ Some status → AreNumbers words status
+unfolding status_in
+status_read words status e =
+    let a = and_then_some _ (code_of (nth_word words 0)) status e in
+    let b = and_then_some _ (code_of (nth_word words 1)) status a.2 in
+    let c = and_then_some _ (code_of (nth_word words 2)) status b.2 in
+    let d = and_then_some _ (code_of (nth_word words 3)) status c.2 in
+    let f = and_then_some _ (code_of (nth_word words 4)) status d.2 in
+    let g = and_then_some _ (code_of (nth_word words 5)) status f.2 in
+    let h = and_then_some _ (code_of (nth_word words 6)) status g.2 in
+    let made : Status = record { kind = a.0; state = b.0; accepted = c.0; win32 = d.0; specific = f.0; checkpoint = g.0; hint = h.0 } in
+    let end = if_some (is_none (nth_word words 7)) made status h.2 in
+    let A = code_read words a.0 a.1 in
+    let B = code_read (drop 1 words) b.0 b.1 in
+    let C = code_read (drop 1 (drop 1 words)) c.0 c.1 in
+    let D = code_read (drop 1 (drop 1 (drop 1 words))) d.0 d.1 in
+    let F = code_read (drop 1 (drop 1 (drop 1 (drop 1 words)))) f.0 f.1 in
+    let G = code_read (drop 1 (drop 1 (drop 1 (drop 1 (drop 1 words))))) g.0 g.1 in
+    let H = code_read (drop 1 (drop 1 (drop 1 (drop 1 (drop 1 (drop 1 words)))))) h.0 h.1 in
+    let L = words_end (drop 1 (drop 1 (drop 1 (drop 1 (drop 1 (drop 1 (drop 1 words))))))) end.0 in
+    subst (AreNumbers words) end.1 (
+      A.0 ∙ ap (λ ws. decimal a.0 ∷ ws) (B.0 ∙ ap (λ ws. decimal b.0 ∷ ws) (C.0 ∙ ap (λ ws. decimal c.0 ∷ ws) (D.0 ∙ ap (λ ws. decimal d.0 ∷ ws)
+          (F.0 ∙ ap (λ ws. decimal f.0 ∷ ws) (G.0 ∙ ap (λ ws. decimal g.0 ∷ ws) (H.0 ∙ ap (λ ws. decimal h.0 ∷ ws) L)))))),
+      All-from_recursion (λ n. n < 2 ^ 32) (numbers_of made) (A.1, (B.1, (C.1, (D.1, (F.1, (G.1, (H.1, tt))))))),
+    )
+
+-- and the numbers of a status are read as it
+status_again : (status : Status) → AreSmall (numbers_of status) → status_in (map decimal (numbers_of status)) ≡ Some status
+unfolding status_in
+status_again status small =
+    let h = recursion_from_All (λ n. n < 2 ^ 32) (numbers_of status) small in
+    rw (
+      number_again status.kind h.0,
+      number_again status.state h.1.0,
+      number_again status.accepted h.1.1.0,
+      number_again status.win32 h.1.1.1.0,
+      number_again status.specific h.1.1.1.1.0,
+      number_again status.checkpoint h.1.1.1.1.1.0,
+      number_again status.hint h.1.1.1.1.1.1.0,
+    ) refl
+
+-- ## Texts
+
+report_words : (words : List (List ℕ)) (status : Status) → report_in words ≡ Some status
+    → (words ≡ codes "STATUS" ∷ map decimal (numbers_of status)) × AreSmall (numbers_of status)
+unfolding report_in
+report_words [] status e = absurd (none_some None status refl e)
+report_words (name ∷ words) status e =
+    let told = if_then (bytes_eq name (codes "STATUS")) (status_in words) status e in
+    let read = status_read words status told.1 in
+    (ap (λ n. n ∷ words) ((bytes_eq-Decides name (codes "STATUS")).0 told.0) ∙ ap (λ ws. codes "STATUS" ∷ ws) read.0, read.1)
+
+text_read : (text : List ℕ) (status : Status) → report_in (words_in (Some text)) ≡ Some status → (text ≡ report_text status) × AreSmall (numbers_of status)
+text_read text status e =
+    let h = report_words (words_in (Some text)) status e in
+    (sym (join_with_byte-slice_split 32 text) ∙ ap (join_with_byte 32) h.0, h.1)
+
+text_again : (status : Status) → AreSmall (numbers_of status) → report_in (words_in (Some (report_text status))) ≡ Some status
+unfolding report_in
+text_again status small =
+    ap report_in (split_joined (codes "STATUS") (map decimal (numbers_of status))
+    (All-from_recursion (λ b. (b == 32) ≡ false) (codes "STATUS") (refl, (refl, (refl, (refl, (refl, (refl, tt)))))))
+    (words_clean (numbers_of status) small))
+    ∙ status_again status small
+
+-- ## Lines
+
+front_is : (byte : ℕ) (bytes front : List ℕ) → 0 < byte → front_of byte bytes ≡ Some front → bytes ≡ front ++ byte ∷ []
+front_is byte [] front some e = absurd (omega (arith, some, eqb-true 0 byte (if_some (0 == byte) [] front e).0))
+front_is byte (b ∷ bytes) front some e =
+    let all = b ∷ bytes in
+    let last = length all - 1 in
+    let h = if_some (slice_index_or all last 0 == byte) (take last all) front e in
+    let size : length all ≡ suc last = omega arith in
+    sym (take-length all) ∙ ap (λ n. take n all) size ∙ take-suc all last 0 (omega arith)
+    ∙ ap (λ x. take last all ++ x ∷ []) (eqb-true (slice_index_or all last 0) byte h.0) ∙ ap (λ xs. xs ++ byte ∷ []) h.1
+
+front_on : (byte : ℕ) (front : List ℕ) → front_of byte (front ++ byte ∷ []) ≡ Some front
+front_on byte front =
+    let size : length (front ++ byte ∷ []) - 1 ≡ length front = omega (arith, length-append front (byte ∷ [])) in
+    rw (size, eq-eqb (slice_index_or (front ++ byte ∷ []) (length front) 0) byte (get_or-append_seam front byte [] 0)) (ap Some (take-append_seam front (byte ∷ [])))
+
+no_return : (text : List ℕ) → HasNoReturn text → front_of 13 text ≡ None
+no_return [] clean = refl
+no_return (b ∷ text) clean =
+    let last = length (b ∷ text) - 1 in
+    ap (λ same. cond same (Some (take last (b ∷ text))) None) (clean last 0 (omega arith))
+
+-- the bytes that end the text of a line
+abbrev EndsText : List ℕ → List ℕ → Type 0
+EndsText line text = (line ≡ text ++ 10 ∷ []) ⊎ (line ≡ text ++ 13 ∷ 10 ∷ [])
+
+text_in : (line front text : List ℕ) (before : Option (List ℕ)) → line ≡ front ++ 10 ∷ [] → front_of 13 front ≡ before → unwrap_or before front ≡ text
+    → EndsText line text
+text_in line front text None ends found is = inl (ends ∙ ap (λ t. t ++ 10 ∷ []) is)
+text_in line front text (Some cut) ends found is =
+    inr (ends ∙ ap (λ t. t ++ 10 ∷ []) (front_is 13 front cut (omega arith) found ∙ ap (λ t. t ++ 13 ∷ []) is) ∙ append_assoc text (13 ∷ []) (10 ∷ []))
+
+line_read : (line text : List ℕ) → line_text line ≡ Some text → EndsText line text
+unfolding line_text
+line_read line text e =
+    let h = map_some (λ front. unwrap_or (front_of 13 front) front) (front_of 10 line) text e in
+    text_in line h.0 text (front_of 13 h.0) (front_is 10 line h.0 (omega arith) h.1) refl h.2
+
+line_again : (line text : List ℕ) → HasNoReturn text → EndsText line text → line_text line ≡ Some text
+unfolding line_text
+line_again line text clean (inl ends) = rw (ends, front_on 10 text, no_return text clean) refl
+line_again line text clean (inr ends) = rw (ends, sym (append_assoc text (13 ∷ []) (10 ∷ [])), front_on 10 (text ++ 13 ∷ []), front_on 13 text) refl
+
+line_short : (line text : List ℕ) → length text ≤ 83 → EndsText line text → length line ≤ 4096
+line_short line text short (inl ends) = omega (arith, short, ap length ends ∙ length-append text (10 ∷ []))
+line_short line text short (inr ends) = omega (arith, short, ap length ends ∙ length-append text (13 ∷ 10 ∷ []))
+
+-- a report is read as its status
+pub read_back : (line : List ℕ) (status : Status) → IsReport line status → reported line ≡ Some status
+unfolding reported
+read_back line status h =
+    let clean = joined_clean (codes "STATUS") (numbers_of status)
+    (All-from_recursion (λ b. (b == 13) ≡ false) (codes "STATUS") (refl, (refl, (refl, (refl, (refl, (refl, tt))))))) h.small in
+    ap (option_and_then (λ text. report_in (words_in (Some text)))) (line_again line (report_text status) clean h.text) ∙ text_again status h.small
+
+-- what is read as a status is its report
+pub read_only : (line : List ℕ) (status : Status) → reported line ≡ Some status → IsReport line status
+unfolding reported
+read_only line status e =
+    let at = and_then_some (λ text. report_in (words_in (Some text))) (line_text line) status e in
+    let h = text_read at.0 status at.2 in
+    let ends = line_read line at.0 at.1 in
+    record {
+      small = h.1;
+      text = subst (EndsText line) h.0 ends;
+      short = line_short line at.0 (omega (arith, ap length h.0, joined_short (codes "STATUS") (numbers_of status) h.1)) ends;
+    }

@@ -1,0 +1,64 @@
+-- What a child's lines report, and the lines that it is sent.
+use Rattle.std.specs.Prelude.{ℕ, ◌≡◌, ◌-◌, ◌^◌, ◌<◌, ◌≤◌, ◌==◌, ◌⊎◌, ◌&&◌, List, [], ◌∷◌, ◌++◌, length, map, take, Option, None, Some, is_none, option_and_then, option_map, slice_index_or, unwrap_or, bytes_eq, codes, decimal, if◌then◌else◌}
+use Rattle.std.specs.List.{All, join_with_byte}
+use Rattle.scm_model.specs.declared.flat.Status.{Status}
+use Rattle.child_link.specs.Words.{words_in, nth_word, code_of}
+
+-- the numbers of a status, in the order of SERVICE_STATUS
+abbrev pub numbers_of : Status → List ℕ
+numbers_of s = s.kind ∷ s.state ∷ s.accepted ∷ s.win32 ∷ s.specific ∷ s.checkpoint ∷ s.hint ∷ []
+
+-- STATUS and the numbers in decimal form, one space between two words
+abbrev pub report_text : Status → List ℕ
+report_text s = join_with_byte 32 (codes "STATUS" ∷ map decimal (numbers_of s))
+
+-- a line is the report of a status
+pub record IsReport (line : List ℕ) (status : Status) : Type 0 where
+  -- the numbers are of 32 bits
+  pub small : All (λ n. n < 2 ^ 32) (numbers_of status)
+  -- a line feed ends the line, and a carriage return may stand before it
+  pub text : (line ≡ report_text status ++ 10 ∷ []) ⊎ (line ≡ report_text status ++ 13 ∷ 10 ∷ [])
+  pub short : length line ≤ 4096
+
+-- ## The status that a line reports
+
+-- what stands before this byte, where it is the last one
+abbrev pub front_of : ℕ → List ℕ → Option (List ℕ)
+front_of byte bytes = if slice_index_or bytes (length bytes - 1) 0 == byte then Some (take (length bytes - 1) bytes) else None
+
+-- what stands before a line's feed, without a carriage return at its end
+unfoldable pub line_text : List ℕ → Option (List ℕ)
+line_text line = option_map (λ front. unwrap_or (front_of 13 front) front) (front_of 10 line)
+
+infixl 10 ◌>>=◌
+abbrev ◌>>=◌ : {A B : Type 0} → Option A → (A → Option B) → Option B
+o >>= f = option_and_then f o
+
+-- the status whose numbers these words are, and no words more
+unfoldable pub status_in : List (List ℕ) → Option Status
+status_in words = do
+  kind ← code_of (nth_word words 0)
+  state ← code_of (nth_word words 1)
+  accepted ← code_of (nth_word words 2)
+  win32 ← code_of (nth_word words 3)
+  specific ← code_of (nth_word words 4)
+  checkpoint ← code_of (nth_word words 5)
+  hint ← code_of (nth_word words 6)
+  if is_none (nth_word words 7)
+      then Some (record { kind = kind; state = state; accepted = accepted; win32 = win32; specific = specific; checkpoint = checkpoint; hint = hint })
+      else None
+
+-- the status that words report
+unfoldable pub report_in : List (List ℕ) → Option Status
+report_in [] = None
+report_in (name ∷ words) = if bytes_eq name (codes "STATUS") then status_in words else None
+
+-- the status that a line reports, if it is a report
+unfoldable pub reported : List ℕ → Option Status
+reported line = option_and_then (λ text. report_in (words_in (Some text))) (line_text line)
+
+-- ## What a child is sent
+
+-- the line that hands on a control
+abbrev pub control_text : ℕ → List ℕ
+control_text code = codes "CONTROL " ++ decimal code ++ 10 ∷ []

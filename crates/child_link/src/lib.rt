@@ -1,0 +1,12 @@
+//! What a child of the manager reports in lines, the lines that it is sent, and the ends of its
+//! pipes.
+#![tactic(auto)]
+
+mod feed;
+mod lines;
+mod link;
+mod words;
+
+pub use feed::{Feed, PipeFeed};
+pub use lines::{control_line, read_line_step, reports_are_read};
+pub use link::{Link, MemoryLink, PipeLink, SliceLink};

@@ -1,0 +1,80 @@
+ghost use Rattle.std.specs.Prelude.{◌≡◌, None};
+ghost use Rattle.process_runner.specs.Spawning.{no_faults};
+
+use super::spawning::{SpawnFault, SpawnFaults, Spawned, Spawner};
+use child_link::{PipeFeed, PipeLink};
+use outside::WriteSink;
+use scm_text::{Items, Text};
+use std::alloc::Global;
+use std::io;
+use std::process::{Command, Processes, Stdio, SystemProcess};
+
+/// Starts programs of the system. The standard input and output of each are pipes, its standard
+/// error stays where that of this process goes, and no other descriptor of this process is handed
+/// on. It tells no content.
+#[derive(Drop)]
+pub struct ProcessSpawner<R: Processes<Started = SystemProcess>> {
+    processes: R,
+    alloc: Global,
+    faults: SpawnFaults,
+}
+
+/// The fault that an error of the system is.
+fn fault_of(error: &io::Error) -> SpawnFault {
+    match error.kind() {
+        io::ErrorKind::NotFound => SpawnFault::NotFound,
+        io::ErrorKind::NotADirectory => SpawnFault::NoPath,
+        io::ErrorKind::PermissionDenied => SpawnFault::Denied,
+        _ => SpawnFault::Other,
+    }
+}
+
+impl<R: Processes<Started = SystemProcess>> ProcessSpawner<R> {
+    /// Has started nothing yet.
+    pub fn new(processes: R, alloc: Global) -> Self
+        ensures { ⟦<ProcessSpawner<R> as Spawner>⟧.faults result ≡ no_faults }
+    {
+        ProcessSpawner {
+            processes,
+            alloc,
+            faults: SpawnFaults::NONE,
+        }
+    }
+
+    /// Starts a program, and takes the ends of its pipes.
+    fn run(&self, words: &[Text]) -> io::Result<Spawned<PipeLink, PipeFeed>> {
+        let Some((program, arguments)) = words.split_first() else {
+            return Err(io::Error::from(io::ErrorKind::InvalidInput));
+        };
+        let mut command = Command::new(self.alloc, program.as_str())?;
+        for argument in arguments {
+            command.arg(argument.as_str())?;
+        }
+        command.stdin(Stdio::piped()).stdout(Stdio::piped());
+        let mut child = command.spawn(&self.processes)?;
+        match (child.stdin.take(), child.stdout.take()) {
+            (Some(input), Some(output)) => Ok(Spawned {
+                link: PipeLink::new(child, output),
+                feed: WriteSink::new(input),
+            }),
+            _ => Err(io::Error::from(io::ErrorKind::Other)),
+        }
+    }
+}
+
+impl<R: Processes<Started = SystemProcess>> Spawner for ProcessSpawner<R> {
+    type Link = PipeLink;
+
+    type Feed = PipeFeed;
+
+    ghost started = { λ _. None };
+
+    ghost faults = { λ s. s.faults };
+
+    fn start(&mut self, words: &Items<Text>) -> Result<Spawned<PipeLink, PipeFeed>, SpawnFault> {
+        match self.run(words.as_slice()) {
+            Ok(child) => Ok(child),
+            Err(error) => Err(self.faults.count(fault_of(&error))),
+        }
+    }
+}
