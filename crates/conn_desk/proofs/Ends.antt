@@ -1,0 +1,210 @@
+-- How a connection ends.
+use Rattle.std.proofs.Common.{ℕ, ◌≡◌, ◌+◌, ◌<◌, ◌≤◌, ◌^◌, Bool, true, false, cond, List, [], ◌∷◌, ◌++◌, length, Option, Err, refl, sym, ap, ◌∙◌, subst, append_assoc, append-nil, arith, length-append}
+use Rattle.std.specs.Io.KnownBytes.{Consumes}
+use Rattle.std.proofs.KnownBytes.{Consumes-trans}
+use Rattle.outside.specs.Written.{Begins}
+use Rattle.scm_model.specs.declared.calls.Request.{Request as Call}
+use Rattle.scm_model.specs.declared.calls.Reply.{Reply}
+use Rattle.rpc_session.specs.declared.state.Incoming.{Incoming}
+use Rattle.rpc_session.specs.Items.{Seen, StreamEnd, AtRest, Unfinished, BadPdu, TooLong, Gave, IsOpen, Told, items, before, open_end, is_at_rest, unbound, to_come, told_of_pdus}
+use Rattle.rpc_session.specs.Pdus.{pdus_behind}
+use Rattle.conn_desk.specs.declared.served.Served.{Served}
+use Rattle.conn_desk.specs.declared.served.Served.TheVariants as served
+use Rattle.conn_desk.specs.Talks.{AreAnswered}
+use Rattle.conn_desk.specs.Along.{Point, GoesOn, GoesBad, IsFront}
+use Rattle.conn_desk.specs.Connection.{Reached, AllServed, AllBefore, FirstServed, IsAhead, IsOpenEnd, piece_size}
+use Rattle.conn_desk.specs.Serves.{Leaves, Serves, ReadOnce, fed}
+use Rattle.conn_desk.proofs.Talking.{answers_append, answers_none, cut_both}
+use Rattle.conn_desk.proofs.Walking.{front_less}
+
+-- all items of what was read so far are answered
+pub record SoFar {D : Type 0} (called : D → D → Call → Option Reply → Type 0) (d : D) (held : Option (List ℕ)) (m : Point D) (read : List ℕ) : Type 0 where
+  pub given : List Incoming
+  pub gave : Gave read given m.session
+  pub waits : IsOpen m.session
+  pub answers : AreAnswered called d m.desk held m.held given
+
+-- the items of what was read, where the session waits for more
+open_items : (s : Seen) (read : List ℕ) (given : List Incoming) → Gave read given s → IsOpen s → items read ≡ record { items = given; ending = open_end s }
+open_items s read given gave waits =
+    ap items (sym (append-nil read)) ∙ gave [] ∙ ap (before given) waits
+    ∙ ap (λ (x : List Incoming). record { items = x; ending = open_end s }) (append-nil given)
+
+-- one piece was read behind what the session was given, all of whose items are answered
+ahead_of : (s : Seen) (read more : List ℕ) (given answered : List Incoming) → Gave read given s → IsOpen s → length more ≤ piece_size → Begins given answered → IsAhead (read ++ more) answered
+ahead_of s read more given answered gave waits short b = record {
+  front = read;
+  piece = more;
+  split = refl;
+  short = short;
+  all = (b.0, b.1 ∙ ap (λ (t : Told). t.items ++ b.0) (sym (open_items s read given gave waits)));
+}
+
+end_if : (b : Bool) → IsOpenEnd (cond b AtRest Unfinished)
+end_if true = tt
+end_if false = tt
+
+rest_end : (s : Seen) (b : Bool) → is_at_rest s ≡ b → open_end s ≡ cond b AtRest Unfinished
+rest_end s b e = ap (λ x. cond x AtRest Unfinished) e
+
+nothing_more : (left mid left_now : Option (List ℕ)) (read more : List ℕ) → Consumes left mid read → Consumes mid left_now more → more ≡ [] → Consumes left left_now read
+nothing_more left mid left_now read more p q e =
+    subst (Consumes left left_now) (ap (λ x. read ++ x) e ∙ append-nil read) (Consumes-trans left mid left_now read more p q)
+
+module _ {D : Type 0} (called : D → D → Call → Option Reply → Type 0) (rests : D → D → Type 0) (full : D → Call → Type 0) (d : D) (held : Option (List ℕ)) where
+  -- one more read
+  pub read_more : (m b : Point D) (read more : List ℕ) → SoFar called d held m read → GoesOn called (fed more) m b → SoFar called d held b (read ++ more)
+  read_more m b read more on next = record {
+    given = on.given ++ next.given;
+    gave = next.gave read on.given on.gave;
+    waits = next.waits;
+    answers = answers_append called d m.desk b.desk held m.held b.held on.given next.given on.answers next.answers;
+  }
+
+  -- all items of what was read are served
+  serves_all : (left left_now : Option (List ℕ)) (m : Point D) (read : List ℕ) (how : Served) (on : SoFar called d held m read)
+      → Consumes left left_now read → length read ≤ 2 ^ 40 → Leaves rests how m.desk m.desk
+      → ((told : List (Option Reply)) (written : List ℕ) → AllServed read on.given (open_end m.session) told written → Reached full m.desk how read left_now on.given told written)
+      → Serves called rests full d m.desk left left_now held m.held how
+  serves_all left left_now m read how on consumed most leaves reach = record {
+    read = read;
+    done = on.given;
+    heard = on.answers.talks.heard;
+    written = on.answers.text;
+    last = m.desk;
+    chain = on.answers.talks.chain;
+    leaves = leaves;
+    consumed = consumed;
+    most = most;
+    appended = on.answers.written;
+    reached = reach on.answers.talks.heard on.answers.text (record { all = open_items m.session read on.given on.gave on.waits; text = sym on.answers.talks.answered });
+  }
+
+  -- enough bytes were read
+  pub serves_worn : (left left_now : Option (List ℕ)) (m : Point D) (read : List ℕ)
+      → SoFar called d held m read → Consumes left left_now read → length read ≡ 2 ^ 40
+      → Serves called rests full d m.desk left left_now held m.held served.Worn
+  serves_worn left left_now m read on consumed e =
+      serves_all left left_now m read served.Worn on consumed (omega (arith, e)) refl
+      (λ told written all. (e, record { ending = open_end m.session; goes_on = end_if (is_at_rest m.session); served = all }))
+
+  -- the stream ends badly
+  serves_bad : (left mid left_now : Option (List ℕ)) (m b : Point D) (read more : List ℕ) (how : Served) (ending : StreamEnd)
+      → SoFar called d held m read → Consumes left mid read → Consumes mid left_now more → length read + length more ≤ 2 ^ 40 → length more ≤ piece_size
+      → GoesBad called (fed more) m b ending → Leaves rests how b.desk b.desk
+      → ((done : List Incoming) (told : List (Option Reply)) (written : List ℕ) → AllBefore (read ++ more) done ending told written → Reached full b.desk how (read ++ more) left_now done told written)
+      → Serves called rests full d b.desk left left_now held b.held how
+  serves_bad left mid left_now m b read more how ending on p q most short bad leaves reach =
+      let a = answers_append called d m.desk b.desk held m.held b.held on.given bad.given on.answers bad.answers in
+      record {
+        read = read ++ more;
+        done = on.given ++ bad.given;
+        heard = a.talks.heard;
+        written = a.text;
+        last = b.desk;
+        chain = a.talks.chain;
+        leaves = leaves;
+        consumed = Consumes-trans left mid left_now read more p q;
+        most = omega (arith, most, length-append read more);
+        appended = a.written;
+        reached = reach (on.given ++ bad.given) a.talks.heard a.text (record {
+          all = bad.ends read on.given on.gave;
+          text = sym a.talks.answered;
+          ahead = ahead_of m.session read more on.given (on.given ++ bad.given) on.gave on.waits short (bad.given, refl);
+        });
+      }
+
+  -- the first items are served
+  serves_first : (left mid left_now : Option (List ℕ)) (m b : Point D) (read more : List ℕ) (how : Served) (given : List Incoming) (last : D)
+      → (on : SoFar called d held m read) → Consumes left mid read → Consumes mid left_now more → length read + length more ≤ 2 ^ 40 → length more ≤ piece_size
+      → IsFront (fed more) m.session given → AreAnswered called m.desk last m.held b.held given → Leaves rests how last b.desk
+      → ((told : List (Option Reply)) (written : List ℕ) → FirstServed (read ++ more) (on.given ++ given) told written → Reached full b.desk how (read ++ more) left_now (on.given ++ given) told written)
+      → Serves called rests full d b.desk left left_now held b.held how
+  serves_first left mid left_now m b read more how given last on p q most short front answers leaves reach =
+      let a = answers_append called d m.desk last held m.held b.held on.given given on.answers answers in
+      record {
+        read = read ++ more;
+        done = on.given ++ given;
+        heard = a.talks.heard;
+        written = a.text;
+        last = last;
+        chain = a.talks.chain;
+        leaves = leaves;
+        consumed = Consumes-trans left mid left_now read more p q;
+        most = omega (arith, most, length-append read more);
+        appended = a.written;
+        reached = reach a.talks.heard a.text (record {
+          first = front read on.given on.gave;
+          text = sym a.talks.answered;
+          ahead = ahead_of m.session read more on.given (on.given ++ given) on.gave on.waits short (given, refl);
+        });
+      }
+
+  -- one more read ends it
+  pub serves_end : (left mid left_now : Option (List ℕ)) (m b : Point D) (read more : List ℕ) (how : Served)
+      → SoFar called d held m read → Consumes left mid read → length read < 2 ^ 40 → Consumes mid left_now more → length read + length more ≤ 2 ^ 40 → length more ≤ piece_size
+      → ReadOnce called rests full m b left_now more (Err how)
+      → Serves called rests full d b.desk left left_now held b.held how
+  serves_end left mid left_now m b read more served.Ended on p lt q most short t =
+      subst (λ (x : Point D). Serves called rests full d x.desk left left_now held x.held served.Ended) (sym t.1)
+      (serves_all left left_now m read served.Ended on (nothing_more left mid left_now read more p q t.0) (omega (arith, lt)) refl
+      (λ told written all. (t.2, lt, subst (λ e. AllServed read on.given e told written) (rest_end m.session true t.3) all)))
+  serves_end left mid left_now m b read more served.Truncated on p lt q most short t =
+      subst (λ (x : Point D). Serves called rests full d x.desk left left_now held x.held served.Truncated) (sym t.1)
+      (serves_all left left_now m read served.Truncated on (nothing_more left mid left_now read more p q t.0) (omega (arith, lt)) refl
+      (λ told written all. (t.2, lt, subst (λ e. AllServed read on.given e told written) (rest_end m.session false t.3) all)))
+  serves_end left mid left_now m b read more served.ReadFault on p lt q most short t =
+      subst (λ (x : Point D). Serves called rests full d x.desk left left_now held x.held served.ReadFault) (sym t.1)
+      (serves_all left left_now m read served.ReadFault on (nothing_more left mid left_now read more p q t.0) (omega (arith, lt)) refl
+      (λ told written all. (lt, record { ending = open_end m.session; goes_on = end_if (is_at_rest m.session); served = all })))
+  serves_end left mid left_now m b read more (served.BadPdu place kind) on p lt q most short t =
+      serves_bad left mid left_now m b read more (served.BadPdu place kind) (BadPdu place kind) on p q most short t refl (λ done told written all. all)
+  serves_end left mid left_now m b read more (served.TooLong length) on p lt q most short t =
+      serves_bad left mid left_now m b read more (served.TooLong length) (TooLong length) on p q most short t refl (λ done told written all. all)
+  serves_end left mid left_now m b read more served.WriteFault on p lt q most short t =
+      let both = cut_both called d m.desk b.desk held m.held b.held on.given t.given on.answers t.answers in
+      let a = both.0 in
+      record {
+        read = read ++ more;
+        done = on.given ++ t.given;
+        heard = a.talks.heard;
+        written = a.bytes;
+        last = b.desk;
+        chain = a.talks.chain;
+        leaves = refl;
+        consumed = Consumes-trans left mid left_now read more p q;
+        most = omega (arith, most, length-append read more);
+        appended = a.written;
+        reached = record {
+          first = t.front read on.given on.gave;
+          text = subst (λ x. Begins a.bytes x) (sym a.talks.answered) a.front;
+          earlier = a.earlier;
+          last = a.last;
+          order = a.order;
+          whole = a.whole;
+          ahead = ahead_of m.session read more on.given a.earlier on.gave on.waits short both.1;
+        };
+      }
+  serves_end left mid left_now m b read more served.Full on p lt q most short t =
+      let follows = subst (λ x. Begins x (items (read ++ more)).items) (sym (append_assoc on.given t.given (t.next ∷ []))) (t.front read on.given on.gave) in
+      serves_first left mid left_now m b read more served.Full t.given t.last on p q most short (front_less (fed more) m.session t.given (t.next ∷ []) t.front) t.answers t.left
+      (λ told written first. (first, record { next = t.next; follows = follows; request = t.request; asks = t.asks; met = t.met }))
+  serves_end left mid left_now m b read more served.OutOfMemory on p lt q most short t =
+      serves_first left mid left_now m b read more served.OutOfMemory t.given t.last on p q most short t.front t.answers t.left (λ told written first. first)
+  serves_end left mid left_now m b read more served.Worn on p lt q most short t = absurd t
+
+-- ## The beginning
+
+waits_fresh : (s : Seen) → s ≡ record { state = unbound; held = record { place = 0; rest = [] } } → IsOpen s
+unfolding to_come told_of_pdus pdus_behind
+waits_fresh s e = rw e refl
+
+-- nothing was read
+pub begins : {D : Type 0} (called : D → D → Call → Option Reply → Type 0) (d : D) (held : Option (List ℕ)) (s : Seen) → s ≡ record { state = unbound; held = record { place = 0; rest = [] } } → Gave [] [] s
+    → SoFar called d held (record { session = s; desk = d; held = held }) []
+begins called d held s e gave = record {
+  given = [];
+  gave = gave;
+  waits = waits_fresh s e;
+  answers = answers_none called d held;
+}

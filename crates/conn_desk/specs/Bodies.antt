@@ -1,0 +1,87 @@
+-- What the items of a connection ask, and what they are answered.
+use Rattle.std.specs.Prelude.{ℕ, ◌++◌, List, [], ◌∷◌, drop, Option, None, Some, Result, Ok, Err}
+use Rattle.std.specs.List.{filter_map}
+use Rattle.scm_model.specs.declared.calls.Request.{Request as Call}
+use Rattle.scm_model.specs.declared.calls.Reply.{Reply}
+use Rattle.scm_model.specs.Refused.{refused}
+use Rattle.ndr_body.specs.declared.fault.BodyFault.{BodyFault}
+use Rattle.scm_bodies.specs.declared.call.Call.{Call as Served}
+use Rattle.scm_bodies.specs.Calls.{call_at}
+use Rattle.scm_bodies.specs.Requests.{request_at}
+use Rattle.scm_bodies.specs.Replies.{reply_bytes as body_of}
+use Rattle.rpc_pdu.specs.Written.{fault_bytes}
+use Rattle.rpc_session.specs.Replies.{reply_fragments as fragments_of}
+use Rattle.rpc_session.specs.declared.contexts.Interface.{Interface}
+use Rattle.rpc_session.specs.declared.contexts.Interface.TheVariants.{Svcctl, Trigger}
+use Rattle.rpc_session.specs.declared.state.Incoming.{Incoming}
+use Rattle.rpc_session.specs.declared.state.Incoming.TheVariants.{Local, Request}
+use Rattle.rpc_session.specs.declared.state.RequestItem.{RequestItem}
+
+-- ## Requests
+
+-- a body that can't be read is nca_s_fault_ndr
+abbrev pub or_fault : Result Call BodyFault → Result Call ℕ
+or_fault (Ok request) = Ok request
+or_fault (Err fault) = Err 0x6F7
+
+-- a call that isn't served is nca_op_rng_error
+abbrev pub asked_of_call : Option Served → List ℕ → Result Call ℕ
+asked_of_call (Some call) body = or_fault (request_at call body)
+asked_of_call None body = Err 0x1C010002
+
+-- what is asked, or the status of the fault that is answered
+unfoldable pub asked_in : Interface → ℕ → List ℕ → Result Call ℕ
+asked_in Trigger opnum body = Err 0x1C010002
+asked_in Svcctl opnum body = asked_of_call (call_at opnum) body
+
+abbrev pub asked_of : RequestItem → Result Call ℕ
+asked_of r = asked_in r.interface r.opnum r.body
+
+abbrev pub call_in : Result Call ℕ → Option Call
+call_in (Ok request) = Some request
+call_in (Err status) = None
+
+-- what an item asks of the manager, if it does
+abbrev pub asked_by : Incoming → Option Call
+asked_by (Local bytes) = None
+asked_by (Request r) = call_in (asked_of r)
+
+-- what the items ask, in order
+abbrev pub asked : List Incoming → List Call
+asked items = filter_map asked_by items
+
+-- ## Replies
+
+-- what a request was told: a reply, or that there was no memory for it
+abbrev pub reply_to : Call → Option Reply → Reply
+reply_to request (Some told) = told
+reply_to request None = refused request 8
+
+-- the response to a request
+abbrev pub response : RequestItem → Reply → List ℕ
+response r reply = fragments_of r.transmit r.call r.context (body_of reply)
+
+-- the fault that a request is answered
+abbrev pub fault : RequestItem → ℕ → List ℕ
+fault r status = fault_bytes (record { call = r.call; hint = 0; context = r.context; status = status })
+
+-- the bytes that answer a request, where these replies come next
+abbrev pub answer_to : RequestItem → Result Call ℕ → List (Option Reply) → List ℕ
+answer_to r (Err status) replies = fault r status
+answer_to r (Ok request) [] = []
+answer_to r (Ok request) (told ∷ replies) = response r (reply_to request told)
+
+-- the bytes that answer an item, where these replies come next
+abbrev pub answer_of : Incoming → List (Option Reply) → List ℕ
+answer_of (Local bytes) replies = bytes
+answer_of (Request r) replies = answer_to r (asked_of r) replies
+
+-- the replies that are left behind a request
+abbrev pub replies_behind : Option Call → List (Option Reply) → List (Option Reply)
+replies_behind None replies = replies
+replies_behind (Some request) replies = drop 1 replies
+
+-- what a connection is answered: each item its own bytes, or those of the next reply
+abbrev pub spoken : List Incoming → List (Option Reply) → List ℕ
+spoken [] replies = []
+spoken (item ∷ items) replies = answer_of item replies ++ spoken items (replies_behind (asked_by item) replies)

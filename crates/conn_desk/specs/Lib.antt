@@ -1,0 +1,6 @@
+pub mod Bodies
+pub mod Desks
+pub mod Talks
+pub mod Along
+pub mod Connection
+pub mod Serves

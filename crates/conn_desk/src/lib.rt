@@ -1,0 +1,15 @@
+//! One connection, served from a source to a sink by whatever answers its requests.
+#![tactic(auto)]
+
+mod answering;
+mod asking;
+mod desk;
+mod feeding;
+mod served;
+mod serving;
+mod stop;
+
+pub use desk::{Desk, Lacks};
+pub use served::Served;
+pub use serving::serve;
+pub use stop::Stop;
