@@ -1,0 +1,33 @@
+use conn_desk::{Desk, Lacks};
+use scm_model::{Reply, Request, refused};
+use std::alloc::Global;
+
+/// Refuses each request by a code that says how many came before it. It has room for so many.
+#[derive(Drop)]
+pub struct Counter {
+    pub alloc: Global,
+    pub asked: u32,
+    pub room: u32,
+}
+
+impl Desk for Counter {
+    ghost use Rattle.std.specs.Prelude.{◌≡◌, ◌≤◌};
+    ghost use Rattle.desk_tests.specs.Counting.{Counted};
+
+    ghost ready = { λ d. d.asked ≤ d.room };
+
+    ghost called = { Counted };
+
+    ghost rests = { λ d e. e ≡ d };
+
+    ghost full = { λ d request. d.room ≤ d.asked };
+
+    fn call(&mut self, request: Request) -> Result<Reply, Lacks> {
+        if self.room <= self.asked {
+            return Err(Lacks::Full);
+        }
+        let reply = refused(self.alloc, &request, self.asked);
+        self.asked += 1;
+        Ok(reply)
+    }
+}

@@ -1,0 +1,89 @@
+use super::counter::Counter;
+use conn_desk::{Served, serve};
+use outside::{MemorySink, MemorySource};
+use std::alloc::Global;
+use std::test::*;
+
+/// A bind of the smallest sizes in group 7, and two closes of handle 7.
+const SESSION: &str = "05000b03 10000000 48000000 01000000 00000000 07000000 01000000 00000100 \
+     81bb7a364498f135ad3298f038001003 02000000 045d888aeb1cc9119fe808002b104860 02000000 \
+     05000003 10000000 2c000000 02000000 14000000 00000000 \
+     00000000 0700000000000000 0000000000000000 \
+     05000003 10000000 2c000000 03000000 14000000 00000000 \
+     00000000 0700000000000000 0000000000000000";
+
+const ACK: &str = "05000c03 10000000 38000000 01000000 98059805 07000000 01000000 01000000 \
+     00000000 045d888aeb1cc9119fe808002b104860 02000000";
+
+/// What the first close is answered, and what the second one is.
+const REPLIES: [&str; 2] = [
+    "05000203 10000000 30000000 02000000 18000000 00000000 \
+     00000000 0700000000000000 0000000000000000 00000000",
+    "05000203 10000000 30000000 03000000 18000000 00000000 \
+     00000000 0700000000000000 0000000000000000 01000000",
+];
+
+/// Bytes of hex digits, with spaces between them.
+fn put(alloc: Global, all: &mut Vec<u8>, digits: &str) -> Result<(), Fail> {
+    let mut close = String::new(alloc);
+    for part in digits.split(' ') {
+        close.push_str(part)?;
+    }
+    all.extend_from_slice(hex::decode(alloc, close.as_str())?.as_slice())?;
+    Ok(())
+}
+
+/// The bytes that so many requests are answered.
+fn text(alloc: Global, count: usize) -> Result<Vec<u8>, Fail> {
+    let mut all = Vec::new(alloc);
+    put(alloc, &mut all, ACK)?;
+    for reply in REPLIES.iter().take(count) {
+        put(alloc, &mut all, reply)?;
+    }
+    Ok(all)
+}
+
+/// Whether the session, read in pieces of this size at a desk with so much room, ends so and is
+/// answered this.
+fn comes_to(
+    alloc: Global,
+    bytes: Vec<u8>,
+    piece: usize,
+    room: u32,
+    end: Served,
+    text: &[u8],
+) -> bool {
+    let mut desk = Counter {
+        alloc,
+        asked: 0,
+        room,
+    };
+    let mut input = MemorySource::in_pieces(bytes, piece, Vec::new(alloc));
+    let mut output = MemorySink::new(alloc, Vec::new(alloc));
+    let how = serve(alloc, &mut desk, &mut input, &mut output);
+    how == end && output.bytes() == text
+}
+
+#[test]
+fn pieces_of_any_size_are_answered_alike_until_there_is_no_room(
+    rt: HostRuntime,
+) -> Result<(), Fail> {
+    let rows = [
+        (usize::MAX, 2, Served::Ended, 2),
+        (1, 2, Served::Ended, 2),
+        (45, 2, Served::Ended, 2),
+        (usize::MAX, 1, Served::Full, 1),
+        (1, 1, Served::Full, 1),
+        (1, 0, Served::Full, 0),
+    ];
+    for (piece, room, end, count) in rows {
+        let mut bytes = Vec::new(rt.alloc());
+        put(rt.alloc(), &mut bytes, SESSION)?;
+        let text = text(rt.alloc(), count)?;
+        assert!(rt;
+            comes_to(rt.alloc(), bytes, piece, room, end, text.as_slice()),
+            "{piece} {room}"
+        );
+    }
+    Ok(())
+}
