@@ -57,7 +57,7 @@ fn first_some_number(values: &[Value]) -> Option<u32>
     }
 }
 
-/// Lets a value go that isn't of the kind that is asked for.
+/// Lets a value go that isn't of the kind that is asked for, or that there is no memory for.
 fn let_go(_value: Option<Value>) {}
 
 impl Values {
@@ -80,7 +80,10 @@ impl Values {
     {
         match self.queue.push(value) {
             Ok(()) => Ok(()),
-            Err(_) => Err(OutOfMemory),
+            Err(failed) => {
+                let_go(Some(failed.value));
+                Err(OutOfMemory)
+            }
         }
     }
 
