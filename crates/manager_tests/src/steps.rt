@@ -1,3 +1,8 @@
+ghost use Rattle.std.specs.Prelude.{◌+◌, ◌<◌, ◌^◌, IsTrue};
+ghost use Rattle.scm_rules.specs.Steps.{may};
+ghost use Rattle.scm_model.specs.Texts.{text_of};
+ghost use Rattle.scm_core.specs.Managed.{WasMadeFor};
+
 use crate::limits::{LIMITS, new_manager};
 use scm_core::Manager;
 use scm_model::{Answer, Kept, NewService, Principal, Reply, Request, Status, Step};
@@ -167,55 +172,62 @@ fn step_of(event: Event) -> Step {
     }
 }
 
-/// Whether the step makes a change. That it does is told without want of memory.
-fn changes(manager: &Manager, step: &Step) -> Result<bool, OutOfMemory> {
-    Ok(manager.change_of(step)?.is_some())
-}
-
-fn code_of(reply: Reply) -> u32 {
+fn code_of(reply: &Reply) -> u32 {
     match reply {
-        Reply::Code(code) => code,
-        Reply::Handle { code, .. } => code,
-        Reply::State { code, .. } => code,
-        Reply::Made { code, .. } => code,
-        Reply::Tag { code, .. } => code,
-        Reply::Shown { code, .. } => code,
-        Reply::LockState { code, .. } => code,
-        Reply::Name { code, .. } => code,
+        Reply::Code(code)
+        | Reply::Handle { code, .. }
+        | Reply::State { code, .. }
+        | Reply::Made { code, .. }
+        | Reply::Tag { code, .. }
+        | Reply::Shown { code, .. }
+        | Reply::LockState { code, .. }
+        | Reply::Name { code, .. } => *code,
     }
 }
 
-fn told_by(answer: Answer) -> Told {
+fn told_by(answer: &Answer) -> Told {
     match answer {
-        Answer::Caller(number) => Told::Caller(number),
+        Answer::Caller(number) => Told::Caller(*number),
         Answer::Reply(reply) => Told::Code(code_of(reply)),
-        Answer::Begun(plan) => Told::Plan(plan),
-        Answer::Launch(process) => Told::Launch(process),
-        Answer::Control(control) => Told::Control(control),
-        Answer::Refused(code) => Told::Refused(code),
+        Answer::Begun(plan) => Told::Plan(*plan),
+        Answer::Launch(process) => Told::Launch(*process),
+        Answer::Control(control) => Told::Control(*control),
+        Answer::Refused(code) => Told::Refused(*code),
         Answer::Stale => Told::Stale,
         Answer::Done => Told::Done,
     }
 }
 
-/// Makes a step, whose change is kept if it makes one, where it may be made.
-fn made(manager: &mut Manager, moment: u64, step: Step, changes: bool) -> Result<Told, Fail> {
-    let step = step.with_kept(if changes { Kept::Kept } else { Kept::NotAsked });
-    if manager.reserve_for(&step).is_err() {
-        return Err("no memory".into());
+/// Whether the step makes a change. That it does is told without want of memory.
+fn makes_change(manager: &mut Manager, step: &Step) -> bool {
+    if manager.reserve_for(step).is_err() {
+        return false;
     }
-    if !manager.admits(moment, &step) || !manager.fits(&step) {
-        return Err("the step may not be made".into());
-    }
-    Ok(told_by(manager.step(moment, step)))
+    manager.makes_change(step)
 }
 
-/// The same, of a step that is asked first whether it makes a change.
-fn done(manager: &mut Manager, moment: u64, step: Step) -> Result<Told, Fail> {
-    match changes(manager, &step) {
-        Ok(changes) => made(manager, moment, step, changes),
-        Err(_) => Err("no memory".into()),
+/// Makes the room for a step, and says whether it may then be made.
+fn is_admitted(manager: &mut Manager, moment: u64, step: &Step) -> bool
+    ensures may { IsTrue result → IsTrue (may manager.new.limits manager.new.flat moment step.now) }
+    ensures room { IsTrue result → WasMadeFor manager.new.room step.now }
+    ensures steps { IsTrue result → manager.new.steps < 2 ^ 50 }
+    ensures text { IsTrue result → manager.new.text + text_of step.now < 2 ^ 63 }
+{
+    if manager.reserve_for(step).is_err() {
+        return false;
     }
+    manager.admits(moment, step) && manager.fits(step)
+}
+
+/// Makes a step, whose change is kept if it makes one, where it may be made.
+fn done(manager: &mut Manager, moment: u64, step: Step) -> Result<Told, Fail> {
+    let is_kept = makes_change(manager, &step);
+    let step = step.with_kept(if is_kept { Kept::Kept } else { Kept::NotAsked });
+    if !is_admitted(manager, moment, &step) {
+        return Err("the step may not be made".into());
+    }
+    let answer = manager.step(moment, step);
+    Ok(told_by(&answer))
 }
 
 /// Takes the launch that is wanted first, which has the one letter of a service for its path, and
