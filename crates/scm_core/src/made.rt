@@ -58,20 +58,19 @@ fn made_of_config(config: Option<Config>, code: u32, change: Option<Change>) -> 
     ensures { result ≡ record nothing_made { config = config; code = code; change = change } }
 {
     Made {
+        name: None,
         config,
         code,
         change,
-        ..nothing_made()
+        entries: None,
+        reply: None,
     }
 }
 
 fn made_of_removal(change: Option<Change>) -> Made
     ensures { result ≡ record nothing_made { change = change } }
 {
-    Made {
-        change,
-        ..nothing_made()
-    }
+    made_of_config(None, 0, change)
 }
 
 fn made_of_entries(entries: Items<u64>) -> Made

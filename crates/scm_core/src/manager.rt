@@ -55,12 +55,17 @@ fn forget(room: &mut Option<Snapshot<Step>>)
     *room = None;
 }
 
-/// Keeps what was made for a step.
-fn keep(room: &mut Option<Snapshot<Step>>, made: &mut Made, step: &Step, now: Made)
-    ensures room { promised room.new ≡ Some (unkept step.now) }
-    ensures made { made.new ≡ now }
+/// Promises the room of a step.
+fn promise(room: &mut Option<Snapshot<Step>>, step: &Step)
+    ensures { promised room.new ≡ Some (unkept step.now) }
 {
     *room = Some(Snapshot::of(step));
+}
+
+/// Keeps what was made for a step.
+fn keep(made: &mut Made, now: Made)
+    ensures { made.new ≡ now }
+{
     *made = now;
 }
 
@@ -200,9 +205,9 @@ impl Manager {
         ensures err { OnErr result (self.new ≡ record self.old { room = None }) }
     {
         forget(&mut self.room);
-        let made = make_for(&self.tables, step, self.alloc)?;
-        reserve(&mut self.tables, step, &made)?;
-        keep(&mut self.room, &mut self.made, step, made);
+        keep(&mut self.made, make_for(&self.tables, step, self.alloc)?);
+        reserve(&mut self.tables, step, &self.made)?;
+        promise(&mut self.room, step);
         Ok(())
     }
 

@@ -10,8 +10,8 @@ pub invariant_of-self-2 : goal.invariant_of-self-2
 invariant_of-self-2 c =
     let sound = c.self.invariant in
     let tables = c.reserve.new.tables in
-    let made : IsMadeFor tables.limits tables.flat c.in_ok-made.made (unkept c.args.step.now) = rw (c.reserve.ensures.flat, c.reserve.ensures.limits)
-    (is_made_unkept c.self.inside.tables.limits c.self.inside.tables.flat c.in_ok-made.made c.args.step.now c.in_ok-made.ensures) in
+    let made : IsMadeFor tables.limits tables.flat c.in_ok-make_for.field-0 (unkept c.args.step.now) = rw (c.reserve.ensures.flat, c.reserve.ensures.limits)
+    (is_made_unkept c.self.inside.tables.limits c.self.inside.tables.flat c.in_ok-make_for.field-0 c.args.step.now c.in_ok-make_for.ensures) in
     record {
       handles = rw c.reserve.ensures.flat sound.handles;
       callers = rw c.reserve.ensures.flat sound.callers;
@@ -21,7 +21,7 @@ invariant_of-self-2 c =
       processes = rw c.reserve.ensures.flat sound.processes;
       limit = rw c.reserve.ensures.limits sound.limit;
       controls = rw c.reserve.ensures.limits sound.controls;
-      room = subst (KeepsRoom tables) (sym c.keep.ensures.room) (has_room_unkept tables c.args.step.now c.in_ok-reserve.ensures.room);
-      made = subst (KeepsMade tables.limits tables.flat c.keep.new.made) (sym c.keep.ensures.room)
-          (subst (λ (m : Made). KeepsMade tables.limits tables.flat m (Some (unkept c.args.step.now))) (sym c.keep.ensures.made) made);
+      room = subst (KeepsRoom tables) (sym c.promise.ensures) (has_room_unkept tables c.args.step.now c.in_ok-reserve.ensures.room);
+      made = subst (KeepsMade tables.limits tables.flat c.keep.new.made) (sym c.promise.ensures)
+          (subst (λ (m : Made). KeepsMade tables.limits tables.flat m (Some (unkept c.args.step.now))) (sym c.keep.ensures) made);
     }
