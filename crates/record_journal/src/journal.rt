@@ -95,6 +95,7 @@ impl Journal {
         ensures grows { K.faults keeper.old ≤ K.faults keeper.new }
         ensures cause { IsErrOf result KeepFault.Failed →
             Rose (K.faults keeper.old) (K.faults keeper.new) }
+        ensures kept { OnOk result (K.faults keeper.new ≡ K.faults keeper.old) }
     {
         let Ok(piece) = piece(alloc, self.good, change) else {
             return Err(KeepFault::OutOfMemory);

@@ -1,4 +1,4 @@
-ghost use Rattle.std.specs.Prelude.{◌≡◌, ◌≤◌, ℕ, List, Option, IfOk, IfSome, IsErrOf};
+ghost use Rattle.std.specs.Prelude.{◌≡◌, ◌≤◌, ℕ, List, Option, IfOk, IfSome, IsErrOf, OnOk};
 ghost use Rattle.std.specs.Io.KnownBytes.{Keeps};
 ghost use Rattle.outside.specs.Causes.{HasCause, Rose};
 ghost use Rattle.outside.specs.Written.{Writes};
@@ -36,7 +36,10 @@ pub trait Keeper: Drop {
         ensures same { Keeps (held self.old) (held self.new) }
         ensures grows { faults self.old ≤ faults self.new }
         ensures cause { IsErrOf result KeepFault.Failed →
-            Rose (faults self.old) (faults self.new) };
+            Rose (faults self.old) (faults self.new) }
+        ensures kept { OnOk result (faults self.new ≡ faults self.old) }
+        ensures memory { IsErrOf result KeepFault.OutOfMemory →
+            faults self.new ≡ faults self.old };
 
     /// Appends bytes. After a fault a front of them may stand.
     fn append(&mut self, bytes: &[u8]) -> Result<(), Failed>

@@ -112,6 +112,9 @@ impl Keeper for MemoryKeeper {
         ensures same { self.new.bytes ≡ self.old.bytes }
         ensures grows { self.old.faults ≤ self.new.faults }
         ensures cause { IsErrOf result KeepFault.Failed → Rose self.old.faults self.new.faults }
+        ensures kept { OnOk result (self.new.faults ≡ self.old.faults) }
+        ensures memory { IsErrOf result KeepFault.OutOfMemory →
+            self.new.faults ≡ self.old.faults }
         ensures told { IsTold self.old self.new (has_failed result) }
         ensures only { IsErrOf result KeepFault.Failed → IsTrue (fails_next self.old) }
     {

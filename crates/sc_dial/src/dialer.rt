@@ -37,7 +37,6 @@ pub trait Dialer {
         ensures output { IfOk result (λ c. Self.Out.faults c.output ≡ 0) }
         ensures dialled { IfOk result (λ _. IfSome (past self.old) (λ _. dialled self.new ≡ Some address.now)) }
         ensures past { past self.new ≡ past self.old }
-        ensures unfailed { IfOk result (λ _. faults self.new ≡ faults self.old) }
         ensures cause { HasCause (faults self.old) (faults self.new) result };
 
     /// Takes a connection back and ends it.

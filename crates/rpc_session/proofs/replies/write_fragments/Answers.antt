@@ -20,7 +20,7 @@ loop-preserved g c = (
   sent_more _ _ _ _ _ _ _ c.loop.invariant.0
       (fragments_step (length c.args.body.now) c.loop.counter c.args.transmit c.args.call c.args.context c.loop.first c.loop.rest.now c.cut.result.1.now c.loop-test.true (some_left c.loop.rest.now c.if-is_empty.ensures) (c.cut.ensures.back ∙ ap (λ n. drop n c.loop.rest.now) c.room.ensures))
       c.in_default.ensures.written,
-  omega (arith, c.loop.invariant.1, c.in_default.ensures.cause.grows),
+  c.in_default.ensures.cause.kept ∙ c.loop.invariant.1,
   omega (arith, ap length c.cut.ensures.back, length-drop c.room.result c.loop.rest.now, c.loop.invariant.2),
   search rules,
 )
