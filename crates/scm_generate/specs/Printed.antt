@@ -18,8 +18,7 @@ IfMade Ended P = P
 IfMade WriteFault P = P
 IfMade OutOfMemory P = Unit {0}
 
--- a fault of the sink comes only where its count rose
+-- the sink's count rose where it is said to have failed, and is the same at each other end
 abbrev pub IsPrintCaused : Generated → (faults faults_now : ℕ) → Type 0
-IsPrintCaused Ended faults faults_now = Unit {0}
 IsPrintCaused WriteFault faults faults_now = Rose faults faults_now
-IsPrintCaused OutOfMemory faults faults_now = faults_now ≡ faults
+IsPrintCaused _ faults faults_now = faults_now ≡ faults

@@ -1,5 +1,5 @@
 -- What became of the bytes on a stretch of an input.
-use Rattle.std.specs.Prelude.{ℕ, ◌≡◌, ◌+◌, ◌<◌, ◌≤◌, ◌^◌, ◌==◌, ◌⊎◌, true, false, List, [], ◌∷◌, ◌++◌, length, Option, Result, Ok, Err, IsErrOf}
+use Rattle.std.specs.Prelude.{ℕ, ◌≡◌, ◌+◌, ◌<◌, ◌≤◌, ◌^◌, ◌==◌, ◌⊎◌, true, false, List, [], ◌∷◌, ◌++◌, length, Option, Result, Ok, Err}
 use Rattle.std.specs.Io.KnownBytes.{Appends, Consumes, IsAtEnd}
 use Rattle.outside.specs.Causes.{Rose}
 use Rattle.outside.specs.Written.{AppendsFront}
@@ -67,10 +67,15 @@ abbrev pub LinesFed : {T : Type 0} → Limits → (piece : List ℕ) → Point �
 LinesFed l piece a b (Ok done) = GoesOn l piece a b
 LinesFed l piece a b (Err why) = HaltsIn l piece a b why
 
--- the count of faults never falls, and it rose where the sink is said to have failed
+-- the sink's count of faults rose where it is said to have failed, and is the same elsewhere
+abbrev pub IsStopCaused : {T : Type 0} → Result T Stop → (before now : ℕ) → Type 0
+IsStopCaused (Err stop.WriteFault) before now = Rose before now
+IsStopCaused _ before now = now ≡ before
+
+-- and it never falls
 pub record HasStopCause {T : Type 0} (before now : ℕ) (result : Result T Stop) : Type 0 where
   pub grows : before ≤ now
-  pub rose : IsErrOf result stop.WriteFault → Rose before now
+  pub caused : IsStopCaused result before now
 
 -- what a manager keeps over some steps, of which there are at most so many
 pub record Keeps (old new : Managed) (most : ℕ) : Type 0 where

@@ -2,7 +2,7 @@
 use Rattle.std.specs.Prelude.{ℕ, ◌≡◌, ◌+◌, ◌<◌, ◌≤◌, ◌^◌, ◌==◌, ◌⊎◌, false, List, [], ◌∷◌, ◌++◌, length, All, Option, if◌then◌else◌}
 use Rattle.std.specs.List.{slice_split}
 use Rattle.std.specs.Io.KnownBytes.{Appends, Consumes, IsAtEnd}
-use Rattle.outside.specs.Causes.{Rose}
+use Rattle.outside.specs.Causes.{NeitherFailed, ReadFailed, WriteFailed}
 use Rattle.outside.specs.Written.{Begins}
 use Rattle.scm_model.specs.declared.flat.Limits.{Limits}
 use Rattle.scm_core.specs.Managed.{Managed}
@@ -137,15 +137,12 @@ pub record IsReplayed (l : Limits) (s now : Standing) (left left_now held held_n
   pub appended : Appends held held_now written
   pub reached : ReachedLine l s now how read left_now written
 
--- a fault of the source or the sink comes only where its count rose
+-- the count of the source or the sink rose where it is said to have failed; at each other end, as at want of memory, both are
+-- the same
 abbrev pub IsReplayCaused : Replayed → (source source_now sink sink_now : ℕ) → Type 0
-IsReplayCaused ended.ReadFault source source_now sink sink_now = Rose source source_now
-IsReplayCaused ended.WriteFault source source_now sink sink_now = Rose sink sink_now
-IsReplayCaused ended.Ended source source_now sink sink_now = Unit {0}
-IsReplayCaused ended.Truncated source source_now sink sink_now = Unit {0}
-IsReplayCaused ended.BadLine source source_now sink sink_now = Unit {0}
-IsReplayCaused ended.Worn source source_now sink sink_now = Unit {0}
-IsReplayCaused ended.OutOfMemory source source_now sink sink_now = Unit {0}
+IsReplayCaused ended.ReadFault source source_now sink sink_now = ReadFailed source source_now sink sink_now
+IsReplayCaused ended.WriteFault source source_now sink sink_now = WriteFailed source source_now sink sink_now
+IsReplayCaused _ source source_now sink sink_now = NeitherFailed source source_now sink sink_now
 
 -- a manager that can make a step for each byte that is read
 pub record IsFresh (m : Managed) : Type 0 where

@@ -1,4 +1,5 @@
-ghost use Rattle.std.specs.Prelude.{◌≡◌, ◌≤◌, ◌<◌, ◌+◌, length, IfErr, IfOk};
+ghost use Rattle.std.specs.Prelude.{◌≡◌, ◌≤◌, ◌<◌, ◌+◌, length, IfErr, IfOk, OnOk};
+ghost use Rattle.outside.specs.Causes.{NeitherFailed};
 ghost use Rattle.scm_replay.specs.Along.{IsFit, Keeps, Turn, replay_ended, point};
 ghost use Rattle.scm_replay.specs.Replay.{IsReplayCaused, IsFresh, IsOneLine, IsReplayed};
 ghost use Rattle.scm_replay.specs.Outcomes.{standing};
@@ -49,6 +50,8 @@ fn turn<I: Source, O: Sink>(
     ensures input { I.faults input.old ≤ I.faults input.new }
     ensures output { O.faults output.old ≤ O.faults output.new }
     ensures cause { IfErr result (λ how. IsReplayCaused how
+        (I.faults input.old) (I.faults input.new) (O.faults output.old) (O.faults output.new)) }
+    ensures unfailed { OnOk result (NeitherFailed
         (I.faults input.old) (I.faults input.new) (O.faults output.old) (O.faults output.new)) }
 {
     let Ok(n) = input.read(into) else {

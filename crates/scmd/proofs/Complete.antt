@@ -157,8 +157,8 @@ complete_lines answered.Worn now bytes left_now held held_now source source_now 
     let rest = rest_of bytes p.read left_now p.consumed in
     lines_worn bytes p.read rest.0 rest.1 p.reached.0
 complete_lines answered.OutOfMemory now bytes left_now held held_now source source_now sink sink_now p c no_read no_write = lines_lack bytes
-complete_lines answered.ReadFault now bytes left_now held held_now source source_now sink sink_now p c no_read no_write = absurd (no_read c)
-complete_lines answered.WriteFault now bytes left_now held held_now source source_now sink sink_now p c no_read no_write = absurd (no_write c)
+complete_lines answered.ReadFault now bytes left_now held held_now source source_now sink sink_now p c no_read no_write = absurd (no_read c.0)
+complete_lines answered.WriteFault now bytes left_now held held_now source source_now sink sink_now p c no_read no_write = absurd (no_write c.1)
 
 -- ## A summary
 

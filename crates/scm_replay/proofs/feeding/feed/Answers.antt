@@ -1,4 +1,4 @@
-use Rattle.std.proofs.Common.{arith, get_or, refl, subst, Err, ◌∷◌, []}
+use Rattle.std.proofs.Common.{◌∙◌, arith, get_or, refl, subst, Err, ◌∷◌, []}
 use Rattle.scm_replay.specs.Along.{Point, LinesFed, GoesOn, point}
 use Rattle.scm_replay.proofs.Stretches.{goes_nowhere, one_more, one_stops, keeps_more}
 use Rattle.scm_replay.proofs.feeding.feed.Goals as goal
@@ -10,7 +10,7 @@ loop-byte-init g c =
       on = goes_nowhere c.args.manager.now.limits a c.requires.clean;
       keeps = record { limits = refl; text = λ small. small; steps = omega arith };
       number = omega arith;
-      grows = omega arith;
+      faults = refl;
     }
 
 pub returns-in-Err-clause-fed : goal.returns-in-Err-clause-fed
@@ -37,5 +37,5 @@ loop-byte-preserved g c =
           (subst (λ k. GoesOn k (x ∷ []) m b) before.keeps.limits c.in-Ok.ensures.fed);
       keeps = keeps_more c.args.manager.now c.loop-byte.manager c.take.new.manager c.loop-byte.byte-index 1 before.keeps c.in-Ok.ensures.keeps;
       number = omega (arith, before.number, c.in-Ok.ensures.number);
-      grows = omega (arith, before.grows, c.in-Ok.ensures.cause.grows);
+      faults = c.in-Ok.ensures.cause.caused ∙ before.faults;
     }

@@ -1,4 +1,4 @@
-use Rattle.std.proofs.Common.{◌+◌, ◌≤◌, take}
+use Rattle.std.proofs.Common.{◌+◌, ◌≡◌, ◌≤◌, take}
 use Rattle.scm_replay.specs.Along.{GoesOn, Keeps, point}
 use Rattle.scm_replay.proofs.feeding.feed.Given as goal
 
@@ -10,5 +10,5 @@ invariant-loop-byte g l = record {
       (point l.manager l.reading (g.O.Sink.held l.output));
   keeps : Keeps l.fn.manager l.manager l.byte-index;
   number : l.reading.number ≤ l.fn.reading.number + l.byte-index;
-  grows : g.O.Sink.faults l.fn.output ≤ g.O.Sink.faults l.output;
+  faults : g.O.Sink.faults l.output ≡ g.O.Sink.faults l.fn.output;
 }

@@ -23,8 +23,7 @@ loop-read-preserved g c =
           (subst (λ x. GoesOn x t.read m b) before.keeps.limits t.turned.2);
       keeps = keeps_more c.args.manager.now c.loop-read.manager c.turn.new.manager c.loop-read.read c.in-Ok.n before.keeps now.keeps;
       number = omega (arith, now.number, before.number);
-      input = omega (arith, now.input, before.input);
-      output = omega (arith, now.output, before.output);
+      unfailed = (now.unfailed.0 ∙ before.unfailed.0, now.unfailed.1 ∙ before.unfailed.1);
     }
 
 pub returns-in-Err-clause-replayed : goal.returns-in-Err-clause-replayed

@@ -1,5 +1,6 @@
 use Rattle.std.proofs.Common.{ℕ, ◌≡◌, ◌+◌, ◌-◌, ◌≤◌, ◌^◌, List, length}
 use Rattle.std.specs.Io.KnownBytes.{Consumes}
+use Rattle.outside.specs.Causes.{NeitherFailed}
 use Rattle.scm_replay.specs.Outcomes.{standing}
 use Rattle.scm_replay.specs.Along.{GoesOn, Keeps, point}
 use Rattle.scm_replay.proofs.Ends.{beginning}
@@ -16,8 +17,8 @@ invariant-loop-read g l = record {
       (point l.manager l.reading (g.O.Sink.held l.output));
   keeps : Keeps l.fn.manager l.manager l.read;
   number : l.reading.number ≤ 1 + l.read;
-  input : g.I.Source.faults l.fn.input ≤ g.I.Source.faults l.input;
-  output : g.O.Sink.faults l.fn.output ≤ g.O.Sink.faults l.output;
+  unfailed : NeitherFailed (g.I.Source.faults l.fn.input) (g.I.Source.faults l.input)
+      (g.O.Sink.faults l.fn.output) (g.O.Sink.faults l.output);
 }
 
 abbrev pub decreases-loop-read : goal.decreases-loop-read
