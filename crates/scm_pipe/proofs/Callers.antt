@@ -1,6 +1,5 @@
 -- A step of a caller's requests leaves the callers as they are.
 use Rattle.std.proofs.Common.{ℕ, ◌≡◌, ◌==◌, ◌∙◌, cond, true, false, Option, None, Some, refl}
-use Rattle.scm_model.specs.declared.flat.Config.{Config}
 use Rattle.scm_model.specs.declared.flat.Flat.{Flat}
 use Rattle.scm_model.specs.declared.flat.Limits.{Limits}
 use Rattle.scm_model.specs.declared.calls.Request.{Request}
@@ -12,7 +11,6 @@ use Rattle.scm_model.specs.declared.steps.Kept.{Kept}
 use Rattle.scm_model.specs.declared.steps.Step.{Step}
 use Rattle.scm_model.specs.declared.steps.Step.TheVariants.{Call}
 use Rattle.scm_model.specs.Refused.{answered}
-use Rattle.scm_model.specs.Rows.{opened}
 use Rattle.scm_model.specs.Changes.{with_moment}
 use Rattle.scm_model.specs.Outcomes.{Done}
 use Rattle.start_plan.specs.Decided.{code_of}

@@ -33,7 +33,8 @@ use Rattle.scm_model.specs.Entries.{Entry}
 use Rattle.scm_model.specs.Outcomes.{Done}
 use Rattle.scm_rules.specs.Verdicts.{call_of, change_of_call, tells_right}
 use Rattle.scm_pipe.specs.Histories.{Follows, IsServed, failed_in, replies, heard_by}
-use Rattle.scm_pipe.specs.Bodies.{reply_to}
+use Rattle.conn_desk.specs.Bodies.{reply_to}
+use Rattle.conn_desk.specs.Desks.{CallAnswered}
 use Rattle.scm_pipe.specs.Calling.{Called, HasRun, Heard, IsMine, IsSpoken, StillWaits, Waited}
 use Rattle.scm_pipe.proofs.Histories.{IsTold, is_told, pair_silent, waits_reply}
 use Rattle.scm_pipe.proofs.Owning.{mine_begun, mine_failed, mine_taken}
@@ -148,32 +149,33 @@ module _ (tells : ℕ → Type 0) (l : Limits) where
 
 -- there was no memory for it
 pub called_none : (tells : ℕ → Type 0) (l : Limits) (f : Flat) (moment : ℕ) (asked : Request) → tells moment → IsTrue (is_caller f 1)
-    → Called tells l f (step_of l f moment (NoMemory 1)).flat asked (refused asked 8)
+    → CallAnswered (Called tells l) f (step_of l f moment (NoMemory 1)).flat asked (refused asked 8)
 called_none tells l f moment asked told joined = record {
-  entries = (moment, NoMemory 1) ∷ [];
   heard = None;
-  told = All-cons (λ (e : Entry). tells e.0) (moment, NoMemory 1) [] told (All-nil (λ (e : Entry). tells e.0));
-  legal = (both (is_caller f 1) joined, tt);
-  served = (refl, refl);
-  kept = refl;
-  answer = refl;
-  replied = refl;
-  state = refl;
+  made = record {
+    entries = (moment, NoMemory 1) ∷ [];
+    told = All-cons (λ (e : Entry). tells e.0) (moment, NoMemory 1) [] told (All-nil (λ (e : Entry). tells e.0));
+    legal = (both (is_caller f 1) joined, tt);
+    served = (refl, refl);
+    kept = refl;
+    answer = refl;
+    state = refl;
+  };
+  told = refl;
+  answers = of_refused asked 8;
 }
 
 -- it was made and answered
 pub called_call : (tells : ℕ → Type 0) (l : Limits) (f : Flat) (moment : ℕ) (asked : Request) (k : Kept) (reply : Reply) → tells moment
     → IsTrue (may l f moment (Call 1 asked k)) → is_failed k ≡ false → (step_of l f moment (Call 1 asked k)).answer ≡ answers.Reply reply
-    → Called tells l f (step_of l f moment (Call 1 asked k)).flat asked reply
+    → Called tells l f (step_of l f moment (Call 1 asked k)).flat asked (Some reply)
 called_call tells l f moment asked k reply told legal kept e = record {
   entries = (moment, Call 1 asked k) ∷ [];
-  heard = Some reply;
   told = All-cons (λ (e : Entry). tells e.0) (moment, Call 1 asked k) [] told (All-nil (λ (e : Entry). tells e.0));
   legal = (legal, tt);
   served = ((refl, refl), subst (λ a. Follows l (step_of l f moment (Call 1 asked k)).flat 1 a []) (sym e) refl);
   kept = none_failed moment asked k [] kept refl;
   answer = ap (λ a. cons_option (heard_by 1 (Call 1 asked k) a) []) e;
-  replied = refl;
   state = refl;
 }
 
@@ -181,40 +183,38 @@ called_call tells l f moment asked k reply told legal kept e = record {
 pub called_start : (tells : ℕ → Type 0) (l : Limits) (f h : Flat) (moment : ℕ) (asked : Request) (k : Kept) (plan code : ℕ) → tells moment
     → IsTrue (may l f moment (Call 1 asked k)) → is_failed k ≡ false → (step_of l f moment (Call 1 asked k)).answer ≡ answers.Begun plan
     → Waited tells l (step_of l f moment (Call 1 asked k)).flat h plan code
-    → Called tells l f h asked (Code code)
+    → Called tells l f h asked (Some (Code code))
 called_start tells l f h moment asked k plan code told legal kept e w =
     let g = (step_of l f moment (Call 1 asked k)).flat in
     record {
       entries = (moment, Call 1 asked k) ∷ w.entries;
-      heard = Some (Code code);
       told = All-cons (λ (e : Entry). tells e.0) (moment, Call 1 asked k) w.entries told w.told;
       legal = (legal, w.legal);
       served = ((refl, refl), subst (λ a. Follows l g 1 a w.entries) (sym e) w.waits);
       kept = none_failed moment asked k w.entries kept w.kept;
       answer = ap (λ a. cons_option (heard_by 1 (Call 1 asked k) a) (replies l g 1 w.entries)) e ∙ w.answer;
-      replied = refl;
       state = w.state;
     }
 
 -- it was made, and its caller heard this
 pub called_heard : (tells : ℕ → Type 0) (l : Limits) (f h : Flat) (moment : ℕ) (asked : Request) (k : Kept) (answer : Answer) (reply : Reply) → tells moment
     → IsTrue (may l f moment (Call 1 asked k)) → is_failed k ≡ false → (step_of l f moment (Call 1 asked k)).answer ≡ answer
-    → Heard tells l (step_of l f moment (Call 1 asked k)).flat h answer reply → Called tells l f h asked reply
+    → Heard tells l (step_of l f moment (Call 1 asked k)).flat h answer reply → Called tells l f h asked (Some reply)
 called_heard tells l f h moment asked k (answers.Reply told) reply m ok kept e heard =
-    subst (λ r. Called tells l f h asked r) (sym heard.0)
-    (subst (λ s. Called tells l f s asked told) (sym heard.1) (called_call tells l f moment asked k told m ok kept e))
+    subst (λ r. Called tells l f h asked (Some r)) (sym heard.0)
+    (subst (λ s. Called tells l f s asked (Some told)) (sym heard.1) (called_call tells l f moment asked k told m ok kept e))
 called_heard tells l f h moment asked k (answers.Begun plan) reply m ok kept e heard =
-    subst (λ r. Called tells l f h asked r) (sym heard.1) (called_start tells l f h moment asked k plan heard.0 m ok kept e heard.2)
+    subst (λ r. Called tells l f h asked (Some r)) (sym heard.1) (called_start tells l f h moment asked k plan heard.0 m ok kept e heard.2)
 called_heard tells l f h moment asked k answer reply m ok kept e heard = absurd heard
 
 -- the same under other names of its states
-pub called_by : (tells : ℕ → Type 0) (l n : Limits) (f e g h : Flat) (moment : ℕ) (asked : Request) (k : Kept) (changes : Bool) (step : Step) (answer : Answer) (reply : Reply) → tells moment
+called_same : (tells : ℕ → Type 0) (l n : Limits) (f e g h : Flat) (moment : ℕ) (asked : Request) (k : Kept) (changes : Bool) (step : Step) (answer : Answer) (reply : Reply) → tells moment
     → IsTrue (is_caller f 1) → IsTrue (in_range asked) → n ≡ l → e ≡ f → step ≡ Call 1 asked k → k ≡ cond changes appended.Kept appended.NotAsked → changes ≡ is_some (change_of_call n e 1 asked)
-    → answer ≡ (step_of n e moment step).answer → g ≡ (step_of n e moment step).flat → Heard tells n g h answer reply → Called tells l f h asked reply
-called_by tells l n f e g h moment asked k changes step answer reply m joined ranged limits same is kept right said state heard =
+    → answer ≡ (step_of n e moment step).answer → g ≡ (step_of n e moment step).flat → Heard tells n g h answer reply → Called tells l f h asked (Some reply)
+called_same tells l n f e g h moment asked k changes step answer reply m joined ranged limits same is kept right said state heard =
     let ok = may_call n e moment asked k (subst (λ s. IsTrue (is_caller s 1)) (sym same) joined) ranged (kept ∙ ap (λ b. cond b appended.Kept appended.NotAsked) right) in
-    subst (λ s. Called tells l s h asked reply) same
-    (subst (λ x. Called tells x e h asked reply) limits
+    subst (λ s. Called tells l s h asked (Some reply)) same
+    (subst (λ x. Called tells x e h asked (Some reply)) limits
     (called_heard tells n e h moment asked k answer reply m ok (not_lost changes k kept) (sym (said ∙ ap (λ s. (step_of n e moment s).answer) is))
     (subst (λ s. Heard tells n s h answer reply) (state ∙ ap (λ s. (step_of n e moment s).flat) is) heard)))
 
@@ -295,6 +295,15 @@ by_entries l f ((m, NoMemory of) ∷ es) asked heard reply short range p e q =
     subst (Answers asked) (ap (reply_to asked) is ∙ q) (of_refused asked 8)
 by_entries l f ((m, step) ∷ es) asked heard reply short range p e q = absurd p.0
 
--- its reply answers it
-pub answers_called : (tells : ℕ → Type 0) (l : Limits) (f g : Flat) (asked : Request) (reply : Reply) → HasRun l f → IsTrue (in_range asked) → Called tells l f g asked reply → Answers asked reply
-answers_called tells l f g asked reply run range c = by_entries l f c.entries asked c.heard reply (all_short l f run) range c.served c.answer c.replied
+-- it was made, and its reply answers it
+pub called_by : (tells : ℕ → Type 0) (l n : Limits) (f e g h : Flat) (moment : ℕ) (asked : Request) (k : Kept) (changes : Bool) (step : Step) (answer : Answer) (reply : Reply) → HasRun l f → tells moment
+    → IsTrue (is_caller f 1) → IsTrue (in_range asked) → n ≡ l → e ≡ f → step ≡ Call 1 asked k → k ≡ cond changes appended.Kept appended.NotAsked → changes ≡ is_some (change_of_call n e 1 asked)
+    → answer ≡ (step_of n e moment step).answer → g ≡ (step_of n e moment step).flat → Heard tells n g h answer reply → CallAnswered (Called tells l) f h asked reply
+called_by tells l n f e g h moment asked k changes step answer reply run m joined ranged limits same is kept right said state heard =
+    let made = called_same tells l n f e g h moment asked k changes step answer reply m joined ranged limits same is kept right said state heard in
+    record {
+      heard = Some reply;
+      made = made;
+      told = refl;
+      answers = by_entries l f made.entries asked (Some reply) reply (all_short l f run) ranged made.served made.answer refl;
+    }

@@ -1,5 +1,5 @@
 -- Histories one after another, and what they tell of a caller's requests.
-use Rattle.std.proofs.Common.{ℕ, ◌≡◌, ◌==◌, ◌+◌, ◌++◌, Bool, cond, true, false, List, [], ◌∷◌, Option, None, Some, refl, sym, ap, ◌∙◌, subst, append_assoc, arith}
+use Rattle.std.proofs.Common.{ℕ, ◌≡◌, ◌==◌, ◌+◌, ◌++◌, Bool, cond, true, false, List, [], ◌∷◌, Option, None, Some, refl, sym, ap, ◌∙◌, subst, arith}
 use Rattle.std.specs.Prelude.{All, unwrap_or}
 use Rattle.std.specs.List.{cons_option}
 use Rattle.std.proofs.lemmas.List.Elements.{All-nil, All-cons, All-head, All-tail}
@@ -19,7 +19,7 @@ use Rattle.scm_rules.specs.Steps.{call_answer, answered_by, finished, step_of, t
 use Rattle.scm_rules.specs.Runs.{IsLegal, run_state}
 use Rattle.scm_model.specs.Entries.{Entry}
 use Rattle.scm_rules.specs.Verdicts.{call_of, verdict}
-use Rattle.scm_pipe.specs.Histories.{AreRequests, AreServed, AsMany, IsStartEnd, Follows, IsMade, IsServed, Made, Waits, failed_in, is_own, made_by_caller, own_by, replies, heard_by}
+use Rattle.scm_pipe.specs.Histories.{AreRequests, AreServed, IsStartEnd, Follows, IsMade, IsServed, Made, Waits, failed_in, is_own, made_by_caller, own_by, replies, heard_by}
 
 -- ## One after another
 
@@ -53,19 +53,6 @@ own_append l f c (e ∷ es) ds =
     let g = (step_of l f e.0 e.1).flat in
     ap (cons_option made) (own_append l g c es ds) ∙ cons_append made (made_by_caller l g c es) (made_by_caller l (run_state l g es) c ds)
 
-pub served_append : (l : Limits) (f : Flat) (c : ℕ) (rs qs : List Request) (es ds : List Entry)
-    → AreServed l f c rs es → AreServed l (run_state l f es) c qs ds → AreServed l f c (rs ++ qs) (es ++ ds)
-served_append l f c [] qs es ds p q =
-    subst (λ (xs : List Entry). AreServed l f c qs (xs ++ ds)) (sym p) (subst (λ (xs : List Entry). AreServed l (run_state l f xs) c qs ds) p q)
-served_append l f c (r ∷ rs) qs es ds p q =
-    let same = ap (run_state l f) p.2 ∙ state_append l f p.0 p.1 in (
-      p.0,
-      p.1 ++ ds,
-      ap (λ (xs : List Entry). xs ++ ds) p.2 ∙ append_assoc p.0 p.1 ds,
-      p.3,
-      served_append l (run_state l f p.0) c rs qs p.1 ds p.4 (subst (λ g. AreServed l g c qs ds) same q),
-    )
-
 -- ## What a call is answered
 
 -- a reply, or that a start waits
@@ -88,7 +75,7 @@ is_told l f moment caller asked append =
     let done = call_of l begun caller asked append in
     told_by_finish (settled l done.flat) (tells_plan asked (verdict l begun caller asked append)) begun.next.plan done.reply
 
--- ## One reply for each request
+-- ## A start that waits is told once
 
 pub same_number : (n : ℕ) → (n == n) ≡ true
 same_number n = grind arith
@@ -115,32 +102,6 @@ waits_reply l f c plan (e ∷ []) p =
 waits_reply l f c plan (e ∷ d ∷ es) p =
     let more = waits_reply l (run_state l f (e ∷ d ∷ [])) c plan es p.3 in
     (more.0, pair_silent l f c p.2.0 1054 e d es p.1 p.2.2 ∙ more.1)
-
-call_reply : (l : Limits) (g : Flat) (c : ℕ) (asked : Request) (append : Kept) (es : List Entry) (answer : Answer) → IsTold answer → Follows l g c answer es
-    → (told : Option Reply) × (cons_option (heard_by c (Call c asked append) answer) (replies l g c es) ≡ told ∷ [])
-call_reply l g c asked append es (answers.Reply reply) s p = (Some reply, rw (same_number c) (ap (λ (xs : List Entry). Some reply ∷ replies l g c xs) p))
-call_reply l g c asked append es (answers.Begun plan) s p =
-    let more = waits_reply l g c plan es p in
-    (Some (Code more.0), rw (same_number c) more.1)
-call_reply l g c asked append es answer s p = absurd s
-
-pub served_reply : (l : Limits) (f : Flat) (c : ℕ) (r : Request) (es : List Entry) → IsServed l f c r es → (told : Option Reply) × (replies l f c es ≡ told ∷ [])
-served_reply l f c r [] p = absurd p
-served_reply l f c r ((m, Call of x k) ∷ es) p =
-    subst (λ n. (told : Option Reply) × (replies l f c ((m, Call n x k) ∷ es) ≡ told ∷ [])) (sym p.0.0)
-    (call_reply l (step_of l f m (Call c x k)).flat c x k es (step_of l f m (Call c x k)).answer (is_told l f m c x k)
-    (subst (λ n. Follows l (step_of l f m (Call n x k)).flat c (step_of l f m (Call n x k)).answer es) p.0.0 p.1))
-served_reply l f c r ((m, NoMemory of) ∷ es) p =
-    (None, rw p.0 (rw (same_number c) (ap (λ (xs : List Entry). None ∷ replies l (step_of l f m (NoMemory c)).flat c xs) p.1)))
-served_reply l f c r ((m, step) ∷ es) p = absurd p.0
-
-pub replies_as_many : (l : Limits) (f : Flat) (c : ℕ) (rs : List Request) (es : List Entry) → AreServed l f c rs es → AsMany rs (replies l f c es)
-replies_as_many l f c [] es p = subst (λ (xs : List Entry). AsMany {A = Request} [] (replies l f c xs)) (sym p) tt
-replies_as_many l f c (r ∷ rs) es p =
-    let one = served_reply l f c r p.0 p.3 in
-    let more = replies_as_many l (run_state l f p.0) c rs p.1 p.4 in
-    let is = ap (replies l f c) p.2 ∙ replies_append l f c p.0 p.1 ∙ ap (λ (ts : List (Option Reply)). ts ++ replies l (run_state l f p.0) c p.1) one.1 in
-    subst (λ (ts : List (Option Reply)). AsMany (r ∷ rs) ts) (sym is) more
 
 -- ## The caller's own entries
 

@@ -1,16 +1,12 @@
 -- What is true of a state that a run leads to, and of a manager after a step.
-use Rattle.std.proofs.Common.{ℕ, ◌≡◌, ◌+◌, ◌<◌, ◌^◌, ◌++◌, Bool, true, false, cond, IsTrue, List, [], ◌∷◌, Option, None, Some, sym, ap, ◌∙◌, subst, arith}
-use Rattle.std.specs.Prelude.{All, IfSome}
-use Rattle.std.proofs.lemmas.List.Elements.{All-head, All-tail}
-use Rattle.scm_text.specs.Fold.{same_text}
+use Rattle.std.proofs.Common.{ℕ, ◌≡◌, ◌+◌, ◌<◌, ◌^◌, ◌++◌, true, IsTrue, [], ◌∷◌, Option, None, Some, sym, ap, ◌∙◌, subst, arith}
 use Rattle.scm_model.specs.declared.flat.Flat.{Flat}
 use Rattle.scm_model.specs.declared.flat.Limits.{Limits}
-use Rattle.scm_model.specs.declared.flat.Service.{Service}
 use Rattle.scm_model.specs.declared.calls.Request.{Request}
 use Rattle.scm_model.specs.declared.steps.Kept.{Kept}
 use Rattle.scm_model.specs.declared.steps.Step.{Step}
 use Rattle.scm_model.specs.declared.steps.Step.TheVariants.{Call, LaunchTaken}
-use Rattle.scm_model.specs.Rows.{is_caller, named, displayed}
+use Rattle.scm_model.specs.Rows.{is_caller}
 use Rattle.scm_core.specs.Managed.{Managed}
 use Rattle.scm_core.proofs.Opened.{opens_empty}
 use Rattle.scm_rules.specs.Launches.{first_wanted, is_taken, launch_taken, launch_told, process_of}
@@ -18,7 +14,6 @@ use Rattle.scm_rules.specs.Opening.{opening}
 use Rattle.scm_model.specs.Entries.{Entry}
 use Rattle.scm_rules.specs.Steps.{finished, may, step_of}
 use Rattle.scm_model.specs.Changes.{with_moment}
-use Rattle.scm_model.specs.declared.steps.Answer.{Answer}
 use Rattle.scm_model.specs.declared.steps.Answer.TheVariants as answers
 use Rattle.start_plan.specs.Settle.{settled}
 use Rattle.scm_model.specs.Texts.{text_of, text_of_call}
@@ -26,7 +21,7 @@ use Rattle.scm_answers.proofs.Calls.{AllShort}
 use Rattle.scm_runs.proofs.Along.{at_end}
 use Rattle.scm_runs.proofs.Founds.{launch_is}
 use Rattle.scm_runs.proofs.Calls.{keeps}
-use Rattle.scm_runs.proofs.Sizes.{AreShort, all_short as short_where_sound}
+use Rattle.scm_runs.proofs.Sizes.{all_short as short_where_sound}
 use Rattle.scm_runs.proofs.Sound.{Sound, begun}
 use Rattle.scm_runs.proofs.Wanted.{taken_is_listed}
 use Rattle.scm_pipe.specs.Calling.{HasRun}

@@ -1,5 +1,5 @@
 -- One request to the manager.
-use Rattle.std.specs.Prelude.{ℕ, ◌≡◌, ◌<◌, ◌^◌, List, [], ◌∷◌, All, length, Option, None, Some}
+use Rattle.std.specs.Prelude.{ℕ, ◌≡◌, List, [], ◌∷◌, All, Option, None, Some}
 use Rattle.scm_model.specs.declared.flat.Flat.{Flat}
 use Rattle.scm_model.specs.declared.flat.Limits.{Limits}
 use Rattle.scm_model.specs.declared.calls.Request.{Request}
@@ -12,8 +12,6 @@ use Rattle.scm_rules.specs.Opening.{opening}
 use Rattle.scm_rules.specs.Runs.{IsLegal, run_state}
 use Rattle.scm_model.specs.Entries.{Entry}
 use Rattle.scm_pipe.specs.Histories.{IsServed, Waits, failed_in, replies}
-use Rattle.scm_bodies.specs.Replies.{reply_bytes as body_of}
-use Rattle.scm_pipe.specs.Bodies.{reply_to}
 
 -- a legal run that began without services leads to the state
 pub record HasRun (l : Limits) (f : Flat) : Type 0 where
@@ -61,21 +59,12 @@ Heard tells l f g (answers.Reply told) reply = (reply ≡ told) × (g ≡ f)
 Heard tells l f g (answers.Begun plan) reply = (code : ℕ) × (reply ≡ Code code) × Waited tells l f g plan code
 Heard tells l f g answer reply = ⊥
 
--- what became of a request of caller 1, at moments that the clock tells
-pub record Called (tells : ℕ → Type 0) (l : Limits) (f g : Flat) (request : Request) (reply : Reply) : Type 0 where
+-- entries that became of a request of caller 1 lead from f to g, at moments that the clock tells, and this was heard of it
+pub record Called (tells : ℕ → Type 0) (l : Limits) (f g : Flat) (request : Request) (heard : Option Reply) : Type 0 where
   pub entries : List Entry
-  pub heard : Option Reply
   pub told : All (λ (e : Entry). tells e.0) entries
   pub legal : IsLegal l f entries
   pub served : IsServed l f 1 request entries
   pub kept : failed_in entries ≡ 0
   pub answer : replies l f 1 entries ≡ heard ∷ []
-  pub replied : reply_to request heard ≡ reply
   pub state : run_state l f entries ≡ g
-
--- a request of caller 1 was made, and this is the body of its reply
-pub record Replied (tells : ℕ → Type 0) (l : Limits) (f g : Flat) (request : Request) (body : List ℕ) : Type 0 where
-  pub reply : Reply
-  pub called : Called tells l f g request reply
-  pub written : body ≡ body_of reply
-  pub small : length body < 2 ^ 32

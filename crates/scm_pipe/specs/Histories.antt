@@ -37,13 +37,6 @@ replies l f caller [] = []
 replies l f caller (e ∷ es) =
     cons_option (heard_by caller e.1 (step_of l f e.0 e.1).answer) (replies l (step_of l f e.0 e.1).flat caller es)
 
--- as many of one as of the other
-abbrev pub AsMany : {A B : Type 0} → List A → List B → Type 0
-AsMany [] [] = Unit {0}
-AsMany (x ∷ xs) (y ∷ ys) = AsMany xs ys
-AsMany [] (y ∷ ys) = ⊥
-AsMany (x ∷ xs) [] = ⊥
-
 -- ## One request
 
 -- the step is what became of a caller's request: its call, or that there was no memory for it

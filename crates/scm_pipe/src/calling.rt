@@ -1,4 +1,5 @@
 ghost use Rattle.std.specs.Prelude.{◌≡◌, IfOk, IsTrue, OnErr, if◌then◌else◌};
+ghost use Rattle.conn_desk.specs.Desks.{CallAnswered};
 ghost use Rattle.scm_model.specs.Ranges.{in_range};
 ghost use Rattle.scm_model.specs.Refused.{refused};
 ghost use Rattle.scm_model.specs.declared.calls.Request.{Request};
@@ -6,7 +7,6 @@ ghost use Rattle.scm_model.specs.declared.steps.Kept.TheVariants as appended;
 ghost use Rattle.scm_pipe.specs.Calling.{Called, Heard, IsSpoken};
 ghost use Rattle.scm_pipe.specs.Ready.{IsPreparedIf, IsReady, IsSame, Stays};
 
-use super::answering::CALLER;
 use super::waiting::wait;
 use outside::Clock;
 use scm_core::Manager;
@@ -15,6 +15,9 @@ use scm_model::{Answer, Kept, Reply, Request, Step, refused};
 use scm_text::OutOfMemory;
 use std::alloc::Global;
 use std::sync::Wait;
+
+/// The caller of a connection that is served alone.
+pub const CALLER: u64 = 1;
 
 /// What becomes of a change where only the manager keeps it.
 fn kept_by(changes: bool) -> Kept
@@ -44,7 +47,9 @@ fn no_memory<C: Clock>(
     clock: &C,
 ) -> Result<Reply, OutOfMemory>
     requires { IsReady manager.old }
-    ensures called { (asked : Request) → refusal ≡ refused asked 8 → IfOk result (λ reply. Called (C.tells clock.now) manager.old.limits manager.old.flat manager.new.flat asked reply) }
+    ensures called { (asked : Request) → refusal ≡ refused asked 8 → IfOk result (λ reply.
+        CallAnswered (Called (C.tells clock.now) manager.old.limits)
+        manager.old.flat manager.new.flat asked reply) }
     ensures err { OnErr result (manager.new.flat ≡ manager.old.flat) }
     ensures stays { Stays manager.old manager.new }
 {
@@ -92,7 +97,9 @@ pub fn call<R: Wait, C: Clock>(
 ) -> Result<Reply, OutOfMemory>
     requires ready { IsReady manager.old }
     requires ranged { IsTrue (in_range request) }
-    ensures called { IfOk result (λ reply. Called (C.tells clock.now) manager.old.limits manager.old.flat manager.new.flat request reply) }
+    ensures called { IfOk result (λ reply.
+        CallAnswered (Called (C.tells clock.now) manager.old.limits)
+        manager.old.flat manager.new.flat request reply) }
     ensures err { OnErr result (manager.new.flat ≡ manager.old.flat) }
     ensures stays { Stays manager.old manager.new }
 {

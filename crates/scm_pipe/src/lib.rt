@@ -1,16 +1,12 @@
 //! One connection, served from a source to a sink over a manager that only it calls.
 #![tactic(auto)]
 
-mod answering;
-mod asking;
 mod calling;
-mod feeding;
-mod served;
+mod desk;
 mod serving;
-mod stop;
 mod waiting;
 
-pub use answering::CALLER;
-pub use served::Served;
+pub use calling::CALLER;
+pub use conn_desk::Served;
+pub use desk::PipeDesk;
 pub use serving::serve;
-pub use stop::Stop;

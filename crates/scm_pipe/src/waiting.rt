@@ -3,7 +3,7 @@ ghost use Rattle.start_plan.specs.Decided.{code_of};
 ghost use Rattle.scm_pipe.specs.Calling.{IsMine, Looked, StillWaits, Waited};
 ghost use Rattle.scm_pipe.specs.Ready.{IsReady, Stays};
 
-use super::answering::CALLER;
+use super::calling::CALLER;
 use outside::Clock;
 use scm_core::Manager;
 use scm_model::codes::ERROR_SERVICE_NO_THREAD;

@@ -7,9 +7,9 @@ use Rattle.outside.specs.Written.{Begins}
 use Rattle.scm_model.specs.declared.flat.Principal.{Principal}
 use Rattle.rpc_session.specs.declared.state.Incoming.{Incoming}
 use Rattle.rpc_session.specs.Items.{StreamEnd, AtRest as Rested, Unfinished as Broken, BadPdu, TooLong, Told, items}
-use Rattle.scm_pipe.specs.declared.served.Served.{Served}
-use Rattle.scm_pipe.specs.declared.served.Served.TheVariants as served
-use Rattle.scm_pipe.specs.Connection.{IsServedFor, IsOpenEnd}
+use Rattle.conn_desk.specs.declared.served.Served.{Served}
+use Rattle.conn_desk.specs.declared.served.Served.TheVariants as served
+use Rattle.conn_desk.specs.Connection.{IsServedFor, IsOpenEnd}
 use Rattle.scm_generate.specs.Printed.{IsPrintCaused}
 use Rattle.scm_generate.specs.declared.generated.Generated.{Generated}
 use Rattle.scm_generate.specs.declared.generated.Generated.TheVariants as printed
@@ -96,6 +96,7 @@ complete tells principal (served.BadPdu place kind) bytes left_now held held_now
 complete tells principal (served.TooLong length) bytes left_now held held_now source source_now sink sink_now p c no_read no_write =
     let rest = rest_of bytes p.talk.read left_now p.seen.read in
     ends_bad bytes p.talk.read rest.0 p.talk.done (TooLong length) rest.1 p.seen.most p.connection.reached.all (λ h. h)
+complete tells principal served.Full bytes left_now held held_now source source_now sink sink_now p c no_read no_write = absurd p.connection.reached.1.met
 complete tells principal served.OutOfMemory bytes left_now held held_now source source_now sink sink_now p c no_read no_write = lacks bytes
 complete tells principal served.ReadFault bytes left_now held held_now source source_now sink sink_now p c no_read no_write = absurd (no_read c)
 complete tells principal served.WriteFault bytes left_now held held_now source source_now sink sink_now p c no_read no_write = absurd (no_write c)
@@ -215,6 +216,7 @@ not_of_pipe served.WriteFault = λ e. cc
 not_of_pipe served.Truncated = λ e. cc
 not_of_pipe (served.BadPdu place kind) = λ e. cc
 not_of_pipe (served.TooLong length) = λ e. cc
+not_of_pipe served.Full = λ e. cc
 not_of_pipe served.Worn = λ e. cc
 not_of_pipe served.OutOfMemory = λ e. cc
 

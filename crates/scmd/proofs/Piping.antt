@@ -14,17 +14,17 @@ use Rattle.scm_rules.specs.Runs.{run_state}
 use Rattle.scm_model.specs.Entries.{Entry}
 use Rattle.rpc_session.specs.Items.{items, told_of_pdus}
 use Rattle.rpc_session.specs.Pdus.{pdus_behind}
-use Rattle.scm_pipe.specs.Bodies.{asked}
-use Rattle.scm_pipe.specs.declared.served.Served.{Served}
-use Rattle.scm_pipe.specs.declared.served.Served.TheVariants as served
-use Rattle.scm_pipe.specs.Histories.{AreRequests, AsMany, Made, failed_in, made_by_caller, replies}
+use Rattle.conn_desk.specs.Bodies.{asked}
+use Rattle.conn_desk.specs.declared.served.Served.{Served}
+use Rattle.conn_desk.specs.declared.served.Served.TheVariants as served
+use Rattle.conn_desk.specs.Desks.{AsMany}
+use Rattle.scm_pipe.specs.Histories.{AreRequests, Made, failed_in, made_by_caller, replies}
 use Rattle.scmd.specs.Joining.{HasJoined}
 use Rattle.scm_pipe.specs.Calling.{HasRun}
 use Rattle.scm_pipe.specs.Ready.{IsReady}
-use Rattle.scm_pipe.specs.Serves.{Serves}
-use Rattle.scm_pipe.specs.Connection.{Reached}
+use Rattle.scm_pipe.specs.Connection.{CameTo, HasServed}
 use Rattle.scmd.specs.Pipe.{IsPiped, program_limits}
-use Rattle.scm_pipe.proofs.Histories.{failed_append, legal_append, made_requests, own_append, own_moments, replies_append, replies_as_many}
+use Rattle.scm_pipe.proofs.Histories.{failed_append, legal_append, own_append, replies_append}
 
 both : (b : Bool) → IsTrue b → IsTrue (b && true)
 both true h = refl
@@ -82,46 +82,48 @@ nothing_told = refl
 
 piped : (tells : ℕ → Type 0) (principal : Principal) (opened joined gone : ℕ) (g : Flat) (left left_now held held_now : Option (List ℕ)) (how : Served)
     → tells opened → tells joined → tells gone
-    → Serves tells program_limits 1 (joined_state principal opened joined) g left left_now held held_now how
+    → HasServed tells program_limits (joined_state principal opened joined) g left left_now held held_now how
     → IsTrue (is_caller g 1)
     → IsPiped tells principal how left left_now held held_now
 piped tells principal opened joined gone g left left_now held held_now how o j k s there =
     let f = joined_state principal opened joined in
-    let calls = s.talks.calls in
+    let calls = s.talk.history in
+    let all = whole principal joined calls gone in
     let mine = sym (own_calls principal opened joined gone calls) in
     let told = sym (told_calls principal opened joined gone calls) in
+    let done = s.talk.done in
     record {
       opened = opened;
-      talk = record { history = whole principal joined calls gone; read = s.read; done = s.done; written = s.written };
-      seen = record { read = s.consumed; most = s.most; written = s.appended };
+      talk = record s.talk { history = all };
+      seen = record { read = s.seen.read; most = s.seen.most; written = s.seen.written };
       connection = record {
         legal = (
           search rules,
-          legal_append program_limits f calls ((gone, Gone 1) ∷ []) s.talks.legal
-              (both (is_caller (run_state program_limits f calls) 1) (subst (λ x. IsTrue (is_caller x 1)) (sym s.talks.state) there), tt),
+          legal_append program_limits f calls ((gone, Gone 1) ∷ []) s.connection.legal
+              (both (is_caller (run_state program_limits f calls) 1) (subst (λ x. IsTrue (is_caller x 1)) (sym s.state) there), tt),
         );
-        requests = subst (λ (ms : List Made). AreRequests 1 (asked s.done) ms) mine (made_requests program_limits f 1 (asked s.done) calls s.talks.asked);
-        moments = subst (λ (ms : List Made). All (λ (made : Made). tells made.moment) ms) mine (own_moments tells program_limits f 1 calls s.talks.moments);
-        replied = subst (λ t. AsMany (asked s.done) t) told (replies_as_many program_limits f 1 (asked s.done) calls s.talks.asked);
-        reached = subst (λ t. Reached how s.read left_now s.done t s.written) told s.reached;
+        requests = subst (λ (ms : List Made). AreRequests 1 (asked done) ms) mine s.connection.requests;
+        moments = subst (λ (ms : List Made). All (λ (made : Made). tells made.moment) ms) mine s.connection.moments;
+        replied = subst (λ t. AsMany (asked done) t) told s.connection.replied;
+        reached = subst (λ t. CameTo how s.talk.read left_now done t s.talk.written) told s.connection.reached;
       };
-      alone = record { joined = joined; calls = calls; gone = gone; order = refl; asked = s.talks.asked };
-      kept = whole_kept principal joined gone calls s.talks.kept;
+      alone = record { joined = joined; calls = calls; gone = gone; order = refl; asked = s.alone };
+      kept = whole_kept principal joined gone calls s.kept;
       opened_at = o;
       moments = All-cons (λ (e : Entry). tells e.0) (joined, Joined principal) _ j
-          (All-append (λ (e : Entry). tells e.0) calls _ s.talks.moments
+          (All-append (λ (e : Entry). tells e.0) calls _ s.moments
           (All-cons (λ (e : Entry). tells e.0) (gone, Gone 1) [] k (All-nil (λ (e : Entry). tells e.0))));
     }
 
 pub piped_after : (tells : ℕ → Type 0) (principal : Principal) (opened gone : ℕ) (m : Managed) (g : Flat) (left left_now held held_now : Option (List ℕ)) (how : Served)
     → tells opened → tells gone → HasJoined tells principal opened m
-    → Serves tells m.limits 1 m.flat g left left_now held held_now how
+    → HasServed tells m.limits m.flat g left left_now held held_now how
     → IsTrue (is_caller g 1)
     → IsPiped tells principal how left left_now held held_now
 piped_after tells principal opened gone m g left left_now held held_now how o k j s there =
     piped tells principal opened j.moment gone g left left_now held held_now how o j.told k
-    (subst (λ f. Serves tells program_limits 1 f g left left_now held held_now how) j.flat
-    (subst (λ l. Serves tells l 1 m.flat g left left_now held held_now how) j.limits s))
+    (subst (λ f. HasServed tells program_limits f g left left_now held held_now how) j.flat
+    (subst (λ l. HasServed tells l m.flat g left left_now held held_now how) j.limits s))
     there
 
 -- nothing was read, since there was no memory to begin

@@ -8,8 +8,8 @@ use Rattle.scm_generate.specs.Progress.{CanBeMade}
 use Rattle.scm_generate.specs.Summary.{summary}
 use Rattle.scm_generate.specs.declared.generated.Generated.{Generated}
 use Rattle.scm_generate.specs.declared.generated.Generated.TheVariants as printed
-use Rattle.scm_pipe.specs.Connection.{IsServedFor}
-use Rattle.scm_pipe.specs.declared.served.Served.{Served}
+use Rattle.conn_desk.specs.Connection.{IsServedFor}
+use Rattle.conn_desk.specs.declared.served.Served.{Served}
 use Rattle.scm_replay.specs.Outcomes.{Standing}
 use Rattle.scm_replay.specs.Replay.{TextEnd, AtRest, Unfinished, BadLine, IsOpenText, IsReplayed, replayed, IsReplayCaused}
 use Rattle.scm_replay.specs.declared.replayed.Replayed.{Replayed}

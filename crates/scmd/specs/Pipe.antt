@@ -11,10 +11,11 @@ use Rattle.scm_rules.specs.Opening.{opening}
 use Rattle.scm_rules.specs.Runs.{run_state}
 use Rattle.scm_model.specs.Entries.{Entry}
 use Rattle.rpc_session.specs.Items.{StreamEnd, AtRest, Unfinished, BadPdu, TooLong, items}
-use Rattle.scm_pipe.specs.declared.served.Served.{Served}
-use Rattle.scm_pipe.specs.declared.served.Served.TheVariants as served
-use Rattle.scm_pipe.specs.Bodies.{asked}
-use Rattle.scm_pipe.specs.Connection.{IsConnection, IsOpenEnd, IsSeen, Talk}
+use Rattle.conn_desk.specs.declared.served.Served.{Served}
+use Rattle.conn_desk.specs.declared.served.Served.TheVariants as served
+use Rattle.conn_desk.specs.Bodies.{asked}
+use Rattle.conn_desk.specs.Connection.{IsOpenEnd}
+use Rattle.scm_pipe.specs.Connection.{IsConnection, IsSeen, Talk}
 use Rattle.scm_pipe.specs.Histories.{AreServed, failed_in}
 
 abbrev pub status_of : Served → ℕ
@@ -24,6 +25,7 @@ status_of served.WriteFault = 2
 status_of served.Truncated = 6
 status_of (served.BadPdu place _) = 7
 status_of (served.TooLong length) = 7
+status_of served.Full = 8
 status_of served.OutOfMemory = 8
 status_of served.Worn = 12
 

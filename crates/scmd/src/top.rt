@@ -1,6 +1,6 @@
 ghost use Rattle.std.specs.Prelude.{◌≡◌, ◌≤◌, ◌↔◌, IfOk, IfSome, IsErrOf, IsNone, IsTrue};
 ghost use Rattle.scm_model.specs.Rows.{is_caller};
-ghost use Rattle.scm_pipe.specs.Connection.{IsServedFor};
+ghost use Rattle.conn_desk.specs.Connection.{IsServedFor};
 ghost use Rattle.scmd.specs.Joining.{HasJoined};
 ghost use Rattle.scmd.specs.Jobs.{HasAllDone, HasEnded, HasRun, sides_of};
 ghost use Rattle.scmd.specs.Pipe.{IsPiped, status_of};
@@ -13,7 +13,7 @@ use super::words::{Job, NoWords, job_of};
 use outside::{Clock, Sink, Source};
 use scm_core::Manager;
 use scm_model::{Principal, Step};
-use scm_pipe::{CALLER, Served, serve};
+use scm_pipe::{CALLER, PipeDesk, Served, serve};
 use scm_text::{Items, OutOfMemory, Text};
 use std::alloc::Global;
 use std::sync::Wait;
@@ -36,7 +36,7 @@ fn status_of(how: Served) -> u8
         Served::WriteFault => 2,
         Served::Truncated => 6,
         Served::BadPdu(_, _) | Served::TooLong(_) => 7,
-        Served::OutOfMemory => 8,
+        Served::Full | Served::OutOfMemory => 8,
         Served::Worn => 12,
     }
 }
@@ -84,11 +84,17 @@ fn pipe<R: Wait, I: Source, O: Sink, C: Clock>(
     ensures cause { IsServedFor result (I.faults input.old) (I.faults input.new) (O.faults output.old) (O.faults output.new) }
 {
     let opened = clock.now();
-    let Ok(mut manager) = joined(alloc, principal, opened, clock) else {
+    let Ok(manager) = joined(alloc, principal, opened, clock) else {
         return Served::OutOfMemory;
     };
-    let how = serve(rt, alloc, &mut manager, input, output, clock);
-    leave(&mut manager, clock.now());
+    let mut desk = PipeDesk {
+        rt,
+        alloc,
+        manager,
+        clock,
+    };
+    let how = serve(&mut desk, input, output);
+    leave(&mut desk.manager, clock.now());
     how
 }
 

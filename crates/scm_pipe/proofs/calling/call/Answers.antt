@@ -32,5 +32,5 @@ returns-clause-called g c =
     let same = c.prepared.ensures.same in
     let now = c.step-answer.ensures in
     called_by (g.C.Clock.tells c.args.clock.now) m.limits mid.limits m.flat mid.flat c.step-answer.new.self.flat c.heard.new.manager.flat c.now-moment.result c.args.request c.kept_by.result
-    c.in-Some.changes c.with_kept.result c.step-answer.result c.heard.result c.now-moment.ensures c.requires.ready.joined c.requires.ranged same.limits same.flat c.with_kept.ensures c.kept_by.ensures c.in-Some.ensures.prepared.told
+    c.in-Some.changes c.with_kept.result c.step-answer.result c.heard.result c.requires.ready.run c.now-moment.ensures c.requires.ready.joined c.requires.ranged same.limits same.flat c.with_kept.ensures c.kept_by.ensures c.in-Some.ensures.prepared.told
     now.answer now.flat (subst (λ l. Heard (g.C.Clock.tells c.args.clock.now) l c.step-answer.new.self.flat c.heard.new.manager.flat c.step-answer.result c.heard.result) now.limits c.heard.ensures.heard)
