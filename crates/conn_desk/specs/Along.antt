@@ -1,5 +1,5 @@
 -- What became of the items on a stretch of a connection.
-use Rattle.std.specs.Prelude.{ℕ, ◌≡◌, ◌≤◌, ◌<◌, ◌^◌, ◌++◌, List, [], ◌∷◌, length, Option, Some, Result, Ok, Err, IsErrOf}
+use Rattle.std.specs.Prelude.{ℕ, ◌≡◌, ◌≤◌, ◌<◌, ◌^◌, ◌++◌, List, [], ◌∷◌, length, Option, Some, Result, Ok, Err}
 use Rattle.outside.specs.Causes.{Rose}
 use Rattle.outside.specs.Written.{Begins}
 use Rattle.scm_model.specs.declared.calls.Request.{Request as Call}
@@ -119,7 +119,12 @@ Answered called rests full d e before now item (Err stop.WriteFault) = CutsShort
 Answered called rests full d e before now item (Err stop.Full) = (now ≡ before) × (request : Call) × (asked_by item ≡ Some request) × rests d e × full e request
 Answered called rests full d e before now item (Err stop.OutOfMemory) = (now ≡ before) × IsLeft rests d e
 
--- the count of faults never falls, and it rose where the sink is said to have failed
+-- the sink's count of faults rose where it is said to have failed, and is the same elsewhere
+abbrev pub IsStopCaused : {T : Type 0} → Result T Stop → (before now : ℕ) → Type 0
+IsStopCaused (Err stop.WriteFault) before now = Rose before now
+IsStopCaused _ before now = now ≡ before
+
+-- and it never falls
 pub record HasStopCause {T : Type 0} (before now : ℕ) (result : Result T Stop) : Type 0 where
   pub grows : before ≤ now
-  pub rose : IsErrOf result stop.WriteFault → Rose before now
+  pub caused : IsStopCaused result before now

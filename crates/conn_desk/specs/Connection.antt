@@ -1,7 +1,7 @@
 -- How far a connection came: what was read, the items that were answered, and what was written.
 use Rattle.std.specs.Prelude.{ℕ, ◌≡◌, ◌<◌, ◌≤◌, ◌^◌, ◌++◌, List, [], ◌∷◌, length, Option, Some}
 use Rattle.std.specs.Io.KnownBytes.{IsAtEnd}
-use Rattle.outside.specs.Causes.{Rose}
+use Rattle.outside.specs.Causes.{NeitherFailed, ReadFailed, WriteFailed}
 use Rattle.outside.specs.Written.{Begins}
 use Rattle.scm_model.specs.declared.calls.Request.{Request as Call}
 use Rattle.scm_model.specs.declared.calls.Reply.{Reply}
@@ -87,14 +87,9 @@ Reached full desk served.OutOfMemory read left done told written = FirstServed r
 
 -- ## Causes
 
--- a fault of the source or the sink comes only where its count rose
+-- the count of the source or the sink rose where it is said to have failed; at each other end, as at want of memory, both are
+-- the same
 abbrev pub IsServedFor : Served → (source source_now sink sink_now : ℕ) → Type 0
-IsServedFor served.ReadFault source source_now sink sink_now = Rose source source_now
-IsServedFor served.WriteFault source source_now sink sink_now = Rose sink sink_now
-IsServedFor served.Ended source source_now sink sink_now = Unit {0}
-IsServedFor served.Truncated source source_now sink sink_now = Unit {0}
-IsServedFor (served.BadPdu place _) source source_now sink sink_now = Unit {0}
-IsServedFor (served.TooLong length) source source_now sink sink_now = Unit {0}
-IsServedFor served.Full source source_now sink sink_now = Unit {0}
-IsServedFor served.Worn source source_now sink sink_now = Unit {0}
-IsServedFor served.OutOfMemory source source_now sink sink_now = Unit {0}
+IsServedFor served.ReadFault source source_now sink sink_now = ReadFailed source source_now sink sink_now
+IsServedFor served.WriteFault source source_now sink sink_now = WriteFailed source source_now sink sink_now
+IsServedFor _ source source_now sink sink_now = NeitherFailed source source_now sink sink_now

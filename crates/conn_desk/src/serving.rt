@@ -1,6 +1,7 @@
-ghost use Rattle.std.specs.Prelude.{◌≡◌, ◌≤◌, ◌<◌, length, IfErr};
+ghost use Rattle.std.specs.Prelude.{◌≡◌, ◌≤◌, ◌<◌, length, IfErr, OnOk};
 ghost use Rattle.conn_desk.specs.Connection.{IsServedFor};
 ghost use Rattle.conn_desk.specs.Serves.{Serves, Turn, served_by};
+ghost use Rattle.outside.specs.Causes.{NeitherFailed};
 
 use super::desk::Desk;
 use super::feeding::feed;
@@ -48,6 +49,8 @@ fn turn<D: Desk, I: Source, O: Sink>(
     ensures input { I.faults input.old ≤ I.faults input.new }
     ensures output { O.faults output.old ≤ O.faults output.new }
     ensures cause { IfErr result (λ how. IsServedFor how (I.faults input.old) (I.faults input.new)
+        (O.faults output.old) (O.faults output.new)) }
+    ensures unfailed { OnOk result (NeitherFailed (I.faults input.old) (I.faults input.new)
         (O.faults output.old) (O.faults output.new)) }
 {
     let Ok(n) = input.read(into) else {

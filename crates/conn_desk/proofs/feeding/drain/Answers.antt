@@ -1,4 +1,4 @@
-use Rattle.std.proofs.Common.{arith}
+use Rattle.std.proofs.Common.{◌∙◌, refl}
 use Rattle.conn_desk.specs.Along.{Point}
 use Rattle.conn_desk.proofs.Walking.{begins, one_more, one_stops, gave_item, fault_stops}
 use Rattle.conn_desk.proofs.feeding.drain.Goals as goal
@@ -9,7 +9,7 @@ loop-item-init g c =
     record {
       ready = c.requires;
       on = begins d.called d.rests d.full (record { session = c.args.session.now; desk = c.args.desk.now; held = g.O.Sink.held c.args.output.now });
-      grows = omega arith;
+      faults = refl;
     }
 
 pub returns-in-Err-answer-clause-fed : goal.returns-in-Err-answer-clause-fed
@@ -33,7 +33,7 @@ loop-item-preserved-in-Ok g c =
       ready = c.in-Ok.ensures.ready;
       on = one_more d.called d.rests d.full a m b c.in-Ok-Some.item before.on
           (gave_item m.session b.session c.in-Ok-Some.field-0 c.in-Ok-Some.item c.in-Ok-Some.field-0-is c.in-Ok-Some.ensures.gave) c.in-Ok.ensures.answered;
-      grows = omega (arith, before.grows, c.in-Ok.ensures.cause.grows);
+      faults = c.in-Ok.ensures.cause.caused ∙ before.faults;
     }
 
 pub loop-item-preserved : goal.loop-item-preserved
@@ -47,7 +47,7 @@ loop-item-preserved g c =
       ready = c.in-Ok.ensures.ready;
       on = one_more d.called d.rests d.full a m b c.in-Ok-Some.item before.on
           (gave_item m.session b.session c.in-Ok-Some.field-0 c.in-Ok-Some.item c.in-Ok-Some.field-0-is c.in-Ok-Some.ensures.gave) c.in-Ok.ensures.answered;
-      grows = omega (arith, before.grows, c.in-Ok.ensures.cause.grows);
+      faults = c.in-Ok.ensures.cause.caused ∙ before.faults;
     }
 
 pub returns-in-Err-clause-fed : goal.returns-in-Err-clause-fed

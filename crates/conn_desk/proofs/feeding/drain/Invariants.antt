@@ -1,4 +1,4 @@
-use Rattle.std.proofs.Common.{◌≤◌, length}
+use Rattle.std.proofs.Common.{◌≡◌, length}
 use Rattle.conn_desk.proofs.Walking.{Stretch}
 use Rattle.conn_desk.proofs.feeding.drain.Given as goal
 
@@ -9,7 +9,7 @@ invariant-loop-item g l = record {
   on : Stretch g.D.Desk.called
       (record { session = l.fn.session; desk = l.fn.desk; held = g.O.Sink.held l.fn.output })
       (record { session = l.session; desk = l.desk; held = g.O.Sink.held l.output });
-  grows : g.O.Sink.faults l.fn.output ≤ g.O.Sink.faults l.output;
+  faults : g.O.Sink.faults l.output ≡ g.O.Sink.faults l.fn.output;
 }
 
 -- for each item a byte at least was taken

@@ -13,8 +13,7 @@ loop-read-init g c =
       count = refl;
       most = omega arith;
       on = begins g.D.Desk.called c.args.desk.now (g.O.Sink.held c.args.output.now) c.new-session.result c.new-session.ensures.value c.new-session.ensures.gave;
-      input = omega arith;
-      output = omega arith;
+      unfailed = (refl, refl);
     }
 
 pub loop-read-preserved : goal.loop-read-preserved
@@ -32,8 +31,7 @@ loop-read-preserved g c =
       count = length-append before.bytes t.read ∙ omega (arith, before.count, t.turned.0);
       most = omega (arith, c.min-room.ensures, c.split_at_mut-into.ensures.front_len, t.short, t.turned.0, before.most);
       on = read_more d.called d.rests d.full c.args.desk.now (g.O.Sink.held c.args.output.now) m b before.bytes t.read before.on t.turned.2;
-      input = omega (arith, now.input, before.input);
-      output = omega (arith, now.output, before.output);
+      unfailed = (now.unfailed.0 ∙ before.unfailed.0, now.unfailed.1 ∙ before.unfailed.1);
     }
 
 pub returns-in-Err-clause-served : goal.returns-in-Err-clause-served
@@ -56,3 +54,8 @@ returns-clause-served g c =
     let m : Point g.row.D.Denot = record { session = c.loop-read.session; desk = c.loop-read.desk; held = g.O.Sink.held c.loop-read.output } in
     serves_worn d.called d.rests d.full c.args.desk.now (g.O.Sink.held c.args.output.now) (g.I.Source.left c.args.input.now) (g.I.Source.left c.loop-read.input)
     m before.bytes before.on before.consumed (omega (arith, before.count, before.most, c.loop-read-test.false))
+
+pub returns-in-Err-clause-cause : goal.returns-in-Err-clause-cause
+returns-in-Err-clause-cause g c =
+    let before = c.loop-read.invariant.unfailed in
+    rw (← before.0, ← before.1) c.in-Err.ensures.cause

@@ -1,5 +1,6 @@
 use Rattle.std.proofs.Common.{ℕ, ◌≡◌, ◌-◌, ◌≤◌, ◌^◌, List, length}
 use Rattle.std.specs.Io.KnownBytes.{Consumes}
+use Rattle.outside.specs.Causes.{NeitherFailed}
 use Rattle.conn_desk.proofs.Ends.{SoFar}
 use Rattle.conn_desk.proofs.serving.serve.Given as goal
 
@@ -13,8 +14,8 @@ invariant-loop-read g l = record {
   most : l.read ≤ 2 ^ 40;
   on : SoFar g.D.Desk.called l.fn.desk (g.O.Sink.held l.fn.output)
       (record { session = l.session; desk = l.desk; held = g.O.Sink.held l.output }) bytes;
-  input : g.I.Source.faults l.fn.input ≤ g.I.Source.faults l.input;
-  output : g.O.Sink.faults l.fn.output ≤ g.O.Sink.faults l.output;
+  unfailed : NeitherFailed (g.I.Source.faults l.fn.input) (g.I.Source.faults l.input)
+      (g.O.Sink.faults l.fn.output) (g.O.Sink.faults l.output);
 }
 
 abbrev pub decreases-loop-read : goal.decreases-loop-read
