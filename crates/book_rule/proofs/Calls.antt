@@ -11,8 +11,9 @@ use Rattle.book_rule.specs.declared.view.Stage.{Stage}
 use Rattle.book_rule.specs.declared.view.Stage.TheVariants.{Taken, Looked, Merged}
 use Rattle.book_rule.specs.Ways.{Way}
 use Rattle.book_rule.specs.Views.{having_seen, having_joined, having_met, longer}
+use Rattle.book_rule.specs.Rule.{ClaimsOf}
 use Rattle.book_rule.specs.Plays.{Learns, Takes, Becomes, Met}
-use Rattle.book_rule.specs.Seats.{Identity, Waits, Enters, Settled, Merges}
+use Rattle.book_rule.specs.Seats.{Identity, Waits, Enters, Settled, Merges, StillClaims}
 
 some_is : {A : Type 0} {a b : A} → Some a ≡ Some b → a ≡ b
 some_is e = cc
@@ -65,16 +66,19 @@ module _ {H : Type 0} (way : Way H) where
   }
 
   pub merged : (b : Identity) (s other s1 s2 : Seat (Option B) View) → Waits b s → s1.table_id ≡ s.table_id → s1.me ≡ (having_joined s.me.0 other.me.0, s.me.1) → s2.table_id ≡ s1.table_id
-      → ((theirs : List Entry) → s1.me.0.stage ≡ Merged theirs → Met way theirs s1.me s2.me) → Merges s other s2
+      → ((o : Opening) (theirs : List Entry) → s1.me.0.opening ≡ Some o → s1.me.0.stage ≡ Merged theirs → Met way o theirs s1.me s2.me) → Merges s other s2 × StillClaims way b s s2
   merged b s other s1 s2 waits table joined table' told =
       let v : s1.me.0 ≡ having_joined s.me.0 other.me.0 = ap (λ m. m.0) joined in
-      let met = told other.me.0.seen (ap (λ (v : View). v.stage) v) in
+      let met = told b.opening other.me.0.seen (ap (λ (v : View). v.opening) v ∙ waits.of.opening) (ap (λ (v : View). v.stage) v) in
       let seen : List Entry = longer s.me.0.seen other.me.0.seen in
       let view : s2.me.0 ≡ record s.me.0 { seen = seen } =
       met.becomes.view ∙ (ap (λ (v : View). having_met v other.me.0.seen) v ∙ ap (λ (st : Stage). record s.me.0 { seen = seen; stage = st }) (sym waits.away)) in
-      let out : s2.me.1 ≡ [] = met.becomes.out ∙ (ap (λ m. m.1) joined ∙ waits.empty) in record {
-        table = table' ∙ table;
-        me = λ i. (view i, out i);
-        this = subst (λ (v : View). IsPrefix v.seen s2.me.0.seen) v met.this;
-        that = met.that;
-      }
+      let out : s2.me.1 ≡ [] = met.becomes.out ∙ (ap (λ m. m.1) joined ∙ waits.empty) in (
+        record {
+          table = table' ∙ table;
+          me = λ i. (view i, out i);
+          this = subst (λ (v : View). IsPrefix v.seen s2.me.0.seen) v met.this;
+          that = met.that;
+        },
+        record { log = met.log; within = met.within; run = met.run; claims = subst (ClaimsOf way b.opening met.log) v met.claims },
+      )

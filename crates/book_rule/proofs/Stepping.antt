@@ -164,23 +164,32 @@ module _ {X : Type 0} (w : Way X) (o : Opening) where
       by_standing (λ (s : St). get_elem? (set s.views id (having_joined v d)) other ≡ some d → Turned w o record { words = s.words; homes = s.homes; views = set (set s.views id (having_joined v d)) other nobody }) id v s T at
       (λ t r here there. rules t id v (merge other d) here (away, apart, sym (set_else t.views id other (having_joined v d) apart) ∙ there, gone) r) there
 
-  meets_at : (slots id : ℕ) (v : View) (c : List (ℕ × S)) (theirs : List Entry) → v.stage ≡ Merged theirs → (t : Standing X) → Ruled w o t → get_elem? t.views id ≡ some v
+  meets_at : (slots id : ℕ) (v : View) (c : List (ℕ × S)) (theirs : List Entry) → v.stage ≡ Merged theirs → v.opening ≡ Some o → (t : Standing X) → Ruled w o t → get_elem? t.views id ≡ some v
       → Goes id (v, c) 0 (λ n. n) (met w (step slots 0 0 0 none) (v, c)) (laid_out t)
-  meets_at slots id v c theirs stage t r at =
+  meets_at slots id v c theirs stage live t r at =
       let stands : StandsSo (has_turn t.lock id) t.log v.seen (Merged theirs) = subst (StandsSo (has_turn t.lock id) t.log v.seen) stage (stage_at t id v at r.kept) in
       let begins = longer_begins v.seen theirs t.log (r.kept.seats id v at).seen stands.1 in (
         having_met v theirs,
         act_keeps,
         tt,
         rules t id v (meet theirs) at stage r,
-        λ l is.
+        λ o' l live' is.
             let e : theirs ≡ l = cc in
-            subst (λ (l : List Entry). Met w l (v, c) (having_met v theirs, c)) e (record { becomes = record { view = refl; out = refl }; this = begins.0; that = begins.1 }),
+            subst (λ (o' : Opening). Met w o' l (v, c) (having_met v theirs, c)) (some_is (sym live ∙ live'))
+            (subst (λ (l : List Entry). Met w o l (v, c) (having_met v theirs, c)) e (record {
+              becomes = record { view = refl; out = refl };
+              this = begins.0;
+              that = begins.1;
+              log = t.log;
+              within = begins.2;
+              run = r.kept.run;
+              claims = r.owned.each id v at;
+            })),
       )
 
-  pub meets_seat : (slots id : ℕ) (v : View) (c : List (ℕ × S)) (theirs : List Entry) → v.stage ≡ Merged theirs → Allows (Turned w o) slots id (v, c) 0 (λ n. n) (met w (step slots 0 0 0 none) (v, c))
-  meets_seat slots id v c theirs stage s T len at lt =
-      by_standing (Goes id (v, c) 0 (λ n. n) (met w (step slots 0 0 0 none) (v, c))) id v s T at (λ t r here. meets_at slots id v c theirs stage t r here)
+  pub meets_seat : (slots id : ℕ) (v : View) (c : List (ℕ × S)) (theirs : List Entry) → v.stage ≡ Merged theirs → v.opening ≡ Some o → Allows (Turned w o) slots id (v, c) 0 (λ n. n) (met w (step slots 0 0 0 none) (v, c))
+  meets_seat slots id v c theirs stage live s T len at lt =
+      by_standing (Goes id (v, c) 0 (λ n. n) (met w (step slots 0 0 0 none) (v, c))) id v s T at (λ t r here. meets_at slots id v c theirs stage live t r here)
 
   first_is : (j : ℕ) (d : View) → get_elem? (first_view o ∷ []) j ≡ some d → (j ≡ 0) × (first_view o ≡ d)
   first_is zero d at = (refl, some-injective (first_view o) d at)

@@ -59,10 +59,15 @@ module _ {X : Type 0} (w : Way X) where
   abbrev pub accompanied : Step (Option (Box X Global)) → Me (Option (Box X Global)) View → ℕ → Me (Option (Box X Global)) View → Type 0
   accompanied st m r m' = Becomes m m' (in_company m.0)
 
-  pub record Met (theirs : List Entry) (m m' : Me (Option (Box X Global)) View) : Type 0 where
+  -- both histories begin the longer one, which begins the whole history; of that the seat claims what it claimed
+  pub record Met (o : Opening) (theirs : List Entry) (m m' : Me (Option (Box X Global)) View) : Type 0 where
     pub becomes : Becomes m m' (having_met m.0 theirs)
     pub this : IsPrefix m.0.seen m'.0.seen
     pub that : IsPrefix theirs m'.0.seen
+    pub log : List Entry
+    pub within : IsPrefix m'.0.seen log
+    pub run : w.run o log
+    pub claims : ClaimsOf w o log m.0
 
   abbrev pub met : Step (Option (Box X Global)) → Me (Option (Box X Global)) View → ℕ → Me (Option (Box X Global)) View → Type 0
-  met st m r m' = (theirs : List Entry) → m.0.stage ≡ Merged theirs → Met theirs m m'
+  met st m r m' = (o : Opening) (theirs : List Entry) → m.0.opening ≡ Some o → m.0.stage ≡ Merged theirs → Met o theirs m m'

@@ -76,6 +76,13 @@ module _ {H : Type 0} where
   LiesIn slots h = (b : Box H Global) → slots ≡ Some b ∷ [] → h ≡ box_value b
 
   module _ (w : Way H) where
+    -- what the seat has seen begins a legal history, of which it claims what it claimed
+    pub record StillClaims (b : Identity) (s s' : Seat (Option (Box H Global)) View) : Type 0 where
+      pub log : List Entry
+      pub within : IsPrefix s'.me.0.seen log
+      pub run : w.run b.opening log
+      pub claims : ClaimsOf w b.opening log s.me.0
+
     -- the seat has taken the turn, and seen the whole history, at which h stands
     pub record Enters (b : Identity) (s s' : Seat (Option (Box H Global)) View) (h : Box H Global) : Type 0 where
       pub table : s'.table_id ≡ s.table_id

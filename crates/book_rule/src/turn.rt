@@ -53,7 +53,7 @@ impl<H: Content> Model for Turn<H> {
 }
 
 impl<H: Content> Turn<H> {
-    ghost use Rattle.book_rule.specs.Seats.{IsSameSeat, IsSeatOf, Waits, Holding, Forks, Merges, Enters, Settled, IsOneMore, MakesLast, Begins, Closes};
+    ghost use Rattle.book_rule.specs.Seats.{IsSameSeat, IsSeatOf, Waits, Holding, Forks, Merges, StillClaims, Enters, Settled, IsOneMore, MakesLast, Begins, Closes};
     ghost use Rattle.book_rule.specs.Views.{having_left};
 
     /// A turn whose history is empty. The content comes back where memory is short.
@@ -148,7 +148,8 @@ impl<H: Content> Turn<H> {
     pub fn merge(&self, seat: &mut TurnSeat<H>, other: TurnSeat<H>)
         requires seat { Waits self.now seat.old }
         requires other { Waits self.now other }
-        ensures { Merges seat.old other seat.new }
+        ensures seat { Merges seat.old other seat.new }
+        ensures claims { StillClaims H.way self.now seat.old seat.new }
     {
         let shared = &self.table.shared;
         shared.join_seat::<Merge>(seat, other);

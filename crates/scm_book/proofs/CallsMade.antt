@@ -24,16 +24,19 @@ use Rattle.scm_history.specs.Begun.{BeginsOwn, IsPlanFor, LawOfBegun}
 use Rattle.scm_history.specs.Shapes.{IsAnswered, IsReplied}
 use Rattle.scm_history.proofs.Beginnings.{gives as begins}
 use Rattle.book_rule.specs.declared.view.Opening.{Opening}
+use Rattle.book_rule.specs.Seats.{Identity}
 use Rattle.scm_book.specs.declared.answers.CallEnd.{CallEnd}
 use Rattle.scm_book.specs.declared.answers.StartEnd.{StartEnd}
 use Rattle.scm_book.specs.declared.answers.StartEnd.TheVariants as starts
+use Rattle.scm_book.specs.declared.calling.Asked.{Asked}
 use Rattle.scm_book.specs.declared.fault.MakeFault.{MakeFault}
 use Rattle.scm_book.specs.declared.fault.MakeFault.TheVariants as makes
-use Rattle.scm_book.specs.Called.{AnsweredSo, Begun, CallTold, Calls, IfTold, IsBegun, IsReply, StartTold, Starts, called, is_start}
+use Rattle.scm_book.specs.Called.{Asks, Begun, CallTold, Calls, IfTold, IsBegun, IsReply, StartTold, Starts, WantsMemory, called, is_start}
 use Rattle.scm_book.specs.Holds.{Opens}
 use Rattle.scm_book.specs.Passes.{Known, MadeSo, room_behind}
 use Rattle.scm_book.specs.Turns.{CallEnds}
 use Rattle.scm_book.proofs.Coming.{shaped}
+use Rattle.scm_book.proofs.InHand.{seen_outside}
 
 -- ## What a call is told
 
@@ -56,81 +59,72 @@ own_plan : (before after : Flat) (caller plan : ℕ) (asked : Request) (append :
 own_plan before after caller plan (request.Start handle words) append start own = plan_for after plan caller _ own
 own_plan before after caller plan asked append start own = absurd cc
 
-module _ (o : Opening) (opens : Opens o) (k k' : Known) (moment caller : ℕ) (asked : Request) (whose : caller ≡ k.caller) where
-  pub told_reply : is_start asked ≡ false → (r : Result (Option Answer) MakeFault) → CallEnds o k moment caller (Call caller asked appended.NotAsked) r k' → IfTold IsReply r
+module _ (o : Opening) (opens : Opens o) (k k' : Known) (moment : ℕ) (asked : Request) where
+  pub told_reply : is_start asked ≡ false → (r : Result (Option Answer) MakeFault) → CallEnds o k moment k.caller (called k asked) r k' → IfTold IsReply r
   told_reply other (Ok (Some told)) made =
-      plain_reply (state o.limits o.first made.made.before) asked told other (shaped o opens k k' moment (Call caller asked made.append) told made.made)
-  told_reply other (Ok None) made = tt
+      plain_reply (state o.limits o.first made.made.before) asked told other (shaped o opens k k' moment (Call k.caller asked made.append) told made.made)
+  told_reply other (Ok None) none = tt
   told_reply other (Err fault) ends = tt
 
-  pub told_begun : is_start asked ≡ true → (r : Result (Option Answer) MakeFault) → CallEnds o k moment caller (Call caller asked appended.NotAsked) r k' → IfTold IsBegun r
+  pub told_begun : is_start asked ≡ true → (r : Result (Option Answer) MakeFault) → CallEnds o k moment k.caller (called k asked) r k' → IfTold IsBegun r
   told_begun start (Ok (Some told)) made =
-      reply_or_plan (state o.limits o.first made.made.before) asked told start (shaped o opens k k' moment (Call caller asked made.append) told made.made)
-  told_begun start (Ok None) made = tt
+      reply_or_plan (state o.limits o.first made.made.before) asked told start (shaped o opens k k' moment (Call k.caller asked made.append) told made.made)
+  told_begun start (Ok None) none = tt
   told_begun start (Err fault) ends = tt
 
-  -- ## As the pass asked for it
+  -- ## What the call comes to
 
-  own_call : (told : Answer) → MadeSo o k moment (Call caller asked appended.NotAsked) told k' → MadeSo o k moment (called k asked) told k'
-  own_call told = subst (λ (c : ℕ). MadeSo o k moment (Call c asked appended.NotAsked) told k') whose
+  wants : (told : Answer) (made : MadeSo o k moment (NoMemory k.caller) told k') → room_behind o made.made.before (called k asked) ≡ true → WantsMemory o k moment asked (refused asked ERROR_NOT_ENOUGH_MEMORY) k'
+  wants told made room =
+      let both = subst (λ (a : Answer). (so : MadeSo o k moment (NoMemory k.caller) a k') × (room_behind o so.made.before (called k asked) ≡ true)) (shaped o opens k k' moment (NoMemory k.caller) told made.made) (made, room) in
+      record { made = both.0; room = both.1; refused = refl }
 
-  none_made : (told : Answer) → MadeSo o k moment (NoMemory caller) told k' → MadeSo o k moment (NoMemory k.caller) answers.Done k'
-  none_made told made = subst (λ (c : ℕ). MadeSo o k moment (NoMemory c) answers.Done k') whose
-      (subst (λ (a : Answer). MadeSo o k moment (NoMemory caller) a k') (shaped o opens k k' moment (NoMemory caller) told made.made) made)
-
-  own_room : (b : Bool) → room_behind o k'.seen (Call caller asked appended.NotAsked) ≡ b → room_behind o k'.seen (called k asked) ≡ b
-  own_room b = subst (λ (c : ℕ). room_behind o k'.seen (Call c asked appended.NotAsked) ≡ b) whose
-
-  pub calls_so : (r : Result (Option Answer) MakeFault) (end : CallEnd) → CallEnds o k moment caller (Call caller asked appended.NotAsked) r k' → CallTold r (refused asked ERROR_NOT_ENOUGH_MEMORY) end
-      → Calls o k moment asked k' end
+  pub calls_so : (r : Result (Option Answer) MakeFault) (end : CallEnd) → CallEnds o k moment k.caller (called k asked) r k' → CallTold r (refused asked ERROR_NOT_ENOUGH_MEMORY) end → Calls o k moment asked k' end
   calls_so (Ok (Some told)) end made said =
-      subst (Calls o k moment asked k') (sym said.2) (inl (subst (λ (a : Answer). MadeSo o k moment (called k asked) a k') said.1 (own_call told made)))
-  calls_so (Ok None) end made said = subst (Calls o k moment asked k') (sym said) (inr (record { made = none_made made.0 made.1; refused = refl }))
-  calls_so (Err makes.Full) end ends said = subst (Calls o k moment asked k') (sym said) (record { learnt = ends.0; full = own_room false ends.1 })
-  calls_so (Err makes.OutOfMemory) end ends said = subst (Calls o k moment asked k') (sym said) (record { learnt = ends.0; free = own_room true ends.1 })
+      subst (Calls o k moment asked k') (sym said.2) (inl (subst (λ (a : Answer). MadeSo o k moment (called k asked) a k') said.1 made))
+  calls_so (Ok None) end none said = subst (Calls o k moment asked k') (sym said) (inr (wants none.0 none.1 none.2))
+  calls_so (Err makes.Full) end ends said = subst (Calls o k moment asked k') (sym said) (record { learnt = ends.0; full = ends.1 })
+  calls_so (Err makes.OutOfMemory) end ends said = subst (Calls o k moment asked k') (sym said) (record { learnt = ends.0; free = ends.1 })
 
-  plan_there : (plan : ℕ) → is_start asked ≡ true → (made : MadeSo o k moment (Call caller asked appended.NotAsked) (answers.Begun plan) k') → plan_caller (state o.limits o.first k'.seen).plans plan ≡ Some caller
+  plan_there : (plan : ℕ) → is_start asked ≡ true → (made : MadeSo o k moment (called k asked) (answers.Begun plan) k') → plan_caller (state o.limits o.first k'.seen).plans plan ≡ Some k.caller
   plan_there plan start made =
-      let e : Entry = (moment, Call caller asked made.append) in
+      let e : Entry = (moment, Call k.caller asked made.append) in
       let before : List Entry = made.made.before in
-      subst (λ (l : List Entry). plan_caller (state o.limits o.first l).plans plan ≡ Some caller) (sym made.made.seen)
-      (own_plan (state o.limits o.first before) (state o.limits o.first (before ++ e ∷ [])) caller plan asked made.append start
+      subst (λ (l : List Entry). plan_caller (state o.limits o.first l).plans plan ≡ Some k.caller) (sym made.made.seen)
+      (own_plan (state o.limits o.first before) (state o.limits o.first (before ++ e ∷ [])) k.caller plan asked made.append start
       (at_entry LawOfBegun o.limits o.first k'.seen
       (along Sound LawOfBegun o.limits (keeps o.limits) (begins o.limits) o.first k'.seen (begun o.limits o.first opens.begins) (legal_made o.limits o.first k'.seen made.made.legal))
       before e [] (answers.Begun plan) made.made.seen made.made.answer))
 
-  pub starts_so : k.caller ≢ 0 → is_start asked ≡ true → (r : Result (Option Answer) MakeFault) (end : StartEnd) → CallEnds o k moment caller (Call caller asked appended.NotAsked) r k'
+  pub starts_so : k.caller ≢ 0 → is_start asked ≡ true → (r : Result (Option Answer) MakeFault) (end : StartEnd) → CallEnds o k moment k.caller (called k asked) r k'
       → StartTold r (refused asked ERROR_NOT_ENOUGH_MEMORY) end → Starts o k moment asked k' end
-  starts_so some start (Ok (Some (answers.Reply reply))) end made said = subst (Starts o k moment asked k') (sym said) (inl (own_call (answers.Reply reply) made))
+  starts_so some start (Ok (Some (answers.Reply reply))) end made said = subst (Starts o k moment asked k') (sym said) (inl made)
   starts_so some start (Ok (Some (answers.Begun plan))) end made said = subst (Starts o k moment asked k') (sym said) (record {
-    made = own_call (answers.Begun plan) made;
+    made = made;
     has = record {
       caller = λ none. some (sym made.made.caller ∙ none);
-      there = plan_there plan start made ∙ ap (λ (c : ℕ). Some c) (whose ∙ sym made.made.caller);
+      there = plan_there plan start made ∙ ap (λ (c : ℕ). Some c) (sym made.made.caller);
     };
   })
   starts_so some start (Ok (Some told)) end made said = absurd said
-  starts_so some start (Ok None) end made said = subst (Starts o k moment asked k') (sym said) (inr (record { made = none_made made.0 made.1; refused = refl }))
-  starts_so some start (Err makes.Full) end ends said = subst (Starts o k moment asked k') (sym said) (record { learnt = ends.0; full = own_room false ends.1 })
-  starts_so some start (Err makes.OutOfMemory) end ends said = subst (Starts o k moment asked k') (sym said) (record { learnt = ends.0; free = own_room true ends.1 })
+  starts_so some start (Ok None) end none said = subst (Starts o k moment asked k') (sym said) (inr (wants none.0 none.1 none.2))
+  starts_so some start (Err makes.Full) end ends said = subst (Starts o k moment asked k') (sym said) (record { learnt = ends.0; full = ends.1 })
+  starts_so some start (Err makes.OutOfMemory) end ends said = subst (Starts o k moment asked k') (sym said) (record { learnt = ends.0; free = ends.1 })
 
--- ## As a book's call tells it
+-- ## As a book makes it, whose turn and pass lie within what contracts see
 
-module _ (o : Opening) (opens : Opens o) (k from k' : Known) (same : from ≡ k) (moment caller : ℕ) (asked : Request) (whose : caller ≡ from.caller) (step : Step) (is : step ≡ Call caller asked appended.NotAsked)
-    (r : Result (Option Answer) MakeFault) (ends : CallEnds o from moment caller step r k') where
-  ends_so : CallEnds o from moment caller (Call caller asked appended.NotAsked) r k'
-  ends_so = subst (λ (s : Step). CallEnds o from moment caller s r k') is ends
+pub asks_so : (b b' : Identity) (from k k' : Known) → b ≡ b' → (same : from ≡ k) → (moment caller : ℕ) (asked : Request) → caller ≡ from.caller → (step : Step) → step ≡ Call caller asked appended.NotAsked → (r : Result (Option Answer) MakeFault)
+    → CallEnds b.opening from moment caller step r k' → CallEnds b'.opening k moment k.caller (called k asked) r k'
+asks_so b b' from k k' book same moment caller asked whose step is r ends =
+    let mine : caller ≡ k.caller = whose ∙ ap (λ (x : Known). x.caller) same in
+    seen_outside (λ (x : Identity) (y : Known). CallEnds x.opening y moment k.caller (called k asked) r k') b b' from k book same
+    (subst (λ (c : ℕ). CallEnds b.opening from moment c (Call c asked appended.NotAsked) r k') mine
+    (subst (λ (s : Step). CallEnds b.opening from moment caller s r k') is ends))
 
-  pub is_reply_told : is_start asked ≡ false → IfTold IsReply r
-  is_reply_told other = told_reply o opens from k' moment caller asked whose other r ends_so
+pub call_comes : (o : Opening) → Opens o → (k k' : Known) (moment : ℕ) (asked : Request) (a : Asked) (end : CallEnd) → Asks o k moment asked k' a → CallTold a.ended a.refusal end → Calls o k moment asked k' end
+call_comes o opens k k' moment asked a end asks told = calls_so o opens k k' moment asked a.ended end asks.ends (subst (λ (x : Reply). CallTold a.ended x end) asks.refusal told)
 
-  pub is_begun_told : is_start asked ≡ true → IfTold IsBegun r
-  is_begun_told start = told_begun o opens from k' moment caller asked whose start r ends_so
-
-  pub call_comes : (refusal : Reply) (end : CallEnd) → refusal ≡ refused asked ERROR_NOT_ENOUGH_MEMORY → CallTold r refusal end → Calls o k moment asked k' end
-  call_comes refusal end refuses told = subst (λ (x : Known). Calls o x moment asked k' end) same
-      (calls_so o opens from k' moment caller asked whose r end ends_so (subst (λ (x : Reply). CallTold r x end) refuses told))
-
-  pub start_comes : k.caller ≢ 0 → is_start asked ≡ true → (refusal : Reply) (end : StartEnd) → refusal ≡ refused asked ERROR_NOT_ENOUGH_MEMORY → StartTold r refusal end → Starts o k moment asked k' end
-  start_comes some start refusal end refuses told = subst (λ (x : Known). Starts o x moment asked k' end) same
-      (starts_so o opens from k' moment caller asked whose (λ none. some (ap (λ (x : Known). x.caller) (sym same) ∙ none)) start r end ends_so (subst (λ (x : Reply). StartTold r x end) refuses told))
+pub start_comes : (o : Opening) → Opens o → (k k' : Known) (moment : ℕ) (asked : Request) (a : Asked) (end : StartEnd) → Asks o k moment asked k' a → k.caller ≢ 0 → is_start asked ≡ true → StartTold a.ended a.refusal end
+    → Starts o k moment asked k' end
+start_comes o opens k k' moment asked a end asks some start told =
+    starts_so o opens k k' moment asked some start a.ended end asks.ends (subst (λ (x : Reply). StartTold a.ended x end) asks.refusal told)

@@ -1,13 +1,24 @@
 -- Seats that are made beside others, and taken in.
-use Rattle.std.proofs.Common.{◌≡◌, Option, Box, ap, ◌∙◌}
+use Rattle.std.proofs.Common.{◌≡◌, ℕ, List, Option, Some, Box, ap, sym, subst, ◌∙◌}
 use Rattle.std.specs.declared.alloc.Global.{Global}
+use Rattle.scm_model.specs.declared.steps.Name.{Name}
+use Rattle.scm_model.specs.declared.steps.Name.TheVariants as names
+use Rattle.scm_model.specs.Entries.{Entry}
+use Rattle.start_plan.specs.Decided.{plan_caller}
+use Rattle.scm_rules.specs.Histories.{state}
+use Rattle.scm_history.specs.Phases.{phase_of}
+use Rattle.book_rule.specs.declared.view.Opening.{Opening}
+use Rattle.book_rule.specs.Ways.{Has}
 use Rattle.atomic_table.specs.declared.shared.Seat.{Seat}
 use Rattle.book_rule.specs.declared.view.View.{View}
-use Rattle.book_rule.specs.Seats.{Forks, Identity, Merges, Waits}
+use Rattle.book_rule.specs.Seats.{Forks, Identity, Merges, StillClaims, Waits}
 use Rattle.scm_book.specs.declared.held.Held.{Held}
 use Rattle.scm_book.specs.Joins.{TakesIn, accompanied, fresh}
-use Rattle.scm_book.specs.Passes.{knows}
+use Rattle.scm_book.specs.Holds.{Opens, way_of}
+use Rattle.scm_book.specs.Passes.{KeepsAll, Known, knows, seen_state}
 use Rattle.scm_book.specs.Turns.{known}
+use Rattle.scm_book.proofs.Lasting.{keeps_within}
+use Rattle.scm_book.proofs.Passes.{claims_in}
 
 module _ {K : Type 0} (b : Identity) (s s' r : Seat (Option (Box (Held K) Global)) View) (waits : Waits b s) where
   pub beside_waits : Forks s s' r → Waits b s'
@@ -30,6 +41,38 @@ module _ {K : Type 0} (b : Identity) (s s' r : Seat (Option (Box (Held K) Global
     away = ap (λ m. m.0.stage) merges.me ∙ waits.away;
     empty = ap (λ m. m.1) merges.me;
   }
+
+-- ## What is in hand still
+
+-- who has seen the same has the same in hand
+pub same_keeps : (o : Opening) (k k' : Known) → k'.seen ≡ k.seen → k'.names ≡ k.names → k'.caller ≡ k.caller → KeepsAll o k k'
+same_keeps o k k' seen own whose = record {
+  processes = λ process phase holds. record {
+    named = subst (λ (ns : List Name). Has (names.Process process) ns) (sym own) holds.named;
+    listed = subst (λ (l : List Entry). phase_of (state o.limits o.first l) process ≡ Some phase) (sym seen) holds.listed;
+  };
+  plans = λ plan has. record {
+    caller = λ none. has.caller (sym whose ∙ none);
+    there = subst (λ (c : ℕ). plan_caller (seen_state o k').plans plan ≡ Some c) (sym whose)
+        (subst (λ (l : List Entry). plan_caller (state o.limits o.first l).plans plan ≡ Some k.caller) (sym seen) has.there);
+  };
+}
+
+pub keeps_on : (o : Opening) (k mid k' : Known) → KeepsAll o k mid → KeepsAll o mid k' → KeepsAll o k k'
+keeps_on o k mid k' first then = record {
+  processes = λ process phase holds. then.processes process phase (first.processes process phase holds);
+  plans = λ plan has. then.plans plan (first.plans plan has);
+}
+
+module _ {K : Type 0} (tells : K → Option (List ℕ)) (faulted : K → ℕ) (b : Identity) (opens : Opens b.opening) (s s' r : Seat (Option (Box (Held K) Global)) View) where
+  pub merged_keeps : Merges s r s' → StillClaims (way_of tells faulted) b s s' → KeepsAll b.opening (known s) (known s')
+  merged_keeps merges still = keeps_within b.opening opens (known s) (known s') merges.this still.log still.within still.run.legal (claims_in tells faulted b.opening still.log s.table_id s.me.0 still.claims)
+      (ap (λ m. m.0.names) merges.me) (ap (λ m. m.0.caller) merges.me)
+
+  -- a seat that made another and took a third in
+  pub beside_keeps : (s0 made : Seat (Option (Box (Held K) Global)) View) → Forks s0 s made → Merges s r s' → StillClaims (way_of tells faulted) b s s' → KeepsAll b.opening (known s0) (known s')
+  beside_keeps s0 made forks merges still = keeps_on b.opening (known s0) (known s) (known s')
+      (same_keeps b.opening (known s0) (known s) (ap (λ m. m.0.seen) forks.me) (ap (λ m. m.0.names) forks.me) (ap (λ m. m.0.caller) forks.me)) (merged_keeps merges still)
 
 -- ## What they have seen
 

@@ -115,14 +115,14 @@ module _ {K : Type 0} (tells : K → Option (List ℕ)) (faulted : K → ℕ) (o
 
   pub holds_same : IsAsItWas h h' → Holds tells faulted o log h'
   holds_same same = record {
-    trail = same.trail ∙ holds.trail;
-    limits = same.limits ∙ holds.limits;
-    steps = same.steps ∙ holds.steps;
-    text = same.text ∙ holds.text;
-    manager = same.flat ∙ holds.manager;
+    trail = same.none.trail ∙ holds.trail;
+    limits = same.none.limits ∙ holds.limits;
+    steps = same.none.steps ∙ holds.steps;
+    text = same.none.text ∙ holds.text;
+    manager = same.none.flat ∙ holds.manager;
     journal = subst (λ (j : _). Bears (and_changes o.bytes (kept_changes o.limits o.first log)) j (tells h'.keeper)) (sym same.journal)
         (subst (λ (k : K). Bears (and_changes o.bytes (kept_changes o.limits o.first log)) h.journal (tells k)) (sym same.keeper) holds.journal);
     faults = let f = ap faulted same.keeper in let b = holds.faults in omega arith;
-    room = let f = ap owed same.flat in let b = holds.room in let r = same.room in omega arith;
+    room = let f = ap owed same.none.flat in let b = holds.room in let r = same.room in omega arith;
     fits = holds.fits;
   }

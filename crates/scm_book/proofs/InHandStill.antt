@@ -3,10 +3,12 @@ use Rattle.std.proofs.Common.{◌≡◌, ◌≢◌, ℕ, inl, inr, false, List, 
 use Rattle.std.specs.Prelude.{option_map}
 use Rattle.scm_model.specs.declared.flat.Plan.{Plan}
 use Rattle.scm_model.specs.declared.calls.Request.{Request}
+use Rattle.scm_model.specs.declared.flat.Principal.{Principal}
 use Rattle.scm_model.specs.declared.steps.Answer.{Answer}
+use Rattle.scm_model.specs.declared.steps.Answer.TheVariants as answers
 use Rattle.scm_model.specs.declared.steps.Name.TheVariants as names
 use Rattle.scm_model.specs.declared.steps.Step.{Step}
-use Rattle.scm_model.specs.declared.steps.Step.TheVariants.{Call, EndStart, NoMemory}
+use Rattle.scm_model.specs.declared.steps.Step.TheVariants.{Call, EndStart, Joined, NoMemory}
 use Rattle.scm_model.specs.Entries.{Entry}
 use Rattle.start_plan.specs.Decided.{plan_caller, plan_of}
 use Rattle.scm_rules.specs.Histories.{Legal, state}
@@ -26,6 +28,7 @@ use Rattle.scm_book.specs.declared.answers.StartEnd.{StartEnd}
 use Rattle.scm_book.specs.declared.answers.StartEnd.TheVariants as starts
 use Rattle.scm_book.specs.Called.{AnsweredSo, Calls, Starts}
 use Rattle.scm_book.specs.Holds.{Opens}
+use Rattle.scm_book.specs.Joins.{JoinsAs}
 use Rattle.scm_book.specs.Naming.{named_in}
 use Rattle.scm_book.specs.Passes.{HasPlan, HoldsProcess, KeepsAll, Known, Learnt, Made}
 use Rattle.scm_book.specs.Starts.{KeepsAllButPlan}
@@ -78,6 +81,13 @@ module _ (o : Opening) (opens : Opens o) where
         processes = λ process phase. process_lasts o opens k k' moment step told made process phase (unnamed process);
         plans = λ plan. plan_still plan (ends plan);
       }
+
+    -- who joins has in hand what it had, as nobody
+    pub joins_keep : (moment : ℕ) (principal : Principal) (number : ℕ) → k.caller ≡ 0 → JoinsAs o k moment principal k' number → KeepsAll o k k'
+    joins_keep moment principal number nobody joins = record {
+      processes = λ process phase. process_lasts o opens k k' moment (Joined principal) (answers.Caller number) joins.made.made process phase (λ has. absurd has);
+      plans = λ plan has. absurd (has.caller nobody);
+    }
 
     -- ## The calls
 

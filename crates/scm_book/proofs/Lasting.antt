@@ -32,8 +32,9 @@ use Rattle.scm_book.specs.Naming.{named_in, names_made}
 use Rattle.scm_book.specs.Holds.{Opens, Runs}
 use Rattle.scm_book.specs.Passes.{ClaimsIn, HasPlan, HoldsProcess, KeepsAll, Known, Made, seen_state}
 use Rattle.book_rule.proofs.Places.{has_left}
+use Rattle.book_rule.proofs.Prefixes.{prefix_self}
 use Rattle.scm_book.proofs.Names.{has_name, made_more}
-use Rattle.scm_book.proofs.Quiet.{Quiet, made_not, own_made, quiet, rest_phase, step_phase}
+use Rattle.scm_book.proofs.Quiet.{Quiet, made_not, own_made, quiet, quiet_front, rest_phase, step_phase}
 
 -- ## Plans
 
@@ -94,22 +95,30 @@ module _ (o : Opening) (opens : Opens o) where
 
   -- ## Both, behind what the pass has seen
 
-  pub keeps_seen : (k k' : Known) → IsPrefix k.seen k'.seen → Legal o.limits o.first k'.seen → ClaimsIn o k'.seen k → k'.names ≡ k.names → k'.caller ≡ k.caller → KeepsAll o k k'
-  keeps_seen k k' longer legal claims same whose =
+  -- the pass claims the same of a history that goes on from there
+  pub keeps_within : (k k' : Known) → IsPrefix k.seen k'.seen → (log : List Entry) → IsPrefix k'.seen log → Legal o.limits o.first log → ClaimsIn o log k → k'.names ≡ k.names → k'.caller ≡ k.caller → KeepsAll o k k'
+  keeps_within k k' longer log within legal claims same whose =
       let rest = longer.0 in
       let is : k'.seen ≡ k.seen ++ rest = sym longer.1 in
-      let legal' : Legal o.limits o.first (k.seen ++ rest) = subst (Legal o.limits o.first) is legal in record {
+      let all : log ≡ k.seen ++ (rest ++ within.0) = sym within.1 ∙ (ap (λ (l : List Entry). l ++ within.0) is ∙ append_assoc k.seen rest within.0) in
+      let quiet' : (n : Name) → Has n k.names → Quiet o n k.seen rest = λ n named. quiet_front o n k.seen rest within.0 (quiet o opens k n named log (rest ++ within.0) all legal claims) in
+      let legal' : Legal o.limits o.first (k.seen ++ rest) =
+      subst (Legal o.limits o.first) is (legal_front o.limits o.first k'.seen within.0 (subst (Legal o.limits o.first) (sym within.1) legal)) in record {
         processes = λ process phase holds. record {
           named = subst (λ (ns : List Name). Has (names.Process process) ns) (sym same) holds.named;
-          listed = still k process phase holds k'.seen longer legal claims;
+          listed = subst (λ (l : List Entry). phase_of (state o.limits o.first l) process ≡ Some phase) longer.1
+              (rest_phase o opens k.seen rest process phase legal' (quiet' (names.Process process) holds.named) holds.listed);
         };
         plans = λ plan has. record {
           caller = λ none. has.caller (sym whose ∙ none);
           there = subst (λ (c : ℕ). plan_caller (state o.limits o.first k'.seen).plans plan ≡ Some c) (sym whose)
               (subst (λ (l : List Entry). plan_caller (state o.limits o.first l).plans plan ≡ Some k.caller) longer.1
-              (rest_plan k.seen rest k.caller plan has.caller legal' (quiet o opens k (names.Caller k.caller) (claims.caller has.caller) k'.seen rest is legal claims) has.there));
+              (rest_plan k.seen rest k.caller plan has.caller legal' (quiet' (names.Caller k.caller) (claims.caller has.caller)) has.there));
         };
       }
+
+  pub keeps_seen : (k k' : Known) → IsPrefix k.seen k'.seen → Legal o.limits o.first k'.seen → ClaimsIn o k'.seen k → k'.names ≡ k.names → k'.caller ≡ k.caller → KeepsAll o k k'
+  keeps_seen k k' longer legal claims same whose = keeps_within k k' longer k'.seen (prefix_self k'.seen) legal claims same whose
 
   -- ## Both, behind a step that is not of them
 

@@ -19,3 +19,4 @@ mod InHandStill
 mod Firsts
 mod InHand
 mod StartsMade
+mod ReportsMade

@@ -25,7 +25,7 @@ use Rattle.scm_book.specs.declared.held.Held.{Held}
 use Rattle.scm_book.specs.Holds.{Holds, Runs, way_of}
 use Rattle.scm_book.specs.Passes.{ClaimsIn, IsOf, IsSame, Known, Learnt, Made, MadeSo, Rests, known_of, knows, room_behind, view_of}
 use Rattle.scm_book.specs.Starts.{AlwaysThere, DidEnd, Ends, IsThere, IsUndecided}
-use Rattle.scm_book.specs.Turns.{AlwaysMay, CallEnds, Did, DidCall, DidSo, DidStep, IsSeated, LeftIt, MakeCause, MayMake, NamesNoOther, StepCause, StepEnds, known, of_badge}
+use Rattle.scm_book.specs.Turns.{AlwaysMay, CallEnds, Did, DidCall, DidSo, DidStep, HasTurn, IsSeated, LeftIt, MakeCause, MayMake, NamesNoOther, StepCause, StepEnds, known, of_badge}
 
 -- ## What a keeper tells plays no part in what a seat claims
 
@@ -68,18 +68,24 @@ module _ {K : Type 0} (tells : K → Option (List ℕ)) (faulted : K → ℕ) wh
     sees : s1.me.0 ≡ having_seen s.me.0 enters.log
     sees = ap (λ m. m.0) enters.me
 
-    pub holding : Waits b s → Holding b s1
+    holding : Waits b s → Holding b s1
     holding waits = record {
       of = record { table = enters.table ∙ waits.of.table; opening = ap (λ m. m.0.opening) enters.me ∙ waits.of.opening };
       looked = ap (λ m. m.0.stage) enters.me;
       out = ap (λ m. m.1) enters.me;
     }
 
-    pub entered_holds : Holds tells faulted b.opening s1.me.0.seen (box_value h)
+    entered_holds : Holds tells faulted b.opening s1.me.0.seen (box_value h)
     entered_holds = subst (λ (v : View). Holds tells faulted b.opening v.seen (box_value h)) (sym sees) enters.learns.fits
 
-    pub entered_runs : Runs b.opening s1.me.0.seen
+    entered_runs : Runs b.opening s1.me.0.seen
     entered_runs = subst (λ (v : View). Runs b.opening v.seen) (sym sees) enters.learns.run
+
+    pub entered_flat : (box_value h).manager.flat ≡ state b.opening.limits b.opening.first s1.me.0.seen
+    entered_flat = entered_holds.manager
+
+    pub has_turn : Waits b s → HasTurn tells faulted b s1 (box_value h)
+    has_turn waits = record { seat = holding waits; holds = entered_holds; runs = entered_runs }
 
     -- what always may come may come now
     pub may_now : (moment : ℕ) (step : Step) → AlwaysMay b.opening (known s) moment step → MayMake b.opening s1.me.0.seen s1.me.0.names moment step
@@ -149,9 +155,10 @@ module _ {K : Type 0} (tells : K → Option (List ℕ)) (faulted : K → ℕ) wh
 
     pub did_call : (s2 : Seat (Option (Box (Held K) Global)) View) (moment caller : ℕ) (call : Step) (r : Result (Option Answer) MakeFault) → DidCall tells faulted b s1 s2 moment caller call r
         → CallEnds b.opening (known s) moment caller call r (known s2)
-    unfolding did_so left_learnt
+    unfolding did_made did_so left_learnt
     did_call s2 moment caller call (Ok (Some told)) did = did_so s2 moment call told did
-    did_call s2 moment caller call (Ok None) did = (did.0, did_so s2 moment (NoMemory caller) did.0 did.1)
+    did_call s2 moment caller call (Ok None) did =
+        (did.0, did_so s2 moment (NoMemory caller) did.0 did.1, subst (λ (v : View). room_behind b.opening v.seen call ≡ true) sees did.2)
     did_call s2 moment caller call (Err fault) did = (left_learnt s2 did.0, subst (λ (l : List Entry). MakeCause b.opening l call fault) (left_seen s2 did.0) did.1)
 
     pub did_end : (s2 : Seat (Option (Box (Held K) Global)) View) (moment caller plan : ℕ) (r : Option Answer) → DidEnd tells faulted b s1 s2 moment caller plan r → Ends b.opening (known s) moment caller plan (known s2) r
@@ -206,6 +213,11 @@ module _ {K : Type 0} (b : Identity) (new : Badge View) (s : Seat (Option (Box (
     rests = record { one = views ∙ ap (λ (v : View). v ∷ []) (ap view_of (sym views)); away = ap (λ (vs : List View). (view_of vs).stage) views ∙ waits.away };
     of = record { table = table ∙ waits.of.table; opening = ap (λ (vs : List View). (view_of vs).opening) views ∙ waits.of.opening };
   }
+
+-- what holds of what seats know holds of what their tokens know
+module _ {from s s' to : Known} where
+  pub as_tokens : (P : Known → Known → Type 0) → from ≡ s → s' ≡ to → P s s' → P from to
+  as_tokens P before after holds = subst (λ (k : Known). P k to) (sym before) (subst (P s) after holds)
 
 -- a seat that had the turn and gave it up waits again
 pub settled_waits : {K : Type 0} (b : Identity) (s s' : Seat (Option (Box (Held K) Global)) View) (v : View) → Holding b s → s'.table_id ≡ s.table_id → s'.me ≡ (having_left v, []) → v.opening ≡ s.me.0.opening → Waits b s'

@@ -38,6 +38,11 @@ abbrev pub Quiet : Opening → Name → List Entry → List Entry → Type 0
 Quiet o n log [] = Unit {0}
 Quiet o n log (e ∷ rest) = (Has n (named_in e.1) → ⊥) × (Has n (names_made (state o.limits o.first log) e.1) → ⊥) × Quiet o n (log ++ e ∷ []) rest
 
+-- nor of the first of them
+pub quiet_front : (o : Opening) (n : Name) (log rest more : List Entry) → Quiet o n log (rest ++ more) → Quiet o n log rest
+quiet_front o n log [] more quiet = tt
+quiet_front o n log (e ∷ rest) more quiet = (quiet.0, quiet.1, quiet_front o n (log ++ e ∷ []) rest more quiet.2)
+
 not_it : (o : Option ℕ) (number : ℕ) → (Has (names.Process number) (process_names o) → ⊥) → is_it number o ≡ false
 not_it None number other = refl
 not_it (Some of) number other = ne_eqb number of (λ e. other (inl (ap names.Process e)))

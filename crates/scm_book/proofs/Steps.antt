@@ -24,7 +24,7 @@ use Rattle.scm_history.specs.Kept.{kept_change, one_or_none}
 use Rattle.scm_history.proofs.Kept.{law_of_kept}
 use Rattle.scm_book.specs.declared.held.Held.{Held}
 use Rattle.scm_book.specs.Holds.{RoseBy, one_failed}
-use Rattle.scm_book.specs.Steps.{Grows, IsAsItWas, IsPrepared, Keeps, Makes, has_room_in}
+use Rattle.scm_book.specs.Steps.{Grows, IsAsItWas, IsPrepared, Keeps, Makes, MakesNone, has_room_in}
 use Rattle.scm_book.proofs.Room.{and_both, come_kept}
 
 -- ## The manager
@@ -106,35 +106,39 @@ module _ {K : Type 0} (tells : K → Option (List ℕ)) (faulted : K → ℕ) (h
 -- ## One after another
 
 module _ {K : Type 0} (h mid h' : Held K) where
-  pub still_as : IsAsItWas h mid → h'.manager ≡ mid.manager → h'.trail ≡ mid.trail → h'.journal ≡ mid.journal → h'.keeper ≡ mid.keeper → IsAsItWas h h'
-  still_as was manager trail journal keeper = record {
+  none_as : MakesNone h mid → h'.manager ≡ mid.manager → h'.trail ≡ mid.trail → MakesNone h h'
+  none_as was manager trail = record {
     trail = ap (λ (t : Trailed). t.entries) trail ∙ was.trail;
     flat = ap (λ (m : Managed). m.flat) manager ∙ was.flat;
     limits = ap (λ (m : Managed). m.limits) manager ∙ was.limits;
     steps = ap (λ (m : Managed). m.steps) manager ∙ was.steps;
     text = ap (λ (m : Managed). m.text) manager ∙ was.text;
+  }
+
+  pub still_as : IsAsItWas h mid → h'.manager ≡ mid.manager → h'.trail ≡ mid.trail → h'.journal ≡ mid.journal → h'.keeper ≡ mid.keeper → IsAsItWas h h'
+  still_as was manager trail journal keeper = record {
+    none = none_as was.none manager trail;
     journal = journal ∙ was.journal;
     keeper = keeper ∙ was.keeper;
     room = let same = ap (λ (t : Trailed). t.room) trail in let r = was.room in omega arith;
   }
 
   -- the state, the limits and the entries are those of before
-  grown_from : (moment : ℕ) (step : Step) (told : Answer) → mid.trail.entries ≡ h.trail.entries → mid.manager.flat ≡ h.manager.flat → mid.manager.limits ≡ h.manager.limits
-      → mid.manager.steps ≡ h.manager.steps → mid.manager.text ≡ h.manager.text → Grows mid h' moment step told → Grows h h' moment step told
-  grown_from moment step told trail flat limits steps text grows = record {
-    may = (λ i. may (sym limits i) (sym flat i) moment step) ∙ grows.may;
-    trail = grows.trail ∙ ap (λ (l : List Entry). l ++ (moment, step) ∷ []) trail;
-    flat = grows.flat ∙ (λ i. state (limits i) (flat i) ((moment, step) ∷ []));
-    answer = (λ i. answer (sym limits i) (sym flat i) ((moment, step) ∷ []) 0) ∙ grows.answer;
-    limits = grows.limits ∙ limits;
-    steps = grows.steps ∙ ap (λ (n : ℕ). n + 1) steps;
-    text = grows.text ∙ ap (λ (n : ℕ). n + text_of step) text;
+  grown_from : (moment : ℕ) (step : Step) (told : Answer) → MakesNone h mid → Grows mid h' moment step told → Grows h h' moment step told
+  grown_from moment step told none grows = record {
+    may = (λ i. may (sym none.limits i) (sym none.flat i) moment step) ∙ grows.may;
+    trail = grows.trail ∙ ap (λ (l : List Entry). l ++ (moment, step) ∷ []) none.trail;
+    flat = grows.flat ∙ (λ i. state (none.limits i) (none.flat i) ((moment, step) ∷ []));
+    answer = (λ i. answer (sym none.limits i) (sym none.flat i) ((moment, step) ∷ []) 0) ∙ grows.answer;
+    limits = grows.limits ∙ none.limits;
+    steps = grows.steps ∙ ap (λ (n : ℕ). n + 1) none.steps;
+    text = grows.text ∙ ap (λ (n : ℕ). n + text_of step) none.text;
   }
 
   module _ (tells : K → Option (List ℕ)) (faulted : K → ℕ) (step : Step) (append : Kept) where
     keeps_from : IsAsItWas h mid → Keeps tells faulted mid h' (with_kept step append) → Keeps tells faulted h h' (with_kept step append)
     keeps_from was keeps = record {
-      bears = λ good bears. subst (λ (c : Option Change). Bears (and_changes good (one_or_none c)) h'.journal (tells h'.keeper)) (λ i. kept_change (was.limits i) (was.flat i) (with_kept step append))
+      bears = λ good bears. subst (λ (c : Option Change). Bears (and_changes good (one_or_none c)) h'.journal (tells h'.keeper)) (λ i. kept_change (was.none.limits i) (was.none.flat i) (with_kept step append))
           (keeps.bears good (subst (λ (j : Journal). Bears good j (tells mid.keeper)) (sym was.journal) (subst (λ (k : K). Bears good h.journal (tells k)) (sym was.keeper) bears)));
       faults = let f = ap faulted was.keeper in let k = keeps.faults in omega arith;
     }
@@ -144,13 +148,9 @@ module _ {K : Type 0} (h mid h' : Held K) where
         → IsTrue (keeps_right mid.manager.limits mid.manager.flat (with_kept step append)) → IsPrepared tells faulted h h' step append
     prepared free was made room one text manager trail keeps right = record {
       free = free;
-      trail = ap (λ (t : Trailed). t.entries) trail ∙ was.trail;
-      flat = ap (λ (m : Managed). m.flat) manager ∙ was.flat;
-      limits = ap (λ (m : Managed). m.limits) manager ∙ was.limits;
-      steps = ap (λ (m : Managed). m.steps) manager ∙ was.steps;
-      text = ap (λ (m : Managed). m.text) manager ∙ was.text;
+      none = none_as was.none manager trail;
       keeps = keeps_from was keeps;
-      right = (λ i. keeps_right (sym was.limits i) (sym was.flat i) (with_kept step append)) ∙ right;
+      right = (λ i. keeps_right (sym was.none.limits i) (sym was.none.flat i) (with_kept step append)) ∙ right;
       made = subst (λ (m : Managed). WasMadeFor m.room step) (sym manager) made;
       room = subst (λ (t : Trailed). owed h.manager.flat + debt h.manager.flat step ≤ t.room) (sym trail) room;
       one = subst (λ (t : Trailed). 1 ≤ t.room) (sym trail) one;
@@ -162,7 +162,7 @@ module _ {K : Type 0} (h mid h' : Held K) where
     made moment told p grows journal keeper room = record {
       append = append;
       free = p.free;
-      grows = grown_from moment (with_kept step append) told p.trail p.flat p.limits p.steps p.text grows;
+      grows = grown_from moment (with_kept step append) told p.none grows;
       keeps = record {
         bears = λ good bears. subst (λ (j : Journal). Bears (and_changes good (one_or_none (kept_change h.manager.limits h.manager.flat (with_kept step append)))) j (tells h'.keeper)) (sym journal)
             (subst (λ (k : K). Bears (and_changes good (one_or_none (kept_change h.manager.limits h.manager.flat (with_kept step append)))) mid.journal (tells k)) (sym keeper) (p.keeps.bears good bears));
@@ -173,6 +173,6 @@ module _ {K : Type 0} (h mid h' : Held K) where
 
     -- what the step asks then
     pub may_finish : (moment : ℕ) → IsPrepared tells faulted h mid step append → IsTrue (may_come h.manager.limits h.manager.flat moment step) → IsTrue (may mid.manager.limits mid.manager.flat moment (with_kept step append))
-    may_finish moment p come = (λ i. may (p.limits i) (p.flat i) moment (with_kept step append))
+    may_finish moment p come = (λ i. may (p.none.limits i) (p.none.flat i) moment (with_kept step append))
         ∙ and_both (may_come h.manager.limits h.manager.flat moment (with_kept step append)) (keeps_right h.manager.limits h.manager.flat (with_kept step append))
         (come_kept h.manager.limits h.manager.flat moment step append ∙ come) p.right

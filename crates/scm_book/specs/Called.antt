@@ -15,9 +15,11 @@ use Rattle.scm_book.specs.declared.answers.CallEnd.{CallEnd}
 use Rattle.scm_book.specs.declared.answers.CallEnd.TheVariants as calls
 use Rattle.scm_book.specs.declared.answers.StartEnd.{StartEnd}
 use Rattle.scm_book.specs.declared.answers.StartEnd.TheVariants as starts
+use Rattle.scm_book.specs.declared.calling.Asked.{Asked}
 use Rattle.scm_book.specs.declared.fault.MakeFault.{MakeFault}
 use Rattle.scm_book.specs.declared.fault.MakeFault.TheVariants as makes
-use Rattle.scm_book.specs.Passes.{FindsNoMemory, FindsNoRoom, HasPlan, Known, MadeSo}
+use Rattle.scm_book.specs.Passes.{FindsNoMemory, FindsNoRoom, HasPlan, Known, MadeSo, room_behind}
+use Rattle.scm_book.specs.Turns.{CallEnds}
 
 -- a pass's call, as it is asked for
 abbrev pub called : Known → Request → Step
@@ -29,14 +31,20 @@ is_start asked = false
 
 -- ## Answers
 
--- there was no memory for the call's effect: that stands in its place, and it is refused with 8
+-- there was no memory for the call's effect, though there was room for it: that stands in its place, and it is refused with 8
 pub record WantsMemory (o : Opening) (k : Known) (moment : ℕ) (asked : Request) (reply : Reply) (k' : Known) : Type 0 where
   pub made : MadeSo o k moment (NoMemory k.caller) answers.Done k'
+  pub room : room_behind o made.made.before (called k asked) ≡ true
   pub refused : reply ≡ refused asked ERROR_NOT_ENOUGH_MEMORY
 
 -- the call was made and told this, or there was no memory for it
 abbrev pub AnsweredSo : Opening → Known → ℕ → Request → Reply → Known → Type 0
 AnsweredSo o k moment asked reply k' = MadeSo o k moment (called k asked) (answers.Reply reply) k' ⊎ WantsMemory o k moment asked reply k'
+
+-- what a caller's call comes to, and its refusal with 8
+pub record Asks (o : Opening) (k : Known) (moment : ℕ) (asked : Request) (k' : Known) (a : Asked) : Type 0 where
+  pub ends : CallEnds o k moment k.caller (called k asked) a.ended k'
+  pub refusal : a.refusal ≡ refused asked ERROR_NOT_ENOUGH_MEMORY
 
 -- ## call
 

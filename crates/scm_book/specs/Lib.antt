@@ -10,3 +10,4 @@ pub mod Called
 pub mod Starts
 pub mod Processes
 pub mod Looks
+pub mod Reporting

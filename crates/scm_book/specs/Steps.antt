@@ -66,13 +66,17 @@ module _ {K : Type 0} where
     pub keeper : h'.keeper ≡ h.keeper
     pub room : h.trail.room ≤ h'.trail.room + 1
 
-  -- no step was made; there may be more memory
-  pub record IsAsItWas (h h' : Held K) : Type 0 where
+  -- no step was made
+  pub record MakesNone (h h' : Held K) : Type 0 where
     pub trail : h'.trail.entries ≡ h.trail.entries
     pub flat : h'.manager.flat ≡ h.manager.flat
     pub limits : h'.manager.limits ≡ h.manager.limits
     pub steps : h'.manager.steps ≡ h.manager.steps
     pub text : h'.manager.text ≡ h.manager.text
+
+  -- no step was made; there may be more memory
+  pub record IsAsItWas (h h' : Held K) : Type 0 where
+    pub none : MakesNone h h'
     pub journal : h'.journal ≡ h.journal
     pub keeper : h'.keeper ≡ h.keeper
     pub room : h.trail.room ≤ h'.trail.room
@@ -96,11 +100,7 @@ module _ {K : Type 0} where
     -- all is there that a step can use, and its change was appended, with what became of that
     pub record IsPrepared (h h' : Held K) (step : Step) (append : Kept) : Type 0 where
       pub free : has_room_in h step ≡ true
-      pub trail : h'.trail.entries ≡ h.trail.entries
-      pub flat : h'.manager.flat ≡ h.manager.flat
-      pub limits : h'.manager.limits ≡ h.manager.limits
-      pub steps : h'.manager.steps ≡ h.manager.steps
-      pub text : h'.manager.text ≡ h.manager.text
+      pub none : MakesNone h h'
       pub keeps : Keeps h h' (with_kept step append)
       pub right : IsTrue (keeps_right h.manager.limits h.manager.flat (with_kept step append))
       pub made : WasMadeFor h'.manager.room step

@@ -15,16 +15,16 @@ use Rattle.book_rule.specs.declared.view.Opening.{Opening}
 use Rattle.book_rule.specs.declared.view.View.{View}
 use Rattle.book_rule.specs.Ways.{Has, Way}
 use Rattle.book_rule.specs.Rule.{ClaimsOf}
-use Rattle.book_rule.specs.Seats.{Identity}
+use Rattle.book_rule.specs.Seats.{Holding, Identity}
 use Rattle.book_rule.specs.Views.{having_left, having_made}
 use Rattle.scm_book.specs.declared.fault.MakeFault.{MakeFault}
 use Rattle.scm_book.specs.declared.fault.MakeFault.TheVariants as makes
 use Rattle.scm_book.specs.declared.fault.StepFault.{StepFault}
 use Rattle.scm_book.specs.declared.fault.StepFault.TheVariants as faults
 use Rattle.scm_book.specs.declared.held.Held.{Held}
-use Rattle.scm_book.specs.Holds.{Runs, way_of}
+use Rattle.scm_book.specs.Holds.{Holds, Runs, way_of}
 use Rattle.scm_book.specs.Naming.{named_in}
-use Rattle.scm_book.specs.Passes.{ClaimsIn, IsOf, Known, Learnt, Made, MadeSo, Rests, known_of, knows, may_behind, room_behind}
+use Rattle.scm_book.specs.Passes.{ClaimsIn, IsOf, KeepsAll, Known, Learnt, Made, MadeSo, Rests, known_of, knows, may_behind, room_behind}
 
 -- the step names nobody but these
 abbrev pub NamesNoOther : List Name → Step → Type 0
@@ -68,6 +68,9 @@ pub record IsSeated (b : Identity) (badge : Badge View) : Type 0 where
 abbrev pub MadeBy : Opening → Badge View → ℕ → Step → Answer → Badge View → Type 0
 MadeBy o badge moment step told badge' = Made o (of_badge badge) moment step told (of_badge badge')
 
+abbrev pub KeepsAllBy : Opening → Badge View → Badge View → Type 0
+KeepsAllBy o badge badge' = KeepsAll o (of_badge badge) (of_badge badge')
+
 -- what a step comes to that isn't owed: it was made, and told this; or it wasn't, for this cause in the state of the new history
 abbrev pub StepEnds : Opening → Known → ℕ → Step → Result Answer StepFault → Known → Type 0
 StepEnds o k moment step (Ok told) k' = MadeSo o k moment step told k'
@@ -76,16 +79,23 @@ StepEnds o k moment step (Err fault) k' = Learnt o k k' × StepCause o k'.seen m
 abbrev pub StepEndsBy : Opening → Badge View → ℕ → Step → Badge View → Result Answer StepFault → Type 0
 StepEndsBy o badge moment step badge' r = StepEnds o (of_badge badge) moment step r (of_badge badge')
 
--- what a caller's call comes to: it was made, and told this; or there was no memory for it, and that stands in its place; or no step was made
+-- what a caller's call comes to: it was made, and told this; or there was room for it and no memory, and that stands in its place; or no step was made
 abbrev pub CallEnds : Opening → Known → ℕ → ℕ → Step → Result (Option Answer) MakeFault → Known → Type 0
 CallEnds o k moment caller call (Ok (Some told)) k' = MadeSo o k moment call told k'
-CallEnds o k moment caller call (Ok None) k' = (told : Answer) × MadeSo o k moment (NoMemory caller) told k'
+CallEnds o k moment caller call (Ok None) k' = (told : Answer) × (made : MadeSo o k moment (NoMemory caller) told k') × (room_behind o made.made.before call ≡ true)
 CallEnds o k moment caller call (Err fault) k' = Learnt o k k' × MakeCause o k'.seen call fault
 
 abbrev pub CallEndsBy : Opening → Badge View → ℕ → ℕ → Step → Badge View → Result (Option Answer) MakeFault → Type 0
 CallEndsBy o badge moment caller call badge' r = CallEnds o (of_badge badge) moment caller call r (of_badge badge')
 
 -- ## Within a turn
+
+module _ {K : Type 0} (tells : K → Option (List ℕ)) (faulted : K → ℕ) where
+  -- a seat that has the turn has seen a legal history, at whose end stands what it has in hand
+  pub record HasTurn (b : Identity) (s : Seat (Option (Box (Held K) Global)) View) (h : Held K) : Type 0 where
+    pub seat : Holding b s
+    pub holds : Holds tells faulted b.opening s.me.0.seen h
+    pub runs : Runs b.opening s.me.0.seen
 
 module _ {K : Type 0} where
   abbrev pub known : Seat (Option (Box (Held K) Global)) View → Known
@@ -132,5 +142,5 @@ module _ {K : Type 0} where
 
     abbrev pub DidCall : ℕ → ℕ → Step → Result (Option Answer) MakeFault → Type 0
     DidCall moment caller call (Ok (Some told)) = DidSo (way_of tells faulted) b s s' moment call told
-    DidCall moment caller call (Ok None) = (told : Answer) × DidSo (way_of tells faulted) b s s' moment (NoMemory caller) told
+    DidCall moment caller call (Ok None) = (told : Answer) × DidSo (way_of tells faulted) b s s' moment (NoMemory caller) told × (room_behind b.opening s.me.0.seen call ≡ true)
     DidCall moment caller call (Err fault) = LeftIt s s' × MakeCause b.opening s.me.0.seen call fault

@@ -6,8 +6,9 @@ ghost use Rattle.scm_model.specs.Ranges.{in_range};
 ghost use Rattle.scm_rules.specs.Opening.{IsOpening};
 ghost use Rattle.scm_core.specs.Managed.{AreSmall};
 ghost use Rattle.record_journal.specs.Bearing.{Bears};
-ghost use Rattle.scm_book.specs.Called.{Calls, Starts, is_start};
+ghost use Rattle.scm_book.specs.Called.{Asks, Calls, Starts, is_start};
 ghost use Rattle.scm_book.specs.Calls.{BeginsWith, Closes, Goes};
+ghost use Rattle.scm_book.specs.Holds.{Opens};
 ghost use Rattle.scm_book.specs.Joins.{BecomesCaller, JoinCause, Joins, TakesIn, Watches};
 ghost use Rattle.scm_book.specs.Joins.{accompanied, fresh};
 ghost use Rattle.scm_book.specs.Passes.{HasPlan, IsOf, KeepsAll, Learnt};
@@ -15,14 +16,13 @@ ghost use Rattle.scm_book.specs.Starts.{EndKeeps, EndLooks};
 
 use crate::answers::{CallEnd, EndLook, JoinFault, NotJoined, StartEnd};
 use crate::bell::Bell;
-use crate::calling::{call_by, call_end, start_end};
+use crate::calling::{Asked, call_end, start_end};
 use crate::doubled::Doubled;
-use crate::ending::{end_by, end_look};
+use crate::ending::end_look;
 use crate::held::Held;
-use crate::joining::{accompany, join_beside, join_by, take_in};
 use crate::owed::Owed;
 use crate::pass::{Pass, Spent};
-use crate::turning::owe_by;
+use crate::shared::Shared;
 use book_rule::{Begun, Turn};
 use record_journal::{Journal, Keeper};
 use scm_core::Manager;
@@ -36,9 +36,7 @@ use std::sync::Wait;
 /// One legal history for all callers. Contracts see which book it is, and how its history opened.
 #[derive(Drop)]
 pub struct Book<K: Keeper> {
-    pub(crate) turn: Turn<Held<K>>,
-    pub(crate) bell: Bell,
-    pub(crate) alloc: Global,
+    pub(crate) shared: Shared<K>,
 }
 
 /// A new book, and its one pass.
@@ -62,9 +60,9 @@ impl<K: Keeper> Model for Book<K> {
 
     ghost Value = { Identity };
 
-    ghost view = { λ b. b.turn };
+    ghost view = { λ b. b.shared.turn };
 
-    ghost invariant = { λ b. Opens b.turn.opening };
+    ghost invariant = { λ b. Opens b.shared.turn.opening };
 }
 
 impl<K: Keeper> Book<K> {
@@ -86,11 +84,12 @@ impl<K: Keeper> Book<K> {
                     badge: seat.into_badge(),
                     caller: 0,
                 };
-                let book = Book {
+                let shared = Shared {
                     turn,
                     bell: Bell::new(),
                     alloc,
                 };
+                let book = Book { shared };
                 Ok(Opened { book, pass })
             }
             Err(held) => Err(held.into_keeper()),
@@ -99,7 +98,7 @@ impl<K: Keeper> Book<K> {
 
     /// Counts the entries that somebody waits for.
     pub fn bell(&self) -> &Bell {
-        &self.bell
+        &self.shared.bell
     }
 
     /// Ends the book, and hands out the whole history.
@@ -108,11 +107,12 @@ impl<K: Keeper> Book<K> {
         ensures { Closes K.held K.faults self.opening last result }
     {
         let Spent { badge } = last;
-        let Book {
+        let Book { shared } = self;
+        let Shared {
             turn,
             bell: _,
             alloc: _,
-        } = self;
+        } = shared;
         let Held {
             manager,
             trail,
@@ -141,15 +141,14 @@ impl<K: Keeper> Book<K> {
         requires alone { root.alone ≡ true }
         ensures book { IfOk result (IsOf self.now) }
         ensures ok { IfOk result (BecomesCaller self.now.opening root moment principal) }
+        ensures keeps { IfOk result (KeepsAll self.now.opening root) }
         ensures back { IfErr result (λ e. IsOf self.now e.root) }
         ensures learnt { IfErr result (λ e. Learnt self.now.opening root e.root) }
+        ensures keeps_back { IfErr result (λ e. KeepsAll self.now.opening root e.root) }
         ensures cause { IfErr result (λ e. JoinCause self.now.opening e.root principal e.fault) }
     {
         let Pass { mut badge, caller } = root;
-        let joined = join_by(
-            rt, &self.turn, &self.bell, self.alloc, &mut badge, moment, principal,
-        );
-        match joined {
+        match self.shared.join_by(rt, moment, principal, &mut badge) {
             Ok(caller) => Ok(Pass { badge, caller }),
             Err(fault) => Err(NotJoined {
                 fault,
@@ -170,38 +169,52 @@ impl<K: Keeper> Book<K> {
         requires book { IsOf self.now by.old }
         ensures by_book { IsOf self.now by.new }
         ensures by { Watches self.now.opening by.old by.new }
+        ensures keeps { KeepsAll self.now.opening by.old by.new }
         ensures book { IfOk result (IsOf self.now) }
         ensures ok { IfOk result (Joins self.now.opening by.old moment principal by.new) }
         ensures cause { IfErr result (JoinCause self.now.opening by.new principal) }
     {
-        join_beside(
-            rt,
-            &self.turn,
-            &self.bell,
-            self.alloc,
-            &mut by.badge,
-            moment,
-            principal,
-        )
+        self.shared
+            .join_beside(rt, moment, principal, &mut by.badge)
     }
 
     /// A pass that is nobody's, which has seen as much as `by`. It takes no memory and no turn.
     pub fn join_runner(&self, by: &mut Pass) -> Pass
         requires { IsOf self.now by.old }
         ensures by { by.new ≡ accompanied by.old }
+        ensures keeps { KeepsAll self.now.opening by.old by.new }
         ensures runner { result ≡ fresh by.old }
     {
-        accompany(&self.turn, &mut by.badge)
+        self.shared.accompany(&mut by.badge)
     }
 
     /// Takes a spent pass in. It takes no turn.
     pub fn leave(&self, by: &mut Pass, spent: Spent)
         requires by { IsOf self.now by.old }
         requires spent { IsOf self.now spent }
-        ensures { TakesIn by.old spent by.new }
+        ensures takes { TakesIn by.old spent by.new }
+        ensures keeps { KeepsAll self.now.opening by.old by.new }
     {
         let Spent { badge } = spent;
-        take_in(&self.turn, &mut by.badge, badge);
+        self.shared.take_in(&mut by.badge, badge);
+    }
+
+    /// Makes a caller's call.
+    fn ask<R: Wait>(&self, rt: &R, pass: &mut Pass, moment: u64, request: Request) -> Asked
+        requires book { IsOf self.now pass.old }
+        requires caller { pass.old.caller ≢ 0 }
+        requires ranged { IsTrue (in_range request) }
+        ensures book { IsOf self.now pass.new }
+        ensures opens { Opens self.now.opening }
+        ensures asks { Asks self.now.opening pass.old moment request pass.new result }
+    {
+        let refusal = refused(self.shared.alloc, &request, ERROR_NOT_ENOUGH_MEMORY);
+        let caller = pass.caller;
+        let call = called(self.shared.alloc, caller, request);
+        let ended = self
+            .shared
+            .call_by(rt, moment, call, caller, &mut pass.badge);
+        Asked { ended, refusal }
     }
 
     /// Makes a call that is no start. What it is told is the answer of its entry, which stands at
@@ -215,19 +228,7 @@ impl<K: Keeper> Book<K> {
         ensures calls { Calls self.now.opening pass.old moment request pass.new result }
         ensures keeps { KeepsAll self.now.opening pass.old pass.new }
     {
-        let refusal = refused(self.alloc, &request, ERROR_NOT_ENOUGH_MEMORY);
-        let call = called(self.alloc, pass.caller, request);
-        let caller = pass.caller;
-        let ended = call_by(
-            rt,
-            &self.turn,
-            &self.bell,
-            &mut pass.badge,
-            moment,
-            caller,
-            call,
-        );
-        call_end(ended, refusal)
+        call_end(self.ask(rt, pass, moment, request))
     }
 
     /// Begins a start. What it is told is the answer of its entry, as with `call`.
@@ -246,19 +247,7 @@ impl<K: Keeper> Book<K> {
         ensures starts { Starts self.now.opening pass.old moment request pass.new result }
         ensures keeps { KeepsAll self.now.opening pass.old pass.new }
     {
-        let refusal = refused(self.alloc, &request, ERROR_NOT_ENOUGH_MEMORY);
-        let call = called(self.alloc, pass.caller, request);
-        let caller = pass.caller;
-        let ended = call_by(
-            rt,
-            &self.turn,
-            &self.bell,
-            &mut pass.badge,
-            moment,
-            caller,
-            call,
-        );
-        start_end(ended, refusal)
+        start_end(self.ask(rt, pass, moment, request))
     }
 
     /// Looks whether a start that waits is decided, and answers it if so. It takes no memory.
@@ -270,15 +259,9 @@ impl<K: Keeper> Book<K> {
         ensures keeps { EndKeeps self.now.opening plan pass.old pass.new result }
     {
         let caller = pass.caller;
-        let ended = end_by(
-            rt,
-            &self.turn,
-            &self.bell,
-            &mut pass.badge,
-            moment,
-            caller,
-            plan,
-        );
+        let ended = self
+            .shared
+            .end_by(rt, moment, plan, caller, &mut pass.badge);
         end_look(ended)
     }
 
@@ -292,14 +275,8 @@ impl<K: Keeper> Book<K> {
         if caller == 0 {
             return Spent { badge };
         }
-        let _done = owe_by(
-            rt,
-            &self.turn,
-            &self.bell,
-            &mut badge,
-            moment,
-            Owed::Gone { caller },
-        );
+        let gone = Owed::Gone { caller };
+        let _done = self.shared.owe_by(rt, moment, gone, &mut badge);
         Spent { badge }
     }
 }

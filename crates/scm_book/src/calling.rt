@@ -2,104 +2,104 @@
 ghost use Rattle.std.specs.Prelude.{◌≡◌};
 ghost use Rattle.scm_model.specs.declared.steps.Answer.TheVariants as answers;
 ghost use Rattle.scm_model.specs.declared.steps.Step.TheVariants as steps;
-ghost use Rattle.book_rule.specs.Seats.{Holding, Waits};
+ghost use Rattle.book_rule.specs.Seats.{Waits};
 ghost use Rattle.scm_book.specs.Called.{Begun, CallTold, IfTold, IsBegun, IsReply, StartTold};
-ghost use Rattle.scm_book.specs.Holds.{Holds, Runs};
-ghost use Rattle.scm_book.specs.Turns.{AlwaysMay, CallEndsBy, DidCall, DidNone, IsSeated};
+ghost use Rattle.scm_book.specs.Turns.{AlwaysMay, CallEndsBy, DidCall, DidNone, HasTurn, IsSeated};
 ghost use Rattle.scm_book.specs.Turns.{MayMakeBy, of_badge};
 
 use crate::answers::{CallEnd, StartEnd};
-use crate::bell::Bell;
 use crate::doubled::Doubled;
 use crate::fault::MakeFault;
 use crate::held::Held;
-use crate::turning::add_new;
+use crate::shared::Shared;
 use atomic_table::Badge;
-use book_rule::{Turn, TurnSeat, View};
+use book_rule::{TurnSeat, View};
 use record_journal::Keeper;
 use scm_model::{Answer, Reply, Step};
-use std::mem;
 use std::sync::Wait;
 
-/// Makes a step that tells that there was no memory for a caller's call, with the turn held.
-fn add_no_memory<K: Keeper, R: Wait>(
-    rt: &R,
-    turn: &Turn<Held<K>>,
-    bell: &Bell,
-    seat: &mut TurnSeat<Held<K>>,
-    held: Box<Held<K>>,
-    moment: u64,
-    caller: u64,
-) -> Result<Option<Answer>, MakeFault>
-    requires seat { Holding turn.now seat.old }
-    requires holds { Holds K.held K.faults turn.now.opening seat.old.me.0.seen held.value }
-    requires runs { Runs turn.now.opening seat.old.me.0.seen }
-    requires may { MayMakeBy turn.now.opening seat.old.me.0 moment (steps.NoMemory caller) }
-    ensures did { DidNone K.held K.faults turn.now seat.old seat.new moment caller result }
-    ensures waits { Waits turn.now seat.new }
-{
-    let none = Doubled::new(held.alloc, Step::NoMemory { caller });
-    match add_new(rt, turn, bell, seat, held, moment, none) {
-        Ok(_) => Ok(None),
-        Err(_) => Err(MakeFault::OutOfMemory),
+impl<K: Keeper> Shared<K> {
+    /// Makes a step that tells that there was no memory for a caller's call, with the turn held.
+    fn add_no_memory<R: Wait>(
+        &self,
+        rt: &R,
+        moment: u64,
+        caller: u64,
+        held: Box<Held<K>>,
+        seat: &mut TurnSeat<Held<K>>,
+    ) -> Result<Option<Answer>, MakeFault>
+        requires turn { HasTurn K.held K.faults self.now.turn seat.old held.value }
+        requires may { MayMakeBy self.now.turn.opening seat.old.me.0 moment (steps.NoMemory caller) }
+        ensures did { DidNone K.held K.faults self.now.turn seat.old seat.new moment caller result }
+        ensures waits { Waits self.now.turn seat.new }
+    {
+        let none = Doubled::new(self.alloc, Step::NoMemory { caller });
+        match self.add_new(rt, moment, none, held, seat) {
+            Ok(_) => Ok(None),
+            Err(_) => Err(MakeFault::OutOfMemory),
+        }
+    }
+
+    /// Makes a caller's call, with the turn held. Where there is no memory for it, that stands in
+    /// its place, and none is told.
+    fn add_call<R: Wait>(
+        &self,
+        rt: &R,
+        moment: u64,
+        call: Doubled,
+        by: u64,
+        mut held: Box<Held<K>>,
+        seat: &mut TurnSeat<Held<K>>,
+    ) -> Result<Option<Answer>, MakeFault>
+        requires turn { HasTurn K.held K.faults self.now.turn seat.old held.value }
+        requires may { MayMakeBy self.now.turn.opening seat.old.me.0 moment call.step }
+        requires none { MayMakeBy self.now.turn.opening seat.old.me.0 moment (steps.NoMemory by) }
+        ensures did { DidCall K.held K.faults self.now.turn seat.old seat.new moment by call.step result }
+        ensures waits { Waits self.now.turn seat.new }
+    {
+        match held.make_doubled(moment, call) {
+            Ok(told) => {
+                self.turn.commit(rt, seat, held);
+                self.bell.ring(rt);
+                Ok(Some(told))
+            }
+            Err(MakeFault::Full) => {
+                self.turn.give_back(rt, seat, held);
+                Err(MakeFault::Full)
+            }
+            Err(MakeFault::OutOfMemory) => self.add_no_memory(rt, moment, by, held, seat),
+        }
+    }
+
+    /// Makes a caller's call at the end of the history; none is told where there was no memory for
+    /// it.
+    pub fn call_by<R: Wait>(
+        &self,
+        rt: &R,
+        moment: u64,
+        call: Doubled,
+        caller: u64,
+        badge: &mut Badge<View>,
+    ) -> Result<Option<Answer>, MakeFault>
+        requires badge { IsSeated self.now.turn badge.old }
+        requires may { AlwaysMay self.now.turn.opening (of_badge badge.old) moment call.step }
+        requires none { AlwaysMay self.now.turn.opening (of_badge badge.old) moment (steps.NoMemory caller) }
+        ensures badge { IsSeated self.now.turn badge.new }
+        ensures ends { CallEndsBy self.now.turn.opening badge.old moment caller call.step badge.new result }
+    {
+        let mut seat = self.sit(badge);
+        let held = self.turn.enter(rt, &mut seat);
+        let ended = self.add_call(rt, moment, call, caller, held, &mut seat);
+        *badge = self.stand(seat);
+        ended
     }
 }
 
-/// Makes a caller's call, with the turn held. Where there is no memory for it, that stands in its
-/// place, and none is told.
-fn add_call<K: Keeper, R: Wait>(
-    rt: &R,
-    turn: &Turn<Held<K>>,
-    bell: &Bell,
-    seat: &mut TurnSeat<Held<K>>,
-    mut held: Box<Held<K>>,
-    moment: u64,
-    by: u64,
-    call: Doubled,
-) -> Result<Option<Answer>, MakeFault>
-    requires seat { Holding turn.now seat.old }
-    requires holds { Holds K.held K.faults turn.now.opening seat.old.me.0.seen held.value }
-    requires runs { Runs turn.now.opening seat.old.me.0.seen }
-    requires may { MayMakeBy turn.now.opening seat.old.me.0 moment call.step }
-    requires none { MayMakeBy turn.now.opening seat.old.me.0 moment (steps.NoMemory by) }
-    ensures did { DidCall K.held K.faults turn.now seat.old seat.new moment by call.step result }
-    ensures waits { Waits turn.now seat.new }
-{
-    match held.make_doubled(moment, call) {
-        Ok(told) => {
-            turn.commit(rt, seat, held);
-            bell.ring(rt);
-            Ok(Some(told))
-        }
-        Err(MakeFault::Full) => {
-            turn.give_back(rt, seat, held);
-            Err(MakeFault::Full)
-        }
-        Err(MakeFault::OutOfMemory) => add_no_memory(rt, turn, bell, seat, held, moment, by),
-    }
-}
-
-/// Makes a caller's call at the end of the history; none is told where there was no memory for it.
-pub fn call_by<K: Keeper, R: Wait>(
-    rt: &R,
-    turn: &Turn<Held<K>>,
-    bell: &Bell,
-    badge: &mut Badge<View>,
-    moment: u64,
-    caller: u64,
-    call: Doubled,
-) -> Result<Option<Answer>, MakeFault>
-    requires badge { IsSeated turn.now badge.old }
-    requires may { AlwaysMay turn.now.opening (of_badge badge.old) moment call.step }
-    requires none { AlwaysMay turn.now.opening (of_badge badge.old) moment (steps.NoMemory caller) }
-    ensures badge { IsSeated turn.now badge.new }
-    ensures ends { CallEndsBy turn.now.opening badge.old moment caller call.step badge.new result }
-{
-    let mut seat = mem::replace(badge, Badge::blank()).into_seat();
-    let held = turn.enter(rt, &mut seat);
-    let ended = add_call(rt, turn, bell, &mut seat, held, moment, caller, call);
-    *badge = seat.into_badge();
-    ended
+/// What a caller's call comes to, and its refusal with 8, for where there was no memory for it.
+#[derive(Drop)]
+pub struct Asked {
+    pub ended: Result<Option<Answer>, MakeFault>,
+    pub refusal: Reply,
 }
 
 /// The reply in an answer that is one.
@@ -126,10 +126,11 @@ fn begun_of(told: Answer) -> StartEnd
 }
 
 /// What a call that is no start comes to. Where there was no memory for it, it is refused.
-pub fn call_end(ended: Result<Option<Answer>, MakeFault>, refusal: Reply) -> CallEnd
-    requires { IfTold IsReply ended }
-    ensures { CallTold ended refusal result }
+pub fn call_end(asked: Asked) -> CallEnd
+    requires { IfTold IsReply asked.ended }
+    ensures { CallTold asked.ended asked.refusal result }
 {
+    let Asked { ended, refusal } = asked;
     match ended {
         Ok(Some(told)) => CallEnd::Answered(reply_of(told)),
         Ok(None) => CallEnd::Answered(refusal),
@@ -139,10 +140,11 @@ pub fn call_end(ended: Result<Option<Answer>, MakeFault>, refusal: Reply) -> Cal
 }
 
 /// What a start comes to. Where there was no memory for it, it is refused.
-pub fn start_end(ended: Result<Option<Answer>, MakeFault>, refusal: Reply) -> StartEnd
-    requires { IfTold IsBegun ended }
-    ensures { StartTold ended refusal result }
+pub fn start_end(asked: Asked) -> StartEnd
+    requires { IfTold IsBegun asked.ended }
+    ensures { StartTold asked.ended asked.refusal result }
 {
+    let Asked { ended, refusal } = asked;
     match ended {
         Ok(Some(told)) => begun_of(told),
         Ok(None) => StartEnd::Answered(refusal),

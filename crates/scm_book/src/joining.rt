@@ -6,21 +6,18 @@ ghost use Rattle.scm_book.specs.Holds.{Opens};
 ghost use Rattle.scm_book.specs.Joins.{JoinCause, JoinEndsAt, JoinEndsBy, JoinsBy, TakesIn};
 ghost use Rattle.scm_book.specs.Joins.{WatchesBy, accompanied, fresh};
 ghost use Rattle.scm_book.specs.Passes.{IsOf};
-ghost use Rattle.scm_book.specs.Turns.{IsSeated, of_badge};
+ghost use Rattle.scm_book.specs.Turns.{IsSeated, KeepsAllBy, of_badge};
 
 use crate::answers::JoinFault;
-use crate::bell::Bell;
 use crate::doubled::Doubled;
 use crate::fault::StepFault;
 use crate::held::Held;
 use crate::pass::Pass;
-use crate::turning::make_at;
+use crate::shared::Shared;
 use atomic_table::Badge;
-use book_rule::{Turn, TurnSeat, View};
+use book_rule::{TurnSeat, View};
 use record_journal::Keeper;
 use scm_model::{Answer, Principal, Step};
-use std::alloc::Global;
-use std::mem;
 use std::sync::Wait;
 
 /// The number in an answer that is a new caller's.
@@ -34,104 +31,105 @@ fn caller_of(told: Answer) -> u64
     number
 }
 
-/// Joins a caller on a seat, at the end of the history, and answers its number.
-fn join_at<K: Keeper, R: Wait>(
-    rt: &R,
-    turn: &Turn<Held<K>>,
-    bell: &Bell,
-    alloc: Global,
-    seat: &mut TurnSeat<Held<K>>,
-    moment: u64,
-    principal: Principal,
-) -> Result<u64, JoinFault>
-    requires seat { Waits turn.now seat.old }
-    requires opens { Opens turn.now.opening }
-    ensures seat { Waits turn.now seat.new }
-    ensures ends { JoinEndsAt turn.now.opening seat.old moment principal seat.new result }
-{
-    let joined = Doubled::new(alloc, Step::Joined { principal });
-    match make_at(rt, turn, bell, seat, moment, joined) {
-        Ok(told) => Ok(caller_of(told)),
-        Err(StepFault::NotNow) => Err(JoinFault::TooMany),
-        Err(StepFault::Full) => Err(JoinFault::Full),
-        Err(StepFault::OutOfMemory) => Err(JoinFault::OutOfMemory),
+impl<K: Keeper> Shared<K> {
+    /// Joins a caller on a seat, at the end of the history, and answers its number.
+    fn join_at<R: Wait>(
+        &self,
+        rt: &R,
+        moment: u64,
+        principal: Principal,
+        seat: &mut TurnSeat<Held<K>>,
+    ) -> Result<u64, JoinFault>
+        requires seat { Waits self.now.turn seat.old }
+        requires opens { Opens self.now.turn.opening }
+        ensures seat { Waits self.now.turn seat.new }
+        ensures ends { JoinEndsAt self.now.turn.opening seat.old moment principal seat.new result }
+    {
+        let joined = Doubled::new(self.alloc, Step::Joined { principal });
+        match self.make_at(rt, moment, joined, seat) {
+            Ok(told) => Ok(caller_of(told)),
+            Err(StepFault::NotNow) => Err(JoinFault::TooMany),
+            Err(StepFault::Full) => Err(JoinFault::Full),
+            Err(StepFault::OutOfMemory) => Err(JoinFault::OutOfMemory),
+        }
     }
-}
 
-/// Joins a caller on this very seat.
-pub fn join_by<K: Keeper, R: Wait>(
-    rt: &R,
-    turn: &Turn<Held<K>>,
-    bell: &Bell,
-    alloc: Global,
-    badge: &mut Badge<View>,
-    moment: u64,
-    principal: Principal,
-) -> Result<u64, JoinFault>
-    requires badge { IsSeated turn.now badge.old }
-    requires opens { Opens turn.now.opening }
-    ensures badge { IsSeated turn.now badge.new }
-    ensures ends { JoinEndsBy turn.now.opening badge.old moment principal badge.new result }
-{
-    let mut seat = mem::replace(badge, Badge::blank()).into_seat();
-    let joined = join_at(rt, turn, bell, alloc, &mut seat, moment, principal);
-    *badge = seat.into_badge();
-    joined
-}
-
-/// Joins a caller on a new seat, which has seen as much as `by`, and lets `by` see what that seat
-/// has then seen.
-pub fn join_beside<K: Keeper, R: Wait>(
-    rt: &R,
-    turn: &Turn<Held<K>>,
-    bell: &Bell,
-    alloc: Global,
-    by: &mut Badge<View>,
-    moment: u64,
-    principal: Principal,
-) -> Result<Pass, JoinFault>
-    requires badge { IsSeated turn.now by.old }
-    requires opens { Opens turn.now.opening }
-    ensures badge { IsSeated turn.now by.new }
-    ensures by { WatchesBy turn.now.opening by.old by.new }
-    ensures book { IfOk result (IsOf turn.now) }
-    ensures joins { IfOk result (JoinsBy turn.now.opening by.old moment principal by.new) }
-    ensures cause { IfErr result (JoinCause turn.now.opening (of_badge by.new) principal) }
-{
-    let mut mine = mem::replace(by, Badge::blank()).into_seat();
-    let mut seat = turn.fork(&mut mine);
-    let joined = join_at(rt, turn, bell, alloc, &mut seat, moment, principal);
-    let witness = turn.fork(&mut seat);
-    turn.merge(&mut mine, witness);
-    *by = mine.into_badge();
-    let badge = seat.into_badge();
-    match joined {
-        Ok(caller) => Ok(Pass { badge, caller }),
-        Err(fault) => Err(fault),
+    /// Joins a caller on this very seat.
+    pub fn join_by<R: Wait>(
+        &self,
+        rt: &R,
+        moment: u64,
+        principal: Principal,
+        badge: &mut Badge<View>,
+    ) -> Result<u64, JoinFault>
+        requires badge { IsSeated self.now.turn badge.old }
+        requires opens { Opens self.now.turn.opening }
+        ensures badge { IsSeated self.now.turn badge.new }
+        ensures ends { JoinEndsBy self.now.turn.opening badge.old moment principal badge.new result }
+    {
+        let mut seat = self.sit(badge);
+        let joined = self.join_at(rt, moment, principal, &mut seat);
+        *badge = self.stand(seat);
+        joined
     }
-}
 
-/// A pass that is nobody's, which has seen as much as `by`.
-pub fn accompany<K: Keeper>(turn: &Turn<Held<K>>, by: &mut Badge<View>) -> Pass
-    requires badge { IsSeated turn.now by.old }
-    ensures badge { IsSeated turn.now by.new }
-    ensures by { of_badge by.new ≡ accompanied (of_badge by.old) }
-    ensures runner { result ≡ fresh (of_badge by.old) }
-{
-    let mut mine = mem::replace(by, Badge::blank()).into_seat();
-    let badge = turn.fork(&mut mine).into_badge();
-    *by = mine.into_badge();
-    Pass { badge, caller: 0 }
-}
+    /// Joins a caller on a new seat, which has seen as much as `by`, and lets `by` see what that
+    /// seat has then seen.
+    pub fn join_beside<R: Wait>(
+        &self,
+        rt: &R,
+        moment: u64,
+        principal: Principal,
+        by: &mut Badge<View>,
+    ) -> Result<Pass, JoinFault>
+        requires badge { IsSeated self.now.turn by.old }
+        requires opens { Opens self.now.turn.opening }
+        ensures badge { IsSeated self.now.turn by.new }
+        ensures by { WatchesBy self.now.turn.opening by.old by.new }
+        ensures keeps { KeepsAllBy self.now.turn.opening by.old by.new }
+        ensures book { IfOk result (IsOf self.now.turn) }
+        ensures joins { IfOk result (JoinsBy self.now.turn.opening by.old moment principal by.new) }
+        ensures cause { IfErr result (JoinCause self.now.turn.opening (of_badge by.new) principal) }
+    {
+        let mut mine = self.sit(by);
+        let mut seat = self.turn.fork(&mut mine);
+        let joined = self.join_at(rt, moment, principal, &mut seat);
+        let witness = self.turn.fork(&mut seat);
+        self.turn.merge(&mut mine, witness);
+        *by = self.stand(mine);
+        let badge = self.stand(seat);
+        match joined {
+            Ok(caller) => Ok(Pass { badge, caller }),
+            Err(fault) => Err(fault),
+        }
+    }
 
-/// Takes a token in, which is then spent.
-pub fn take_in<K: Keeper>(turn: &Turn<Held<K>>, by: &mut Badge<View>, spent: Badge<View>)
-    requires badge { IsSeated turn.now by.old }
-    requires spent { IsSeated turn.now spent }
-    ensures badge { IsSeated turn.now by.new }
-    ensures takes { TakesIn (of_badge by.old) (of_badge spent) (of_badge by.new) }
-{
-    let mut mine = mem::replace(by, Badge::blank()).into_seat();
-    turn.merge(&mut mine, spent.into_seat());
-    *by = mine.into_badge();
+    /// A pass that is nobody's, which has seen as much as `by`.
+    pub fn accompany(&self, by: &mut Badge<View>) -> Pass
+        requires badge { IsSeated self.now.turn by.old }
+        ensures badge { IsSeated self.now.turn by.new }
+        ensures by { of_badge by.new ≡ accompanied (of_badge by.old) }
+        ensures runner { result ≡ fresh (of_badge by.old) }
+    {
+        let mut mine = self.sit(by);
+        let runner = self.turn.fork(&mut mine);
+        *by = self.stand(mine);
+        let badge = self.stand(runner);
+        Pass { badge, caller: 0 }
+    }
+
+    /// Takes a token in, which is then spent.
+    pub fn take_in(&self, by: &mut Badge<View>, mut spent: Badge<View>)
+        requires badge { IsSeated self.now.turn by.old }
+        requires spent { IsSeated self.now.turn spent }
+        requires opens { Opens self.now.turn.opening }
+        ensures badge { IsSeated self.now.turn by.new }
+        ensures keeps { KeepsAllBy self.now.turn.opening by.old by.new }
+        ensures takes { TakesIn (of_badge by.old) (of_badge spent) (of_badge by.new) }
+    {
+        let mut mine = self.sit(by);
+        let other = self.sit(&mut spent);
+        self.turn.merge(&mut mine, other);
+        *by = self.stand(mine);
+    }
 }

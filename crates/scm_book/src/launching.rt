@@ -1,20 +1,18 @@
 // The launch that is wanted first is taken in hand, and its line handed out.
 ghost use Rattle.std.specs.Prelude.{◌≡◌, ◌≤◌, ◌<◌, ◌+◌, ◌^◌, [], IfOk, IsTrue};
 ghost use Rattle.scm_rules.specs.Steps.{wants_launch};
-ghost use Rattle.book_rule.specs.Seats.{Holding, Waits};
-ghost use Rattle.scm_book.specs.Holds.{Holds, Runs};
+ghost use Rattle.book_rule.specs.Seats.{Waits};
 ghost use Rattle.scm_book.specs.Processes.{DidLaunch, HoldsLaunch, TakesBy};
-ghost use Rattle.scm_book.specs.Turns.{IsSeated, of_badge};
+ghost use Rattle.scm_book.specs.Turns.{HasTurn, IsSeated, of_badge};
 
-use crate::bell::Bell;
 use crate::held::Held;
+use crate::shared::Shared;
 use atomic_table::Badge;
-use book_rule::{Turn, TurnSeat, View};
+use book_rule::{TurnSeat, View};
 use record_journal::Keeper;
 use scm_model::Step;
 use scm_text::{Items, OutOfMemory, TextRoom, WText};
 use std::alloc::Global;
-use std::mem;
 use std::sync::Wait;
 
 /// How many units a path may have.
@@ -69,49 +67,47 @@ impl<K: Keeper> Held<K> {
     }
 }
 
-/// Takes the launch that is wanted first in hand, with the turn held.
-fn add_taken<K: Keeper, R: Wait>(
-    rt: &R,
-    turn: &Turn<Held<K>>,
-    bell: &Bell,
-    seat: &mut TurnSeat<Held<K>>,
-    mut held: Box<Held<K>>,
-    moment: u64,
-    path: &mut TextRoom,
-) -> Option<TakenLaunch>
-    requires seat { Holding turn.now seat.old }
-    requires holds { Holds K.held K.faults turn.now.opening seat.old.me.0.seen held.value }
-    requires runs { Runs turn.now.opening seat.old.me.0.seen }
-    requires path { 2048 ≤ path.old.room }
-    ensures did { DidLaunch K.held K.faults turn.now seat.old seat.new moment path.old path.new result }
-    ensures waits { Waits turn.now seat.new }
-{
-    let Some(taken) = held.take_launch(moment, path) else {
-        turn.give_back(rt, seat, held);
-        return None;
-    };
-    turn.commit(rt, seat, held);
-    bell.ring(rt);
-    Some(taken)
-}
+impl<K: Keeper> Shared<K> {
+    /// Takes the launch that is wanted first in hand, with the turn held.
+    fn add_taken<R: Wait>(
+        &self,
+        rt: &R,
+        moment: u64,
+        path: &mut TextRoom,
+        mut held: Box<Held<K>>,
+        seat: &mut TurnSeat<Held<K>>,
+    ) -> Option<TakenLaunch>
+        requires turn { HasTurn K.held K.faults self.now.turn seat.old held.value }
+        requires path { 2048 ≤ path.old.room }
+        ensures did { DidLaunch K.held K.faults self.now.turn seat.old seat.new moment path.old path.new result }
+        ensures waits { Waits self.now.turn seat.new }
+    {
+        let Some(taken) = held.take_launch(moment, path) else {
+            self.turn.give_back(rt, seat, held);
+            return None;
+        };
+        self.turn.commit(rt, seat, held);
+        self.bell.ring(rt);
+        Some(taken)
+    }
 
-/// Takes the launch that is wanted first in hand, at the end of the history.
-pub fn take_by<K: Keeper, R: Wait>(
-    rt: &R,
-    turn: &Turn<Held<K>>,
-    bell: &Bell,
-    badge: &mut Badge<View>,
-    moment: u64,
-    path: &mut TextRoom,
-) -> Option<TakenLaunch>
-    requires badge { IsSeated turn.now badge.old }
-    requires path { 2048 ≤ path.old.room }
-    ensures badge { IsSeated turn.now badge.new }
-    ensures takes { TakesBy turn.now.opening (of_badge badge.old) moment path.old path.new result (of_badge badge.new) }
-{
-    let mut seat = mem::replace(badge, Badge::blank()).into_seat();
-    let held = turn.enter(rt, &mut seat);
-    let taken = add_taken(rt, turn, bell, &mut seat, held, moment, path);
-    *badge = seat.into_badge();
-    taken
+    /// Takes the launch that is wanted first in hand, at the end of the history.
+    pub fn take_by<R: Wait>(
+        &self,
+        rt: &R,
+        moment: u64,
+        path: &mut TextRoom,
+        badge: &mut Badge<View>,
+    ) -> Option<TakenLaunch>
+        requires badge { IsSeated self.now.turn badge.old }
+        requires path { 2048 ≤ path.old.room }
+        ensures badge { IsSeated self.now.turn badge.new }
+        ensures takes { TakesBy self.now.turn.opening (of_badge badge.old) moment path.old path.new result (of_badge badge.new) }
+    {
+        let mut seat = self.sit(badge);
+        let held = self.turn.enter(rt, &mut seat);
+        let taken = self.add_taken(rt, moment, path, held, &mut seat);
+        *badge = self.stand(seat);
+        taken
+    }
 }

@@ -19,6 +19,8 @@ mod laws;
 mod owed;
 mod pass;
 mod processes;
+mod reporting;
+mod shared;
 mod turning;
 
 pub use answers::{CallEnd, EndLook, JoinFault, NotJoined, StartEnd};
@@ -32,3 +34,4 @@ pub use laws::{each_entry_follows, standing_is_kept};
 pub use owed::Owed;
 pub use pass::{Pass, Spent};
 pub use processes::{EndedEnd, LaunchLook};
+pub use reporting::{ControlLook, ReportEnd, TickEnd};

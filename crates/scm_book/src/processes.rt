@@ -3,14 +3,13 @@ ghost use Rattle.std.specs.Prelude.{◌≡◌, ◌≢◌, ◌≤◌};
 ghost use Rattle.scm_model.specs.declared.flat.Phase.TheVariants as phases;
 ghost use Rattle.scm_model.specs.declared.steps.Answer.TheVariants as answers;
 ghost use Rattle.scm_model.specs.declared.steps.Step.TheVariants as steps;
-ghost use Rattle.scm_book.specs.Passes.{HoldsProcess, IsOf, Made};
+ghost use Rattle.scm_book.specs.Passes.{HoldsProcess, IsOf, KeepsAll, Made};
 ghost use Rattle.scm_book.specs.Processes.{EndedSo, IsEnd, KeepsAllBut, LaunchEnds, told_of_end};
 
 use crate::book::Book;
-use crate::launching::{LaunchRoom, TakenLaunch, take_by};
+use crate::launching::{LaunchRoom, TakenLaunch};
 use crate::owed::Owed;
 use crate::pass::Pass;
-use crate::turning::owe_by;
 use record_journal::Keeper;
 use scm_model::Answer;
 use std::sync::Wait;
@@ -47,9 +46,12 @@ impl<K: Keeper> Book<K> {
         ensures book { IsOf self.now pass.new }
         ensures look { LaunchEnds self.now.opening pass.old moment room.old room.new result pass.new }
         ensures path { room.new.path.room ≡ room.old.path.room }
+        ensures keeps { KeepsAll self.now.opening pass.old pass.new }
     {
-        let (turn, bell) = (&self.turn, &self.bell);
-        let Some(taken) = take_by(rt, turn, bell, &mut pass.badge, moment, &mut room.path) else {
+        let Some(taken) = self
+            .shared
+            .take_by(rt, moment, &mut room.path, &mut pass.badge)
+        else {
             return LaunchLook::Empty;
         };
         let TakenLaunch { process, words } = taken;
@@ -68,14 +70,7 @@ impl<K: Keeper> Book<K> {
         ensures rest { KeepsAllBut self.now.opening process pass.old pass.new }
     {
         let launched = Owed::Launched { process, pid };
-        let _done = owe_by(
-            rt,
-            &self.turn,
-            &self.bell,
-            &mut pass.badge,
-            moment,
-            launched,
-        );
+        let _done = self.shared.owe_by(rt, moment, launched, &mut pass.badge);
     }
 
     /// The process that the pass took in hand could not be launched, for this error of the system.
@@ -96,7 +91,7 @@ impl<K: Keeper> Book<K> {
         ensures rest { KeepsAllBut self.now.opening process pass.old pass.new }
     {
         let failed = Owed::LaunchFailed { process, code };
-        let _done = owe_by(rt, &self.turn, &self.bell, &mut pass.badge, moment, failed);
+        let _done = self.shared.owe_by(rt, moment, failed, &mut pass.badge);
     }
 
     /// The process has ended. That always takes place.
@@ -108,7 +103,7 @@ impl<K: Keeper> Book<K> {
         ensures rest { KeepsAllBut self.now.opening process pass.old pass.new }
     {
         let ended = Owed::Ended { process };
-        let told = owe_by(rt, &self.turn, &self.bell, &mut pass.badge, moment, ended);
+        let told = self.shared.owe_by(rt, moment, ended, &mut pass.badge);
         end_of(told)
     }
 }

@@ -1,162 +1,150 @@
 // Steps that are made at the end of the history, with the turn held and by who asks for it.
 ghost use Rattle.std.specs.Prelude.{◌≡◌, IfErr, IfOk, OnErr};
-ghost use Rattle.book_rule.specs.Seats.{Holding, Waits};
-ghost use Rattle.scm_book.specs.Holds.{Holds, Runs};
+ghost use Rattle.book_rule.specs.Seats.{Waits};
 ghost use Rattle.scm_book.specs.Steps.{owed_step};
-ghost use Rattle.scm_book.specs.Turns.{AlwaysMay, DidBy, DidSoBy, DidStep, IsSeated, LeftIt};
-ghost use Rattle.scm_book.specs.Turns.{MadeBy, MakeCause, MayMakeBy, NamesNoOther, StepEndsAt};
-ghost use Rattle.scm_book.specs.Turns.{StepEndsBy, of_badge};
+ghost use Rattle.scm_book.specs.Turns.{AlwaysMay, DidBy, DidSoBy, DidStep, HasTurn, IsSeated};
+ghost use Rattle.scm_book.specs.Turns.{LeftIt, MadeBy, MakeCause, MayMakeBy, NamesNoOther};
+ghost use Rattle.scm_book.specs.Turns.{StepEndsAt, StepEndsBy, of_badge};
 
-use crate::bell::Bell;
 use crate::doubled::Doubled;
 use crate::fault::{MakeFault, StepFault};
 use crate::held::Held;
 use crate::owed::Owed;
+use crate::shared::Shared;
 use atomic_table::Badge;
-use book_rule::{Turn, TurnSeat, View};
+use book_rule::{TurnSeat, View};
 use record_journal::Keeper;
 use scm_model::Answer;
-use std::mem;
 use std::sync::Wait;
 
-/// Makes a step that is owed, with the turn held.
-pub fn add_owed<K: Keeper, R: Wait>(
-    rt: &R,
-    turn: &Turn<Held<K>>,
-    bell: &Bell,
-    seat: &mut TurnSeat<Held<K>>,
-    mut held: Box<Held<K>>,
-    moment: u64,
-    owed: Owed,
-) -> Answer
-    requires seat { Holding turn.now seat.old }
-    requires holds { Holds K.held K.faults turn.now.opening seat.old.me.0.seen held.value }
-    requires runs { Runs turn.now.opening seat.old.me.0.seen }
-    requires may { MayMakeBy turn.now.opening seat.old.me.0 moment (owed_step owed) }
-    ensures did { DidBy K.held K.faults turn.now seat.old seat.new moment (owed_step owed) result }
-    ensures waits { Waits turn.now seat.new }
-{
-    let told = held.add(moment, owed);
-    turn.commit(rt, seat, held);
-    bell.ring(rt);
-    told
-}
+impl<K: Keeper> Shared<K> {
+    /// Makes a step that is owed, with the turn held.
+    pub fn add_owed<R: Wait>(
+        &self,
+        rt: &R,
+        moment: u64,
+        owed: Owed,
+        mut held: Box<Held<K>>,
+        seat: &mut TurnSeat<Held<K>>,
+    ) -> Answer
+        requires turn { HasTurn K.held K.faults self.now.turn seat.old held.value }
+        requires may { MayMakeBy self.now.turn.opening seat.old.me.0 moment (owed_step owed) }
+        ensures did { DidBy K.held K.faults self.now.turn seat.old seat.new moment (owed_step owed) result }
+        ensures waits { Waits self.now.turn seat.new }
+    {
+        let told = held.add(moment, owed);
+        self.turn.commit(rt, seat, held);
+        self.bell.ring(rt);
+        told
+    }
 
-/// Makes a step that is owed, at the end of the history.
-pub fn owe_by<K: Keeper, R: Wait>(
-    rt: &R,
-    turn: &Turn<Held<K>>,
-    bell: &Bell,
-    badge: &mut Badge<View>,
-    moment: u64,
-    owed: Owed,
-) -> Answer
-    requires badge { IsSeated turn.now badge.old }
-    requires may { AlwaysMay turn.now.opening (of_badge badge.old) moment (owed_step owed) }
-    ensures badge { IsSeated turn.now badge.new }
-    ensures made { MadeBy turn.now.opening badge.old moment (owed_step owed) result badge.new }
-{
-    let mut seat = mem::replace(badge, Badge::blank()).into_seat();
-    let held = turn.enter(rt, &mut seat);
-    let told = add_owed(rt, turn, bell, &mut seat, held, moment, owed);
-    *badge = seat.into_badge();
-    told
-}
+    /// Makes a step that is owed, at the end of the history.
+    pub fn owe_by<R: Wait>(
+        &self,
+        rt: &R,
+        moment: u64,
+        owed: Owed,
+        badge: &mut Badge<View>,
+    ) -> Answer
+        requires badge { IsSeated self.now.turn badge.old }
+        requires may { AlwaysMay self.now.turn.opening (of_badge badge.old) moment (owed_step owed) }
+        ensures badge { IsSeated self.now.turn badge.new }
+        ensures made { MadeBy self.now.turn.opening badge.old moment (owed_step owed) result badge.new }
+    {
+        let mut seat = self.sit(badge);
+        let held = self.turn.enter(rt, &mut seat);
+        let told = self.add_owed(rt, moment, owed, held, &mut seat);
+        *badge = self.stand(seat);
+        told
+    }
 
-/// Makes a step that may come and isn't owed, with the turn held.
-pub fn add_new<K: Keeper, R: Wait>(
-    rt: &R,
-    turn: &Turn<Held<K>>,
-    bell: &Bell,
-    seat: &mut TurnSeat<Held<K>>,
-    mut held: Box<Held<K>>,
-    moment: u64,
-    step: Doubled,
-) -> Result<Answer, MakeFault>
-    requires seat { Holding turn.now seat.old }
-    requires holds { Holds K.held K.faults turn.now.opening seat.old.me.0.seen held.value }
-    requires runs { Runs turn.now.opening seat.old.me.0.seen }
-    requires may { MayMakeBy turn.now.opening seat.old.me.0 moment step.step }
-    ensures ok { IfOk result (DidSoBy K.held K.faults turn.now seat.old seat.new moment step.step) }
-    ensures err { OnErr result (LeftIt seat.old seat.new) }
-    ensures why { IfErr result (MakeCause turn.now.opening seat.old.me.0.seen step.step) }
-    ensures waits { Waits turn.now seat.new }
-{
-    match held.make_doubled(moment, step) {
-        Ok(told) => {
-            turn.commit(rt, seat, held);
-            bell.ring(rt);
-            Ok(told)
-        }
-        Err(fault) => {
-            turn.give_back(rt, seat, held);
-            Err(fault)
+    /// Makes a step that may come and isn't owed, with the turn held.
+    pub fn add_new<R: Wait>(
+        &self,
+        rt: &R,
+        moment: u64,
+        step: Doubled,
+        mut held: Box<Held<K>>,
+        seat: &mut TurnSeat<Held<K>>,
+    ) -> Result<Answer, MakeFault>
+        requires turn { HasTurn K.held K.faults self.now.turn seat.old held.value }
+        requires may { MayMakeBy self.now.turn.opening seat.old.me.0 moment step.step }
+        ensures ok { IfOk result (DidSoBy K.held K.faults self.now.turn seat.old seat.new moment step.step) }
+        ensures err { OnErr result (LeftIt seat.old seat.new) }
+        ensures why { IfErr result (MakeCause self.now.turn.opening seat.old.me.0.seen step.step) }
+        ensures waits { Waits self.now.turn seat.new }
+    {
+        match held.make_doubled(moment, step) {
+            Ok(told) => {
+                self.turn.commit(rt, seat, held);
+                self.bell.ring(rt);
+                Ok(told)
+            }
+            Err(fault) => {
+                self.turn.give_back(rt, seat, held);
+                Err(fault)
+            }
         }
     }
-}
 
-/// Makes a step that isn't owed where it may come, with the turn held.
-fn add_where_it_may<K: Keeper, R: Wait>(
-    rt: &R,
-    turn: &Turn<Held<K>>,
-    bell: &Bell,
-    seat: &mut TurnSeat<Held<K>>,
-    held: Box<Held<K>>,
-    moment: u64,
-    step: Doubled,
-) -> Result<Answer, StepFault>
-    requires seat { Holding turn.now seat.old }
-    requires holds { Holds K.held K.faults turn.now.opening seat.old.me.0.seen held.value }
-    requires runs { Runs turn.now.opening seat.old.me.0.seen }
-    requires own { NamesNoOther seat.old.me.0.names step.step }
-    ensures did { DidStep K.held K.faults turn.now seat.old seat.new moment step.step result }
-    ensures waits { Waits turn.now seat.new }
-{
-    if !held.manager.may(moment, &step.step) {
-        turn.give_back(rt, seat, held);
-        return Err(StepFault::NotNow);
+    /// Makes a step that isn't owed where it may come, with the turn held.
+    pub fn add_where_it_may<R: Wait>(
+        &self,
+        rt: &R,
+        moment: u64,
+        step: Doubled,
+        held: Box<Held<K>>,
+        seat: &mut TurnSeat<Held<K>>,
+    ) -> Result<Answer, StepFault>
+        requires turn { HasTurn K.held K.faults self.now.turn seat.old held.value }
+        requires own { NamesNoOther seat.old.me.0.names step.step }
+        ensures did { DidStep K.held K.faults self.now.turn seat.old seat.new moment step.step result }
+        ensures waits { Waits self.now.turn seat.new }
+    {
+        if !held.manager.may(moment, &step.step) {
+            self.turn.give_back(rt, seat, held);
+            return Err(StepFault::NotNow);
+        }
+        match self.add_new(rt, moment, step, held, seat) {
+            Ok(told) => Ok(told),
+            Err(MakeFault::Full) => Err(StepFault::Full),
+            Err(MakeFault::OutOfMemory) => Err(StepFault::OutOfMemory),
+        }
     }
-    match add_new(rt, turn, bell, seat, held, moment, step) {
-        Ok(told) => Ok(told),
-        Err(MakeFault::Full) => Err(StepFault::Full),
-        Err(MakeFault::OutOfMemory) => Err(StepFault::OutOfMemory),
+
+    /// Makes a step that isn't owed where it may come, at the end of the history.
+    pub fn make_at<R: Wait>(
+        &self,
+        rt: &R,
+        moment: u64,
+        step: Doubled,
+        seat: &mut TurnSeat<Held<K>>,
+    ) -> Result<Answer, StepFault>
+        requires seat { Waits self.now.turn seat.old }
+        requires own { NamesNoOther seat.old.me.0.names step.step }
+        ensures seat { Waits self.now.turn seat.new }
+        ensures ends { StepEndsAt self.now.turn.opening seat.old moment step.step seat.new result }
+    {
+        let held = self.turn.enter(rt, seat);
+        self.add_where_it_may(rt, moment, step, held, seat)
     }
-}
 
-/// Makes a step that isn't owed where it may come, at the end of the history.
-pub fn make_at<K: Keeper, R: Wait>(
-    rt: &R,
-    turn: &Turn<Held<K>>,
-    bell: &Bell,
-    seat: &mut TurnSeat<Held<K>>,
-    moment: u64,
-    step: Doubled,
-) -> Result<Answer, StepFault>
-    requires seat { Waits turn.now seat.old }
-    requires own { NamesNoOther seat.old.me.0.names step.step }
-    ensures seat { Waits turn.now seat.new }
-    ensures ends { StepEndsAt turn.now.opening seat.old moment step.step seat.new result }
-{
-    let held = turn.enter(rt, seat);
-    add_where_it_may(rt, turn, bell, seat, held, moment, step)
-}
-
-/// The same by a token.
-pub fn make_by<K: Keeper, R: Wait>(
-    rt: &R,
-    turn: &Turn<Held<K>>,
-    bell: &Bell,
-    badge: &mut Badge<View>,
-    moment: u64,
-    step: Doubled,
-) -> Result<Answer, StepFault>
-    requires badge { IsSeated turn.now badge.old }
-    requires own { NamesNoOther (of_badge badge.old).names step.step }
-    ensures badge { IsSeated turn.now badge.new }
-    ensures ends { StepEndsBy turn.now.opening badge.old moment step.step badge.new result }
-{
-    let mut seat = mem::replace(badge, Badge::blank()).into_seat();
-    let ended = make_at(rt, turn, bell, &mut seat, moment, step);
-    *badge = seat.into_badge();
-    ended
+    /// The same by a token.
+    pub fn make_by<R: Wait>(
+        &self,
+        rt: &R,
+        moment: u64,
+        step: Doubled,
+        badge: &mut Badge<View>,
+    ) -> Result<Answer, StepFault>
+        requires badge { IsSeated self.now.turn badge.old }
+        requires own { NamesNoOther (of_badge badge.old).names step.step }
+        ensures badge { IsSeated self.now.turn badge.new }
+        ensures ends { StepEndsBy self.now.turn.opening badge.old moment step.step badge.new result }
+    {
+        let mut seat = self.sit(badge);
+        let ended = self.make_at(rt, moment, step, &mut seat);
+        *badge = self.stand(seat);
+        ended
+    }
 }

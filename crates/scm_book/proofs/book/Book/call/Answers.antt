@@ -1,32 +1,16 @@
-use Rattle.std.proofs.Common.{subst}
-use Rattle.book_rule.specs.Seats.{Identity}
-use Rattle.scm_book.specs.Called.{Calls}
-use Rattle.scm_book.specs.Passes.{KeepsAll}
-use Rattle.scm_book.specs.Turns.{of_badge}
-use Rattle.scm_book.proofs.CallsMade.{call_comes, is_reply_told}
-use Rattle.scm_book.proofs.Coming.{may_call, may_lack}
+use Rattle.scm_book.proofs.CallsMade.{call_comes, told_reply}
 use Rattle.scm_book.proofs.InHandStill.{calls_keep}
 use Rattle.scm_book.proofs.book.Book.call.Goals as goal
 
-pub call_by-ended-requires-clause-may : goal.call_by-ended-requires-clause-may
-call_by-ended-requires-clause-may g c =
-    may_call c.self.inside.turn.opening c.args.pass.now (of_badge c.pass.inside.badge) c.pass.view_is c.args.moment c.pass.inside.caller c.pass.invariant.whose c.requires.caller c.args.request c.called-call.result.step c.called-call.ensures c.requires.ranged
-
-pub call_by-ended-requires-clause-none : goal.call_by-ended-requires-clause-none
-call_by-ended-requires-clause-none g c =
-    may_lack c.self.inside.turn.opening c.args.pass.now (of_badge c.pass.inside.badge) c.pass.view_is c.args.moment c.pass.inside.caller c.pass.invariant.whose c.requires.caller
-
 pub call_end-requires : goal.call_end-requires
 call_end-requires g c =
-    is_reply_told c.self.inside.turn.opening c.self.invariant c.args.pass.now (of_badge c.pass.inside.badge) (of_badge c.call_by-ended.new.badge) c.pass.view_is c.args.moment c.pass.inside.caller c.args.request c.pass.invariant.whose c.called-call.result.step c.called-call.ensures c.call_by-ended.result c.call_by-ended.ensures.ends c.requires.start
+    told_reply c.args.self.now.opening c.ask.ensures.opens c.args.pass.now c.ask.new.pass c.args.moment c.args.request c.requires.start c.ask.result.ended c.ask.ensures.asks.ends
 
 pub returns-clause-calls : goal.returns-clause-calls
 returns-clause-calls g c =
-    subst (λ (b : Identity). Calls b.opening c.args.pass.now c.args.moment c.args.request (of_badge c.call_by-ended.new.badge) c.call_end.result) c.self.view_is
-    (call_comes c.self.inside.turn.opening c.self.invariant c.args.pass.now (of_badge c.pass.inside.badge) (of_badge c.call_by-ended.new.badge) c.pass.view_is c.args.moment c.pass.inside.caller c.args.request c.pass.invariant.whose c.called-call.result.step c.called-call.ensures c.call_by-ended.result c.call_by-ended.ensures.ends c.refused-refusal.result c.call_end.result c.refused-refusal.ensures c.call_end.ensures)
+    call_comes c.args.self.now.opening c.ask.ensures.opens c.args.pass.now c.ask.new.pass c.args.moment c.args.request c.ask.result c.call_end.result c.ask.ensures.asks c.call_end.ensures
 
 pub returns-clause-keeps : goal.returns-clause-keeps
 returns-clause-keeps g c =
-    subst (λ (b : Identity). KeepsAll b.opening c.args.pass.now (of_badge c.call_by-ended.new.badge)) c.self.view_is
-    (calls_keep c.self.inside.turn.opening c.self.invariant c.args.pass.now (of_badge c.call_by-ended.new.badge) c.args.moment c.args.request c.call_end.result
-    (call_comes c.self.inside.turn.opening c.self.invariant c.args.pass.now (of_badge c.pass.inside.badge) (of_badge c.call_by-ended.new.badge) c.pass.view_is c.args.moment c.pass.inside.caller c.args.request c.pass.invariant.whose c.called-call.result.step c.called-call.ensures c.call_by-ended.result c.call_by-ended.ensures.ends c.refused-refusal.result c.call_end.result c.refused-refusal.ensures c.call_end.ensures))
+    calls_keep c.args.self.now.opening c.ask.ensures.opens c.args.pass.now c.ask.new.pass c.args.moment c.args.request c.call_end.result
+    (call_comes c.args.self.now.opening c.ask.ensures.opens c.args.pass.now c.ask.new.pass c.args.moment c.args.request c.ask.result c.call_end.result c.ask.ensures.asks c.call_end.ensures)
