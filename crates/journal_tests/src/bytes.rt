@@ -117,6 +117,20 @@ fn adds(
     append(alloc, journal, keeper, change).is_ok() && end_in(alloc, keeper.bytes(), before, digits)
 }
 
+/// The header, and the entry of `removed`.
+const HEADER_AND_REMOVED: &str = "53434d4a01000000 03 08000000 02000000 4400 6200";
+
+/// The entry of `created`.
+const CREATED: &str =
+    "01 3d000000 01000000 4100 01000000 4100 10000000 03000000 01000000 02000000 2f00 6100 \
+     00000000 00000000 00000000 00000000 00000000 00000000 00000000 00";
+
+/// The entry of `changed`.
+const CHANGED: &str =
+    "02 5d000000 01000000 5700 01000000 5700 10000000 03000000 01000000 03000000 7800 2000 \
+     7900 01000000 4700 05010000 02000000 00 02000000 4400 6200 01 01000000 4e00 01000000 6400 \
+     ffffffff 01000000 01000000 e8030000 01000000 6300 01";
+
 #[test]
 fn entries_have_the_stated_bytes(rt: HostRuntime) -> Result<(), Fail> {
     let alloc = rt.alloc();
@@ -128,29 +142,10 @@ fn entries_have_the_stated_bytes(rt: HostRuntime) -> Result<(), Fail> {
             &mut journal,
             &mut keeper,
             removed(alloc),
-            "53434d4a01000000 03 08000000 02000000 4400 6200",
+            HEADER_AND_REMOVED
         )
     );
-    assert!(rt;
-        adds(
-            alloc,
-            &mut journal,
-            &mut keeper,
-            created(alloc),
-            "01 3d000000 01000000 4100 01000000 4100 10000000 03000000 01000000 02000000 2f00 6100 \
-         00000000 00000000 00000000 00000000 00000000 00000000 00000000 00",
-        )
-    );
-    assert!(rt;
-        adds(
-            alloc,
-            &mut journal,
-            &mut keeper,
-            changed(alloc),
-            "02 5d000000 01000000 5700 01000000 5700 10000000 03000000 01000000 03000000 7800 2000 \
-         7900 01000000 4700 05010000 02000000 00 02000000 4400 6200 01 01000000 4e00 01000000 6400 \
-         ffffffff 01000000 01000000 e8030000 01000000 6300 01",
-        )
-    );
+    assert!(rt; adds(alloc, &mut journal, &mut keeper, created(alloc), CREATED));
+    assert!(rt; adds(alloc, &mut journal, &mut keeper, changed(alloc), CHANGED));
     Ok(())
 }

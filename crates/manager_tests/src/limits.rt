@@ -21,26 +21,12 @@ pub const LIMITS: Limits = Limits {
 /// One service may be.
 pub const ONE: Limits = Limits {
     services: 1,
-    handles: 1024,
-    registrations: 64,
     callers: 64,
-    processes: 32,
-    controls: 16,
-    steps: 4_194_304,
-    text: 268_435_456,
+    ..LIMITS
 };
 
 /// Six steps may be made.
-pub const SIX_STEPS: Limits = Limits {
-    services: 512,
-    handles: 1024,
-    registrations: 64,
-    callers: 2,
-    processes: 32,
-    controls: 16,
-    steps: 6,
-    text: 268_435_456,
-};
+pub const SIX_STEPS: Limits = Limits { steps: 6, ..LIMITS };
 
 /// A manager without services and callers, at moment 0.
 pub fn new_manager(alloc: Global, limits: Limits) -> Result<Manager, OutOfMemory>
