@@ -95,6 +95,9 @@ impl Manager {
         })
     }
 
+    /// Lets the manager go, with all that it holds.
+    pub fn close(self) {}
+
     /// How many services there are.
     pub fn services(&self) -> u64
         ensures { result ≡ length self.now.flat.services }

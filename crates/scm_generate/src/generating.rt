@@ -42,7 +42,9 @@ fn summary_of(alloc: Global, limits: Limits, services: u32) -> Result<Items<u8>,
     ensures can { OnOk result (CanBeMade limits (opening limits [] [] 0) (generated services)) }
 {
     let mut run = Run::new(alloc, limits)?;
-    summed_up(&mut run, alloc, services)
+    let text = summed_up(&mut run, alloc, services);
+    run.close();
+    text
 }
 
 /// Makes the stated list of steps for so many services over a manager of its own, one step after

@@ -130,4 +130,9 @@ impl Run {
             self.manager.running(),
         )
     }
+
+    /// Lets the run go, and its manager.
+    pub fn close(self) {
+        self.manager.close();
+    }
 }

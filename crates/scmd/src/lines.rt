@@ -39,7 +39,9 @@ fn answer_lines<I: Source, O: Sink>(alloc: Global, input: &mut I, output: &mut O
     else {
         return Replayed::OutOfMemory;
     };
-    replay(alloc, &mut manager, input, output)
+    let how = replay(alloc, &mut manager, input, output);
+    manager.close();
+    how
 }
 
 /// The same, and gives the status of the program.

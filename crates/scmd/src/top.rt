@@ -52,7 +52,10 @@ fn joined<C: Clock>(
 {
     let mut manager = Manager::new(alloc, LIMITS, Items::new(alloc), Items::new(alloc), opened)?;
     let step = Step::Joined { principal };
-    manager.reserve_for(&step)?;
+    if let Err(fault) = manager.reserve_for(&step) {
+        manager.close();
+        return Err(fault);
+    }
     let moment = clock.now();
     let _caller = manager.step(moment, step);
     Ok(manager)
@@ -95,6 +98,7 @@ fn pipe<R: Wait, I: Source, O: Sink, C: Clock>(
     };
     let how = serve(&mut desk, input, output);
     leave(&mut desk.manager, clock.now());
+    desk.manager.close();
     how
 }
 

@@ -20,8 +20,8 @@ returns-clause-replayed g c =
     let new = c.in-Ok.ensures in
     let flat : c.in-Ok.manager.flat ≡ program_opening = new.flat ∙ ap (λ configs. opening program_limits [] configs 0) c.new-2.ensures in
     record {
-      now = standing c.replay.new.manager;
-      replayed = left_by c.in-Ok.manager (standing c.replay.new.manager) _ _ _ _ _ flat new.limits new.fresh.0 new.fresh.1 c.replay.ensures.replayed;
+      now = standing c.replay-how.new.manager;
+      replayed = left_by c.in-Ok.manager (standing c.replay-how.new.manager) _ _ _ _ _ flat new.limits new.fresh.0 new.fresh.1 c.replay-how.ensures.replayed;
     }
 
 pub new-requires-3-clause-configs : goal.new-requires-3-clause-configs
