@@ -4,5 +4,7 @@
 mod counter;
 #[cfg(test)]
 mod tests;
+#[cfg(test)]
+mod watched;
 
 pub use counter::Counter;

@@ -1,4 +1,5 @@
 use super::counter::Counter;
+use super::watched::{Counted, CutSource, Watch};
 use conn_desk::{Served, serve};
 use outside::{MemorySink, MemorySource};
 use std::alloc::Global;
@@ -84,6 +85,32 @@ fn pieces_of_any_size_are_answered_alike_until_there_is_no_room(
             comes_to(rt.alloc(), bytes, piece, room, end, text.as_slice()),
             "{piece} {room}"
         );
+    }
+    Ok(())
+}
+
+/// Whether the session, given in two parts, is answered to the end, and each time that more is read
+/// all of what was read before is answered.
+fn is_in_time(alloc: Global, front: &[u8], back: &[u8]) -> bool {
+    let mut desk = Counter {
+        alloc,
+        asked: 0,
+        room: 2,
+    };
+    let watch = Watch::new();
+    let mut input = CutSource::new(front, back, &watch);
+    let mut output = Counted::new(&watch);
+    let how = serve(alloc, &mut desk, &mut input, &mut output);
+    how == Served::Ended && watch.was_in_time()
+}
+
+#[test]
+fn each_reply_is_written_before_the_next_read(rt: HostRuntime) -> Result<(), Fail> {
+    let mut bytes = Vec::new(rt.alloc());
+    put(rt.alloc(), &mut bytes, SESSION)?;
+    for cut in 0..bytes.len() {
+        let (front, back) = bytes.as_slice().split_at(cut);
+        assert!(rt; is_in_time(rt.alloc(), front, back), "{cut}");
     }
     Ok(())
 }
