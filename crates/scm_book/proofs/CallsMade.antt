@@ -1,5 +1,5 @@
 -- What a caller's calls come to.
-use Rattle.std.proofs.Common.{◌≡◌, ◌≢◌, ℕ, inl, inr, ⊎_elim, Bool, true, false, List, [], ◌∷◌, ◌++◌, Option, None, Some, Result, Ok, Err, refl, sym, ap, ◌∙◌, subst}
+use Rattle.std.proofs.Common.{◌≡◌, ◌≢◌, ℕ, inl, inr, ⊎_elim, true, false, List, [], ◌∷◌, ◌++◌, Option, None, Some, Result, Ok, Err, refl, sym, ap, ◌∙◌, subst}
 use Rattle.scm_model.specs.declared.codes.TheConstants.{ERROR_NOT_ENOUGH_MEMORY}
 use Rattle.scm_model.specs.declared.calls.Reply.{Reply}
 use Rattle.scm_model.specs.declared.calls.Request.{Request}
@@ -15,7 +15,7 @@ use Rattle.scm_model.specs.declared.steps.Step.TheVariants.{Call, NoMemory}
 use Rattle.scm_model.specs.Entries.{Entry}
 use Rattle.scm_model.specs.Refused.{refused}
 use Rattle.start_plan.specs.Decided.{plan_caller}
-use Rattle.scm_rules.specs.Histories.{Legal, answer, state}
+use Rattle.scm_rules.specs.Histories.{state}
 use Rattle.scm_runs.proofs.Along.{along}
 use Rattle.scm_runs.proofs.Calls.{keeps}
 use Rattle.scm_runs.proofs.Histories.{at_entry, legal_made}
@@ -31,7 +31,7 @@ use Rattle.scm_book.specs.declared.answers.StartEnd.TheVariants as starts
 use Rattle.scm_book.specs.declared.calling.Asked.{Asked}
 use Rattle.scm_book.specs.declared.fault.MakeFault.{MakeFault}
 use Rattle.scm_book.specs.declared.fault.MakeFault.TheVariants as makes
-use Rattle.scm_book.specs.Called.{Asks, Begun, CallTold, Calls, IfTold, IsBegun, IsReply, StartTold, Starts, WantsMemory, called, is_start}
+use Rattle.scm_book.specs.Called.{Asks, CallTold, Calls, IfTold, IsBegun, IsReply, StartTold, Starts, WantsMemory, called, is_start}
 use Rattle.scm_book.specs.Holds.{Opens}
 use Rattle.scm_book.specs.Passes.{Known, MadeSo, room_behind}
 use Rattle.scm_book.specs.Turns.{CallEnds}

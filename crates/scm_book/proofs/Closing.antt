@@ -1,5 +1,5 @@
 -- What a book's close hands out, and what its calls are told.
-use Rattle.std.proofs.Common.{◌≡◌, ◌≢◌, ℕ, true, List, [], ◌∷◌, ◌++◌, length, Option, None, Some, refl, sym, ap, ◌∙◌, subst}
+use Rattle.std.proofs.Common.{◌≡◌, ◌≢◌, ℕ, List, length, Option, sym, ap, ◌∙◌, subst}
 use mathlib.Core.List.{IsPrefix}
 use Rattle.scm_model.specs.declared.flat.Flat.{Flat}
 use Rattle.scm_model.specs.declared.steps.Answer.{Answer}
@@ -15,7 +15,7 @@ use Rattle.std.proofs.Common.{Box}
 use Rattle.std.specs.declared.alloc.Global.{Global}
 use Rattle.book_rule.specs.declared.view.Opening.{Opening}
 use Rattle.book_rule.specs.declared.view.View.{View}
-use Rattle.book_rule.specs.Seats.{Identity, Waits}
+use Rattle.book_rule.specs.Seats.{Identity}
 use Rattle.book_rule.specs.Seats.{Closes as Ends}
 use Rattle.scm_book.specs.declared.book.Closed.{Closed}
 use Rattle.scm_book.specs.declared.held.Held.{Held}

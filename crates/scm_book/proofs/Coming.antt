@@ -1,11 +1,7 @@
 -- Steps that may come behind each history that goes on from what a pass has seen, and the shapes of what they are told.
-use Rattle.std.proofs.Common.{◌≡◌, ◌≢◌, ℕ, ◌&&◌, ◌⊎◌, inl, inr, Bool, true, false, IsTrue, List, [], ◌∷◌, ◌++◌, length, Option, None, Some, refl, sym, ap, ◌∙◌, subst}
-use Rattle.std.proofs.lemmas.Bool.{and_parts}
-use Rattle.scm_model.specs.declared.calls.Reply.{Reply}
+use Rattle.std.proofs.Common.{◌≡◌, ◌≢◌, ℕ, inl, inr, true, IsTrue, List, [], ◌∷◌, ◌++◌, length, Some, sym, ap, ◌∙◌, subst}
 use Rattle.scm_model.specs.declared.calls.Request.{Request}
-use Rattle.scm_model.specs.declared.calls.Request.TheVariants as request
 use Rattle.scm_model.specs.declared.steps.Answer.{Answer}
-use Rattle.scm_model.specs.declared.steps.Answer.TheVariants as answers
 use Rattle.scm_model.specs.declared.steps.Kept.{Kept}
 use Rattle.scm_model.specs.declared.steps.Kept.TheVariants as appended
 use Rattle.scm_model.specs.declared.steps.Name.{Name}
@@ -16,19 +12,17 @@ use Rattle.scm_model.specs.Entries.{Entry}
 use Rattle.scm_model.specs.Ranges.{in_range}
 use Rattle.scm_model.specs.Rows.{is_caller}
 use Rattle.scm_rules.specs.Histories.{Legal, answer, state}
-use Rattle.scm_rules.specs.Named.{caller_named}
 use Rattle.scm_runs.proofs.Along.{along}
 use Rattle.scm_runs.proofs.Calls.{keeps}
 use Rattle.scm_runs.proofs.Histories.{at_entry, legal_made}
 use Rattle.scm_runs.proofs.Sound.{Sound, begun}
-use Rattle.scm_history.specs.Shapes.{HasShape, IsReplied, LawOfShapes}
+use Rattle.scm_history.specs.Shapes.{HasShape, LawOfShapes}
 use Rattle.scm_history.proofs.Shapes.{gives}
 use Rattle.book_rule.specs.declared.view.Opening.{Opening}
 use Rattle.book_rule.specs.Ways.{Has}
-use Rattle.scm_book.specs.Naming.{named_in}
-use Rattle.scm_book.specs.Holds.{Opens, Runs}
-use Rattle.scm_book.specs.Passes.{ClaimsIn, Known, Made}
-use Rattle.scm_book.specs.Turns.{AlwaysMay, MayMake}
+use Rattle.scm_book.specs.Holds.{Opens}
+use Rattle.scm_book.specs.Passes.{Known, Made}
+use Rattle.scm_book.specs.Turns.{AlwaysMay}
 use Rattle.scm_book.proofs.Room.{and_both}
 
 -- ## What is told

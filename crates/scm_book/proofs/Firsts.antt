@@ -10,14 +10,13 @@ use Rattle.scm_text.specs.TextWithRoom.{TextWithRoom}
 use Rattle.scm_model.specs.declared.flat.Flat.{Flat}
 use Rattle.scm_model.specs.declared.flat.Limits.{Limits}
 use Rattle.scm_model.specs.declared.flat.Wanted.{Wanted}
-use Rattle.scm_model.specs.declared.steps.Answer.{Answer}
 use Rattle.scm_model.specs.declared.steps.Answer.TheVariants as answers
 use Rattle.scm_model.specs.declared.steps.Step.TheVariants.{LaunchTaken}
 use Rattle.scm_model.specs.Changes.{with_moment}
 use Rattle.scm_model.specs.Entries.{Entry}
 use Rattle.start_plan.specs.Settle.{settled}
 use Rattle.scm_rules.specs.Launches.{first_wanted, launch_taken, launch_told}
-use Rattle.scm_rules.specs.Steps.{finished, may, step_of, wants_launch}
+use Rattle.scm_rules.specs.Steps.{finished, step_of, wants_launch}
 use Rattle.scm_tables.specs.Lines.{first_line}
 use Rattle.scm_core.specs.Managed.{Managed}
 use Rattle.scm_book.specs.declared.held.Held.{Held}

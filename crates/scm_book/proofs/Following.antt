@@ -1,5 +1,5 @@
 -- What the rule of turns asks of an entry that may come.
-use Rattle.std.proofs.Common.{◌≡◌, ◌≢◌, ℕ, ◌+◌, ◌<◌, ◌≤◌, ◌^◌, ◌⊎◌, inl, inr, true, false, IsTrue, List, [], ◌∷◌, ◌++◌, length, length-append, refl, sym, ap, ◌∙◌, subst, arith, ne_eqb, Option}
+use Rattle.std.proofs.Common.{◌≡◌, ◌≢◌, ℕ, ◌+◌, ◌≤◌, ◌⊎◌, inl, inr, true, false, IsTrue, List, [], ◌∷◌, ◌++◌, length, length-append, refl, ap, arith, ne_eqb, Option}
 use Rattle.scm_model.specs.declared.flat.Flat.{Flat}
 use Rattle.scm_model.specs.declared.flat.Limits.{Limits}
 use Rattle.scm_model.specs.declared.steps.Name.{Name}
@@ -14,9 +14,8 @@ use Rattle.scm_rules.specs.Steps.{may}
 use Rattle.scm_history.specs.Callers.{CallersStay, takes_leave}
 use Rattle.book_rule.specs.declared.view.Opening.{Opening}
 use Rattle.book_rule.specs.Ways.{Has, MadeAt, NamedAt, Follows}
-use Rattle.scm_book.specs.declared.held.Held.{Held}
 use Rattle.scm_book.specs.Naming.{names_made, named_in, whose_after}
-use Rattle.scm_book.specs.Holds.{Lives, Runs, way_of}
+use Rattle.scm_book.specs.Holds.{Runs, way_of}
 use Rattle.scm_book.proofs.Last.{anew, behind, callers_stay, stays, within}
 use Rattle.scm_book.proofs.Names.{has_name, made_at, made_more, named_before, not_before}
 

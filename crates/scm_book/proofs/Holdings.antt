@@ -1,6 +1,5 @@
 -- What the holder has stands at the end of the longer history.
-use Rattle.std.proofs.Common.{◌≡◌, ℕ, ◌+◌, ◌-◌, ◌≤◌, ◌^◌, min, ◌⊎◌, inl, inr, true, IsTrue, List, [], ◌∷◌, ◌++◌, length, length-append, Option, None, Some, refl, sym, ap, ◌∙◌, subst, arith}
-use Rattle.std.specs.Prelude.{fold}
+use Rattle.std.proofs.Common.{◌≡◌, ℕ, ◌+◌, ◌≤◌, true, List, [], ◌∷◌, ◌++◌, length, length-append, Option, None, refl, sym, ap, ◌∙◌, subst, arith}
 use Rattle.std.proofs.lemmas.List.Sums.{fold-append}
 use Rattle.scm_model.specs.declared.flat.Flat.{Flat}
 use Rattle.scm_model.specs.declared.flat.Limits.{Limits}
@@ -11,10 +10,9 @@ use Rattle.scm_model.specs.declared.steps.Step.{Step}
 use Rattle.scm_model.specs.declared.steps.Step.TheVariants.{Call}
 use Rattle.scm_model.specs.Entries.{Entry, text_in, with_kept}
 use Rattle.scm_model.specs.Texts.{text_of}
-use Rattle.scm_rules.specs.Histories.{Legal, answer, state}
+use Rattle.scm_rules.specs.Histories.{state}
 use Rattle.scm_rules.specs.Owed.{owed}
-use Rattle.scm_rules.specs.Room.{debt, has_room, is_owed}
-use Rattle.scm_rules.specs.Steps.{may}
+use Rattle.scm_rules.specs.Room.{debt, is_owed}
 use Rattle.scm_runs.proofs.Histories.{state_behind}
 use Rattle.scm_history.specs.Kept.{kept_change, kept_changes, one_or_none}
 use Rattle.scm_history.proofs.Kept.{law_of_kept}

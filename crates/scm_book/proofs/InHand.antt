@@ -1,8 +1,7 @@
 -- The steps of a process that a pass has in hand, and what they leave it.
-use Rattle.std.proofs.Common.{◌≡◌, ◌≢◌, ◌∙◌, ℕ, ◌==◌, ◌&&◌, not, Bool, true, false, IsTrue, List, [], ◌∷◌, ◌++◌, length, Option, None, Some, inl, inr, ⊎_elim, refl, sym, ap, subst, ne_eqb}
+use Rattle.std.proofs.Common.{◌≡◌, ◌≢◌, ◌∙◌, ℕ, ◌==◌, not, true, false, List, [], ◌∷◌, Option, None, Some, inl, inr, ⊎_elim, refl, sym, ap, subst, ne_eqb}
 use Rattle.std.specs.Prelude.{option_map}
 use Rattle.std.proofs.lemmas.Bool.{cases_Bool}
-use mathlib.Core.List.{IsPrefix}
 use Rattle.scm_text.specs.TextWithRoom.{TextWithRoom}
 use Rattle.scm_model.specs.declared.flat.Phase.{Phase}
 use Rattle.scm_model.specs.declared.flat.Phase.TheVariants as phases
@@ -15,20 +14,19 @@ use Rattle.scm_model.specs.declared.steps.Name.TheVariants as names
 use Rattle.scm_model.specs.declared.steps.Step.{Step}
 use Rattle.scm_model.specs.declared.steps.Step.TheVariants.{Ended, LaunchFailed, Launched, LaunchTaken, Report}
 use Rattle.scm_model.specs.Entries.{Entry}
-use Rattle.scm_rules.specs.Histories.{Legal, state}
+use Rattle.scm_rules.specs.Histories.{state}
 use Rattle.scm_rules.specs.Launches.{first_wanted, is_launched, is_running_phase, is_taken, is_taken_phase, process_of}
 use Rattle.scm_runs.proofs.Along.{along}
 use Rattle.scm_runs.proofs.Calls.{keeps}
 use Rattle.scm_runs.proofs.Histories.{at_entry, legal_made}
 use Rattle.scm_runs.proofs.Sound.{Sound, begun}
-use Rattle.scm_owed.proofs.Histories.{legal_front}
-use Rattle.scm_history.specs.Phases.{IsInHand, LawOfPhases, LeavesSo, phase_of}
+use Rattle.scm_history.specs.Phases.{IsInHand, LawOfPhases, LeavesSo}
 use Rattle.scm_history.proofs.Phases.{gives as leaves_so}
 use Rattle.book_rule.specs.declared.view.Opening.{Opening}
 use Rattle.book_rule.specs.Seats.{Identity}
 use Rattle.book_rule.specs.Ways.{Has}
 use Rattle.book_rule.proofs.Places.{has_left, has_one, has_right}
-use Rattle.scm_book.specs.Holds.{Opens, Runs}
+use Rattle.scm_book.specs.Holds.{Opens}
 use Rattle.scm_book.specs.Naming.{named_in, names_made, process_names}
 use Rattle.scm_book.specs.Passes.{HoldsProcess, KeepsAll, Known, Made, seen_state}
 use Rattle.scm_book.specs.Processes.{EndedSo, IsEnd, KeepsAllBut, TakesInHand, is_current_behind, told_of_end}

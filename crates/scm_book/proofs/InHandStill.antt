@@ -30,7 +30,7 @@ use Rattle.scm_book.specs.Called.{AnsweredSo, Calls, Starts}
 use Rattle.scm_book.specs.Holds.{Opens}
 use Rattle.scm_book.specs.Joins.{JoinsAs}
 use Rattle.scm_book.specs.Naming.{named_in}
-use Rattle.scm_book.specs.Passes.{HasPlan, HoldsProcess, KeepsAll, Known, Learnt, Made}
+use Rattle.scm_book.specs.Passes.{HasPlan, KeepsAll, Known, Learnt, Made}
 use Rattle.scm_book.specs.Starts.{KeepsAllButPlan}
 use Rattle.scm_book.proofs.Lasting.{keeps_seen, process_lasts}
 

@@ -18,7 +18,7 @@ use Rattle.scm_book.specs.declared.answers.JoinFault.{JoinFault}
 use Rattle.scm_book.specs.declared.held.Held.{Held}
 use Rattle.scm_book.specs.Holds.{Opens}
 use Rattle.scm_book.specs.Joins.{JoinCause, JoinCauseAt, JoinEnds, Joins, JoinsAs, Watches, fresh}
-use Rattle.scm_book.specs.Passes.{Known, Learnt, MadeSo, knows}
+use Rattle.scm_book.specs.Passes.{Known, MadeSo, knows}
 use Rattle.scm_book.specs.Turns.{known}
 use Rattle.scm_book.proofs.Coming.{shaped}
 

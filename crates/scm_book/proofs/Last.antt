@@ -1,14 +1,12 @@
 -- What the laws say of the last entry of a history.
-use Rattle.std.proofs.Common.{ℕ, ◌≡◌, ◌+◌, ◌≤◌, ◌⊎◌, true, IsTrue, List, [], ◌∷◌, ◌++◌, length, length-append, Option, Some, refl, ap, arith}
+use Rattle.std.proofs.Common.{◌≡◌, ◌+◌, ◌≤◌, ◌⊎◌, true, IsTrue, List, [], ◌∷◌, ◌++◌, length, Some, refl}
 use Rattle.scm_model.specs.declared.flat.Flat.{Flat}
 use Rattle.scm_model.specs.declared.flat.Limits.{Limits}
-use Rattle.scm_model.specs.declared.steps.Answer.{Answer}
 use Rattle.scm_model.specs.Entries.{Entry, text_in}
 use Rattle.scm_rules.specs.Histories.{Legal, answer, state}
 use Rattle.scm_rules.specs.Opening.{IsOpening}
 use Rattle.scm_rules.specs.Owed.{owed}
 use Rattle.scm_rules.specs.Room.{debt, has_room, is_owed}
-use Rattle.scm_rules.specs.Runs.{IsLegal}
 use Rattle.scm_rules.specs.Steps.{may, step_of}
 use Rattle.scm_runs.specs.Histories.{EachEntry}
 use Rattle.scm_runs.proofs.Along.{along}

@@ -1,5 +1,5 @@
 -- What a pass has in hand it has still behind the entries of others.
-use Rattle.std.proofs.Common.{◌≡◌, ◌≢◌, ℕ, ◌==◌, ◌&&◌, Bool, true, false, IsTrue, List, [], ◌∷◌, ◌++◌, length, Option, None, Some, inl, refl, sym, ap, ◌∙◌, subst, append_assoc, append-nil, ne_eqb, eqb-true}
+use Rattle.std.proofs.Common.{◌≡◌, ◌≢◌, ℕ, ◌==◌, true, false, IsTrue, List, [], ◌∷◌, ◌++◌, Option, None, Some, inl, refl, sym, ap, ◌∙◌, subst, append_assoc, append-nil, ne_eqb, eqb-true}
 use Rattle.std.specs.Prelude.{option_map}
 use Rattle.std.proofs.lemmas.Bool.{and_parts}
 use mathlib.Core.List.{IsPrefix}
@@ -24,12 +24,12 @@ use Rattle.scm_runs.proofs.Sound.{Sound, begun}
 use Rattle.scm_owed.proofs.Histories.{legal_front, legal_last}
 use Rattle.scm_history.specs.Callers.{takes_leave}
 use Rattle.scm_history.specs.Phases.{phase_of}
-use Rattle.scm_history.specs.Plans.{IsPlanOf, PlansAreTheirCallers, ends_plan, target_of}
+use Rattle.scm_history.specs.Plans.{IsPlanOf, PlansAreTheirCallers, ends_plan}
 use Rattle.scm_history.proofs.Plans.{gives as plans_stay}
 use Rattle.book_rule.specs.declared.view.Opening.{Opening}
 use Rattle.book_rule.specs.Ways.{Has}
 use Rattle.scm_book.specs.Naming.{named_in, names_made}
-use Rattle.scm_book.specs.Holds.{Opens, Runs}
+use Rattle.scm_book.specs.Holds.{Opens}
 use Rattle.scm_book.specs.Passes.{ClaimsIn, HasPlan, HoldsProcess, KeepsAll, Known, Made, seen_state}
 use Rattle.book_rule.proofs.Places.{has_left}
 use Rattle.book_rule.proofs.Prefixes.{prefix_self}

@@ -1,18 +1,13 @@
 -- A new book stands at the empty history.
-use Rattle.std.proofs.Common.{◌≡◌, ℕ, ◌+◌, ◌-◌, ◌≤◌, ◌^◌, min, List, [], length, Option, refl, sym, ap, ◌∙◌, subst, arith}
-use Rattle.scm_model.specs.declared.flat.Flat.{Flat}
+use Rattle.std.proofs.Common.{◌≡◌, ℕ, List, [], Option, refl, sym, ap, ◌∙◌, subst, arith}
 use Rattle.scm_model.specs.declared.steps.Change.{Change}
-use Rattle.scm_rules.specs.Histories.{Legal, state}
 use Rattle.scm_rules.specs.Opening.{IsOpening}
-use Rattle.scm_rules.specs.Owed.{owed}
 use Rattle.scm_core.specs.Managed.{AreSmall, Managed}
 use Rattle.scm_runs.proofs.Histories.{state_none}
 use Rattle.scm_owed.proofs.Histories.{legal_none}
 use Rattle.scm_owed.proofs.Whole.{opened_owes}
-use Rattle.scm_history.specs.Kept.{kept_changes}
 use Rattle.scm_history.proofs.Kept.{law_of_kept}
 use Rattle.scm_trail.specs.Trailed.{Trailed}
-use Rattle.book_rule.specs.declared.view.Opening.{Opening}
 use Rattle.record_journal.specs.Bearing.{Bears, and_changes}
 use Rattle.record_journal.specs.declared.journal.Journal.{Journal}
 use Rattle.scm_book.specs.declared.held.Held.{Held}

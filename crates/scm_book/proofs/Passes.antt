@@ -1,5 +1,5 @@
 -- What a turn comes to, as contracts see the pass.
-use Rattle.std.proofs.Common.{◌≡◌, ◌≢◌, ℕ, true, List, [], ◌∷◌, ◌++◌, length, Option, None, Some, Result, Ok, Err, Box, box_value, refl, sym, ap, ◌∙◌, subst, arith, ◌<◌, ◌≤◌}
+use Rattle.std.proofs.Common.{◌≡◌, ℕ, true, List, [], ◌∷◌, ◌++◌, length, Option, None, Some, Result, Ok, Err, Box, box_value, sym, ap, ◌∙◌, subst, arith}
 use Rattle.std.specs.declared.alloc.Global.{Global}
 use mathlib.Core.List.{IsPrefix}
 use Rattle.atomic_table.specs.Seated.{TableId}
@@ -13,8 +13,7 @@ use Rattle.scm_model.specs.Entries.{Entry, with_kept}
 use Rattle.scm_rules.specs.Histories.{Legal, answer, state}
 use Rattle.book_rule.specs.declared.view.Opening.{Opening}
 use Rattle.book_rule.specs.declared.view.View.{View}
-use Rattle.book_rule.specs.declared.view.Stage.TheVariants.{Away}
-use Rattle.book_rule.specs.Ways.{Claims, Has, MadeAt, NamedAt, Way}
+use Rattle.book_rule.specs.Ways.{Claims, MadeAt, NamedAt}
 use Rattle.book_rule.specs.Rule.{ClaimsOf}
 use Rattle.book_rule.specs.Seats.{Enters, Holding, Identity, Waits}
 use Rattle.book_rule.specs.Views.{having_left, having_made, having_seen}
@@ -23,7 +22,7 @@ use Rattle.scm_book.specs.declared.fault.MakeFault.{MakeFault}
 use Rattle.scm_book.specs.declared.fault.StepFault.{StepFault}
 use Rattle.scm_book.specs.declared.held.Held.{Held}
 use Rattle.scm_book.specs.Holds.{Holds, Runs, way_of}
-use Rattle.scm_book.specs.Passes.{ClaimsIn, IsOf, IsSame, Known, Learnt, Made, MadeSo, Rests, known_of, knows, room_behind, view_of}
+use Rattle.scm_book.specs.Passes.{ClaimsIn, Known, Learnt, Made, MadeSo, knows, room_behind, view_of}
 use Rattle.scm_book.specs.Starts.{AlwaysThere, DidEnd, Ends, IsThere, IsUndecided}
 use Rattle.scm_book.specs.Turns.{AlwaysMay, CallEnds, Did, DidCall, DidSo, DidStep, HasTurn, IsSeated, LeftIt, MakeCause, MayMake, NamesNoOther, StepCause, StepEnds, known, of_badge}
 

@@ -1,18 +1,14 @@
 -- Between what a pass has seen and the end of a history no entry is of whom it made, so that each stays as it was.
-use Rattle.std.proofs.Common.{◌≡◌, ◌≢◌, ℕ, ◌+◌, ◌<◌, ◌≤◌, ◌==◌, ◌⊎◌, inl, inr, ⊎_elim, Bool, true, false, IsTrue, List, [], ◌∷◌, ◌++◌, length, length-append, Option, None, Some, refl, sym, ap, ◌∙◌, subst, arith, append_assoc, append-nil, ne_eqb, eqb-true}
+use Rattle.std.proofs.Common.{◌≡◌, ℕ, ◌≤◌, inl, true, false, IsTrue, List, [], ◌∷◌, ◌++◌, length, length-append, Option, None, Some, refl, sym, ap, ◌∙◌, subst, arith, append_assoc, append-nil, ne_eqb}
 use Rattle.std.specs.Prelude.{is_some, option_map}
-use mathlib.Core.List.{IsPrefix}
-use Rattle.scm_model.specs.declared.flat.Flat.{Flat}
-use Rattle.scm_model.specs.declared.flat.Limits.{Limits}
 use Rattle.scm_model.specs.declared.flat.Phase.{Phase}
 use Rattle.scm_model.specs.declared.flat.Process.{Process}
 use Rattle.scm_model.specs.declared.steps.Name.{Name}
 use Rattle.scm_model.specs.declared.steps.Name.TheVariants as names
-use Rattle.scm_model.specs.declared.steps.Step.{Step}
 use Rattle.scm_model.specs.Entries.{Entry}
 use Rattle.scm_rules.specs.Histories.{Legal, state}
 use Rattle.scm_rules.specs.Launches.{process_of}
-use Rattle.scm_rules.specs.Named.{caller_made, caller_named, is_it, names_process, process_named, process_taken, takes_process}
+use Rattle.scm_rules.specs.Named.{caller_made, caller_named, is_it, process_named, process_taken}
 use Rattle.scm_runs.proofs.Along.{along}
 use Rattle.scm_runs.proofs.Calls.{keeps}
 use Rattle.scm_runs.proofs.Histories.{at_entry, legal_made, told}
@@ -22,11 +18,11 @@ use Rattle.scm_history.specs.Phases.{phase_of}
 use Rattle.scm_history.specs.Processes.{OthersStay, apart_from_controls}
 use Rattle.scm_history.proofs.Processes.{gives as others_stay}
 use Rattle.book_rule.specs.declared.view.Opening.{Opening}
-use Rattle.book_rule.specs.Ways.{Has, MadeAt}
-use Rattle.book_rule.proofs.Places.{has_left, has_right}
+use Rattle.book_rule.specs.Ways.{Has}
+use Rattle.book_rule.proofs.Places.{has_right}
 use Rattle.book_rule.proofs.Prefixes.{prefix_shorter}
 use Rattle.scm_book.specs.Naming.{caller_names, named_in, names_made, process_names}
-use Rattle.scm_book.specs.Holds.{Opens, Runs}
+use Rattle.scm_book.specs.Holds.{Opens}
 use Rattle.scm_book.specs.Passes.{ClaimsIn, Known}
 use Rattle.scm_book.proofs.Last.{anew}
 use Rattle.scm_book.proofs.Names.{has_name, made_at, made_more, not_before}

@@ -1,5 +1,5 @@
 -- What reports, controls and ticks are told, and what they leave in hand.
-use Rattle.std.proofs.Common.{◌≡◌, ◌≢◌, ◌∙◌, ◌⊎◌, ℕ, ◌==◌, Bool, true, false, List, [], ◌∷◌, length, Option, None, Some, Result, Ok, Err, Box, box_value, inl, inr, ⊎_elim, refl, sym, ap, subst, eq-eqb, eqb-true, ltb-false, arith}
+use Rattle.std.proofs.Common.{◌≡◌, ◌≢◌, ◌∙◌, ◌⊎◌, ℕ, ◌==◌, Bool, true, false, List, length, Option, None, Some, Result, Ok, Err, Box, box_value, inl, inr, ⊎_elim, refl, sym, ap, subst, eq-eqb, eqb-true, ltb-false, arith}
 use Rattle.std.specs.Prelude.{option_map}
 use Rattle.std.specs.declared.alloc.Global.{Global}
 use Rattle.std.proofs.lemmas.Bool.{cases_Bool}
@@ -12,8 +12,6 @@ use Rattle.scm_model.specs.declared.flat.Process.{Process}
 use Rattle.scm_model.specs.declared.flat.Status.{Status}
 use Rattle.scm_model.specs.declared.steps.Answer.{Answer}
 use Rattle.scm_model.specs.declared.steps.Answer.TheVariants as answers
-use Rattle.scm_model.specs.declared.steps.Name.{Name}
-use Rattle.scm_model.specs.declared.steps.Name.TheVariants as names
 use Rattle.scm_model.specs.declared.steps.Step.{Step}
 use Rattle.scm_model.specs.declared.steps.Step.TheVariants.{ControlTaken, Report, Tick}
 use Rattle.scm_model.specs.Entries.{Entry}
@@ -23,7 +21,6 @@ use Rattle.scm_rules.specs.Launches.{process_of}
 use Rattle.book_rule.specs.declared.view.Opening.{Opening}
 use Rattle.book_rule.specs.declared.view.View.{View}
 use Rattle.book_rule.specs.Seats.{Enters, Identity}
-use Rattle.book_rule.specs.Ways.{Has}
 use Rattle.scm_book.specs.declared.fault.StepFault.{StepFault}
 use Rattle.scm_book.specs.declared.fault.StepFault.TheVariants as faults
 use Rattle.scm_book.specs.declared.held.Held.{Held}

@@ -1,5 +1,5 @@
 -- What the room of a step comes to, and what doesn't hang on what it tells of its change.
-use Rattle.std.proofs.Common.{ℕ, ◌≡◌, ◌∙◌, ◌+◌, ◌≤◌, ◌&&◌, Bool, true, false, not, IsTrue, Option, None, Some, refl, ap, arith}
+use Rattle.std.proofs.Common.{ℕ, ◌≡◌, ◌+◌, ◌≤◌, ◌&&◌, Bool, true, false, not, Option, None, Some, refl, ap, arith}
 use Rattle.std.specs.Prelude.{is_some}
 use Rattle.std.proofs.lemmas.Bool.{and_parts, leb-true}
 use Rattle.scm_model.specs.declared.flat.Flat.{Flat}

@@ -1,14 +1,13 @@
 -- What one step more asks, and what it leaves, of what stands at the end of a history.
-use Rattle.std.proofs.Common.{◌≡◌, ℕ, ◌+◌, ◌≤◌, ◌<◌, ◌^◌, ◌⊎◌, inl, inr, true, IsTrue, List, [], ◌∷◌, ◌++◌, length, Option, None, Some, refl, sym, ap, ◌∙◌, subst, arith}
+use Rattle.std.proofs.Common.{◌≡◌, ℕ, ◌≤◌, ◌<◌, ◌^◌, inl, inr, true, IsTrue, List, [], ◌∷◌, ◌++◌, length, Option, Some, sym, ap, ◌∙◌, subst, arith}
 use Rattle.scm_model.specs.declared.flat.Flat.{Flat}
 use Rattle.scm_model.specs.declared.flat.Limits.{Limits}
 use Rattle.scm_model.specs.declared.steps.Answer.{Answer}
 use Rattle.scm_model.specs.declared.steps.Step.{Step}
 use Rattle.scm_model.specs.Entries.{Entry, text_in, with_kept}
-use Rattle.scm_model.specs.Texts.{text_of}
 use Rattle.scm_rules.specs.Histories.{answer, state}
 use Rattle.scm_rules.specs.Owed.{owed as owed_in}
-use Rattle.scm_rules.specs.Room.{has_room, is_owed}
+use Rattle.scm_rules.specs.Room.{has_room}
 use Rattle.scm_rules.specs.Steps.{keeps_right, may, may_come}
 use Rattle.scm_core.specs.Managed.{AreSmall}
 use Rattle.scm_runs.proofs.Histories.{told as last_told}
@@ -16,7 +15,7 @@ use Rattle.scm_owed.proofs.Effects.{debt_owed}
 use Rattle.book_rule.specs.declared.view.Opening.{Opening}
 use Rattle.scm_book.specs.declared.held.Held.{Held}
 use Rattle.scm_book.specs.declared.owed.Owed.{Owed}
-use Rattle.scm_book.specs.Holds.{Holds, Runs, way_of}
+use Rattle.scm_book.specs.Holds.{Holds, Runs}
 use Rattle.scm_book.specs.Steps.{Adds, Grows, Makes, has_room_in, owed_step}
 use Rattle.scm_book.proofs.Following.{runs_on}
 use Rattle.scm_book.proofs.Holdings.{holds_added, holds_made}

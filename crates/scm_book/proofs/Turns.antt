@@ -1,33 +1,26 @@
 -- What a commit asks of what the holder has, and what it tells.
-use Rattle.std.proofs.Common.{◌≡◌, ℕ, ◌+◌, ◌≤◌, ◌<◌, ◌^◌, ◌⊎◌, inl, inr, true, IsTrue, List, [], ◌∷◌, ◌++◌, length, Option, None, Some, Box, box_value, refl, sym, ap, ◌∙◌, subst, arith}
+use Rattle.std.proofs.Common.{◌≡◌, ℕ, inl, inr, true, List, [], ◌∷◌, ◌++◌, length, Option, Some, Box, sym, ◌∙◌, subst}
 use Rattle.std.specs.declared.alloc.Global.{Global}
-use mathlib.Core.List.{IsPrefix}
 use Rattle.atomic_table.specs.declared.shared.Seat.{Seat}
-use Rattle.scm_model.specs.declared.flat.Flat.{Flat}
-use Rattle.scm_model.specs.declared.flat.Limits.{Limits}
 use Rattle.scm_model.specs.declared.steps.Answer.{Answer}
 use Rattle.scm_model.specs.declared.steps.Name.{Name}
 use Rattle.scm_model.specs.declared.steps.Step.{Step}
-use Rattle.scm_model.specs.Entries.{Entry, text_in, with_kept}
-use Rattle.scm_model.specs.Texts.{text_of}
-use Rattle.scm_rules.specs.Histories.{answer, state}
-use Rattle.scm_rules.specs.Room.{has_room, is_owed}
-use Rattle.scm_rules.specs.Steps.{keeps_right, may, may_come}
+use Rattle.scm_model.specs.Entries.{Entry, with_kept}
+use Rattle.scm_rules.specs.Histories.{answer}
 use Rattle.book_rule.specs.declared.view.Opening.{Opening}
 use Rattle.book_rule.specs.declared.view.View.{View}
 use Rattle.book_rule.specs.Ways.{Follows, Has, NamesOwn, Way}
-use Rattle.book_rule.specs.Rule.{ClaimsOf}
-use Rattle.book_rule.specs.Seats.{Identity, IsOneMore, Commits, MakesLast}
+use Rattle.book_rule.specs.Seats.{Identity, Commits}
 use Rattle.scm_book.specs.declared.held.Held.{Held}
 use Rattle.scm_book.specs.declared.owed.Owed.{Owed}
 use Rattle.scm_book.specs.Naming.{named_in}
 use Rattle.scm_book.specs.Holds.{Holds, Runs, way_of}
 use Rattle.scm_book.specs.Passes.{room_behind}
-use Rattle.scm_book.specs.Steps.{Adds, Grows, IsAsItWas, Makes, has_room_in, owed_step}
+use Rattle.scm_book.specs.Steps.{Adds, Makes, owed_step}
 use Rattle.scm_book.specs.declared.fault.MakeFault.{MakeFault}
 use Rattle.scm_book.specs.declared.fault.MakeFault.TheVariants as makes
 use Rattle.scm_book.specs.Steps.{Why as NotMade}
-use Rattle.scm_book.specs.Turns.{Did, DidSo, MakeCause, MayMake}
+use Rattle.scm_book.specs.Turns.{Did, DidSo, MakeCause}
 use Rattle.scm_book.proofs.Following.{follows}
 use Rattle.scm_book.proofs.Standing.{added_holds, added_runs, made_free, made_holds, made_runs, may_then, room_same, told_then}
 use Rattle.scm_book.proofs.Room.{named_kept, owed_is}

@@ -1,4 +1,4 @@
-// The calls of the book on processes: launches, reports, ends, controls and what is due.
+// The calls of the book on processes: launches and ends.
 ghost use Rattle.std.specs.Prelude.{◌≡◌, ◌≢◌, ◌≤◌};
 ghost use Rattle.scm_model.specs.declared.flat.Phase.TheVariants as phases;
 ghost use Rattle.scm_model.specs.declared.steps.Answer.TheVariants as answers;

@@ -1,10 +1,9 @@
-use Rattle.std.proofs.Common.{◌≡◌, ℕ, refl, subst}
+use Rattle.std.proofs.Common.{refl}
 use Rattle.scm_model.specs.declared.flat.Phase.TheVariants as phases
-use Rattle.scm_model.specs.declared.steps.Answer.{Answer}
 use Rattle.scm_model.specs.declared.steps.Answer.TheVariants as answers
 use Rattle.scm_model.specs.declared.steps.Step.TheVariants.{LaunchFailed}
 use Rattle.book_rule.specs.Seats.{Identity}
-use Rattle.scm_book.specs.Passes.{HoldsProcess, Known, Made}
+use Rattle.scm_book.specs.Passes.{Known, Made}
 use Rattle.scm_book.specs.Processes.{KeepsAllBut}
 use Rattle.scm_book.specs.Turns.{of_badge}
 use Rattle.scm_book.proofs.InHand.{always_failed, held_inside, keeps_but, seen_outside, told_failed}

@@ -1,6 +1,5 @@
-use Rattle.std.proofs.Common.{◌≡◌, ℕ, refl, subst}
+use Rattle.std.proofs.Common.{refl, subst}
 use Rattle.scm_model.specs.declared.flat.Phase.TheVariants as phases
-use Rattle.scm_model.specs.declared.steps.Answer.{Answer}
 use Rattle.scm_model.specs.declared.steps.Answer.TheVariants as answers
 use Rattle.scm_model.specs.declared.steps.Step.TheVariants.{Launched}
 use Rattle.book_rule.specs.Seats.{Identity}

@@ -1,4 +1,4 @@
-use Rattle.std.proofs.Common.{◌∙◌, ap, sym, Result, Err}
+use Rattle.std.proofs.Common.{ap, sym, Result, Err}
 use Rattle.record_journal.specs.declared.keeper.KeepFault.{KeepFault}
 use Rattle.scm_book.proofs.Steps.{keeps_failed, keeps_kept}
 use Rattle.scm_book.proofs.held.Held.keep.Goals as goal

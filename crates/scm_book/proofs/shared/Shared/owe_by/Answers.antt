@@ -1,7 +1,7 @@
 use Rattle.std.proofs.Common.{subst}
 use Rattle.scm_book.specs.Passes.{Known, Made}
 use Rattle.scm_book.specs.Steps.{owed_step}
-use Rattle.scm_book.specs.Turns.{AlwaysMay, of_badge}
+use Rattle.scm_book.specs.Turns.{AlwaysMay}
 use Rattle.scm_book.proofs.Passes.{as_tokens, did_made, has_turn, may_now}
 use Rattle.scm_book.proofs.shared.Shared.owe_by.Goals as goal
 
