@@ -6,6 +6,7 @@
 #![tactic(auto)]
 
 mod answers;
+mod beginning;
 mod bell;
 mod book;
 mod calling;
