@@ -1,0 +1,84 @@
+-- What a pass's requests are told answers them.
+use Rattle.std.proofs.Common.{◌≡◌, ◌∙◌, ℕ, List, [], Option, None, Some, true, false, inl, inr, refl, sym, subst}
+use Rattle.scm_model.specs.declared.calls.Reply.{Reply}
+use Rattle.scm_model.specs.declared.calls.Request.{Request}
+use Rattle.scm_model.specs.declared.calls.Request.TheVariants as request
+use Rattle.scm_model.specs.declared.steps.Answer.{Answer}
+use Rattle.scm_model.specs.declared.steps.Answer.TheVariants as answers
+use Rattle.scm_model.specs.declared.steps.Kept.TheVariants as appended
+use Rattle.scm_model.specs.declared.steps.Step.{Step}
+use Rattle.scm_model.specs.declared.steps.Step.TheVariants.{Call, EndStart}
+use Rattle.scm_bodies.specs.Replies.{Answers}
+use Rattle.scm_runs.proofs.Along.{along}
+use Rattle.scm_runs.proofs.Calls.{keeps}
+use Rattle.scm_runs.proofs.Histories.{at_entry, legal_made}
+use Rattle.scm_runs.proofs.Sound.{Sound, begun}
+use Rattle.scm_answers.specs.Answering.{LawOfAnswering, RepliesRightly}
+use Rattle.scm_answers.proofs.Calls.{of_refused}
+use Rattle.scm_answers.proofs.Steps.{gives}
+use Rattle.book_rule.specs.declared.view.Opening.{Opening}
+use Rattle.scm_book.specs.Called.{AnsweredSo, WantsMemory, called, is_start}
+use Rattle.scm_book.specs.Holds.{Opens}
+use Rattle.scm_book.specs.Passes.{FindsNoRoom, Known, Made, MadeSo, room_behind}
+use Rattle.conn_desk.specs.Desks.{CallAnswered}
+use Rattle.conn_worker.specs.Serving.{IsServed}
+use Rattle.conn_worker.specs.Waiting.{WaitsAndEnds}
+use Rattle.conn_worker.proofs.Waiting.{waits_caller}
+
+for_start : (asked : Request) (reply : Reply) → is_start asked ≡ true → ((handle : ℕ) (words : Option (List (List ℕ))) → Answers (request.Start handle words) reply) → Answers asked reply
+for_start (request.Start handle words) reply start answers = answers handle words
+for_start asked reply start answers = absurd cc
+
+module _ (o : Opening) (opens : Opens o) where
+  rightly : (k k' : Known) (moment : ℕ) (step : Step) (told : Answer) → Made o k moment step told k' → RepliesRightly step told
+  rightly k k' moment step told made =
+      at_entry LawOfAnswering o.limits o.first k'.seen
+      (along Sound LawOfAnswering o.limits (keeps o.limits) (gives o.limits) o.first k'.seen (begun o.limits o.first opens.begins) (legal_made o.limits o.first k'.seen made.legal))
+      made.before (moment, step) [] told made.seen made.answer
+
+  of_reply : (k k' : Known) (moment : ℕ) (asked : Request) (reply : Reply) → MadeSo o k moment (called k asked) (answers.Reply reply) k' → Answers asked reply
+  of_reply k k' moment asked reply made = rightly k k' moment (Call k.caller asked made.append) (answers.Reply reply) made.made
+
+  of_end : (k k' : Known) (moment caller plan : ℕ) (asked : Request) (reply : Reply) → is_start asked ≡ true → Made o k moment (EndStart caller plan) (answers.Reply reply) k' → Answers asked reply
+  of_end k k' moment caller plan asked reply start made = for_start asked reply start (rightly k k' moment (EndStart caller plan) (answers.Reply reply) made)
+
+  module _ (tells : ℕ → Type 0) (k : Known) (moment : ℕ) (told : tells moment) (asked : Request) where
+    -- a request that was answered at once
+    pub at_once : (k' : Known) (reply : Reply) → AnsweredSo o k moment asked reply k' → CallAnswered (IsServed tells o) k k' asked reply
+    at_once k' reply (inl made) = record {
+      heard = Some reply;
+      made = inl (record { moment = moment; told = told; made = made });
+      told = refl;
+      answers = of_reply k k' moment asked reply made;
+    }
+    at_once k' reply (inr wants) = record {
+      heard = None;
+      made = record { moment = moment; told = told; wants = subst (λ (r : Reply). WantsMemory o k moment asked r k') wants.refused wants };
+      told = sym wants.refused;
+      answers = subst (Answers asked) (sym wants.refused) (of_refused asked 8);
+    }
+
+    -- a start that waited
+    pub waited_for : (begun k' : Known) (plan : ℕ) (reply : Reply) → is_start asked ≡ true → MadeSo o k moment (called k asked) (answers.Begun plan) begun → WaitsAndEnds tells o plan begun reply k'
+        → CallAnswered (IsServed tells o) k k' asked reply
+    waited_for begun k' plan reply start made ends = record {
+      heard = Some reply;
+      made = inr (record { moment = moment; told = told; plan = plan; begun = begun; made = made; ends = ends });
+      told = refl;
+      answers = of_end ends.waited k' ends.ends.moment ends.waited.caller plan asked reply start ends.ends.made;
+    }
+
+-- ## The caller stays
+
+pub answered_caller : (o : Opening) (k k' : Known) (moment : ℕ) (asked : Request) (reply : Reply) → AnsweredSo o k moment asked reply k' → k'.caller ≡ k.caller
+answered_caller o k k' moment asked reply (inl made) = made.made.caller
+answered_caller o k k' moment asked reply (inr wants) = wants.made.made.caller
+
+pub ended_caller : (tells : ℕ → Type 0) (o : Opening) (plan : ℕ) (k : Known) (reply : Reply) (k' : Known) → WaitsAndEnds tells o plan k reply k' → k'.caller ≡ k.caller
+ended_caller tells o plan k reply k' ends = ends.ends.made.caller ∙ waits_caller o plan ends.turns k ends.waited ends.waits
+
+-- ## Full
+
+-- there is no room for the call as the pass is now
+pub full_now : (o : Opening) (k k' : Known) (asked : Request) → FindsNoRoom o k (called k asked) k' → room_behind o k'.seen (called k' asked) ≡ false
+full_now o k k' asked finds = subst (λ (c : ℕ). room_behind o k'.seen (Call c asked appended.NotAsked) ≡ false) (sym finds.learnt.caller) finds.full

@@ -1,0 +1,4 @@
+mod Waiting
+mod Answering
+mod Owning
+mod Connecting

@@ -1,0 +1,229 @@
+-- Which own entries each step of a pass adds, and those of a chain of requests.
+use Rattle.std.proofs.Common.{◌≡◌, ◌∙◌, ℕ, List, [], ◌∷◌, ◌++◌, length, map, Option, None, Some, inl, inr, refl, sym, ap, subst, append_assoc, append-nil}
+use Rattle.std.specs.Prelude.{All}
+use Rattle.std.proofs.lemmas.List.Elements.{All-append, All-cons, All-head, All-nil, All-tail}
+use mathlib.Core.List.{IsPrefix, map-append}
+use Rattle.scm_model.specs.declared.calls.Reply.{Reply}
+use Rattle.scm_model.specs.declared.calls.Request.{Request}
+use Rattle.scm_model.specs.declared.steps.Answer.{Answer}
+use Rattle.scm_model.specs.declared.steps.Answer.TheVariants as answers
+use Rattle.scm_model.specs.declared.steps.Step.{Step}
+use Rattle.scm_model.specs.declared.steps.Step.TheVariants.{Call, EndStart, LaunchFailed, LaunchTaken, NoMemory}
+use Rattle.scm_model.specs.Entries.{Entry}
+use Rattle.scm_rules.specs.Histories.{answer, state}
+use Rattle.scm_rules.specs.Steps.{step_of}
+use Rattle.scm_runs.proofs.Histories.{told}
+use Rattle.scm_history.specs.Owned.{Made as Told, made_of}
+use Rattle.book_rule.specs.declared.view.Opening.{Opening}
+use Rattle.book_rule.proofs.Prefixes.{prefix_self, prefix_snoc, prefix_trans}
+use Rattle.scm_book.specs.Passes.{Known, Learnt, Made}
+use Rattle.conn_desk.specs.Desks.{Chain}
+use Rattle.conn_worker.specs.Owning.{Adds, AreFailures, AreOf, AreRequests, AreTold, Owns, StandAt, StandsAt}
+use Rattle.conn_worker.specs.Serving.{IsServed}
+use Rattle.conn_worker.specs.Waiting.{Turns, Waits, WaitsOnce}
+
+-- ## Places stay
+
+stays_at : (o : Opening) (log more : List Entry) (place : ℕ) (one : Told) → StandsAt o log place one → StandsAt o (log ++ more) place one
+stays_at o log more place one stands =
+    let l = o.limits in
+    let f = o.first in
+    let e = one.entry in
+    let whole : log ++ more ≡ stands.front ++ e ∷ (stands.rest ++ more) = ap (λ (es : List Entry). es ++ more) stands.is ∙ append_assoc stands.front (e ∷ stands.rest) more in
+    let first : answer l f log place ≡ Some (step_of l (state l f stands.front) e.0 e.1).answer = (λ i. answer l f (stands.is i) (stands.at i)) ∙ told l f stands.front e stands.rest in
+    let then : answer l f (log ++ more) place ≡ Some (step_of l (state l f stands.front) e.0 e.1).answer = (λ i. answer l f (whole i) (stands.at i)) ∙ told l f stands.front e (stands.rest ++ more) in
+    record { front = stands.front; rest = stands.rest ++ more; is = whole; at = stands.at; told = then ∙ (sym first ∙ stands.told) }
+
+stay_at : (o : Opening) (log more : List Entry) (places : List ℕ) (own : List Told) → StandAt o log places own → StandAt o (log ++ more) places own
+stay_at o log more [] [] stand = tt
+stay_at o log more (place ∷ places) (one ∷ own) stand = (stays_at o log more place one stand.0, stay_at o log more places own stand.1)
+stay_at o log more [] (one ∷ own) stand = absurd stand
+stay_at o log more (place ∷ places) [] stand = absurd stand
+
+stay_behind : (o : Opening) (log longer : List Entry) (places : List ℕ) (own : List Told) → IsPrefix log longer → StandAt o log places own → StandAt o longer places own
+stay_behind o log longer places own is stand = subst (λ (es : List Entry). StandAt o es places own) is.1 (stay_at o log is.0 places own stand)
+
+stand_more : (o : Opening) (log : List Entry) (places : List ℕ) (own : List Told) (place : ℕ) (one : Told) → StandAt o log places own → StandsAt o log place one → StandAt o log (places ++ place ∷ []) (own ++ one ∷ [])
+stand_more o log [] [] place one stand stands = (stands, tt)
+stand_more o log (first ∷ places) (other ∷ own) place one stand stands = (stand.0, stand_more o log places own place one stand.1 stands)
+stand_more o log [] (other ∷ own) place one stand stands = absurd stand
+stand_more o log (first ∷ places) [] place one stand stands = absurd stand
+
+-- ## What is added
+
+entry_of : Told → Entry
+entry_of one = one.entry
+
+pub adds_made : (o : Opening) (k k' : Known) (moment : ℕ) (step : Step) (told : Answer) → Made o k moment step told k' → Adds o k (made_of (moment, step) told ∷ []) k'
+adds_made o k k' moment step told made =
+    let one : Told = made_of (moment, step) told in
+    let longer : IsPrefix k.seen k'.seen = subst (IsPrefix k.seen) (sym made.seen) (prefix_snoc k.seen made.before (moment, step) made.longer) in
+    let at : StandsAt o k'.seen (length made.before) one = record { front = made.before; rest = []; is = made.seen; at = refl; told = made.answer } in
+    record {
+      longer = longer;
+      own = λ before stand. subst (λ (places : List ℕ). StandAt o k'.seen places (before ++ one ∷ [])) (sym made.own)
+          (stand_more o k'.seen k.own before (length made.before) one (stay_behind o k.seen k'.seen k.own before longer stand) at);
+      alone = λ alone. made.seen ∙ ap (λ (es : List Entry). es ++ (moment, step) ∷ []) (made.alone alone);
+      same = made.same;
+    }
+
+pub adds_learnt : (o : Opening) (k k' : Known) → Learnt o k k' → Adds o k [] k'
+adds_learnt o k k' learnt = record {
+  longer = learnt.longer;
+  own = λ before stand. subst (λ (own : List Told). StandAt o k'.seen k'.own own) (sym (append-nil before))
+      (subst (λ (places : List ℕ). StandAt o k'.seen places before) (sym learnt.own) (stay_behind o k.seen k'.seen k.own before learnt.longer stand));
+  alone = λ alone. learnt.alone alone ∙ sym (append-nil k.seen);
+  same = learnt.same;
+}
+
+adds_none : (o : Opening) (k : Known) → Adds o k [] k
+adds_none o k = record {
+  longer = prefix_self k.seen;
+  own = λ before stand. subst (λ (own : List Told). StandAt o k.seen k.own own) (sym (append-nil before)) stand;
+  alone = λ alone. sym (append-nil k.seen);
+  same = record { table = refl; opening = refl; alone = refl };
+}
+
+pub adds_then : (o : Opening) (k m k' : Known) (xs ys : List Told) → Adds o k xs m → Adds o m ys k' → Adds o k (xs ++ ys) k'
+adds_then o k m k' xs ys first then = record {
+  longer = prefix_trans k.seen m.seen k'.seen first.longer then.longer;
+  own = λ before stand. subst (Owns o k') (append_assoc before xs ys) (then.own (before ++ xs) (first.own before stand));
+  alone = λ alone.
+      let one : m.seen ≡ k.seen ++ map (λ (t : Told). t.entry) xs = first.alone alone in
+      let two : k'.seen ≡ m.seen ++ map (λ (t : Told). t.entry) ys = then.alone (first.same.alone ∙ alone) in
+      let both : map (λ (t : Told). t.entry) (xs ++ ys) ≡ map (λ (t : Told). t.entry) xs ++ map (λ (t : Told). t.entry) ys = map-append (λ (t : Told). t.entry) xs ys in
+      two ∙ (ap (λ (es : List Entry). es ++ map (λ (t : Told). t.entry) ys) one
+      ∙ (append_assoc k.seen (map (λ (t : Told). t.entry) xs) (map (λ (t : Told). t.entry) ys) ∙ ap (λ (es : List Entry). k.seen ++ es) (sym both)));
+  same = record {
+    table = then.same.table ∙ first.same.table;
+    opening = then.same.opening ∙ first.same.opening;
+    alone = then.same.alone ∙ first.same.alone;
+  };
+}
+
+-- ## At moments that the clock tells, by the same caller
+
+pub record Makes (tells : ℕ → Type 0) (o : Opening) (k : Known) (entries : List Told) (k' : Known) : Type 0 where
+  pub adds : Adds o k entries k'
+  pub told : AreTold tells entries
+  pub caller : k'.caller ≡ k.caller
+
+module _ (tells : ℕ → Type 0) (o : Opening) where
+  pub makes_none : (k k' : Known) → k' ≡ k → Makes tells o k [] k'
+  makes_none k k' same = subst (λ (x : Known). Makes tells o k [] x) (sym same) (record { adds = adds_none o k; told = All-nil (λ (one : Told). tells one.entry.0); caller = refl })
+
+  pub makes_learnt : (k k' : Known) → Learnt o k k' → Makes tells o k [] k'
+  makes_learnt k k' learnt = record { adds = adds_learnt o k k' learnt; told = All-nil (λ (one : Told). tells one.entry.0); caller = learnt.caller }
+
+  makes_one : (k k' : Known) (moment : ℕ) (step : Step) (told : Answer) → tells moment → Made o k moment step told k' → k'.caller ≡ k.caller → Makes tells o k (made_of (moment, step) told ∷ []) k'
+  makes_one k k' moment step told so made caller = record {
+    adds = adds_made o k k' moment step told made;
+    told = All-cons (λ (one : Told). tells one.entry.0) (made_of (moment, step) told) [] so (All-nil (λ (one : Told). tells one.entry.0));
+    caller = caller;
+  }
+
+  pub makes_then : (k m k' : Known) (xs ys : List Told) → Makes tells o k xs m → Makes tells o m ys k' → Makes tells o k (xs ++ ys) k'
+  makes_then k m k' xs ys first then = record {
+    adds = adds_then o k m k' xs ys first.adds then.adds;
+    told = All-append (λ (one : Told). tells one.entry.0) xs ys first.told then.told;
+    caller = then.caller ∙ first.caller;
+  }
+
+  -- ## Turns
+
+  pub record Failed (k k' : Known) : Type 0 where
+    pub entries : List Told
+    pub makes : Makes tells o k entries k'
+    pub failures : AreFailures entries
+
+  of_turn : (k k' : Known) (moment : ℕ) → tells moment → Turns o k moment k' → Failed k k'
+  of_turn k k' moment so (inl (inl same)) = record { entries = []; makes = makes_none k k' same; failures = tt }
+  of_turn k k' moment so (inl (inr learnt)) = record { entries = []; makes = makes_learnt k k' learnt; failures = tt }
+  of_turn k k' moment so (inr fails) =
+      let taken : Told = made_of (moment, LaunchTaken) (answers.Launch fails.process) in
+      let failed : Told = made_of (moment, LaunchFailed fails.process 1054) answers.Done in record {
+        entries = taken ∷ failed ∷ [];
+        makes = makes_then k fails.taken k' (taken ∷ []) (failed ∷ [])
+            (makes_one k fails.taken moment LaunchTaken (answers.Launch fails.process) so fails.takes fails.takes.caller)
+            (makes_one fails.taken k' moment (LaunchFailed fails.process 1054) answers.Done so fails.fails fails.fails.caller);
+        failures = (record { process = fails.process; moment = moment; takes = refl; fails = refl }, tt);
+      }
+
+  failures_then : (xs ys : List Told) → AreFailures xs → AreFailures ys → AreFailures (xs ++ ys)
+  failures_then [] ys first then = then
+  failures_then (one ∷ []) ys first then = absurd first
+  failures_then (taken ∷ failed ∷ xs) ys first then = (first.0, failures_then xs ys first.1 then)
+
+  of_waits : (plan : ℕ) (moments : List ℕ) (k k' : Known) → All tells moments → Waits o plan moments k k' → Failed k k'
+  of_waits plan [] k k' all same = record { entries = []; makes = makes_none k k' same; failures = tt }
+  of_waits plan (moment ∷ moments) k k' all waits =
+      let once : WaitsOnce o plan k moment waits.0 = waits.1 in
+      let first : Failed once.looked waits.0 = of_turn once.looked waits.0 moment (All-head tells moment moments all) once.turns in
+      let rest : Failed waits.0 k' = of_waits plan moments waits.0 k' (All-tail tells moment moments all) waits.2 in record {
+        entries = first.entries ++ rest.entries;
+        makes = makes_then k waits.0 k' first.entries rest.entries (makes_then k once.looked waits.0 [] first.entries (makes_learnt k once.looked once.learnt) first.makes) rest.makes;
+        failures = failures_then first.entries rest.entries first.failures rest.failures;
+      }
+
+  -- ## Requests
+
+  pub record Did (k k' : Known) (asked : Request) (heard : Option Reply) : Type 0 where
+    pub entries : List Told
+    pub makes : Makes tells o k entries k'
+    pub of : AreOf k.caller asked heard entries
+
+  of_served : (k k' : Known) (asked : Request) (heard : Option Reply) → IsServed tells o k k' asked heard → Did k k' asked heard
+  of_served k k' asked None wanted = record {
+    entries = made_of (wanted.moment, NoMemory k.caller) answers.Done ∷ [];
+    makes = makes_one k k' wanted.moment (NoMemory k.caller) answers.Done wanted.told wanted.wants.made.made wanted.wants.made.made.caller;
+    of = (wanted.moment, refl);
+  }
+  of_served k k' asked (Some reply) (inl at_once) =
+      let made = at_once.made in
+      let one : Told = made_of (at_once.moment, Call k.caller asked made.append) (answers.Reply reply) in record {
+        entries = one ∷ [];
+        makes = makes_one k k' at_once.moment (Call k.caller asked made.append) (answers.Reply reply) at_once.told made.made made.made.caller;
+        of = inl (one, record { moment = at_once.moment; append = made.append; is = refl }, refl);
+      }
+  of_served k k' asked (Some reply) (inr waited) =
+      let made = waited.made in
+      let ends = waited.ends in
+      let last = ends.ends in
+      let one : Told = made_of (waited.moment, Call k.caller asked made.append) (answers.Begun waited.plan) in
+      let turns : Failed waited.begun ends.waited = of_waits waited.plan ends.turns waited.begun ends.waited ends.told ends.waits in
+      let same : ends.waited.caller ≡ k.caller = turns.makes.caller ∙ made.made.caller in
+      let close : Told = made_of (last.moment, EndStart k.caller waited.plan) (answers.Reply reply) in
+      let end : Made o ends.waited last.moment (EndStart k.caller waited.plan) (answers.Reply reply) k' =
+      subst (λ (c : ℕ). Made o ends.waited last.moment (EndStart c waited.plan) (answers.Reply reply) k') same last.made in record {
+        entries = one ∷ turns.entries ++ close ∷ [];
+        makes = makes_then k waited.begun k' (one ∷ []) (turns.entries ++ close ∷ [])
+            (makes_one k waited.begun waited.moment (Call k.caller asked made.append) (answers.Begun waited.plan) waited.told made.made made.made.caller)
+            (makes_then waited.begun ends.waited k' turns.entries (close ∷ []) turns.makes
+            (makes_one ends.waited k' last.moment (EndStart k.caller waited.plan) (answers.Reply reply) last.told end end.caller));
+        of = inr (record {
+          plan = waited.plan;
+          call = one;
+          calls = record { moment = waited.moment; append = made.append; is = refl };
+          turns = turns.entries;
+          failures = turns.failures;
+          moment = last.moment;
+          is = refl;
+        });
+      }
+
+  pub record DidAll (k k' : Known) (requests : List Request) (heard : List (Option Reply)) : Type 0 where
+    pub entries : List Told
+    pub makes : Makes tells o k entries k'
+    pub of : AreRequests k.caller requests heard entries
+
+  pub of_chain : (k k' : Known) (requests : List Request) (heard : List (Option Reply)) → Chain (IsServed tells o) k k' requests heard → DidAll k k' requests heard
+  of_chain k k' [] [] same = record { entries = []; makes = makes_none k k' same; of = refl }
+  of_chain k k' (asked ∷ requests) (told ∷ heard) chain =
+      let first : Did k chain.0 asked told = of_served k chain.0 asked told chain.1 in
+      let rest : DidAll chain.0 k' requests heard = of_chain chain.0 k' requests heard chain.2 in record {
+        entries = first.entries ++ rest.entries;
+        makes = makes_then k chain.0 k' first.entries rest.entries first.makes rest.makes;
+        of = (first.entries, rest.entries, refl, first.of, subst (λ (c : ℕ). AreRequests c requests heard rest.entries) first.makes.caller rest.of);
+      }
+  of_chain k k' [] (told ∷ heard) chain = absurd chain
+  of_chain k k' (asked ∷ requests) [] chain = absurd chain

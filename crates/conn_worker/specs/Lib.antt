@@ -1,0 +1,4 @@
+pub mod Waiting
+pub mod Serving
+pub mod Owning
+pub mod Connecting

@@ -1,0 +1,95 @@
+-- A pass's own entries, and those that became of its requests.
+use Rattle.std.specs.Prelude.{ℕ, ◌≡◌, ◌⊎◌, ◌++◌, All, true, List, [], ◌∷◌, length, map, Option, None, Some}
+use mathlib.Core.List.{IsPrefix}
+use Rattle.scm_model.specs.declared.codes.TheConstants.{ERROR_SERVICE_NO_THREAD}
+use Rattle.scm_model.specs.declared.calls.Reply.{Reply}
+use Rattle.scm_model.specs.declared.calls.Request.{Request}
+use Rattle.scm_model.specs.declared.steps.Answer.{Answer}
+use Rattle.scm_model.specs.declared.steps.Answer.TheVariants as answers
+use Rattle.scm_model.specs.declared.steps.Kept.{Kept}
+use Rattle.scm_model.specs.declared.steps.Step.TheVariants.{Call, EndStart, LaunchFailed, LaunchTaken, NoMemory}
+use Rattle.scm_model.specs.Entries.{Entry}
+use Rattle.scm_rules.specs.Histories.{answer}
+use Rattle.scm_history.specs.Owned.{Made as Told, made_of}
+use Rattle.book_rule.specs.declared.view.Opening.{Opening}
+use Rattle.scm_book.specs.Passes.{IsSame, Known}
+
+-- ## Places
+
+-- the entry at a place of a history, and what it was told
+pub record StandsAt (o : Opening) (log : List Entry) (place : ℕ) (one : Told) : Type 0 where
+  pub front : List Entry
+  pub rest : List Entry
+  pub is : log ≡ front ++ one.entry ∷ rest
+  pub at : place ≡ length front
+  pub told : answer o.limits o.first log place ≡ Some one.told
+
+-- these stand at the places, in order
+abbrev pub StandAt : Opening → List Entry → List ℕ → List Told → Type 0
+StandAt o log [] [] = Unit {0}
+StandAt o log (place ∷ places) (one ∷ more) = StandsAt o log place one × StandAt o log places more
+StandAt o log [] (one ∷ more) = ⊥
+StandAt o log (place ∷ places) [] = ⊥
+
+-- the pass's own entries
+abbrev pub Owns : Opening → Known → List Told → Type 0
+Owns o k own = StandAt o k.seen k.own own
+
+-- the pass has these own entries more, and no other; where it is alone nobody else made any
+pub record Adds (o : Opening) (k : Known) (entries : List Told) (k' : Known) : Type 0 where
+  pub longer : IsPrefix k.seen k'.seen
+  pub own : (before : List Told) → Owns o k before → Owns o k' (before ++ entries)
+  pub alone : k.alone ≡ true → k'.seen ≡ k.seen ++ map (λ (one : Told). one.entry) entries
+  pub same : IsSame k k'
+
+-- at moments that the clock tells
+abbrev pub AreTold : (ℕ → Type 0) → List Told → Type 0
+AreTold tells entries = All (λ (one : Told). tells one.entry.0) entries
+
+-- ## The entries of a request
+
+-- a call, told this
+pub record IsCall (caller : ℕ) (asked : Request) (told : Answer) (one : Told) : Type 0 where
+  pub moment : ℕ
+  pub append : Kept
+  pub is : one ≡ made_of (moment, Call caller asked append) told
+
+-- a launch that was taken in hand, and its failure with 1054
+pub record IsFailure (taken failed : Told) : Type 0 where
+  pub process : ℕ
+  pub moment : ℕ
+  pub takes : taken ≡ made_of (moment, LaunchTaken) (answers.Launch process)
+  pub fails : failed ≡ made_of (moment, LaunchFailed process ERROR_SERVICE_NO_THREAD) answers.Done
+
+-- such failures, one after another
+abbrev pub AreFailures : List Told → Type 0
+AreFailures [] = Unit {0}
+AreFailures (one ∷ []) = ⊥
+AreFailures (taken ∷ failed ∷ more) = IsFailure taken failed × AreFailures more
+
+-- the call alone, told the reply
+abbrev pub IsAtOnce : ℕ → Request → Reply → List Told → Type 0
+IsAtOnce caller asked reply entries = (one : Told) × IsCall caller asked (answers.Reply reply) one × (entries ≡ one ∷ [])
+
+-- the call that began a start, failures of launches, and the start's end, told the reply
+pub record HasWaited (caller : ℕ) (asked : Request) (reply : Reply) (entries : List Told) : Type 0 where
+  pub plan : ℕ
+  pub call : Told
+  pub calls : IsCall caller asked (answers.Begun plan) call
+  pub turns : List Told
+  pub failures : AreFailures turns
+  pub moment : ℕ
+  pub is : entries ≡ call ∷ turns ++ made_of (moment, EndStart caller plan) (answers.Reply reply) ∷ []
+
+-- the entries of a caller's request, by what was heard of it
+abbrev pub AreOf : ℕ → Request → Option Reply → List Told → Type 0
+AreOf caller asked (Some reply) entries = IsAtOnce caller asked reply entries ⊎ HasWaited caller asked reply entries
+AreOf caller asked None entries = (moment : ℕ) × (entries ≡ made_of (moment, NoMemory caller) answers.Done ∷ [])
+
+-- those of its requests, one after another
+abbrev pub AreRequests : ℕ → List Request → List (Option Reply) → List Told → Type 0
+AreRequests caller [] [] entries = entries ≡ []
+AreRequests caller (asked ∷ more) (heard ∷ others) entries =
+    (first : List Told) × (rest : List Told) × (entries ≡ first ++ rest) × AreOf caller asked heard first × AreRequests caller more others rest
+AreRequests caller [] (heard ∷ others) entries = ⊥
+AreRequests caller (asked ∷ more) [] entries = ⊥

@@ -1,0 +1,77 @@
+-- What a connection does while its start waits.
+use Rattle.std.specs.Prelude.{ℕ, ◌≡◌, ◌⊎◌, All, false, List, [], ◌∷◌, Option, None, Some}
+use Rattle.scm_model.specs.declared.calls.Reply.{Reply}
+use Rattle.scm_model.specs.declared.codes.TheConstants.{ERROR_SERVICE_NO_THREAD}
+use Rattle.scm_model.specs.declared.steps.Answer.TheVariants as answers
+use Rattle.scm_model.specs.declared.steps.Step.TheVariants.{EndStart, LaunchFailed, LaunchTaken}
+use Rattle.book_rule.specs.declared.view.Opening.{Opening}
+use Rattle.scm_book.specs.Passes.{HasPlan, Known, Learnt, Made}
+use Rattle.scm_book.specs.Processes.{is_wanted_behind}
+use Rattle.scm_book.specs.Starts.{IsUndecided}
+
+-- ## A turn
+
+-- the launch that was wanted first was taken in hand, and failed with 1054, since no process is run
+pub record FailsLaunch (o : Opening) (k : Known) (moment : ℕ) (k' : Known) : Type 0 where
+  pub process : ℕ
+  pub taken : Known
+  pub takes : Made o k moment LaunchTaken (answers.Launch process) taken
+  pub fails : Made o taken moment (LaunchFailed process ERROR_SERVICE_NO_THREAD) answers.Done k'
+
+-- the pass is as it was, or has seen more and made no step
+abbrev pub IsLeft : Opening → Known → Known → Type 0
+IsLeft o k k' = (k' ≡ k) ⊎ Learnt o k k'
+
+-- a turn leaves the pass, or lets one launch fail
+abbrev pub Turns : Opening → Known → ℕ → Known → Type 0
+Turns o k moment k' = IsLeft o k k' ⊎ FailsLaunch o k moment k'
+
+-- where no process is run, it leaves the pass only where nothing is wanted in what that has then seen
+abbrev pub FailsWanted : Opening → Known → ℕ → Known → Type 0
+FailsWanted o k moment k' = FailsLaunch o k moment k' ⊎ (is_wanted_behind o k'.seen ≡ false)
+
+-- the plans of the pass's caller stay its own
+abbrev pub KeepsPlans : Opening → Known → Known → Type 0
+KeepsPlans o k k' = (plan : ℕ) → HasPlan o k plan → HasPlan o k' plan
+
+-- ## Turns behind looks
+
+-- a look that found the plan undecided, and the turn behind it
+pub record WaitsOnce (o : Opening) (plan : ℕ) (k : Known) (moment : ℕ) (k' : Known) : Type 0 where
+  pub looked : Known
+  pub learnt : Learnt o k looked
+  pub undecided : IsUndecided o looked.seen plan
+  pub turns : Turns o looked moment k'
+
+-- so it went on, with a turn at each of these moments
+abbrev pub Waits : Opening → ℕ → List ℕ → Known → Known → Type 0
+Waits o plan [] k k' = k' ≡ k
+Waits o plan (moment ∷ moments) k k' = (mid : Known) × WaitsOnce o plan k moment mid × Waits o plan moments mid k'
+
+-- ## The end of a start, at moments that the clock tells
+
+-- the start was answered
+pub record Ends (tells : ℕ → Type 0) (o : Opening) (plan : ℕ) (k : Known) (reply : Reply) (k' : Known) : Type 0 where
+  pub moment : ℕ
+  pub told : tells moment
+  pub made : Made o k moment (EndStart k.caller plan) (answers.Reply reply) k'
+
+-- it waits still, behind one turn more
+pub record StillWaits (tells : ℕ → Type 0) (o : Opening) (plan : ℕ) (k k' : Known) : Type 0 where
+  pub moment : ℕ
+  pub told : tells moment
+  pub waits : WaitsOnce o plan k moment k'
+  pub has : HasPlan o k' plan
+
+-- one look comes to the answer, or to a turn
+abbrev pub Looks : (tells : ℕ → Type 0) → Opening → ℕ → Known → Known → Option Reply → Type 0
+Looks tells o plan k k' (Some reply) = Ends tells o plan k reply k'
+Looks tells o plan k k' None = StillWaits tells o plan k k'
+
+-- the start waited behind turns, and then was answered
+pub record WaitsAndEnds (tells : ℕ → Type 0) (o : Opening) (plan : ℕ) (k : Known) (reply : Reply) (k' : Known) : Type 0 where
+  pub turns : List ℕ
+  pub told : All tells turns
+  pub waited : Known
+  pub waits : Waits o plan turns k waited
+  pub ends : Ends tells o plan waited reply k'

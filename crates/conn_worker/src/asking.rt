@@ -1,0 +1,161 @@
+// One request at the book.
+ghost use Rattle.std.specs.Prelude.{◌≡◌, ◌≢◌, false, true, IfOk, IsErrOf, IsTrue, OnErr};
+ghost use Rattle.scm_model.specs.Ranges.{in_range};
+ghost use Rattle.scm_book.specs.Called.{is_start};
+ghost use Rattle.scm_book.specs.Passes.{HasPlan, IsOf, Learnt};
+ghost use Rattle.conn_desk.specs.Desks.{CallAnswered};
+ghost use Rattle.conn_worker.specs.Connecting.{HasNoRoomFor};
+ghost use Rattle.conn_worker.specs.Serving.{IsServed};
+ghost use Rattle.conn_worker.specs.Waiting.{KeepsPlans, Looks, WaitsAndEnds};
+
+use crate::waiter::Waiter;
+use conn_desk::Lacks;
+use outside::Clock;
+use record_journal::Keeper;
+use scm_book::{Book, CallEnd, EndLook, Pass, StartEnd};
+use scm_model::{Reply, Request};
+use std::sync::Wait;
+
+/// Whether a request is a start.
+fn is_start(asked: &Request) -> bool
+    ensures { result ≡ is_start asked.now }
+{
+    match asked {
+        Request::Start { .. } => true,
+        _ => false,
+    }
+}
+
+/// Looks at a start once: where it is undecided, the waiter has a turn. `seen` is the count of the
+/// book's bell before the look.
+fn look<R: Wait, K: Keeper, C: Clock, W: Waiter<K>>(
+    rt: &R,
+    book: &Book<K>,
+    pass: &mut Pass,
+    clock: &C,
+    waiter: &mut W,
+    plan: u64,
+    seen: &mut u64,
+) -> Option<Reply>
+    requires book { IsOf book.now pass.old }
+    requires plan { HasPlan book.now.opening pass.old plan }
+    ensures book { IsOf book.now pass.new }
+    ensures looks { Looks (C.tells clock.now) book.now.opening plan pass.old pass.new result }
+{
+    match book.end_start(rt, pass, clock.now(), plan) {
+        EndLook::Done(reply) => Some(reply),
+        EndLook::Again => {
+            *seen = waiter.turn(book, pass, clock.now(), *seen);
+            None
+        }
+    }
+}
+
+/// Waits until a start is decided, and answers it.
+fn wait<R: Wait, K: Keeper, C: Clock, W: Waiter<K>>(
+    rt: &R,
+    book: &Book<K>,
+    pass: &mut Pass,
+    clock: &C,
+    waiter: &mut W,
+    plan: u64,
+) -> Reply
+    requires book { IsOf book.now pass.old }
+    requires plan { HasPlan book.now.opening pass.old plan }
+    ensures book { IsOf book.now pass.new }
+    ensures ends { WaitsAndEnds (C.tells clock.now) book.now.opening plan pass.old result pass.new }
+{
+    let mut seen = book.bell().count();
+    for _ in rt.forever() {
+        match look(rt, book, pass, clock, waiter, plan, &mut seen) {
+            Some(reply) => return reply,
+            None => {}
+        }
+    }
+    unreachable!()
+}
+
+/// Makes a request that is a start, and waits until it is decided.
+fn start<R: Wait, K: Keeper, C: Clock, W: Waiter<K>>(
+    rt: &R,
+    book: &Book<K>,
+    pass: &mut Pass,
+    clock: &C,
+    waiter: &mut W,
+    request: Request,
+) -> Result<Reply, Lacks>
+    requires book { IsOf book.now pass.old }
+    requires caller { pass.old.caller ≢ 0 }
+    requires start { is_start request ≡ true }
+    requires ranged { IsTrue (in_range request) }
+    ensures book { IsOf book.now pass.new }
+    ensures caller { pass.new.caller ≡ pass.old.caller }
+    ensures answered { IfOk result (λ reply.
+        CallAnswered (IsServed (C.tells clock.now) book.now.opening) pass.old pass.new request reply) }
+    ensures left { OnErr result (Learnt book.now.opening pass.old pass.new) }
+    ensures full { IsErrOf result Lacks.Full →
+        HasNoRoomFor book.now.opening pass.new request }
+{
+    book.opens();
+    match book.begin_start(rt, pass, clock.now(), request) {
+        StartEnd::Answered(reply) => Ok(reply),
+        StartEnd::Waiting(plan) => Ok(wait(rt, book, pass, clock, waiter, plan)),
+        StartEnd::Full => Err(Lacks::Full),
+        StartEnd::OutOfMemory => Err(Lacks::OutOfMemory),
+    }
+}
+
+/// Makes a request that is no start.
+fn call<R: Wait, K: Keeper, C: Clock>(
+    rt: &R,
+    book: &Book<K>,
+    pass: &mut Pass,
+    clock: &C,
+    request: Request,
+) -> Result<Reply, Lacks>
+    requires book { IsOf book.now pass.old }
+    requires caller { pass.old.caller ≢ 0 }
+    requires start { is_start request ≡ false }
+    requires ranged { IsTrue (in_range request) }
+    ensures book { IsOf book.now pass.new }
+    ensures caller { pass.new.caller ≡ pass.old.caller }
+    ensures answered { IfOk result (λ reply.
+        CallAnswered (IsServed (C.tells clock.now) book.now.opening) pass.old pass.new request reply) }
+    ensures left { OnErr result (Learnt book.now.opening pass.old pass.new) }
+    ensures full { IsErrOf result Lacks.Full →
+        HasNoRoomFor book.now.opening pass.new request }
+{
+    book.opens();
+    match book.call(rt, pass, clock.now(), request) {
+        CallEnd::Answered(reply) => Ok(reply),
+        CallEnd::Full => Err(Lacks::Full),
+        CallEnd::OutOfMemory => Err(Lacks::OutOfMemory),
+    }
+}
+
+/// Makes a request. A start that waits is answered once it is decided.
+pub fn ask<R: Wait, K: Keeper, C: Clock, W: Waiter<K>>(
+    rt: &R,
+    book: &Book<K>,
+    pass: &mut Pass,
+    clock: &C,
+    waiter: &mut W,
+    request: Request,
+) -> Result<Reply, Lacks>
+    requires book { IsOf book.now pass.old }
+    requires caller { pass.old.caller ≢ 0 }
+    requires ranged { IsTrue (in_range request) }
+    ensures book { IsOf book.now pass.new }
+    ensures caller { pass.new.caller ≡ pass.old.caller }
+    ensures answered { IfOk result (λ reply.
+        CallAnswered (IsServed (C.tells clock.now) book.now.opening) pass.old pass.new request reply) }
+    ensures left { OnErr result (Learnt book.now.opening pass.old pass.new) }
+    ensures full { IsErrOf result Lacks.Full →
+        HasNoRoomFor book.now.opening pass.new request }
+{
+    if is_start(&request) {
+        start(rt, book, pass, clock, waiter, request)
+    } else {
+        call(rt, book, pass, clock, request)
+    }
+}
