@@ -1,5 +1,5 @@
 // One request at the book.
-ghost use Rattle.std.specs.Prelude.{◌≡◌, ◌≢◌, false, true, IfOk, IsErrOf, IsTrue, OnErr};
+ghost use Rattle.std.specs.Prelude.{◌≡◌, ◌≢◌, IfOk, IsErrOf, IsTrue, OnErr};
 ghost use Rattle.scm_model.specs.Ranges.{in_range};
 ghost use Rattle.scm_book.specs.Called.{is_start};
 ghost use Rattle.scm_book.specs.Passes.{HasPlan, IsOf, Learnt};
@@ -75,64 +75,6 @@ fn wait<R: Wait, K: Keeper, C: Clock, W: Waiter<K>>(
     unreachable!()
 }
 
-/// Makes a request that is a start, and waits until it is decided.
-fn start<R: Wait, K: Keeper, C: Clock, W: Waiter<K>>(
-    rt: &R,
-    book: &Book<K>,
-    pass: &mut Pass,
-    clock: &C,
-    waiter: &mut W,
-    request: Request,
-) -> Result<Reply, Lacks>
-    requires book { IsOf book.now pass.old }
-    requires caller { pass.old.caller ≢ 0 }
-    requires start { is_start request ≡ true }
-    requires ranged { IsTrue (in_range request) }
-    ensures book { IsOf book.now pass.new }
-    ensures caller { pass.new.caller ≡ pass.old.caller }
-    ensures answered { IfOk result (λ reply.
-        CallAnswered (IsServed (C.tells clock.now) book.now.opening) pass.old pass.new request reply) }
-    ensures left { OnErr result (Learnt book.now.opening pass.old pass.new) }
-    ensures full { IsErrOf result Lacks.Full →
-        HasNoRoomFor book.now.opening pass.new request }
-{
-    book.opens();
-    match book.begin_start(rt, pass, clock.now(), request) {
-        StartEnd::Answered(reply) => Ok(reply),
-        StartEnd::Waiting(plan) => Ok(wait(rt, book, pass, clock, waiter, plan)),
-        StartEnd::Full => Err(Lacks::Full),
-        StartEnd::OutOfMemory => Err(Lacks::OutOfMemory),
-    }
-}
-
-/// Makes a request that is no start.
-fn call<R: Wait, K: Keeper, C: Clock>(
-    rt: &R,
-    book: &Book<K>,
-    pass: &mut Pass,
-    clock: &C,
-    request: Request,
-) -> Result<Reply, Lacks>
-    requires book { IsOf book.now pass.old }
-    requires caller { pass.old.caller ≢ 0 }
-    requires start { is_start request ≡ false }
-    requires ranged { IsTrue (in_range request) }
-    ensures book { IsOf book.now pass.new }
-    ensures caller { pass.new.caller ≡ pass.old.caller }
-    ensures answered { IfOk result (λ reply.
-        CallAnswered (IsServed (C.tells clock.now) book.now.opening) pass.old pass.new request reply) }
-    ensures left { OnErr result (Learnt book.now.opening pass.old pass.new) }
-    ensures full { IsErrOf result Lacks.Full →
-        HasNoRoomFor book.now.opening pass.new request }
-{
-    book.opens();
-    match book.call(rt, pass, clock.now(), request) {
-        CallEnd::Answered(reply) => Ok(reply),
-        CallEnd::Full => Err(Lacks::Full),
-        CallEnd::OutOfMemory => Err(Lacks::OutOfMemory),
-    }
-}
-
 /// Makes a request. A start that waits is answered once it is decided.
 pub fn ask<R: Wait, K: Keeper, C: Clock, W: Waiter<K>>(
     rt: &R,
@@ -148,14 +90,25 @@ pub fn ask<R: Wait, K: Keeper, C: Clock, W: Waiter<K>>(
     ensures book { IsOf book.now pass.new }
     ensures caller { pass.new.caller ≡ pass.old.caller }
     ensures answered { IfOk result (λ reply.
-        CallAnswered (IsServed (C.tells clock.now) book.now.opening) pass.old pass.new request reply) }
+        CallAnswered (IsServed (C.tells clock.now) book.now.opening) pass.old pass.new
+        request reply) }
     ensures left { OnErr result (Learnt book.now.opening pass.old pass.new) }
-    ensures full { IsErrOf result Lacks.Full →
-        HasNoRoomFor book.now.opening pass.new request }
+    ensures full { IsErrOf result Lacks.Full → HasNoRoomFor book.now.opening pass.new request }
 {
+    book.opens();
+    let moment = clock.now();
     if is_start(&request) {
-        start(rt, book, pass, clock, waiter, request)
+        match book.begin_start(rt, pass, moment, request) {
+            StartEnd::Answered(reply) => Ok(reply),
+            StartEnd::Waiting(plan) => Ok(wait(rt, book, pass, clock, waiter, plan)),
+            StartEnd::Full => Err(Lacks::Full),
+            StartEnd::OutOfMemory => Err(Lacks::OutOfMemory),
+        }
     } else {
-        call(rt, book, pass, clock, request)
+        match book.call(rt, pass, moment, request) {
+            CallEnd::Answered(reply) => Ok(reply),
+            CallEnd::Full => Err(Lacks::Full),
+            CallEnd::OutOfMemory => Err(Lacks::OutOfMemory),
+        }
     }
 }
