@@ -19,15 +19,15 @@ use Rattle.child_link.proofs.Splits.{IsOneWord, same_some, none_some, split_join
 
 -- ## Options
 
-if_some : {A : Type 0} (b : Bool) (x y : A) → cond b (Some x) None ≡ Some y → (b ≡ true) × (x ≡ y)
+pub if_some : {A : Type 0} (b : Bool) (x y : A) → cond b (Some x) None ≡ Some y → (b ≡ true) × (x ≡ y)
 if_some true x y e = (refl, same_some x y e)
 if_some false x y e = absurd (none_some None y refl e)
 
-if_then : {A : Type 0} (b : Bool) (o : Option A) (y : A) → cond b o None ≡ Some y → (b ≡ true) × (o ≡ Some y)
+pub if_then : {A : Type 0} (b : Bool) (o : Option A) (y : A) → cond b o None ≡ Some y → (b ≡ true) × (o ≡ Some y)
 if_then true o y e = (refl, e)
 if_then false o y e = absurd (none_some None y refl e)
 
-and_then_some : {A B : Type 0} (f : A → Option B) (o : Option A) (y : B) → option_and_then f o ≡ Some y → (x : A) × (o ≡ Some x) × (f x ≡ Some y)
+pub and_then_some : {A B : Type 0} (f : A → Option B) (o : Option A) (y : B) → option_and_then f o ≡ Some y → (x : A) × (o ≡ Some x) × (f x ≡ Some y)
 and_then_some f None y e = absurd (none_some None y refl e)
 and_then_some f (Some x) y e = (x, refl, e)
 
@@ -53,17 +53,17 @@ number_text limit text n e =
     (form ∙ ap decimal (read.1 ∙ low.1), subst (λ m. m < limit) low.1 (ltb-true at.0 limit low.0))
 
 -- and a decimal form is read as its number
-number_again : (n : ℕ) → n < 2 ^ 32 → number_below (2 ^ 32) (decimal n) ≡ Some n
+pub number_again : (n : ℕ) → n < 2 ^ 32 → number_below (2 ^ 32) (decimal n) ≡ Some n
 unfolding number_below
 number_again n small =
     ap (option_and_then (below (2 ^ 32))) (number_is (decimal n) n (omega (arith, small)) refl)
     ∙ ap (λ b. cond b (Some n) None) (lt-ltb n (2 ^ 32) small)
 
-code_read : (words : List (List ℕ)) (n : ℕ) → code_of (slice_get words 0) ≡ Some n → (words ≡ decimal n ∷ drop 1 words) × (n < 2 ^ 32)
+pub code_read : (words : List (List ℕ)) (n : ℕ) → code_of (slice_get words 0) ≡ Some n → (words ≡ decimal n ∷ drop 1 words) × (n < 2 ^ 32)
 code_read [] n e = absurd (none_some None n refl e)
 code_read (word ∷ words) n e = let h = number_text (2 ^ 32) word n e in (ap (λ text. text ∷ words) h.0, h.1)
 
-words_end : (words : List (List ℕ)) → is_none (slice_get words 0) ≡ true → words ≡ []
+pub words_end : (words : List (List ℕ)) → is_none (slice_get words 0) ≡ true → words ≡ []
 words_end [] e = refl
 words_end (word ∷ words) e = absurd (true≢false (sym e))
 
@@ -79,7 +79,7 @@ digits_high n small = decimal_by_steps (λ n ds. All (λ b. 48 ≤ b) ds)
 abbrev AreSmall : List ℕ → Type 0
 AreSmall numbers = All (λ n. n < 2 ^ 32) numbers
 
-words_clean : (numbers : List ℕ) → AreSmall numbers → All IsOneWord (map decimal numbers)
+pub words_clean : (numbers : List ℕ) → AreSmall numbers → All IsOneWord (map decimal numbers)
 words_clean [] small = All-nil IsOneWord
 words_clean (n ∷ numbers) small =
     All-cons IsOneWord (decimal n) (map decimal numbers)
@@ -101,7 +101,7 @@ joined_clean word (n ∷ numbers) clean small =
     (digits_high n (omega (arith, All-head (λ n. n < 2 ^ 32) n numbers small))))
     (All-tail (λ n. n < 2 ^ 32) n numbers small)))
 
-joined_short : (word : List ℕ) (numbers : List ℕ) → AreSmall numbers
+pub joined_short : (word : List ℕ) (numbers : List ℕ) → AreSmall numbers
     → length (join_with_byte 32 (word ∷ map decimal numbers)) ≤ length word + 11 * length numbers
 joined_short word [] small = omega arith
 joined_short word (n ∷ numbers) small =
@@ -183,7 +183,7 @@ text_again status small =
 
 -- ## Lines
 
-front_is : (byte : ℕ) (bytes front : List ℕ) → 0 < byte → front_of byte bytes ≡ Some front → bytes ≡ front ++ byte ∷ []
+pub front_is : (byte : ℕ) (bytes front : List ℕ) → 0 < byte → front_of byte bytes ≡ Some front → bytes ≡ front ++ byte ∷ []
 front_is byte [] front some e = absurd (omega (arith, some, eqb-true 0 byte (if_some (0 == byte) [] front e).0))
 front_is byte (b ∷ bytes) front some e =
     let all = b ∷ bytes in
@@ -193,7 +193,7 @@ front_is byte (b ∷ bytes) front some e =
     sym (take-length all) ∙ ap (λ n. take n all) size ∙ take-suc all last 0 (omega arith)
     ∙ ap (λ x. take last all ++ x ∷ []) (eqb-true (slice_index_or all last 0) byte h.0) ∙ ap (λ xs. xs ++ byte ∷ []) h.1
 
-front_on : (byte : ℕ) (front : List ℕ) → front_of byte (front ++ byte ∷ []) ≡ Some front
+pub front_on : (byte : ℕ) (front : List ℕ) → front_of byte (front ++ byte ∷ []) ≡ Some front
 front_on byte front =
     let size : length (front ++ byte ∷ []) - 1 ≡ length front = omega (arith, length-append front (byte ∷ [])) in
     rw (size, eq-eqb (slice_index_or (front ++ byte ∷ []) (length front) 0) byte (get_or-append_seam front byte [] 0)) (ap Some (take-append_seam front (byte ∷ [])))

@@ -1,6 +1,6 @@
 -- What a child's lines report, and the lines that it is sent.
-use Rattle.std.specs.Prelude.{ℕ, ◌≡◌, ◌-◌, ◌^◌, ◌<◌, ◌≤◌, ◌==◌, ◌⊎◌, ◌&&◌, List, [], ◌∷◌, ◌++◌, length, map, take, Option, None, Some, is_none, option_and_then, option_map, slice_index_or, unwrap_or, bytes_eq, codes, decimal, if◌then◌else◌}
-use Rattle.std.specs.List.{All, join_with_byte}
+use Rattle.std.specs.Prelude.{ℕ, ◌≡◌, ◌-◌, ◌^◌, ◌<◌, ◌≤◌, ◌==◌, ◌⊎◌, List, [], ◌∷◌, ◌++◌, length, map, take, Option, None, Some, is_none, option_and_then, option_map, slice_index_or, unwrap_or, bytes_eq, codes, decimal, if◌then◌else◌}
+use Rattle.std.specs.List.{All, flat_map, join_with_byte}
 use Rattle.scm_model.specs.declared.flat.Status.{Status}
 use Rattle.child_link.specs.Words.{words_in, nth_word, code_of}
 
@@ -11,6 +11,10 @@ numbers_of s = s.kind ∷ s.state ∷ s.accepted ∷ s.win32 ∷ s.specific ∷ 
 -- STATUS and the numbers in decimal form, one space between two words
 abbrev pub report_text : Status → List ℕ
 report_text s = join_with_byte 32 (codes "STATUS" ∷ map decimal (numbers_of s))
+
+-- numbers in decimal form, each behind a space
+abbrev pub spaced : List ℕ → List ℕ
+spaced numbers = flat_map (λ n. 32 ∷ decimal n) numbers
 
 -- a line is the report of a status
 pub record IsReport (line : List ℕ) (status : Status) : Type 0 where
@@ -62,3 +66,20 @@ reported line = option_and_then (λ text. report_in (words_in (Some text))) (lin
 -- the line that hands on a control
 abbrev pub control_text : ℕ → List ℕ
 control_text code = codes "CONTROL " ++ decimal code ++ 10 ∷ []
+
+-- ## The control that a line hands on
+
+-- the number that words are, and no words more
+unfoldable pub code_in : List (List ℕ) → Option ℕ
+code_in words = do
+  code ← code_of (nth_word words 0)
+  if is_none (nth_word words 1) then Some code else None
+
+-- the control that words hand on
+unfoldable pub control_in : List (List ℕ) → Option ℕ
+control_in [] = None
+control_in (name ∷ words) = if bytes_eq name (codes "CONTROL") then code_in words else None
+
+-- the control that a line hands on, if it does
+unfoldable pub handed_on : List ℕ → Option ℕ
+handed_on line = option_and_then (λ text. control_in (words_in (Some text))) (front_of 10 line)

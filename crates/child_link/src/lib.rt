@@ -2,11 +2,16 @@
 //! pipes.
 #![tactic(auto)]
 
+mod cutting;
 mod feed;
 mod lines;
 mod link;
 mod words;
 
+pub use cutting::{LineCutter, kept_lines_are_read};
 pub use feed::{Feed, PipeFeed};
-pub use lines::{control_line, read_line_step, reports_are_read};
+pub use lines::{
+    control_line, controls_are_read, read_control_line, read_line_step, report_line,
+    reports_are_read,
+};
 pub use link::{Link, MemoryLink, PipeLink, SliceLink};

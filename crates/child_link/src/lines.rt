@@ -1,7 +1,7 @@
-ghost use Rattle.std.specs.Prelude.{◌≡◌, ◌<◌, ℕ, List, IfOk, Some, option_map};
+ghost use Rattle.std.specs.Prelude.{◌≡◌, ◌<◌, ◌^◌, ◌++◌, ◌∷◌, [], ℕ, List, IfOk, OnOk, Some, decimal, option_map};
 ghost use Rattle.scm_model.specs.declared.steps.Step.TheVariants.{Report};
 ghost use Rattle.child_link.specs.Words.{words_in};
-ghost use Rattle.child_link.specs.Lines.{IsReport, control_text, front_of, line_text, report_in, reported, status_in};
+ghost use Rattle.child_link.specs.Lines.{IsReport, code_in, control_in, control_text, front_of, handed_on, line_text, report_in, report_text, reported, spaced, status_in};
 
 use super::words::Words;
 use scm_model::{Status, Step};
@@ -90,3 +90,84 @@ pub fn control_line(alloc: Global, code: u32) -> Result<Items<u8>, OutOfMemory>
     line.append(b"\n")?;
     Ok(line)
 }
+
+/// The control of a line: the number that `CONTROL` and it in decimal form hand on, behind one
+/// space and ended by a line feed. Any other line is no control.
+#[tactic(auto, unfolding(crate::specs::Lines::handed_on))]
+pub fn read_control_line(line: &[u8]) -> Option<u32>
+    ensures { result ≡ handed_on line.now }
+{
+    control_in(front_of(b'\n', line)?)
+}
+
+/// The control that a text hands on.
+#[tactic(auto, unfolding(crate::specs::Lines::control_in))]
+fn control_in(text: &[u8]) -> Option<u32>
+    ensures { result ≡ control_in (words_in (Some text.now)) }
+{
+    let mut words = Words::of(text);
+    if words.next()? == "CONTROL".as_bytes() {
+        code_in(words)
+    } else {
+        None
+    }
+}
+
+/// The number of 32 bits of which these words are the decimal form.
+#[tactic(auto, unfolding(crate::specs::Lines::code_in))]
+fn code_in(mut words: Words<'_>) -> Option<u32>
+    ensures { result ≡ code_in words.entry }
+{
+    let code = words.next_code()?;
+    if words.next().is_none() {
+        Some(code)
+    } else {
+        None
+    }
+}
+
+/// Adds a number in decimal form behind a space.
+fn add_number(line: &mut Items<u8>, number: u32) -> Result<(), OutOfMemory>
+    ensures { OnOk result (line.new ≡ line.old ++ 32 ∷ decimal number) }
+{
+    line.append_pair(b" ", itoa::Buffer::new().format(number).as_bytes())
+}
+
+/// Adds numbers in decimal form, each behind a space.
+fn add_numbers(line: &mut Items<u8>, numbers: &[u32]) -> Result<(), OutOfMemory>
+    ensures { OnOk result (line.new ≡ line.old ++ spaced numbers.now) }
+{
+    for number in numbers {
+        add_number(line, *number)?;
+    }
+    Ok(())
+}
+
+/// The line that reports a status.
+#[tactic(auto, using(crate::proofs::Written::joined_spaced))]
+pub fn report_line(alloc: Global, status: &Status) -> Result<Items<u8>, OutOfMemory>
+    ensures { IfOk result (λ line. line ≡ report_text status.now ++ 10 ∷ []) }
+{
+    let numbers = [
+        status.kind,
+        status.state,
+        status.accepted,
+        status.win32,
+        status.specific,
+        status.checkpoint,
+        status.hint,
+    ];
+    let mut line = Items::new(alloc);
+    line.append(b"STATUS")?;
+    add_numbers(&mut line, &numbers)?;
+    line.append(b"\n")?;
+    Ok(line)
+}
+
+/// Lines are read just as the format has them: a line hands a control on exactly where it is the
+/// line of a control of 32 bits.
+pub fn controls_are_read()
+    ensures read { (code : ℕ) → code < 2 ^ 32 → handed_on (control_text code) ≡ Some code }
+    ensures only { (line : List ℕ) (code : ℕ) →
+        handed_on line ≡ Some code → (line ≡ control_text code) × (code < 2 ^ 32) }
+{}
