@@ -1,0 +1,90 @@
+-- What becomes of a launch that is wanted.
+use Rattle.std.specs.Prelude.{ℕ, ◌≡◌, false, List, ◌++◌, map, Option, Result, Ok, Err}
+use Rattle.scm_model.specs.declared.flat.Phase.TheVariants as phases
+use Rattle.scm_model.specs.declared.steps.Answer.TheVariants as answers
+use Rattle.scm_model.specs.declared.steps.Step.{Step}
+use Rattle.scm_model.specs.declared.steps.Step.TheVariants as steps
+use Rattle.book_rule.specs.declared.view.Opening.{Opening}
+use Rattle.scm_book.specs.Passes.{HoldsProcess, Known, Learnt, Made}
+use Rattle.scm_book.specs.Processes.{KeepsAllBut, is_wanted_behind, line_behind}
+use Rattle.process_runner.specs.Commands.{command_words, utf8_of}
+use Rattle.process_runner.specs.Spawning.{Starts, counted}
+use Rattle.process_runner.specs.declared.spawning.SpawnFault.TheVariants as spawn
+use Rattle.process_runner.specs.declared.spawning.SpawnFaults.{SpawnFaults}
+use Rattle.process_runner.specs.declared.spawning.Spawned.{Spawned}
+use Rattle.scm_model.specs.declared.codes.TheConstants.{ERROR_ACCESS_DENIED, ERROR_NOT_ENOUGH_MEMORY}
+use Rattle.child_runner.specs.declared.fault.TheConstants.{ERROR_FILE_NOT_FOUND, ERROR_GEN_FAILURE, ERROR_PATH_NOT_FOUND}
+use Rattle.child_runner.specs.declared.fault.LaunchFault.{LaunchFault}
+use Rattle.child_runner.specs.declared.fault.LaunchFault.TheVariants as faults
+use Rattle.child_runner.specs.declared.launching.LaunchEnd.{LaunchEnd}
+use Rattle.child_runner.specs.declared.launching.LaunchEnd.TheVariants as ends
+
+-- ## What is started
+
+-- the words of a launch's line: those of its path, and behind them those of its start
+abbrev pub words_of : List ℕ × List (List ℕ) → List (List ℕ)
+words_of line = map utf8_of (command_words line.0) ++ map utf8_of line.1
+
+-- what a spawner tells before and after, and its counts of faults
+pub record Spawning : Type 0 where
+  pub started : Option (List (List (List ℕ)))
+  pub started_now : Option (List (List (List ℕ)))
+  pub faults : SpawnFaults
+  pub faults_now : SpawnFaults
+
+abbrev pub spawning_of : (started started_now : Option (List (List (List ℕ)))) → (faults faults_now : SpawnFaults) → Spawning
+spawning_of started started_now faults faults_now = record { started = started; started_now = started_now; faults = faults; faults_now = faults_now }
+
+-- nothing was asked of it
+pub record IsIdle (s : Spawning) : Type 0 where
+  pub started : s.started_now ≡ s.started
+  pub faults : s.faults_now ≡ s.faults
+
+-- what a start of some words comes to: a child that the spawner started of them, or its fault, which is counted once; for want of
+-- memory it isn't asked
+abbrev pub ComesTo : {C : Type 0} → Spawning → Result C LaunchFault → List (List ℕ) → Type 0
+ComesTo {C} s (Ok child) words = Starts {C = C} s.started s.started_now (Ok child) words × (s.faults_now ≡ s.faults)
+ComesTo {C} s (Err (faults.Spawn fault)) words = Starts {C = C} s.started s.started_now (Err fault) words × (s.faults_now ≡ counted fault s.faults)
+ComesTo s (Err faults.OutOfMemory) words = IsIdle s
+
+-- ## Why a launch failed
+
+-- the error of the system (MS-ERREF) that the manager is told
+abbrev pub code_of : LaunchFault → ℕ
+code_of (faults.Spawn spawn.NotFound) = ERROR_FILE_NOT_FOUND
+code_of (faults.Spawn spawn.NoPath) = ERROR_PATH_NOT_FOUND
+code_of (faults.Spawn spawn.Denied) = ERROR_ACCESS_DENIED
+code_of (faults.Spawn spawn.Other) = ERROR_GEN_FAILURE
+code_of faults.OutOfMemory = ERROR_NOT_ENOUGH_MEMORY
+
+-- ## launch_one
+
+module _ (o : Opening) (tells : ℕ → Type 0) where
+  -- The pass took the process in hand whose launch was wanted first, this being its line, and then told what became of it, each at a
+  -- moment of the clock. These are the last two of its own entries.
+  pub record TakesAndTells (k : Known) (process : ℕ) (line : List ℕ × List (List ℕ)) (became : Step) (k' : Known) : Type 0 where
+    pub between : Known
+    pub taken_at : ℕ
+    pub told_at : ℕ
+    pub taken_tells : tells taken_at
+    pub told_tells : tells told_at
+    pub taken : Made o k taken_at steps.LaunchTaken (answers.Launch process) between
+    pub line_is : line ≡ line_behind o taken.before
+    pub told : Made o between told_at became answers.Done k'
+    pub rest : KeepsAllBut o process between k'
+
+  -- its words were started, and the process that the system knows by this number is in the pass's hand; or they weren't, and the code says
+  -- why; or nothing is wanted in the state of the pass's new history
+  abbrev pub Launches : {L F : Type 0} → (L → ℕ) → Known → Spawning → LaunchEnd L F → Known → Type 0
+  Launches {L} {F} pid k s (ends.Started process link feed) k' =
+      (line : List ℕ × List (List ℕ)) × TakesAndTells k process line (steps.Launched process (pid link)) k' × HoldsProcess o k' process phases.Launched
+      × ComesTo {C = Spawned L F} s (Ok (record { link = link; feed = feed })) (words_of line)
+  Launches {L} {F} pid k s (ends.Failed process code) k' =
+      (line : List ℕ × List (List ℕ)) × TakesAndTells k process line (steps.LaunchFailed process code) k'
+      × (fault : LaunchFault) × (code ≡ code_of fault) × ComesTo {C = Spawned L F} s (Err fault) (words_of line)
+  Launches pid k s ends.Empty k' = Learnt o k k' × (is_wanted_behind o k'.seen ≡ false) × IsIdle s
+
+-- nothing was wanted
+abbrev pub IsEmpty : {L F : Type 0} → LaunchEnd L F → Type 0
+IsEmpty ends.Empty = Unit {0}
+IsEmpty end = ⊥

@@ -1,0 +1,38 @@
+ghost use Rattle.std.specs.Prelude.{◌≡◌, ◌≢◌};
+ghost use Rattle.child_runner.specs.Launches.{code_of};
+
+use process_runner::SpawnFault;
+use scm_model::codes::{ERROR_ACCESS_DENIED, ERROR_NOT_ENOUGH_MEMORY};
+
+// Codes of MS-ERREF, "Win32 Error Codes".
+
+const ERROR_FILE_NOT_FOUND: u32 = 2;
+
+const ERROR_PATH_NOT_FOUND: u32 = 3;
+
+const ERROR_GEN_FAILURE: u32 = 31;
+
+/// Why a process that was taken in hand wasn't launched.
+#[derive(Clone, Copy, Debug, PartialEq, Eq)]
+pub enum LaunchFault {
+    /// The spawner failed so.
+    Spawn(SpawnFault),
+    /// There was no memory for the words, and the spawner wasn't asked.
+    OutOfMemory,
+}
+
+impl LaunchFault {
+    /// The error that the manager is told.
+    pub fn code(self) -> u32
+        ensures code { result ≡ code_of self }
+        ensures error { result ≢ 0 }
+    {
+        match self {
+            LaunchFault::Spawn(SpawnFault::NotFound) => ERROR_FILE_NOT_FOUND,
+            LaunchFault::Spawn(SpawnFault::NoPath) => ERROR_PATH_NOT_FOUND,
+            LaunchFault::Spawn(SpawnFault::Denied) => ERROR_ACCESS_DENIED,
+            LaunchFault::Spawn(SpawnFault::Other) => ERROR_GEN_FAILURE,
+            LaunchFault::OutOfMemory => ERROR_NOT_ENOUGH_MEMORY,
+        }
+    }
+}
