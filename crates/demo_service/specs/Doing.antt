@@ -1,0 +1,168 @@
+-- What the program does of its words.
+use Rattle.std.specs.Prelude.{ℕ, ◌≡◌, ◌==◌, ◌||◌, ◌⊎◌, not, Bool, true, false, codes, is_none, List, [], ◌∷◌, ◌++◌, All, Option, None, Some, Result, Ok, Err, nat_eq, bit_or, if◌then◌else◌}
+use Rattle.std.specs.Cmp.Lexicographic.{pointwise}
+use Rattle.std.specs.Io.KnownBytes.{Appends, Consumes, IsAtEnd}
+use Rattle.std.specs.List.{FoldsTo, list_any}
+use Rattle.outside.specs.Causes.{Rose}
+use Rattle.scm_model.specs.declared.codes.TheConstants.{SERVICE_ACCEPT_PAUSE_CONTINUE, SERVICE_ACCEPT_STOP, SERVICE_CONTROL_CONTINUE, SERVICE_CONTROL_PAUSE, SERVICE_CONTROL_STOP, SERVICE_PAUSED, SERVICE_RUNNING, SERVICE_START_PENDING, SERVICE_STOPPED, SERVICE_STOP_PENDING, SERVICE_WIN32_OWN_PROCESS}
+use Rattle.scm_model.specs.declared.flat.Status.{Status}
+use Rattle.child_link.specs.Cutting.{kept, kept_line}
+use Rattle.child_link.specs.Lines.{handed_on, report_text}
+use Rattle.demo_service.specs.declared.fault.DemoFault.{DemoFault}
+use Rattle.demo_service.specs.declared.fault.DemoFault.TheVariants as faults
+use Rattle.demo_service.specs.declared.waiting.Came.{Came}
+use Rattle.demo_service.specs.declared.waiting.Came.TheVariants.{Byte, Feed, End}
+use Rattle.demo_service.specs.declared.word.Word.{Word}
+use Rattle.demo_service.specs.declared.word.Word.TheVariants.{Report, Wait}
+
+-- ## Words
+
+abbrev pub is_text : List ℕ → List ℕ → Bool
+is_text = pointwise nat_eq
+
+-- the word that a text is
+abbrev pub word_at : List ℕ → Option Word
+word_at text =
+    if is_text text (codes "pending") then Some (Report SERVICE_START_PENDING)
+    else if is_text text (codes "running") then Some (Report SERVICE_RUNNING)
+    else if is_text text (codes "paused") then Some (Report SERVICE_PAUSED)
+    else if is_text text (codes "stopping") then Some (Report SERVICE_STOP_PENDING)
+    else if is_text text (codes "stopped") then Some (Report SERVICE_STOPPED)
+    else if is_text text (codes "wait") then Some Wait
+    else None
+
+abbrev pub is_unknown : List ℕ → Bool
+is_unknown text = is_none (word_at text)
+
+-- ## Reports
+
+-- STOP, PAUSE and CONTINUE are taken in RUNNING and PAUSED
+abbrev pub accepted_in : ℕ → ℕ
+accepted_in state = if state == SERVICE_RUNNING || state == SERVICE_PAUSED then bit_or SERVICE_ACCEPT_STOP SERVICE_ACCEPT_PAUSE_CONTINUE else 0
+
+abbrev pub status_in : ℕ → Status
+status_in state =
+    record { kind = SERVICE_WIN32_OWN_PROCESS; state = state; accepted = accepted_in state; win32 = 0; specific = 0; checkpoint = 0; hint = 0 }
+
+-- the line that reports a state
+abbrev pub report_of : ℕ → List ℕ
+report_of state = report_text (status_in state) ++ 10 ∷ []
+
+-- ## Doing
+
+-- what the input and the output tell
+pub record Point : Type 0 where
+  -- what is still to be read
+  pub left : Option (List ℕ)
+  -- what was written
+  pub held : Option (List ℕ)
+
+abbrev pub point : Option (List ℕ) → Option (List ℕ) → Point
+point left held = record { left = left; held = held }
+
+-- whether a control, or a line that is none, lets the program wait on
+abbrev pub goes_on : Option ℕ → Bool
+goes_on None = true
+goes_on (Some code) = not (code == SERVICE_CONTROL_STOP)
+
+-- what is reported of it
+abbrev pub answer_to : Option ℕ → List ℕ
+answer_to None = []
+answer_to (Some code) = if code == SERVICE_CONTROL_PAUSE then report_of SERVICE_PAUSED else if code == SERVICE_CONTROL_CONTINUE then report_of SERVICE_RUNNING else []
+
+-- no line feed stands in it
+abbrev pub IsOneLine : List ℕ → Type 0
+IsOneLine front = All (λ b. (b == 10) ≡ false) front
+
+-- the line of these bytes and a line feed was read and answered, and lets the program wait on or not
+pub record Hears (on : Bool) (a : Point) (front : List ℕ) (b : Point) : Type 0 where
+  pub line : IsOneLine front
+  pub read : Consumes a.left b.left (front ++ 10 ∷ [])
+  pub goes : goes_on (handed_on (front ++ 10 ∷ [])) ≡ on
+  pub told : Appends a.held b.held (answer_to (handed_on (front ++ 10 ∷ [])))
+
+-- the input ended, and no line was there
+pub record Ends (a b : Point) : Type 0 where
+  pub rest : List ℕ
+  pub line : IsOneLine rest
+  pub read : Consumes a.left b.left rest
+  pub end : IsAtEnd b.left
+  pub told : b.held ≡ a.held
+
+-- the line that stops was heard, or the input ended
+abbrev pub Stops : Point → Point → Type 0
+Stops a b = ((front : List ℕ) × Hears false a front b) ⊎ Ends a b
+
+-- a line was heard on which the program waits on; or it doesn't
+abbrev pub HearsOne : Point → Bool → Point → Type 0
+HearsOne a true b = (front : List ℕ) × Hears true a front b
+HearsOne a false b = Stops a b
+
+-- lines were heard up to the one that stops, or to the end of the input
+pub record Waits (a b : Point) : Type 0 where
+  pub fronts : List (List ℕ)
+  pub last : Point
+  pub hears : FoldsTo (Hears true) a fronts last
+  pub stops : Stops last b
+
+abbrev pub DoesWord : Point → Option Word → Point → Type 0
+DoesWord a None b = ⊥
+DoesWord a (Some (Report state)) b = (b.left ≡ a.left) × Appends a.held b.held (report_of state)
+DoesWord a (Some Wait) b = Waits a b
+
+-- the word of a text was done
+abbrev pub Does : Point → List ℕ → Point → Type 0
+Does a text b = DoesWord a (word_at text) b
+
+-- ## Lines
+
+-- the bytes of a line up to its feed were read, and these of them are kept; or the input ended before a feed came
+abbrev pub ReadsLine : Option (List ℕ) → Option (List ℕ) → (line : List ℕ) → Bool → Type 0
+ReadsLine left left' line true = (front : List ℕ) × IsOneLine front × Consumes left left' (front ++ 10 ∷ []) × (line ≡ kept_line front)
+ReadsLine left left' line false = (rest : List ℕ) × IsOneLine rest × Consumes left left' rest × IsAtEnd left'
+
+-- a byte of a line was read, or its feed; or the input was at its end
+abbrev pub ReadsByte : Option (List ℕ) → Option (List ℕ) → (line line' : List ℕ) → Came → Type 0
+ReadsByte left left' line line' Byte = (byte : ℕ) × ((byte == 10) ≡ false) × Consumes left left' (byte ∷ []) × (line' ≡ kept (line ++ byte ∷ []))
+ReadsByte left left' line line' Feed = Consumes left left' (10 ∷ []) × (line' ≡ line ++ 10 ∷ [])
+ReadsByte left left' line line' End = Consumes left left' [] × IsAtEnd left'
+
+-- ## Faults
+
+-- a fault of the output comes only where its count of faults rose
+abbrev pub IsOfOutput : (output output_now : ℕ) → DemoFault → Type 0
+IsOfOutput output output_now faults.Write = Rose output output_now
+IsOfOutput output output_now faults.OutOfMemory = Unit {0}
+IsOfOutput output output_now _ = ⊥
+
+abbrev pub IsOfInput : (input input_now : ℕ) → DemoFault → Type 0
+IsOfInput input input_now faults.Read = Rose input input_now
+IsOfInput input input_now faults.Worn = Unit {0}
+IsOfInput input input_now _ = ⊥
+
+-- a fault of the input or the output comes only where its count of faults rose; a word that isn't known isn't met
+abbrev pub IsCaused : (input input_now output output_now : ℕ) → DemoFault → Type 0
+IsCaused input input_now output output_now faults.Read = Rose input input_now
+IsCaused input input_now output output_now faults.Write = Rose output output_now
+IsCaused input input_now output output_now faults.Words = ⊥
+IsCaused input input_now output output_now faults.OutOfMemory = Unit {0}
+IsCaused input input_now output output_now faults.Worn = Unit {0}
+
+-- the same where the word of a text is done
+abbrev pub IsCausedAt : (text : List ℕ) → (input input_now output output_now : ℕ) → DemoFault → Type 0
+IsCausedAt text input input_now output output_now faults.Words = is_unknown text ≡ true
+IsCausedAt text input input_now output output_now fault = IsCaused input input_now output output_now fault
+
+-- and where the words of several are: one of them is no word
+abbrev pub IsCausedIn : (texts : List (List ℕ)) → (input input_now output output_now : ℕ) → DemoFault → Type 0
+IsCausedIn texts input input_now output output_now faults.Words = list_any is_unknown texts ≡ true
+IsCausedIn texts input input_now output output_now fault = IsCaused input input_now output output_now fault
+
+-- the status of the program
+abbrev pub status_of : Result (Unit {0}) DemoFault → ℕ
+status_of (Ok done) = 0
+status_of (Err faults.Read) = 1
+status_of (Err faults.Write) = 2
+status_of (Err faults.Words) = 5
+status_of (Err faults.OutOfMemory) = 8
+status_of (Err faults.Worn) = 12
