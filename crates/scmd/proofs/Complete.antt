@@ -98,8 +98,8 @@ complete tells principal (served.TooLong length) bytes left_now held held_now so
     ends_bad bytes p.talk.read rest.0 p.talk.done (TooLong length) rest.1 p.seen.most p.connection.reached.all (λ h. h)
 complete tells principal served.Full bytes left_now held held_now source source_now sink sink_now p c no_read no_write = absurd p.connection.reached.1.met
 complete tells principal served.OutOfMemory bytes left_now held held_now source source_now sink sink_now p c no_read no_write = lacks bytes
-complete tells principal served.ReadFault bytes left_now held held_now source source_now sink sink_now p c no_read no_write = absurd (no_read c)
-complete tells principal served.WriteFault bytes left_now held held_now source source_now sink sink_now p c no_read no_write = absurd (no_write c)
+complete tells principal served.ReadFault bytes left_now held held_now source source_now sink sink_now p c no_read no_write = absurd (no_read c.0)
+complete tells principal served.WriteFault bytes left_now held held_now source source_now sink sink_now p c no_read no_write = absurd (no_write c.1)
 complete tells principal served.Worn bytes left_now held held_now source source_now sink sink_now p c no_read no_write =
     let rest = rest_of bytes p.talk.read left_now p.seen.read in
     ends_worn bytes p.talk.read rest.0 rest.1 p.connection.reached.0
