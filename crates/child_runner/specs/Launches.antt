@@ -22,8 +22,8 @@ use Rattle.child_runner.specs.declared.launching.LaunchEnd.TheVariants as ends
 -- ## What is started
 
 -- the words of a launch's line: those of its path, and behind them those of its start
-abbrev pub words_of : List ℕ × List (List ℕ) → List (List ℕ)
-words_of line = map utf8_of (command_words line.0) ++ map utf8_of line.1
+abbrev pub started_words : List ℕ × List (List ℕ) → List (List ℕ)
+started_words line = map utf8_of (command_words line.0) ++ map utf8_of line.1
 
 -- what a spawner tells before and after, and its counts of faults
 pub record Spawning : Type 0 where
@@ -42,20 +42,20 @@ pub record IsIdle (s : Spawning) : Type 0 where
 
 -- what a start of some words comes to: a child that the spawner started of them, or its fault, which is counted once; for want of
 -- memory it isn't asked
-abbrev pub ComesTo : {C : Type 0} → Spawning → Result C LaunchFault → List (List ℕ) → Type 0
-ComesTo {C} s (Ok child) words = Starts {C = C} s.started s.started_now (Ok child) words × (s.faults_now ≡ s.faults)
-ComesTo {C} s (Err (faults.Spawn fault)) words = Starts {C = C} s.started s.started_now (Err fault) words × (s.faults_now ≡ counted fault s.faults)
-ComesTo s (Err faults.OutOfMemory) words = IsIdle s
+abbrev pub SpawnComesTo : {C : Type 0} → Spawning → Result C LaunchFault → List (List ℕ) → Type 0
+SpawnComesTo {C} s (Ok child) words = Starts {C = C} s.started s.started_now (Ok child) words × (s.faults_now ≡ s.faults)
+SpawnComesTo {C} s (Err (faults.Spawn fault)) words = Starts {C = C} s.started s.started_now (Err fault) words × (s.faults_now ≡ counted fault s.faults)
+SpawnComesTo s (Err faults.OutOfMemory) words = IsIdle s
 
 -- ## Why a launch failed
 
 -- the error of the system (MS-ERREF) that the manager is told
-abbrev pub code_of : LaunchFault → ℕ
-code_of (faults.Spawn spawn.NotFound) = ERROR_FILE_NOT_FOUND
-code_of (faults.Spawn spawn.NoPath) = ERROR_PATH_NOT_FOUND
-code_of (faults.Spawn spawn.Denied) = ERROR_ACCESS_DENIED
-code_of (faults.Spawn spawn.Other) = ERROR_GEN_FAILURE
-code_of faults.OutOfMemory = ERROR_NOT_ENOUGH_MEMORY
+abbrev pub fault_code : LaunchFault → ℕ
+fault_code (faults.Spawn spawn.NotFound) = ERROR_FILE_NOT_FOUND
+fault_code (faults.Spawn spawn.NoPath) = ERROR_PATH_NOT_FOUND
+fault_code (faults.Spawn spawn.Denied) = ERROR_ACCESS_DENIED
+fault_code (faults.Spawn spawn.Other) = ERROR_GEN_FAILURE
+fault_code faults.OutOfMemory = ERROR_NOT_ENOUGH_MEMORY
 
 -- ## launch_one
 
@@ -78,10 +78,10 @@ module _ (o : Opening) (tells : ℕ → Type 0) where
   abbrev pub Launches : {L F : Type 0} → (L → ℕ) → Known → Spawning → LaunchEnd L F → Known → Type 0
   Launches {L} {F} pid k s (ends.Started process link feed) k' =
       (line : List ℕ × List (List ℕ)) × TakesAndTells k process line (steps.Launched process (pid link)) k' × HoldsProcess o k' process phases.Launched
-      × ComesTo {C = Spawned L F} s (Ok (record { link = link; feed = feed })) (words_of line)
+      × SpawnComesTo {C = Spawned L F} s (Ok (record { link = link; feed = feed })) (started_words line)
   Launches {L} {F} pid k s (ends.Failed process code) k' =
       (line : List ℕ × List (List ℕ)) × TakesAndTells k process line (steps.LaunchFailed process code) k'
-      × (fault : LaunchFault) × (code ≡ code_of fault) × ComesTo {C = Spawned L F} s (Err fault) (words_of line)
+      × (fault : LaunchFault) × (code ≡ fault_code fault) × SpawnComesTo {C = Spawned L F} s (Err fault) (started_words line)
   Launches pid k s ends.Empty k' = Learnt o k k' × (is_wanted_behind o k'.seen ≡ false) × IsIdle s
 
 -- nothing was wanted

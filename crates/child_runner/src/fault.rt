@@ -1,5 +1,5 @@
 ghost use Rattle.std.specs.Prelude.{◌≡◌, ◌≢◌};
-ghost use Rattle.child_runner.specs.Launches.{code_of};
+ghost use Rattle.child_runner.specs.Launches.{fault_code};
 
 use process_runner::SpawnFault;
 use scm_model::codes::{ERROR_ACCESS_DENIED, ERROR_NOT_ENOUGH_MEMORY};
@@ -24,7 +24,7 @@ pub enum LaunchFault {
 impl LaunchFault {
     /// The error that the manager is told.
     pub fn code(self) -> u32
-        ensures code { result ≡ code_of self }
+        ensures code { result ≡ fault_code self }
         ensures error { result ≢ 0 }
     {
         match self {

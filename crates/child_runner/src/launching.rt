@@ -1,6 +1,6 @@
 ghost use Rattle.std.specs.Prelude.{◌≡◌, ◌≤◌};
 ghost use Rattle.scm_book.specs.Passes.{IsOf};
-ghost use Rattle.child_runner.specs.Launches.{ComesTo, IsEmpty, Launches, spawning_of, words_of};
+ghost use Rattle.child_runner.specs.Launches.{SpawnComesTo, IsEmpty, Launches, spawning_of, started_words};
 
 use crate::fault::LaunchFault;
 use child_link::Link;
@@ -30,9 +30,9 @@ fn start<P: Spawner>(
     line: &LaunchRoom,
     spawner: &mut P,
 ) -> Result<Spawned<P::Link, P::Feed>, LaunchFault>
-    ensures { ComesTo (spawning_of (P.started spawner.old) (P.started spawner.new)
+    ensures { SpawnComesTo (spawning_of (P.started spawner.old) (P.started spawner.new)
         (P.faults spawner.old) (P.faults spawner.new)) result
-        (words_of (line.now.path.units, line.now.words)) }
+        (started_words (line.now.path.units, line.now.words)) }
 {
     let Ok(words) = split_command(alloc, line.path.units(), &line.words) else {
         return Err(LaunchFault::OutOfMemory);

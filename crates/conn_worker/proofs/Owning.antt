@@ -18,7 +18,7 @@ use Rattle.book_rule.specs.declared.view.Opening.{Opening}
 use Rattle.book_rule.proofs.Prefixes.{prefix_self, prefix_snoc, prefix_trans}
 use Rattle.scm_book.specs.Passes.{Known, Learnt, Made}
 use Rattle.conn_desk.specs.Desks.{Chain}
-use Rattle.conn_worker.specs.Owning.{Adds, AreFailures, AreOf, AreRequests, AreTold, Owns, StandAt, StandsAt}
+use Rattle.conn_worker.specs.Owning.{Adds, AreFailures, AreOf, AreOfAll, AreTold, Owns, StandAt, StandsAt}
 use Rattle.conn_worker.specs.Serving.{IsServed}
 use Rattle.conn_worker.specs.Waiting.{Turns, Waits, WaitsOnce}
 
@@ -214,7 +214,7 @@ module _ (tells : ℕ → Type 0) (o : Opening) where
   pub record DidAll (k k' : Known) (requests : List Request) (heard : List (Option Reply)) : Type 0 where
     pub entries : List Told
     pub makes : Makes tells o k entries k'
-    pub of : AreRequests k.caller requests heard entries
+    pub of : AreOfAll k.caller requests heard entries
 
   pub of_chain : (k k' : Known) (requests : List Request) (heard : List (Option Reply)) → Chain (IsServed tells o) k k' requests heard → DidAll k k' requests heard
   of_chain k k' [] [] same = record { entries = []; makes = makes_none k k' same; of = refl }
@@ -223,7 +223,7 @@ module _ (tells : ℕ → Type 0) (o : Opening) where
       let rest : DidAll chain.0 k' requests heard = of_chain chain.0 k' requests heard chain.2 in record {
         entries = first.entries ++ rest.entries;
         makes = makes_then k chain.0 k' first.entries rest.entries first.makes rest.makes;
-        of = (first.entries, rest.entries, refl, first.of, subst (λ (c : ℕ). AreRequests c requests heard rest.entries) first.makes.caller rest.of);
+        of = (first.entries, rest.entries, refl, first.of, subst (λ (c : ℕ). AreOfAll c requests heard rest.entries) first.makes.caller rest.of);
       }
   of_chain k k' [] (told ∷ heard) chain = absurd chain
   of_chain k k' (asked ∷ requests) [] chain = absurd chain

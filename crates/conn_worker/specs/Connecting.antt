@@ -15,7 +15,7 @@ use Rattle.conn_desk.specs.Bodies.{asked}
 use Rattle.conn_desk.specs.Connection.{Reached}
 use Rattle.conn_desk.specs.Desks.{Chain}
 use Rattle.conn_desk.specs.Serves.{Leaves}
-use Rattle.conn_worker.specs.Owning.{Adds, AreRequests, AreTold}
+use Rattle.conn_worker.specs.Owning.{Adds, AreOfAll, AreTold}
 use Rattle.conn_worker.specs.Serving.{IsServed}
 
 -- the limits have no room for a call behind what the pass has seen
@@ -43,6 +43,6 @@ pub record Connects (tells : ℕ → Type 0) (o : Opening) (k k' : Known) (left 
   pub goes : Made o stood moment (Gone k.caller) answers.Done k'
   -- so the pass's own entries are those that it had, those of the requests, and the going
   pub entries : List Told
-  pub requests : AreRequests k.caller (asked done) heard entries
+  pub requests : AreOfAll k.caller (asked done) heard entries
   pub all_told : AreTold tells entries
   pub adds : Adds o k (entries ++ made_of (moment, Gone k.caller) answers.Done ∷ []) k'

@@ -87,9 +87,9 @@ AreOf caller asked (Some reply) entries = IsAtOnce caller asked reply entries �
 AreOf caller asked None entries = (moment : ℕ) × (entries ≡ made_of (moment, NoMemory caller) answers.Done ∷ [])
 
 -- those of its requests, one after another
-abbrev pub AreRequests : ℕ → List Request → List (Option Reply) → List Told → Type 0
-AreRequests caller [] [] entries = entries ≡ []
-AreRequests caller (asked ∷ more) (heard ∷ others) entries =
-    (first : List Told) × (rest : List Told) × (entries ≡ first ++ rest) × AreOf caller asked heard first × AreRequests caller more others rest
-AreRequests caller [] (heard ∷ others) entries = ⊥
-AreRequests caller (asked ∷ more) [] entries = ⊥
+abbrev pub AreOfAll : ℕ → List Request → List (Option Reply) → List Told → Type 0
+AreOfAll caller [] [] entries = entries ≡ []
+AreOfAll caller (asked ∷ more) (heard ∷ others) entries =
+    (first : List Told) × (rest : List Told) × (entries ≡ first ++ rest) × AreOf caller asked heard first × AreOfAll caller more others rest
+AreOfAll caller [] (heard ∷ others) entries = ⊥
+AreOfAll caller (asked ∷ more) [] entries = ⊥

@@ -19,12 +19,12 @@ pub record FailsLaunch (o : Opening) (k : Known) (moment : ℕ) (k' : Known) : T
   pub fails : Made o taken moment (LaunchFailed process ERROR_SERVICE_NO_THREAD) answers.Done k'
 
 -- the pass is as it was, or has seen more and made no step
-abbrev pub IsLeft : Opening → Known → Known → Type 0
-IsLeft o k k' = (k' ≡ k) ⊎ Learnt o k k'
+abbrev pub OnlySees : Opening → Known → Known → Type 0
+OnlySees o k k' = (k' ≡ k) ⊎ Learnt o k k'
 
 -- a turn leaves the pass, or lets one launch fail
 abbrev pub Turns : Opening → Known → ℕ → Known → Type 0
-Turns o k moment k' = IsLeft o k k' ⊎ FailsLaunch o k moment k'
+Turns o k moment k' = OnlySees o k k' ⊎ FailsLaunch o k moment k'
 
 -- where no process is run, it leaves the pass only where nothing is wanted in what that has then seen
 abbrev pub FailsWanted : Opening → Known → ℕ → Known → Type 0

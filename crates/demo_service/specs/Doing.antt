@@ -71,12 +71,12 @@ answer_to None = []
 answer_to (Some code) = if code == SERVICE_CONTROL_PAUSE then report_of SERVICE_PAUSED else if code == SERVICE_CONTROL_CONTINUE then report_of SERVICE_RUNNING else []
 
 -- no line feed stands in it
-abbrev pub IsOneLine : List ℕ → Type 0
-IsOneLine front = All (λ b. (b == 10) ≡ false) front
+abbrev pub IsWholeLine : List ℕ → Type 0
+IsWholeLine front = All (λ b. (b == 10) ≡ false) front
 
 -- the line of these bytes and a line feed was read and answered, and lets the program wait on or not
 pub record Hears (on : Bool) (a : Point) (front : List ℕ) (b : Point) : Type 0 where
-  pub line : IsOneLine front
+  pub line : IsWholeLine front
   pub read : Consumes a.left b.left (front ++ 10 ∷ [])
   pub goes : goes_on (handed_on (front ++ 10 ∷ [])) ≡ on
   pub told : Appends a.held b.held (answer_to (handed_on (front ++ 10 ∷ [])))
@@ -84,7 +84,7 @@ pub record Hears (on : Bool) (a : Point) (front : List ℕ) (b : Point) : Type 0
 -- the input ended, and no line was there
 pub record Ends (a b : Point) : Type 0 where
   pub rest : List ℕ
-  pub line : IsOneLine rest
+  pub line : IsWholeLine rest
   pub read : Consumes a.left b.left rest
   pub end : IsAtEnd b.left
   pub told : b.held ≡ a.held
@@ -118,8 +118,8 @@ Does a text b = DoesWord a (word_at text) b
 
 -- the bytes of a line up to its feed were read, and these of them are kept; or the input ended before a feed came
 abbrev pub ReadsLine : Option (List ℕ) → Option (List ℕ) → (line : List ℕ) → Bool → Type 0
-ReadsLine left left' line true = (front : List ℕ) × IsOneLine front × Consumes left left' (front ++ 10 ∷ []) × (line ≡ kept_line front)
-ReadsLine left left' line false = (rest : List ℕ) × IsOneLine rest × Consumes left left' rest × IsAtEnd left'
+ReadsLine left left' line true = (front : List ℕ) × IsWholeLine front × Consumes left left' (front ++ 10 ∷ []) × (line ≡ kept_line front)
+ReadsLine left left' line false = (rest : List ℕ) × IsWholeLine rest × Consumes left left' rest × IsAtEnd left'
 
 -- a byte of a line was read, or its feed; or the input was at its end
 abbrev pub ReadsByte : Option (List ℕ) → Option (List ℕ) → (line line' : List ℕ) → Came → Type 0

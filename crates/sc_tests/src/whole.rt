@@ -50,6 +50,16 @@ const QUERY: &str = "127.0.0.1:9|query|Db";
 
 const MISSING: &[&str] = &[ACK_AND_HANDLE, NO_SERVICE];
 
+/// A question, and how it ends where something outside fails.
+const FAULTED: Row = Row {
+    line: QUERY,
+    peer: MISSING,
+    fails: Fails::Nothing,
+    status: 3,
+    text: "",
+    asked: &[],
+};
+
 const ROWS: &[Row] = &[
     Row {
         line: "127.0.0.1:9|query",
@@ -85,36 +95,21 @@ const ROWS: &[Row] = &[
         asked: &[BIND_AND_OPEN],
     },
     Row {
-        line: QUERY,
-        peer: MISSING,
         fails: Fails::Dial,
-        status: 3,
-        text: "",
-        asked: &[],
+        ..FAULTED
     },
     Row {
-        line: QUERY,
-        peer: MISSING,
         fails: Fails::Read,
-        status: 3,
-        text: "",
-        asked: &[],
+        ..FAULTED
     },
     Row {
-        line: QUERY,
-        peer: MISSING,
         fails: Fails::Write,
-        status: 3,
-        text: "",
-        asked: &[],
+        ..FAULTED
     },
     Row {
-        line: QUERY,
-        peer: MISSING,
         fails: Fails::Output,
-        status: 3,
-        text: "",
         asked: &[BIND_AND_OPEN, OPEN_DB, CLOSE],
+        ..FAULTED
     },
     Row {
         line: QUERY,
