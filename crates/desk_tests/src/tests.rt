@@ -1,5 +1,5 @@
 use super::counter::Counter;
-use super::watched::{Counted, CutSource, Watch};
+use super::watched::{Watch, WatchedSink, WatchedSource};
 use conn_desk::{Served, serve};
 use outside::{MemorySink, MemorySource};
 use std::alloc::Global;
@@ -98,8 +98,8 @@ fn is_in_time(alloc: Global, front: &[u8], back: &[u8]) -> bool {
         room: 2,
     };
     let watch = Watch::new();
-    let mut input = CutSource::new(front, back, &watch);
-    let mut output = Counted::new(&watch);
+    let mut input = WatchedSource::new(front, back, &watch);
+    let mut output = WatchedSink::new(&watch);
     let how = serve(alloc, &mut desk, &mut input, &mut output);
     how == Served::Ended && watch.was_in_time()
 }

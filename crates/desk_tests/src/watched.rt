@@ -46,15 +46,15 @@ impl Watch {
 
 /// Bytes in two parts, which a read doesn't go across.
 #[derive(Drop)]
-pub struct CutSource<'a> {
+pub struct WatchedSource<'a> {
     front: SliceSource<'a>,
     back: SliceSource<'a>,
     watch: &'a Watch,
 }
 
-impl<'a> CutSource<'a> {
+impl<'a> WatchedSource<'a> {
     pub fn new(front: &'a [u8], back: &'a [u8], watch: &'a Watch) -> Self {
-        CutSource {
+        WatchedSource {
             front: SliceSource::new(front),
             back: SliceSource::new(back),
             watch,
@@ -62,7 +62,7 @@ impl<'a> CutSource<'a> {
     }
 }
 
-impl<'a> Source for CutSource<'a> {
+impl<'a> Source for WatchedSource<'a> {
     ghost left = { λ _. None };
 
     ghost faults = { λ _. 0 };
@@ -81,17 +81,17 @@ impl<'a> Source for CutSource<'a> {
 
 /// A sink that counts.
 #[derive(Drop)]
-pub struct Counted<'a> {
+pub struct WatchedSink<'a> {
     watch: &'a Watch,
 }
 
-impl<'a> Counted<'a> {
+impl<'a> WatchedSink<'a> {
     pub fn new(watch: &'a Watch) -> Self {
-        Counted { watch }
+        WatchedSink { watch }
     }
 }
 
-impl<'a> Sink for Counted<'a> {
+impl<'a> Sink for WatchedSink<'a> {
     ghost held = { λ _. None };
 
     ghost faults = { λ _. 0 };
