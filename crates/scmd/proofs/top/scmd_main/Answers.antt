@@ -1,5 +1,5 @@
 use Rattle.std.proofs.Common.{sym}
-use Rattle.scmd.proofs.Complete.{all_done}
+use Rattle.scmd.proofs.Complete.{all_done, not_5}
 use Rattle.scmd.proofs.top.scmd_main.Goals as goal
 
 pub returns-clause-complete : goal.returns-clause-complete
