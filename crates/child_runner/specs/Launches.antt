@@ -12,8 +12,7 @@ use Rattle.process_runner.specs.Spawning.{Starts, counted}
 use Rattle.process_runner.specs.declared.spawning.SpawnFault.TheVariants as spawn
 use Rattle.process_runner.specs.declared.spawning.SpawnFaults.{SpawnFaults}
 use Rattle.process_runner.specs.declared.spawning.Spawned.{Spawned}
-use Rattle.scm_model.specs.declared.codes.TheConstants.{ERROR_ACCESS_DENIED, ERROR_NOT_ENOUGH_MEMORY}
-use Rattle.child_runner.specs.declared.fault.TheConstants.{ERROR_FILE_NOT_FOUND, ERROR_GEN_FAILURE, ERROR_PATH_NOT_FOUND}
+use Rattle.scm_model.specs.declared.codes.TheConstants.{ERROR_ACCESS_DENIED, ERROR_FILE_NOT_FOUND, ERROR_GEN_FAILURE, ERROR_NOT_ENOUGH_MEMORY, ERROR_PATH_NOT_FOUND}
 use Rattle.child_runner.specs.declared.fault.LaunchFault.{LaunchFault}
 use Rattle.child_runner.specs.declared.fault.LaunchFault.TheVariants as faults
 use Rattle.child_runner.specs.declared.launching.LaunchEnd.{LaunchEnd}

@@ -2,15 +2,10 @@ ghost use Rattle.std.specs.Prelude.{◌≡◌, ◌≢◌};
 ghost use Rattle.child_runner.specs.Launches.{fault_code};
 
 use process_runner::SpawnFault;
-use scm_model::codes::{ERROR_ACCESS_DENIED, ERROR_NOT_ENOUGH_MEMORY};
-
-// Codes of MS-ERREF, "Win32 Error Codes".
-
-const ERROR_FILE_NOT_FOUND: u32 = 2;
-
-const ERROR_PATH_NOT_FOUND: u32 = 3;
-
-const ERROR_GEN_FAILURE: u32 = 31;
+use scm_model::codes::{
+    ERROR_ACCESS_DENIED, ERROR_FILE_NOT_FOUND, ERROR_GEN_FAILURE, ERROR_NOT_ENOUGH_MEMORY,
+    ERROR_PATH_NOT_FOUND,
+};
 
 /// Why a process that was taken in hand wasn't launched.
 #[derive(Clone, Copy, Debug, PartialEq, Eq)]

@@ -4,6 +4,10 @@
 
 pub const ERROR_SUCCESS: u32 = 0;
 
+pub const ERROR_FILE_NOT_FOUND: u32 = 2;
+
+pub const ERROR_PATH_NOT_FOUND: u32 = 3;
+
 pub const ERROR_ACCESS_DENIED: u32 = 5;
 
 pub const ERROR_INVALID_HANDLE: u32 = 6;
@@ -11,6 +15,8 @@ pub const ERROR_INVALID_HANDLE: u32 = 6;
 pub const ERROR_NOT_ENOUGH_MEMORY: u32 = 8;
 
 pub const ERROR_INVALID_DATA: u32 = 13;
+
+pub const ERROR_GEN_FAILURE: u32 = 31;
 
 pub const ERROR_INVALID_PARAMETER: u32 = 87;
 
