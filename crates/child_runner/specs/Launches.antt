@@ -72,16 +72,16 @@ module _ (o : Opening) (tells : ℕ → Type 0) where
     pub told : Made o between told_at became answers.Done k'
     pub rest : KeepsAllBut o process between k'
 
-  -- its words were started, and the process that the system knows by this number is in the pass's hand; or they weren't, and the code says
+  -- its words were started, and the child's ends that the spawner gave come as it gave them, its process being in the pass's hand; or they weren't, and the code says
   -- why; or nothing is wanted in the state of the pass's new history
-  abbrev pub Launches : {L F : Type 0} → (L → ℕ) → Known → Spawning → LaunchEnd L F → Known → Type 0
-  Launches {L} {F} pid k s (ends.Started process link feed) k' =
+  abbrev pub Launches : {L F : Type 0} → (L → ℕ) → (L → F → Type 0) → Known → Spawning → LaunchEnd L F → Known → Type 0
+  Launches {L} {F} pid gives k s (ends.Started process link feed) k' =
       (line : List ℕ × List (List ℕ)) × TakesAndTells k process line (steps.Launched process (pid link)) k' × HoldsProcess o k' process phases.Launched
       × SpawnComesTo {C = Spawned L F} s (Ok (record { link = link; feed = feed })) (started_words line)
-  Launches {L} {F} pid k s (ends.Failed process code) k' =
+  Launches {L} {F} pid gives k s (ends.Failed process code) k' =
       (line : List ℕ × List (List ℕ)) × TakesAndTells k process line (steps.LaunchFailed process code) k'
       × (fault : LaunchFault) × (code ≡ fault_code fault) × SpawnComesTo {C = Spawned L F} s (Err fault) (started_words line)
-  Launches pid k s ends.Empty k' = Learnt o k k' × (is_wanted_behind o k'.seen ≡ false) × IsIdle s
+  Launches pid gives k s ends.Empty k' = Learnt o k k' × (is_wanted_behind o k'.seen ≡ false) × IsIdle s
 
 -- nothing was wanted
 abbrev pub IsEmpty : {L F : Type 0} → LaunchEnd L F → Type 0

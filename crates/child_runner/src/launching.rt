@@ -1,4 +1,4 @@
-ghost use Rattle.std.specs.Prelude.{◌≡◌, ◌≤◌};
+ghost use Rattle.std.specs.Prelude.{◌≡◌, ◌≤◌, IfOk};
 ghost use Rattle.scm_book.specs.Passes.{IsOf};
 ghost use Rattle.child_runner.specs.Launches.{SpawnComesTo, IsEmpty, Launches, spawning_of, started_words};
 
@@ -59,7 +59,8 @@ pub fn launch_one<R: Wait, K: Keeper, P: Spawner, C: Clock>(
     requires path { 2048 ≤ room.old.path.room }
     ensures book { IsOf book.now pass.new }
     ensures path { room.new.path.room ≡ room.old.path.room }
-    ensures launches { Launches book.now.opening (C.tells clock.now) P.Link.pid pass.old
+    ensures launches { Launches book.now.opening (C.tells clock.now) P.Link.pid
+        (P.gives spawner.old) pass.old
         (spawning_of (P.started spawner.old) (P.started spawner.new)
         (P.faults spawner.old) (P.faults spawner.new)) result pass.new }
     ensures spawner { IsEmpty result → spawner.new ≡ spawner.old }

@@ -64,3 +64,7 @@ ComesTo (Some (Ok child)) (Err fault) = fault ≡ Other
 
 abbrev pub next_start : List StartFate → Option StartFate
 next_start fates = slice_get fates (length fates - 1)
+
+-- these are the ends of the child that the next start is to give
+abbrev pub WillGive : SpawningMemory → ChildInMemory → HoldingMemory → Type 0
+WillGive s link feed = next_start s.fates ≡ Some (Ok (record { link = link; feed = feed }))

@@ -1,6 +1,6 @@
 ghost use Rattle.std.specs.Prelude.{◌≡◌, [], ◌∷◌, ◌++◌, IfOk, OnErr, OnOk, Some};
 ghost use Rattle.outside.specs.Fates.{later};
-ghost use Rattle.process_runner.specs.Spawning.{ComesTo, Starts, faults_after, next_start, no_faults};
+ghost use Rattle.process_runner.specs.Spawning.{ComesTo, Starts, WillGive, faults_after, next_start, no_faults};
 
 use super::spawning::{SpawnFault, SpawnFaults, Spawned, Spawner};
 use child_link::MemoryLink;
@@ -99,9 +99,12 @@ impl Spawner for MemorySpawner {
 
     ghost faults = { λ s. s.faults };
 
+    ghost gives = { WillGive };
+
     fn start(&mut self, words: &Items<Text>) -> Result<Spawned<MemoryLink, MemorySink>, SpawnFault>
         ensures started { Starts (Some self.old.started) (Some self.new.started) result words.now }
         ensures faults { self.new.faults ≡ faults_after result self.old.faults }
+        ensures given { IfOk result (λ child. WillGive self.old child.link child.feed) }
         ensures told { ComesTo (next_start self.old.fates) result }
         ensures later { self.new.fates ≡ later self.old.fates }
     {

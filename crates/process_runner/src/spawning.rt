@@ -1,4 +1,4 @@
-ghost use Rattle.std.specs.Prelude.{◌≡◌, ℕ, List, Option};
+ghost use Rattle.std.specs.Prelude.{◌≡◌, ℕ, List, Option, IfOk};
 ghost use Rattle.process_runner.specs.Spawning.{Starts, counted, faults_after};
 ghost use Rattle.process_runner.specs.declared.spawning.SpawnFaults.{SpawnFaults};
 
@@ -87,8 +87,12 @@ pub trait Spawner {
     /// How often starts failed.
     ghost faults: { Self → SpawnFaults };
 
+    /// The ends of a child that the next start may give.
+    ghost gives: { Self → Self.Link → Self.Feed → Type 0 };
+
     /// Starts a program: the first of the words names it, and the rest are its arguments.
     fn start(&mut self, words: &Items<Text>) -> Result<Spawned<Self::Link, Self::Feed>, SpawnFault>
         ensures started { Starts (started self.old) (started self.new) result words.now }
-        ensures faults { faults self.new ≡ faults_after result (faults self.old) };
+        ensures faults { faults self.new ≡ faults_after result (faults self.old) }
+        ensures given { IfOk result (λ child. gives self.old child.link child.feed) };
 }

@@ -1,4 +1,4 @@
-ghost use Rattle.std.specs.Prelude.{◌≡◌, None};
+ghost use Rattle.std.specs.Prelude.{◌≡◌, None, ⊤};
 ghost use Rattle.process_runner.specs.Spawning.{no_faults};
 
 use super::spawning::{SpawnFault, SpawnFaults, Spawned, Spawner};
@@ -70,6 +70,8 @@ impl<R: Processes<Started = SystemProcess>> Spawner for ProcessSpawner<R> {
     ghost started = { λ _. None };
 
     ghost faults = { λ s. s.faults };
+
+    ghost gives = { λ _ _ _. ⊤ };
 
     fn start(&mut self, words: &Items<Text>) -> Result<Spawned<PipeLink, PipeFeed>, SpawnFault> {
         match self.run(words.as_slice()) {

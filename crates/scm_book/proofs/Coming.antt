@@ -1,6 +1,7 @@
 -- Steps that may come behind each history that goes on from what a pass has seen, and the shapes of what they are told.
-use Rattle.std.proofs.Common.{◌≡◌, ◌≢◌, ℕ, inl, inr, true, IsTrue, List, [], ◌∷◌, ◌++◌, length, Some, sym, ap, ◌∙◌, subst}
+use Rattle.std.proofs.Common.{◌≡◌, ◌≢◌, ℕ, inl, inr, true, IsTrue, List, [], ◌∷◌, ◌++◌, length, Some, sym, ap, ◌∙◌, subst, arith}
 use Rattle.scm_model.specs.declared.calls.Request.{Request}
+use Rattle.scm_model.specs.declared.flat.Flat.{Flat}
 use Rattle.scm_model.specs.declared.steps.Answer.{Answer}
 use Rattle.scm_model.specs.declared.steps.Kept.{Kept}
 use Rattle.scm_model.specs.declared.steps.Kept.TheVariants as appended
@@ -12,9 +13,10 @@ use Rattle.scm_model.specs.Entries.{Entry}
 use Rattle.scm_model.specs.Ranges.{in_range}
 use Rattle.scm_model.specs.Rows.{is_caller}
 use Rattle.scm_rules.specs.Histories.{Legal, answer, state}
-use Rattle.scm_runs.proofs.Along.{along}
+use Rattle.scm_rules.specs.Runs.{IsLegal, run_state}
+use Rattle.scm_runs.proofs.Along.{along, at_end}
 use Rattle.scm_runs.proofs.Calls.{keeps}
-use Rattle.scm_runs.proofs.Histories.{at_entry, legal_made}
+use Rattle.scm_runs.proofs.Histories.{at_entry, legal_made, made_front, state_is}
 use Rattle.scm_runs.proofs.Sound.{Sound, begun}
 use Rattle.scm_history.specs.Shapes.{HasShape, LawOfShapes}
 use Rattle.scm_history.proofs.Shapes.{gives}
@@ -35,6 +37,13 @@ shape_of o opens before seen moment step told is legal said =
 
 pub shaped : (o : Opening) → Opens o → (k k' : Known) (moment : ℕ) (step : Step) (told : Answer) (made : Made o k moment step told k') → HasShape (state o.limits o.first made.before) step told
 shaped o opens k k' moment step told made = shape_of o opens made.before k'.seen moment step told made.seen made.legal made.answer
+
+-- a caller's number is never 0
+pub first_caller : (o : Opening) → Opens o → (before : List Entry) (e : Entry) → Legal o.limits o.first (before ++ e ∷ []) → (state o.limits o.first before).next.caller ≢ 0
+first_caller o opens before e legal =
+    let front : IsLegal o.limits o.first before = made_front o.limits o.first before (e ∷ []) (legal_made o.limits o.first (before ++ e ∷ []) legal) in
+    let sound : Sound (run_state o.limits o.first before) = at_end Sound o.limits (keeps o.limits) o.first before (begun o.limits o.first opens.begins) front in
+    subst (λ (f : Flat). f.next.caller ≢ 0) (sym (state_is o.limits o.first before)) (λ none. absurd (let first = sound.handles.first_caller in omega arith))
 
 -- ## A caller's own steps
 

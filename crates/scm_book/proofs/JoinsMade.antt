@@ -1,6 +1,7 @@
 -- What a join is told, whose pass it then is, and what two seats have then seen.
-use Rattle.std.proofs.Common.{◌≡◌, ℕ, false, List, Option, Result, Ok, Err, Box, sym, ap, ◌∙◌, subst}
+use Rattle.std.proofs.Common.{◌≡◌, ◌≢◌, ℕ, false, List, Option, Result, Ok, Err, Box, sym, ap, ◌∙◌, subst}
 use Rattle.std.specs.declared.alloc.Global.{Global}
+use Rattle.std.specs.Prelude.{IfOk}
 use mathlib.Core.List.{IsPrefix}
 use Rattle.atomic_table.specs.declared.shared.Seat.{Seat}
 use Rattle.scm_model.specs.declared.flat.Principal.{Principal}
@@ -20,7 +21,7 @@ use Rattle.scm_book.specs.Holds.{Opens}
 use Rattle.scm_book.specs.Joins.{JoinCause, JoinCauseAt, JoinEnds, Joins, JoinsAs, Watches, fresh}
 use Rattle.scm_book.specs.Passes.{Known, MadeSo, knows}
 use Rattle.scm_book.specs.Turns.{known}
-use Rattle.scm_book.proofs.Coming.{shaped}
+use Rattle.scm_book.proofs.Coming.{first_caller, shaped}
 
 -- ## What is told
 
@@ -38,6 +39,16 @@ module _ (o : Opening) (opens : Opens o) (k k' : Known) (moment : ℕ) (principa
     made = subst (λ (t : Answer). MadeSo o k moment (Joined principal) t k') is made;
     caller = made.made.caller ∙ same_number (state o.limits o.first made.made.before).next.caller number (sym (shaped o opens k k' moment (Joined principal) told made.made) ∙ is);
   }
+
+-- whose pass it is has a number
+pub joined_some : (o : Opening) → Opens o → (k : Known) (moment : ℕ) (principal : Principal) (number : ℕ) (k' : Known) → MadeSo o k moment (Joined principal) (answers.Caller number) k' → k'.caller ≢ 0
+joined_some o opens k moment principal number k' made =
+    subst (λ (n : ℕ). n ≢ 0) (sym made.made.caller) (first_caller o opens made.made.before _ (subst (Legal o.limits o.first) made.made.seen made.made.legal))
+
+pub joins_some : (o : Opening) → Opens o → (by by' : Known) (moment : ℕ) (principal : Principal) (r : Result Known JoinFault)
+    → IfOk r (Joins o by moment principal by') → IfOk r (λ k. k.caller ≢ 0)
+joins_some o opens by by' moment principal (Ok k) joins = joined_some o opens (fresh by) moment principal k.caller k joins.made
+joins_some o opens by by' moment principal (Err fault) joins = tt
 
 module _ (o : Opening) (k k' : Known) (moment : ℕ) (principal : Principal) where
   -- what was seen is longer, and legal, and who was in company is so still

@@ -141,6 +141,7 @@ impl<K: Keeper> Book<K> {
         requires alone { root.alone ≡ true }
         ensures book { IfOk result (IsOf self.now) }
         ensures ok { IfOk result (BecomesCaller self.now.opening root moment principal) }
+        ensures caller { IfOk result (λ p. p.caller ≢ 0) }
         ensures keeps { IfOk result (KeepsAll self.now.opening root) }
         ensures back { IfErr result (λ e. IsOf self.now e.root) }
         ensures learnt { IfErr result (λ e. Learnt self.now.opening root e.root) }
@@ -172,6 +173,7 @@ impl<K: Keeper> Book<K> {
         ensures keeps { KeepsAll self.now.opening by.old by.new }
         ensures book { IfOk result (IsOf self.now) }
         ensures ok { IfOk result (Joins self.now.opening by.old moment principal by.new) }
+        ensures caller { IfOk result (λ p. p.caller ≢ 0) }
         ensures cause { IfErr result (JoinCause self.now.opening by.new principal) }
     {
         self.shared

@@ -4,16 +4,16 @@ use Rattle.scm_model.specs.declared.flat.Flat.{Flat}
 use Rattle.scm_model.specs.declared.flat.Limits.{Limits}
 use Rattle.scm_model.specs.declared.steps.Step.{Step}
 use Rattle.scm_model.specs.Entries.{unkept}
-use Rattle.std.specs.declared.snapshot.Snapshot.{Snapshot}
 use Rattle.scm_tables.specs.Tabled.{Tabled}
 use Rattle.scm_core.specs.declared.made.Made.{Made}
 use Rattle.scm_core.specs.declared.manager.Manager.TheInside.{Inside}
+use Rattle.scm_core.specs.declared.promised.Promised.{Promised}
 use Rattle.scm_core.specs.Managed.{Managed}
 use Rattle.scm_core.specs.Room.{HasRoomFor, IsMadeFor}
 
 -- the step that room was made for, before it is known whether its change was kept
-abbrev pub promised : Option (Snapshot Step) → Option Step
-promised room = option_map (λ (s : Snapshot Step). unkept s.value) room
+abbrev pub promised : Option Promised → Option Step
+promised room = option_map (λ (p : Promised). unkept p.step) room
 
 abbrev pub managed : Inside → Managed
 managed a = record { flat = a.tables.flat; limits = a.tables.limits; steps = a.steps; text = a.text; room = promised a.room }

@@ -6,6 +6,7 @@ mod judging;
 mod made;
 mod manager;
 mod owing;
+mod promised;
 mod room;
 
 pub use manager::Manager;

@@ -15,13 +15,13 @@ ghost use Rattle.scm_model.specs.declared.codes.TheConstants.{SERVICE_RUNNING};
 use super::effect::act;
 use super::judging::{change_in, change_of, is_told, may_come};
 use super::made::{Made, make_for, nothing_made};
+use super::promised::Promised;
 use super::room::reserve;
 use scm_model::{Answer, Change, Config, Limits, Step};
 use scm_tables::Tables;
 use scm_text::{Items, OutOfMemory, TextRoom, WText};
 use std::alloc::Global;
 use std::marker::Model;
-use std::snapshot::Snapshot;
 
 /// The service manager. Contracts see its flat state, its limits, how many steps were made and
 /// their text, and the step that room was made for.
@@ -30,7 +30,7 @@ pub struct Manager {
     pub(crate) tables: Tables,
     pub(crate) steps: u64,
     pub(crate) text: u64,
-    room: Option<Snapshot<Step>>,
+    room: Option<Promised>,
     made: Made,
     alloc: Global,
 }
@@ -49,17 +49,17 @@ impl Model for Manager {
 }
 
 /// Lets the room of a step go.
-fn forget(room: &mut Option<Snapshot<Step>>)
+fn forget(room: &mut Option<Promised>)
     ensures { room.new ≡ None }
 {
     *room = None;
 }
 
 /// Promises the room of a step.
-fn promise(room: &mut Option<Snapshot<Step>>, step: &Step)
+fn promise(room: &mut Option<Promised>, step: &Step)
     ensures { promised room.new ≡ Some (unkept step.now) }
 {
-    *room = Some(Snapshot::of(step));
+    *room = Some(Promised::of(step));
 }
 
 /// Keeps what was made for a step.

@@ -13,7 +13,8 @@ returns-in-Ok-clause-launches g c =
           (takes_and_tells c.args.book.now.opening (g.C.Clock.tells c.args.clock.now) c.args.pass.now c.take_launch.new.pass c.launched.new.pass c.now.result c.now-in-Ok.result c.in-Launch.process
           c.args.room.now.path line.path line.words (Launched c.in-Launch.process c.id.result) c.now.ensures c.now-in-Ok.ensures c.in-Launch.ensures.look.0 c.launched.ensures.made c.launched.ensures.rest),
       c.launched.ensures.process,
-      c.in-Ok.ensures,
+      c.in-Ok.ensures.comes,
+      c.in-Ok.ensures.given,
     )
 
 pub returns-in-Err-clause-launches : goal.returns-in-Err-clause-launches
@@ -24,5 +25,5 @@ returns-in-Err-clause-launches g c =
           c.args.room.now.path line.path line.words (LaunchFailed c.in-Launch.process c.code-code.result) c.now.ensures c.now-in-Err.ensures c.in-Launch.ensures.look.0 c.launch_failed.ensures.made c.launch_failed.ensures.rest,
       c.in-Err.fault,
       c.code-code.ensures.code,
-      c.in-Err.ensures,
+      c.in-Err.ensures.comes,
     )
