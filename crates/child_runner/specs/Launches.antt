@@ -72,12 +72,12 @@ module _ (o : Opening) (tells : ℕ → Type 0) where
     pub told : Made o between told_at became answers.Done k'
     pub rest : KeepsAllBut o process between k'
 
-  -- its words were started, and the child's ends that the spawner gave come as it gave them, its process being in the pass's hand; or they weren't, and the code says
-  -- why; or nothing is wanted in the state of the pass's new history
+  -- its words were started, and the child's ends are those that the spawner gave, its process being in the pass's hand; or they weren't
+  -- started, and the code says why; or nothing is wanted in the state of the pass's new history
   abbrev pub Launches : {L F : Type 0} → (L → ℕ) → (L → F → Type 0) → Known → Spawning → LaunchEnd L F → Known → Type 0
   Launches {L} {F} pid gives k s (ends.Started process link feed) k' =
       (line : List ℕ × List (List ℕ)) × TakesAndTells k process line (steps.Launched process (pid link)) k' × HoldsProcess o k' process phases.Launched
-      × SpawnComesTo {C = Spawned L F} s (Ok (record { link = link; feed = feed })) (started_words line)
+      × SpawnComesTo {C = Spawned L F} s (Ok (record { link = link; feed = feed })) (started_words line) × gives link feed
   Launches {L} {F} pid gives k s (ends.Failed process code) k' =
       (line : List ℕ × List (List ℕ)) × TakesAndTells k process line (steps.LaunchFailed process code) k'
       × (fault : LaunchFault) × (code ≡ fault_code fault) × SpawnComesTo {C = Spawned L F} s (Err fault) (started_words line)

@@ -30,9 +30,10 @@ fn start<P: Spawner>(
     line: &LaunchRoom,
     spawner: &mut P,
 ) -> Result<Spawned<P::Link, P::Feed>, LaunchFault>
-    ensures { SpawnComesTo (spawning_of (P.started spawner.old) (P.started spawner.new)
+    ensures comes { SpawnComesTo (spawning_of (P.started spawner.old) (P.started spawner.new)
         (P.faults spawner.old) (P.faults spawner.new)) result
         (started_words (line.now.path.units, line.now.words)) }
+    ensures given { IfOk result (λ child. P.gives spawner.old child.link child.feed) }
 {
     let Ok(words) = split_command(alloc, line.path.units(), &line.words) else {
         return Err(LaunchFault::OutOfMemory);
