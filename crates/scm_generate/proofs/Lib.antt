@@ -2,3 +2,16 @@ mod Along
 mod Units
 mod Ends
 mod Counts
+mod Built
+mod Names
+mod Shape
+mod Graph
+mod Goes
+mod Created
+mod Settling
+mod Launching
+mod Climbing
+mod Asking
+mod Falling
+mod Fits
+mod Whole

@@ -2,3 +2,4 @@ pub mod Listed
 pub mod Summary
 pub mod Progress
 pub mod Printed
+pub mod Ample

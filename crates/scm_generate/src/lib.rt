@@ -13,5 +13,5 @@ mod summary;
 
 pub use generated::Generated;
 pub use generating::generate;
-pub use laws::law_of_counts;
+pub use laws::{law_of_counts, the_list_is_legal};
 pub use summary::summary_lines;
