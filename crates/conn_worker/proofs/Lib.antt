@@ -2,3 +2,5 @@ mod Waiting
 mod Answering
 mod Owning
 mod Connecting
+pub mod Fronts
+pub mod Complete

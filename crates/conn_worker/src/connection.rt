@@ -1,6 +1,7 @@
 ghost use Rattle.std.specs.Prelude.{◌≡◌, ◌≢◌, ◌≤◌};
 ghost use Rattle.scm_book.specs.Passes.{IsOf};
 ghost use Rattle.conn_desk.specs.Connection.{IsServedFor};
+ghost use Rattle.conn_worker.specs.Complete.{HasRoomForAll, IsComplete};
 ghost use Rattle.conn_worker.specs.Connecting.{Connects};
 
 use crate::desk::BookDesk;
@@ -40,6 +41,10 @@ pub fn serve_connection<R: Wait, K: Keeper, I: Source, O: Sink, C: Clock, W: Wai
     ensures output { O.faults output.old ≤ O.faults output.new }
     ensures cause { IsServedFor result.how (I.faults input.old) (I.faults input.new)
         (O.faults output.old) (O.faults output.new) }
+    // Nothing else ends a connection without faults.
+    ensures complete { IsComplete (HasRoomForAll (C.tells clock.now) book.now.opening pass)
+        (I.left input.old) (I.faults input.old) (I.faults input.new)
+        (O.faults output.old) (O.faults output.new) result.how }
 {
     let mut desk = BookDesk {
         rt,

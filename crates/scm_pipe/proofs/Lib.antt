@@ -1,6 +1,4 @@
-pub mod Callers
-pub mod Histories
-pub mod Running
-pub mod Owning
-pub mod Calls
-pub mod Chains
+mod Histories
+mod Walking
+mod Joining
+mod Piping

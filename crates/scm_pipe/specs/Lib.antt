@@ -1,4 +1,2 @@
 pub mod Histories
-pub mod Calling
-pub mod Ready
-pub mod Connection
+pub mod Piping

@@ -1,12 +1,7 @@
-//! One connection, served from a source to a sink over a manager that only it calls.
+//! One connection, served from a source to a sink over a book that only it calls.
 #![tactic(auto)]
 
-mod calling;
-mod desk;
-mod serving;
-mod waiting;
+mod alone;
 
-pub use calling::CALLER;
+pub use alone::{Piped, serve_alone};
 pub use conn_desk::Served;
-pub use desk::PipeDesk;
-pub use serving::serve;

@@ -1,0 +1,49 @@
+-- A connection at which nothing failed ends as its input does, unless room or memory is wanting.
+use Rattle.std.specs.Prelude.{ℕ, ◌≡◌, ◌⊎◌, ◌<◌, ◌^◌, ◌++◌, true, List, [], ◌∷◌, length, Option, Some, IfSome}
+use Rattle.outside.specs.Causes.{Rose}
+use Rattle.outside.specs.Written.{Begins}
+use Rattle.scm_model.specs.declared.calls.Reply.{Reply}
+use Rattle.scm_model.specs.declared.calls.Request.{Request}
+use Rattle.rpc_session.specs.declared.state.Incoming.{Incoming}
+use Rattle.rpc_session.specs.Items.{StreamEnd, AtRest, Unfinished, BadPdu, TooLong, items}
+use Rattle.book_rule.specs.declared.view.Opening.{Opening}
+use Rattle.scm_book.specs.Called.{called}
+use Rattle.scm_book.specs.Passes.{Known, Learnt, room_behind}
+use Rattle.conn_desk.specs.declared.served.Served.{Served}
+use Rattle.conn_desk.specs.declared.served.Served.TheVariants as served
+use Rattle.conn_desk.specs.Bodies.{asked, asked_by}
+use Rattle.conn_desk.specs.Connection.{IsOpenEnd}
+use Rattle.conn_desk.specs.Desks.{Chain}
+use Rattle.conn_worker.specs.Serving.{IsServed}
+
+-- ## The input's end
+
+-- how a connection ends whose input ends so
+abbrev pub end_of : StreamEnd → Served
+end_of AtRest = served.Ended
+end_of Unfinished = served.Truncated
+end_of (BadPdu place kind) = served.BadPdu place kind
+end_of (TooLong length) = served.TooLong length
+
+-- it ended as it should, unless memory was wanting
+abbrev pub IsOrLacks : (due how : Served) → Type 0
+IsOrLacks due how = (how ≡ due) ⊎ (how ≡ served.OutOfMemory)
+
+-- Each input ends the connection in its way; where more comes than a connection may have and no end before that, it is worn.
+pub record EndsAs (bytes : List ℕ) (how : Served) : Type 0 where
+  pub whole : length bytes < 2 ^ 40 → IsOrLacks (end_of (items bytes).ending) how
+  pub worn : (front : List ℕ) → Begins front bytes → length front ≡ 2 ^ 40 → IsOpenEnd (items front).ending → IsOrLacks served.Worn how
+
+-- Where no count rose, the input is told, and there is room for each of its requests, the connection ends as the input does.
+abbrev pub IsComplete : (room : List ℕ → Type 0) → (left : Option (List ℕ)) → (source source_now sink sink_now : ℕ) → Served → Type 0
+IsComplete room left source source_now sink sink_now how =
+    IfSome left (λ bytes. (Rose source source_now → ⊥) → (Rose sink sink_now → ⊥) → room bytes → EndsAs bytes how)
+
+-- ## Room
+
+-- behind whatever a pass may come to by the first requests of these bytes, the limits have room for the next one
+abbrev pub HasRoomForAll : (tells : ℕ → Type 0) → Opening → Known → List ℕ → Type 0
+HasRoomForAll tells o k bytes =
+    (done : List Incoming) (next : Incoming) (request : Request) → Begins (done ++ next ∷ []) (items bytes).items → asked_by next ≡ Some request
+    → (heard : List (Option Reply)) (last now : Known) → Chain (IsServed tells o) k last (asked done) heard → Learnt o last now
+    → room_behind o now.seen (called now request) ≡ true

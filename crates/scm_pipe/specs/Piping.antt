@@ -1,0 +1,116 @@
+-- A connection alone at a book of its own: what was read, the whole history, and what was written and kept.
+use Rattle.std.specs.Prelude.{ℕ, ◌≡◌, ◌⊎◌, ◌≤◌, ◌^◌, ◌++◌, Bool, true, false, List, [], ◌∷◌, length, All, Option, Some}
+use Rattle.std.specs.Io.KnownBytes.{Appends, Consumes}
+use Rattle.outside.specs.Written.{Begins}
+use Rattle.scm_model.specs.declared.flat.Flat.{Flat}
+use Rattle.scm_model.specs.declared.flat.Limits.{Limits}
+use Rattle.scm_model.specs.declared.flat.Principal.{Principal}
+use Rattle.scm_model.specs.declared.calls.Request.{Request}
+use Rattle.scm_model.specs.declared.steps.Kept.TheVariants.{NotAsked}
+use Rattle.scm_model.specs.declared.steps.Step.TheVariants.{Call, Joined}
+use Rattle.scm_model.specs.Entries.{Entry, text_in}
+use Rattle.scm_rules.specs.Histories.{Legal, state}
+use Rattle.scm_rules.specs.Opening.{IsOpening}
+use Rattle.scm_rules.specs.Room.{has_room}
+use Rattle.scm_history.specs.Kept.{kept_changes}
+use Rattle.record_journal.specs.Bearing.{Bears, and_changes}
+use Rattle.record_journal.specs.declared.journal.Journal.{Journal}
+use Rattle.rpc_session.specs.declared.state.Incoming.{Incoming}
+use Rattle.rpc_session.specs.Items.{items}
+use Rattle.book_rule.specs.declared.view.Opening.{Opening}
+use Rattle.scm_book.specs.Holds.{RoseBy, failures_in}
+use Rattle.scm_book.specs.Joins.{has_place}
+use Rattle.scm_book.specs.Passes.{Known, room_behind}
+use Rattle.conn_desk.specs.declared.served.Served.{Served}
+use Rattle.conn_desk.specs.declared.served.Served.TheVariants as served
+use Rattle.conn_desk.specs.Bodies.{asked, asked_by}
+use Rattle.conn_desk.specs.Connection.{Reached}
+use Rattle.conn_desk.specs.Desks.{AsMany}
+use Rattle.scm_pipe.specs.declared.alone.Piped.{Piped}
+use Rattle.scm_pipe.specs.Histories.{IsPipeHistory, IsPipeRun, replies, the_caller}
+
+-- ## Room
+
+-- whether the limits have room for a request behind a history
+abbrev pub has_room_behind : Limits → Flat → List Entry → Request → Bool
+has_room_behind l f run request = has_room l (state l f run) (length run) (text_in run) (Call the_caller request NotAsked)
+
+abbrev pub HasNoRoomBehind : Limits → Flat → List Entry → Request → Type 0
+HasNoRoomBehind l f run request = has_room_behind l f run request ≡ false
+
+-- behind whatever serves the first requests of these bytes, they have room for the next one
+abbrev pub HasRoomForAll : Principal → Limits → Flat → List ℕ → Type 0
+HasRoomForAll principal l f bytes =
+    (done : List Incoming) (next : Incoming) (request : Request) → Begins (done ++ next ∷ []) (items bytes).items → asked_by next ≡ Some request
+    → (run : List Entry) → IsPipeRun principal l f (asked done) run → Legal l f run → has_room_behind l f run request ≡ true
+
+-- ## A connection
+
+-- What a connection read, answered and wrote, and its whole history from f on. But for the moments, for what became of each change, and for
+-- where memory was wanting, the history is fixed by the principal, by the state that it begins in, and by the requests.
+pub record IsPiped (tells : ℕ → Type 0) (principal : Principal) (l : Limits) (f : Flat) (left left_now held held_now : Option (List ℕ))
+    (how : Served) (history : List Entry) : Type 0 where
+  pub read : List ℕ
+  pub done : List Incoming
+  pub written : List ℕ
+  pub consumed : Consumes left left_now read
+  pub most : length read ≤ 2 ^ 40
+  pub appended : Appends held held_now written
+  -- nothing stands in it but the caller's joining, what serves its requests, and its going, at moments that the clock tells
+  pub run : List Entry
+  pub alone : IsPipeHistory principal l f (asked done) run history
+  pub legal : Legal l f history
+  pub moments : All (λ (e : Entry). tells e.0) history
+  -- the connection came as far as it is answered, with the replies that this history gives
+  pub replied : AsMany (asked done) (replies l f the_caller history)
+  pub reached : Reached (HasNoRoomBehind l f) run how read left_now done (replies l f the_caller history) written
+
+-- there was no memory for the caller's joining: nothing was read or written
+pub record IsUnjoined (left left_now held held_now : Option (List ℕ)) (how : Served) : Type 0 where
+  pub lacks : how ≡ served.OutOfMemory
+  pub unread : left_now ≡ left
+  pub unwritten : held_now ≡ held
+
+-- ## Before the joining
+
+-- a pass that is nobody's, and the only one of an empty history
+pub record IsRoot (root : Known) : Type 0 where
+  pub nobody : root.caller ≡ 0
+  pub seen : root.seen ≡ []
+  pub alone : root.alone ≡ true
+
+-- the history begins in an opening state, with a place for one caller and room for its joining
+pub record CanJoin (o : Opening) (principal : Principal) : Type 0 where
+  pub opens : IsOpening o.limits o.first
+  pub place : has_place o [] ≡ true
+  pub room : room_behind o [] (Joined principal) ≡ true
+
+-- ## The keeper
+
+module _ {K : Type 0} (told : K → Option (List ℕ)) (faulted : K → ℕ) where
+  -- how a book begins, by its limits, its first state and its keeper
+  abbrev pub begun_with : Limits → Flat → K → Opening
+  begun_with l f keeper = record { limits = l; first = f; bytes = told keeper; faults = faulted keeper }
+
+  -- a keeper bears what stood before and a history's kept changes in order, and each change that was not kept has a fault of it
+  pub record IsKept (o : Opening) (history : List Entry) (keeper : K) : Type 0 where
+    pub journal : Journal
+    pub bears : Bears (and_changes o.bytes (kept_changes o.limits o.first history)) journal (told keeper)
+    pub faults : RoseBy (failures_in history) o.faults (faulted keeper)
+
+  -- a connection was served, and the keeper has the kept changes of its history
+  pub record IsJoined (tells : ℕ → Type 0) (principal : Principal) (o : Opening) (left left_now held held_now : Option (List ℕ)) (end : Piped K) : Type 0 where
+    pub history : List Entry
+    pub piped : IsPiped tells principal o.limits o.first left left_now held held_now end.how history
+    pub kept : IsKept o history end.keeper
+
+  -- at a book: it was served, or its caller didn't join, and the history is empty
+  abbrev pub IsEndAt : (tells : ℕ → Type 0) → Principal → Opening → (left left_now held held_now : Option (List ℕ)) → Piped K → Type 0
+  IsEndAt tells principal o left left_now held held_now end =
+      IsJoined tells principal o left left_now held held_now end ⊎ (IsUnjoined left left_now held held_now end.how × IsKept o [] end.keeper)
+
+  -- or there was no memory for a book either, and the keeper is as it was
+  abbrev pub IsEnd : (tells : ℕ → Type 0) → Principal → Limits → Flat → (left left_now held held_now : Option (List ℕ)) → K → Piped K → Type 0
+  IsEnd tells principal l f left left_now held held_now keeper end =
+      IsEndAt tells principal (begun_with l f keeper) left left_now held held_now end
+      ⊎ (IsUnjoined left left_now held held_now end.how × (end.keeper ≡ keeper))
