@@ -1,1 +1,6 @@
 mod Telling
+mod Reading
+mod Stretches
+mod Coming
+mod Owned
+mod Whole

@@ -1,1 +1,3 @@
 pub mod Launches
+pub mod Reports
+pub mod Serving

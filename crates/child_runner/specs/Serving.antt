@@ -1,0 +1,188 @@
+-- A child from its first byte to its end.
+use Rattle.std.specs.Prelude.{ℕ, ◌≡◌, ◌<◌, ◌≤◌, ◌+◌, ◌^◌, ◌⊎◌, ◌++◌, All, Bool, IfSome, false, true, List, [], ◌∷◌, length, map, slice_get, take, Option, Some, Result, Ok, Err}
+use Rattle.std.specs.Io.KnownBytes.{Consumes, IsAtEnd}
+use mathlib.Core.List.{IsPrefix}
+use Rattle.outside.specs.Causes.{Rose}
+use Rattle.outside.specs.Written.{Begins}
+use Rattle.scm_model.specs.declared.flat.Status.{Status}
+use Rattle.scm_model.specs.declared.steps.Step.TheVariants as steps
+use Rattle.scm_model.specs.Entries.{Entry}
+use Rattle.book_rule.specs.declared.view.Opening.{Opening}
+use Rattle.book_rule.specs.Ways.{Has}
+use Rattle.child_link.specs.Children.{HasEnded}
+use Rattle.scm_book.specs.declared.fault.MakeFault.{MakeFault}
+use Rattle.scm_book.specs.declared.fault.MakeFault.TheVariants as lacks
+use Rattle.scm_book.specs.declared.processes.EndedEnd.{EndedEnd}
+use Rattle.scm_book.specs.Passes.{FindsNoRoom, Known, Learnt, room_behind}
+use Rattle.scm_book.specs.Processes.{EndedSo}
+use Rattle.child_runner.specs.declared.served.ChildServed.{ChildServed}
+use Rattle.child_runner.specs.declared.served.ChildServed.TheVariants as served
+use Rattle.child_runner.specs.Reports.{Chain, reports}
+
+-- ## One read
+
+-- what one read gave
+abbrev pub given : {E : Type 0} → List ℕ → Result ℕ E → List ℕ
+given into (Ok n) = take n into
+given into (Err how) = []
+
+-- some bytes came; or none did, since the child's output ended, the read failed, or as many were read as a child may have
+abbrev pub ReadEnds : (left_now : Option (List ℕ)) → (count faults faults_now : ℕ) → Result ℕ ChildServed → Type 0
+ReadEnds left_now count faults faults_now (Ok n) = (0 < n) × (faults_now ≡ faults)
+ReadEnds left_now count faults faults_now (Err served.Ended) = IsAtEnd left_now × (count < 2 ^ 40) × (faults_now ≡ faults)
+ReadEnds left_now count faults faults_now (Err served.ReadFault) = (count < 2 ^ 40) × Rose faults faults_now
+ReadEnds left_now count faults faults_now (Err served.Worn) = (count ≡ 2 ^ 40) × (faults_now ≡ faults)
+ReadEnds left_now count faults faults_now (Err served.Full) = ⊥
+ReadEnds left_now count faults faults_now (Err served.OutOfMemory) = ⊥
+
+pub record ReadsPiece (left left_now : Option (List ℕ)) (count count_now faults faults_now : ℕ) (into : List ℕ) (result : Result ℕ ChildServed) : Type 0 where
+  pub consumed : Consumes left left_now (given into result)
+  pub counted : count_now ≡ count + length (given into result)
+  pub most : count_now ≤ 2 ^ 40
+  pub ends : ReadEnds left_now count faults faults_now result
+
+-- how it ends that a report isn't made
+abbrev pub served_by : MakeFault → ChildServed
+served_by lacks.Full = served.Full
+served_by lacks.OutOfMemory = served.OutOfMemory
+
+-- ## All reads
+
+-- all of the link's bytes were read, where it tells them
+abbrev pub IsAll : (left : Option (List ℕ)) → (read : List ℕ) → Type 0
+IsAll left read = IfSome left (λ bytes. read ≡ bytes)
+
+-- all was read, or as much as a child may have, or up to a read that failed
+abbrev pub IsReadOut : (left : Option (List ℕ)) → (read : List ℕ) → (faults faults_now : ℕ) → Type 0
+IsReadOut left read faults faults_now = IsAll left read ⊎ (length read ≡ 2 ^ 40) ⊎ Rose faults faults_now
+
+-- what is left was read, behind so many bytes
+pub record ReadsOn (left left_now : Option (List ℕ)) (count faults faults_now : ℕ) : Type 0 where
+  pub more : List ℕ
+  pub consumed : Consumes left left_now more
+  pub most : count + length more ≤ 2 ^ 40
+  pub out : IsAtEnd left_now ⊎ (count + length more ≡ 2 ^ 40) ⊎ Rose faults faults_now
+  pub caused : (faults_now ≡ faults) ⊎ Rose faults faults_now
+
+-- the limits have no room for the report that comes next, behind what the pass has seen
+pub record HasNoRoom (o : Opening) (process : ℕ) (k : Known) (read : List ℕ) (done : List Status) : Type 0 where
+  pub next : Status
+  pub follows : Begins (done ++ next ∷ []) (reports read)
+  pub full : room_behind o k.seen (steps.Report process next) ≡ false
+
+-- How far the reports of what was read came, by what is answered.
+abbrev pub Reached : Opening → ℕ → Known → ChildServed → (left : Option (List ℕ)) → (read : List ℕ) → List Status → Type 0
+Reached o process k served.Ended left read done = IsAll left read × (length read < 2 ^ 40) × (done ≡ reports read)
+Reached o process k served.ReadFault left read done = (length read < 2 ^ 40) × (done ≡ reports read)
+Reached o process k served.Worn left read done = (length read ≡ 2 ^ 40) × (done ≡ reports read)
+Reached o process k served.Full left read done = HasNoRoom o process k read done
+Reached o process k served.OutOfMemory left read done = Begins done (reports read)
+
+-- How far they came where reading ended or a report wasn't made, whatever follows what was read.
+abbrev pub CameTo : Opening → ℕ → (last now : Known) → ChildServed → (left : Option (List ℕ)) → (read : List ℕ) → List Status → Type 0
+CameTo o process last now served.Full left read done =
+    (next : Status) × ((more : List ℕ) → Begins (done ++ next ∷ []) (reports (read ++ more))) × FindsNoRoom o last (steps.Report process next) now
+CameTo o process last now served.OutOfMemory left read done = Learnt o last now × ((more : List ℕ) → Begins done (reports (read ++ more)))
+CameTo o process last now how left read done = (now ≡ last) × Reached o process now how left read done
+
+-- the pass is as the last report made it, but where the next one had no room or no memory
+abbrev pub Leaves : Opening → ChildServed → (last now : Known) → Type 0
+Leaves o served.Full last now = Learnt o last now
+Leaves o served.OutOfMemory last now = (now ≡ last) ⊎ Learnt o last now
+Leaves o how last now = now ≡ last
+
+-- the link's count of faults rose where reading failed, and is the same where it ended or enough was read
+abbrev pub IsReadFor : ChildServed → (faults faults_now : ℕ) → Type 0
+IsReadFor served.Ended faults faults_now = faults_now ≡ faults
+IsReadFor served.Worn faults faults_now = faults_now ≡ faults
+IsReadFor served.ReadFault faults faults_now = Rose faults faults_now
+IsReadFor how faults faults_now = (faults_now ≡ faults) ⊎ Rose faults faults_now
+
+module _ (tells : ℕ → Type 0) (o : Opening) (process : ℕ) where
+  -- Reports of the first statuses of what was read lead to last.
+  pub record MakesReports (k now : Known) (left left_now : Option (List ℕ)) (count : ℕ) (how : ChildServed) : Type 0 where
+    pub read : List ℕ
+    pub done : List Status
+    pub consumed : Consumes left left_now read
+    pub counted : count ≡ length read
+    pub most : length read ≤ 2 ^ 40
+    pub last : Known
+    pub chain : Chain tells o process k last done
+    pub came : CameTo o process last now how left read done
+
+  -- All was read, and reports of the first statuses of it lead to last; the pass then stands here.
+  pub record ReadsAll (k stood : Known) (left left_now : Option (List ℕ)) (faults faults_now : ℕ) (how : ChildServed) : Type 0 where
+    pub read : List ℕ
+    pub done : List Status
+    pub consumed : Consumes left left_now read
+    pub most : length read ≤ 2 ^ 40
+    pub out : IsReadOut left read faults faults_now
+    pub last : Known
+    pub chain : Chain tells o process k last done
+    pub leaves : Leaves o how last stood
+    pub reached : Reached o process stood how left read done
+
+-- ## The whole
+
+-- a failed wait is a read fault where nothing else came before
+abbrev pub waited_in_vain : ChildServed → ChildServed
+waited_in_vain served.Ended = served.ReadFault
+waited_in_vain how = how
+
+-- the child has ended, where the link tells that; or the wait failed, and the count rose
+abbrev pub Waits : ChildServed → (ended_now : Option Bool) → (faults faults_now : ℕ) → ChildServed → Type 0
+Waits how ended_now faults faults_now how' =
+    ((how' ≡ how) × HasEnded ended_now × (faults_now ≡ faults)) ⊎ ((how' ≡ waited_in_vain how) × Rose faults faults_now)
+
+-- The link's count of faults rose in a read or a wait that failed; where it is the same, the child has ended, where the link tells that.
+abbrev pub IsServedFor : ChildServed → (ended_now : Option Bool) → (faults faults_now : ℕ) → Type 0
+IsServedFor served.Ended ended_now faults faults_now = HasEnded ended_now × (faults_now ≡ faults)
+IsServedFor served.ReadFault ended_now faults faults_now = Rose faults faults_now
+IsServedFor how ended_now faults faults_now = (HasEnded ended_now × (faults_now ≡ faults)) ⊎ Rose faults faults_now
+
+-- these entries stand at these places of a history
+abbrev pub StandAt : List Entry → List ℕ → List Entry → Type 0
+StandAt log [] [] = Unit {0}
+StandAt log (place ∷ places) (e ∷ entries) = (slice_get log place ≡ Some e) × StandAt log places entries
+StandAt log [] (e ∷ entries) = ⊥
+StandAt log (place ∷ places) [] = ⊥
+
+-- these are reports of the statuses, in order, at moments that the clock tells
+pub record AreReports (tells : ℕ → Type 0) (process : ℕ) (statuses : List Status) (entries : List Entry) : Type 0 where
+  pub steps : map (λ (e : Entry). e.1) entries ≡ map (steps.Report process) statuses
+  pub told : All (λ (e : Entry). tells e.0) entries
+
+module _ (tells : ℕ → Type 0) (o : Opening) (process : ℕ) where
+  -- The pass's own places are those that it had, and those of reports of these statuses, and last that of the process's end.
+  pub record HasReported (k k' : Known) (statuses : List Status) : Type 0 where
+    pub entries : List Entry
+    pub reports : AreReports tells process statuses entries
+    pub moment : ℕ
+    pub told : tells moment
+    pub places : List ℕ
+    pub own : k'.own ≡ k.own ++ places
+    pub stand : StandAt k'.seen places (entries ++ (moment, steps.Ended process) ∷ [])
+
+  -- All was read, and the reports that were made of it lead to stood. Then the process ended.
+  pub record ServesChild (k k' : Known) (left left_now : Option (List ℕ)) (faults faults_now : ℕ) (how : ChildServed) : Type 0 where
+    pub stood : Known
+    pub reads : ReadsAll tells o process k stood left left_now faults faults_now how
+    pub moment : ℕ
+    pub told : tells moment
+    pub ended : EndedEnd
+    pub ends : EndedSo o stood moment process ended k'
+    pub reported : HasReported k k' reads.done
+
+-- ## Completeness
+
+-- the limits had room for each of these reports behind all that the pass then saw
+abbrev pub HasRoomFor : Opening → ℕ → Known → Known → List Status → Type 0
+HasRoomFor o process k k' statuses =
+    (log : List Entry) (status : Status) → IsPrefix k.seen log → IsPrefix log k'.seen → Has status statuses → room_behind o log (steps.Report process status) ≡ true
+
+-- Where the link tells its bytes, fewer than a child may have, its count didn't rise, and there was room, all reports were made and the answer is
+-- Ended, or there was no memory.
+abbrev pub IsComplete : (tells : ℕ → Type 0) → Opening → ℕ → (k k' : Known) → (left : Option (List ℕ)) → (faults faults_now : ℕ) → ChildServed → Type 0
+IsComplete tells o process k k' left faults faults_now how =
+    (bytes : List ℕ) → left ≡ Some bytes → length bytes < 2 ^ 40 → (Rose faults faults_now → ⊥) → HasRoomFor o process k k' (reports bytes)
+    → (how ≡ served.OutOfMemory) ⊎ ((how ≡ served.Ended) × HasReported tells o process k k' (reports bytes))
