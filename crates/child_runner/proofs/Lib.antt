@@ -4,3 +4,4 @@ mod Stretches
 mod Coming
 mod Owned
 mod Whole
+mod Takings

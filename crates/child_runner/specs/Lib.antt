@@ -1,3 +1,4 @@
 pub mod Launches
 pub mod Reports
+pub mod Sending
 pub mod Serving

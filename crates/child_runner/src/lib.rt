@@ -1,13 +1,18 @@
-//! How a child runs over the book: its launch, and what the manager is told of it.
+//! How a child runs over the book: its launch, what the manager is told of it, and the controls that
+//! it is sent.
 #![tactic(auto)]
 
 mod fault;
 mod launching;
+mod quitting;
 mod reports;
+mod sending;
 mod served;
 mod serving;
 
 pub use fault::LaunchFault;
 pub use launching::{LaunchEnd, launch_one};
+pub use quitting::BellQuit;
+pub use sending::{ControlsEnded, ControlsSent, send_controls, write_controls};
 pub use served::{ChildEnded, ChildServed};
 pub use serving::serve_child;
