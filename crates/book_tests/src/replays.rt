@@ -1,0 +1,166 @@
+// A closed history, made again by a manager alone, tells each caller what it was told.
+ghost use Rattle.std.specs.Prelude.{◌<◌};
+
+use crate::crowds::{Crowd, Visit, gather};
+use book_calls::{Asked, Told, limits, make, new_book, new_manager, told_by};
+use scm_book::Opened;
+use scm_core::Manager;
+use scm_model::{Answer, Request, Step};
+use scm_text::WText;
+use scm_trail::Trail;
+use std::alloc::Global;
+use std::sync::Wait;
+use std::test::Fail;
+use std::thread::Threads;
+
+/// A history that was closed, and the visits that are in it.
+#[derive(Drop)]
+pub struct Whole {
+    pub trail: Trail,
+    pub visits: Vec<Visit>,
+}
+
+/// As many threads as there are to be, each with a visit.
+fn many<R: Threads + Wait + Sync>(rt: &R, alloc: Global, threads: u64, calls: u64) -> Option<Whole>
+    requires { 0 < threads }
+{
+    let Opened { book, pass } = new_book(alloc, limits(4_194_304), Vec::new(alloc))?;
+    let Crowd { pass, visits } = gather(rt, alloc, &book, pass, 0, threads, calls)?;
+    let spent = book.gone(rt, pass, 0);
+    let closed = book.close(rt, spent);
+    Some(Whole {
+        trail: closed.trail,
+        visits,
+    })
+}
+
+fn name_of(text: &WText) -> Option<u16> {
+    match text.units() {
+        [unit] => Some(*unit),
+        _ => None,
+    }
+}
+
+/// The call of a request, if it is one.
+fn asked_by(request: &Request) -> Option<Asked> {
+    Some(match request {
+        Request::OpenManager { .. } => Asked::OpensManager,
+        Request::Create(new) => Asked::Creates {
+            manager: new.handle,
+            name: name_of(&new.name)?,
+        },
+        Request::OpenService { handle, name, .. } => Asked::Opens {
+            manager: *handle,
+            name: name_of(name)?,
+        },
+        Request::QueryStatus { handle } => Asked::Queries { handle: *handle },
+        Request::Lock { handle } => Asked::Locks { manager: *handle },
+        Request::Unlock { handle } => Asked::Unlocks { lock: *handle },
+        Request::Delete { handle } => Asked::Deletes { handle: *handle },
+        Request::Close { handle } => Asked::Closes { handle: *handle },
+        _ => return None,
+    })
+}
+
+/// What an answer says in short.
+fn heard(answer: &Answer) -> Told {
+    match answer {
+        Answer::Caller(number) => Told {
+            code: 0,
+            number: *number,
+        },
+        Answer::Reply(reply) => told_by(reply),
+        _ => Told { code: 0, number: 0 },
+    }
+}
+
+impl Visit {
+    /// Whether this is what the caller asked next, and was told.
+    fn reads(&mut self, asked: Option<Asked>, told: Told) -> bool {
+        let read = self.read;
+        self.read = read.saturating_add(1);
+        match self.lines.get(read) {
+            Some(line) => asked == Some(line.asked) && told == line.told,
+            None => false,
+        }
+    }
+
+    /// Whether the step is the next of the caller, and answered as the caller was.
+    fn goes_on(&mut self, step: &Step, told: Told) -> bool {
+        match step {
+            Step::Joined { .. } => {
+                let is_first = self.caller == 0;
+                self.caller = told.number;
+                is_first
+            }
+            Step::Call {
+                caller,
+                request,
+                ..
+            } => *caller == self.caller && self.reads(asked_by(request), told),
+            Step::Gone { caller } => *caller == self.caller && self.read == self.lines.len(),
+            _ => false,
+        }
+    }
+}
+
+/// What a step is told by a manager that only it has, if it may be made.
+fn again(alloc: Global, manager: &mut Manager, moment: u64, step: &Step) -> Option<Told> {
+    match step.copy(alloc) {
+        Ok(copy) => match make(manager, moment, copy) {
+            Some(answer) => Some(heard(&answer)),
+            None => None,
+        },
+        Err(_) => None,
+    }
+}
+
+/// Whether an entry is the next of the visit of its mark, and is told the same again.
+fn is_told(
+    alloc: Global,
+    manager: &mut Manager,
+    visits: &mut [Visit],
+    moment: u64,
+    step: &Step,
+) -> bool {
+    let Some(told) = again(alloc, manager, moment, step) else {
+        return false;
+    };
+    match visits.get_mut(moment as usize) {
+        Some(visit) => visit.goes_on(step, told),
+        None => false,
+    }
+}
+
+/// Whether each entry is.
+fn are_told(alloc: Global, manager: &mut Manager, trail: &Trail, visits: &mut [Visit]) -> bool {
+    for place in 0..trail.len() {
+        let Some((moment, step)) = trail.get(place) else {
+            return false;
+        };
+        if !is_told(alloc, manager, visits, *moment, step) {
+            return false;
+        }
+    }
+    true
+}
+
+/// Whether a manager that begins as the book's did tells all callers the same again.
+fn is_one_history(alloc: Global, trail: &Trail, visits: &mut [Visit]) -> bool {
+    match new_manager(alloc, limits(4_194_304)) {
+        Ok(mut manager) => are_told(alloc, &mut manager, trail, visits),
+        Err(_) => false,
+    }
+}
+
+#[test]
+fn each_of_eight_threads_is_told_what_the_history_tells(rt: HostRuntime) -> Result<(), Fail> {
+    match many(&rt, rt.alloc(), 8, 1000) {
+        Some(mut whole) => {
+            assert_eq!(rt; whole.trail.len(), 8 * 1002);
+            assert!(rt; is_one_history(rt.alloc(), &whole.trail, &mut whole.visits));
+        }
+        None => return Err("memory".into()),
+    }
+    Ok(())
+}

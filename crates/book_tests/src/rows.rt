@@ -1,0 +1,245 @@
+// Rows: calls of one caller, each with what it is told.
+ghost use Rattle.std.specs.Prelude.{◌≡◌, ◌≢◌, true, IfSome};
+ghost use Rattle.scm_book.specs.Passes.{IsOf};
+
+use book_calls::{Asked, Told, ask, guest, leaves, limits, new_book};
+use record_journal::{Fate, MemoryKeeper};
+use scm_book::{Book, Closed, JoinFault, MakeFault, Opened, Pass, Spent};
+use scm_model::{Kept, Principal, Step};
+use scm_trail::Trail;
+use std::alloc::Global;
+use std::sync::Wait;
+use std::test::Fail;
+
+/// A call, and what it comes to.
+pub type Row = (Asked, Result<Told, MakeFault>);
+
+/// A call that is told this code and number.
+pub fn told(asked: Asked, code: u32, number: u64) -> Row {
+    (asked, Ok(Told { code, number }))
+}
+
+/// A call for which the limits have no room.
+pub fn full(asked: Asked) -> Row {
+    (asked, Err(MakeFault::Full))
+}
+
+/// Whether these calls come to this.
+pub fn come<R: Wait>(
+    rt: &R,
+    alloc: Global,
+    book: &Book<MemoryKeeper>,
+    pass: &mut Pass,
+    rows: &[Row],
+) -> bool
+    requires book { IsOf book.now pass.old }
+    requires caller { pass.old.caller ≢ 0 }
+    ensures book { IsOf book.now pass.new }
+    ensures caller { pass.new.caller ≢ 0 }
+{
+    for (asked, want) in rows {
+        if ask(rt, alloc, book, pass, 0, *asked) != *want {
+            return false;
+        }
+    }
+    true
+}
+
+/// Whether these calls come to this in a book of four steps, nobody else finds room, and the bell
+/// tells of them.
+fn fill_four<R: Wait>(
+    rt: &R,
+    alloc: Global,
+    book: &Book<MemoryKeeper>,
+    root: &mut Pass,
+    rows: &[Row],
+) -> bool
+    requires book { IsOf book.now root.old }
+    ensures { IsOf book.now root.new }
+{
+    let Ok(mut pass) = guest(rt, book, root, 0) else {
+        return false;
+    };
+    let seen = book.bell().count();
+    let are_right = come(rt, alloc, book, &mut pass, rows);
+    let is_rung = book.bell().wait(rt, seen) != seen;
+    let is_full = guest(rt, book, root, 0).err() == Some(JoinFault::Full);
+    leaves(rt, book, root, pass, 0);
+    are_right && is_rung && is_full
+}
+
+/// Whether a bell that is shut lets all go that wait.
+fn shuts<R: Wait>(rt: &R, book: &Book<MemoryKeeper>) -> bool {
+    let bell = book.bell();
+    let was_open = !bell.is_shut();
+    bell.shut(rt);
+    let seen = bell.count();
+    bell.wait(rt, seen) == seen && was_open && bell.is_shut()
+}
+
+/// The history of such a book, if all was right.
+fn four<R: Wait>(rt: &R, alloc: Global, rows: &[Row]) -> Option<Trail> {
+    let Opened { book, mut pass } = new_book(alloc, limits(4), Vec::new(alloc))?;
+    let is_right = fill_four(rt, alloc, &book, &mut pass, rows) && shuts(rt, &book);
+    let spent = book.gone(rt, pass, 0);
+    let closed = book.close(rt, spent);
+    if is_right { Some(closed.trail) } else { None }
+}
+
+/// Whether the history has so many entries, of which the last is that a caller went.
+fn ends_with_gone(trail: &Trail, entries: u64, who: u64) -> bool {
+    match trail.get(entries.saturating_sub(1)) {
+        Some((_, Step::Gone { caller })) => trail.len() == entries && *caller == who,
+        _ => false,
+    }
+}
+
+#[test]
+fn who_went_has_a_step_of_four(rt: HostRuntime) -> Result<(), Fail> {
+    let rows = [
+        told(Asked::OpensManager, 0, 1),
+        told(Asked::OpensManager, 0, 2),
+        full(Asked::OpensManager),
+    ];
+    match four(&rt, rt.alloc(), &rows) {
+        Some(trail) => assert!(rt; ends_with_gone(&trail, 4, 1)),
+        None => return Err("another answer".into()),
+    }
+    Ok(())
+}
+
+/// Whether so many callers join.
+fn join<R: Wait>(rt: &R, book: &Book<MemoryKeeper>, root: &mut Pass, callers: u32) -> bool
+    requires book { IsOf book.now root.old }
+    ensures { IsOf book.now root.new }
+{
+    for _ in 0..callers {
+        if guest(rt, book, root, 0).is_err() {
+            return false;
+        }
+    }
+    true
+}
+
+/// Whether 64 callers may join and one more may not, until one goes.
+fn crowds<R: Wait>(rt: &R, book: &Book<MemoryKeeper>, root: &mut Pass) -> bool
+    requires book { IsOf book.now root.old }
+    ensures { IsOf book.now root.new }
+{
+    let Ok(first) = guest(rt, book, root, 0) else {
+        return false;
+    };
+    let others = join(rt, book, root, 63);
+    let one_more = guest(rt, book, root, 0).err();
+    leaves(rt, book, root, first, 0);
+    others && one_more == Some(JoinFault::TooMany) && guest(rt, book, root, 0).is_ok()
+}
+
+#[test]
+fn one_more_than_64_may_not_join(rt: HostRuntime) -> Result<(), Fail> {
+    match new_book(rt.alloc(), limits(4_194_304), Vec::new(rt.alloc())) {
+        Some(Opened { book, mut pass }) => assert!(rt; crowds(&rt, &book, &mut pass)),
+        None => return Err("memory".into()),
+    }
+    Ok(())
+}
+
+/// The only caller comes, makes calls that come to this, and goes.
+fn stay<R: Wait>(
+    rt: &R,
+    alloc: Global,
+    book: &Book<MemoryKeeper>,
+    root: Pass,
+    rows: &[Row],
+) -> Option<Spent>
+    requires book { IsOf book.now root }
+    requires nobody { root.caller ≡ 0 }
+    requires alone { root.alone ≡ true }
+    ensures { IfSome result (IsOf book.now) }
+{
+    let Ok(mut pass) = book.join_alone(rt, root, 0, Principal::Admin) else {
+        return None;
+    };
+    let are_right = come(rt, alloc, book, &mut pass, rows);
+    let spent = book.gone(rt, pass, 0);
+    if are_right { Some(spent) } else { None }
+}
+
+/// What is left where calls come to this, and the second append fails when five bytes are there.
+fn kept<R: Wait>(rt: &R, alloc: Global, rows: &[Row]) -> Option<Closed<MemoryKeeper>> {
+    let Ok(fates) = Vec::from_array(alloc, [Fate::Fails { done: 5 }, Fate::Succeeds]) else {
+        return None;
+    };
+    let Opened { book, pass } = new_book(alloc, limits(4_194_304), fates)?;
+    let spent = stay(rt, alloc, &book, pass, rows)?;
+    Some(book.close(rt, spent))
+}
+
+/// What became of the change of the call at a place.
+fn append_at(trail: &Trail, place: u64) -> Option<Kept> {
+    match trail.get(place) {
+        Some((_, Step::Call { kept, .. })) => Some(*kept),
+        _ => None,
+    }
+}
+
+/// A journal that the services `A` and `C` were created in.
+const JOURNAL: [u8; 140] = [
+    0x53, 0x43, 0x4D, 0x4A, 1, 0, 0, 0, // header
+    1, 0x3D, 0, 0, 0, 1, 0, 0, 0, 0x41, 0, 1, 0, 0, 0, 0x41, 0, // names
+    0x10, 0, 0, 0, 3, 0, 0, 0, 1, 0, 0, 0, 2, 0, 0, 0, 0x2F, 0, 0x61, 0, // up to the path
+    0, 0, 0, 0, 0, 0, 0, 0, 0, 0, 0, 0, 0, 0, 0, 0, 0, 0, 0, 0, 0, 0, 0, 0, 0, 0, 0, 0, 0, //
+    1, 0x3D, 0, 0, 0, 1, 0, 0, 0, 0x43, 0, 1, 0, 0, 0, 0x43, 0, // names
+    0x10, 0, 0, 0, 3, 0, 0, 0, 1, 0, 0, 0, 2, 0, 0, 0, 0x2F, 0, 0x61, 0, // up to the path
+    0, 0, 0, 0, 0, 0, 0, 0, 0, 0, 0, 0, 0, 0, 0, 0, 0, 0, 0, 0, 0, 0, 0, 0, 0, 0, 0, 0, 0, //
+];
+
+#[test]
+fn what_is_not_kept_is_not_made(rt: HostRuntime) -> Result<(), Fail> {
+    let rows = [
+        told(Asked::OpensManager, 0, 1),
+        told(
+            Asked::Creates {
+                manager: 1,
+                name: 0x41,
+            },
+            0,
+            2,
+        ),
+        told(
+            Asked::Creates {
+                manager: 1,
+                name: 0x42,
+            },
+            1013,
+            0,
+        ),
+        told(
+            Asked::Opens {
+                manager: 1,
+                name: 0x42,
+            },
+            1060,
+            0,
+        ),
+        told(
+            Asked::Creates {
+                manager: 1,
+                name: 0x43,
+            },
+            0,
+            3,
+        ),
+    ];
+    match kept(&rt, rt.alloc(), &rows) {
+        Some(closed) => {
+            assert_eq!(rt; closed.services, 2);
+            assert_eq!(rt; closed.keeper.bytes(), JOURNAL.as_slice());
+            for (place, append) in [(2, Kept::Kept), (3, Kept::Failed), (5, Kept::Kept)] {
+                assert_eq!(rt; append_at(&closed.trail, place), Some(append));
+            }
+        }
+        None => return Err("another answer".into()),
+    }
+    Ok(())
+}
