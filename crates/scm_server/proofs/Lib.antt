@@ -1,0 +1,5 @@
+mod Lists
+mod Entries
+mod Chains
+mod Cases
+mod Serving

@@ -1,0 +1,4 @@
+pub mod Pairs
+pub mod Works
+pub mod Handling
+pub mod Ports
