@@ -1,17 +1,16 @@
 -- What becomes of a connection: the first case from a join that was refused, the second from a caller's pass that was spent.
-use Rattle.std.proofs.Common.{◌≡◌, ◌≢◌, ◌∙◌, ◌⊎◌, ℕ, ◌<◌, ◌≤◌, Bool, true, false, IsTrue, cond, List, [], ◌∷◌, ◌++◌, length, Option, None, Some, refl, sym, ap, subst, inl, inr, ⊎_elim, arith, eq-eqb}
+use Rattle.std.proofs.Common.{◌≡◌, ◌≢◌, ◌∙◌, ℕ, Bool, true, false, cond, List, [], ◌∷◌, ◌++◌, length, Option, None, Some, refl, sym, ap, subst, inl, inr, eq-eqb}
 use Rattle.std.specs.Prelude.{IfSome, nat_lt}
 use Rattle.std.proofs.lemmas.List.Elements.{All-cons}
 use mathlib.Core.List.{IsPrefix}
 use Rattle.scm_model.specs.declared.calls.Reply.{Reply}
-use Rattle.scm_model.specs.declared.calls.Request.{Request}
 use Rattle.scm_model.specs.declared.flat.Principal.{Principal}
 use Rattle.scm_model.specs.declared.steps.Answer.TheVariants as answers
 use Rattle.scm_model.specs.declared.steps.Name.TheVariants as names
 use Rattle.scm_model.specs.declared.steps.Step.TheVariants.{Gone, Joined}
 use Rattle.scm_model.specs.Entries.{Entry}
 use Rattle.scm_rules.specs.Histories.{Legal, state}
-use Rattle.scm_rules.specs.Named.{caller_named, has_made, names_caller}
+use Rattle.scm_rules.specs.Named.{caller_named, has_made}
 use Rattle.scm_rules.specs.Opening.{IsOpening}
 use Rattle.scm_runs.proofs.Histories.{legal_made}
 use Rattle.scm_runs.proofs.Sound.{begun}
@@ -33,7 +32,7 @@ use Rattle.conn_desk.specs.declared.served.Served.TheVariants as served
 use Rattle.conn_desk.specs.Bodies.{asked}
 use Rattle.conn_desk.specs.Connection.{Reached}
 use Rattle.conn_worker.specs.Connecting.{Connects, HasNoRoomFor}
-use Rattle.conn_worker.specs.Owning.{Owns, StandAt, StandsAt}
+use Rattle.conn_worker.specs.Owning.{Owns, StandAt}
 use Rattle.scm_listener.specs.Connections.{PastConnection}
 use Rattle.scm_server.specs.Handling.{Handed, Handles, HasNoRoomBehind, IsHandledAs, JoinedBehind, NamedOnlyAt, Sees, StandsForIt, WasRefused, is_without_memory, wants_memory}
 use Rattle.scm_server.specs.Pairs.{IsRising}

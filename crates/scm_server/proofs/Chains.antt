@@ -1,6 +1,5 @@
 -- The places of a pass's own entries rise, and its caller stays, along the requests of a connection.
-use Rattle.std.proofs.Common.{◌≡◌, ◌∙◌, ℕ, ◌<◌, ◌≤◌, List, [], ◌∷◌, ◌++◌, length, Option, None, Some, refl, sym, ap, subst, inl, inr, arith}
-use mathlib.Core.List.{IsPrefix}
+use Rattle.std.proofs.Common.{◌≡◌, ◌∙◌, ℕ, ◌<◌, ◌≤◌, List, [], ◌∷◌, length, Option, None, Some, refl, sym, subst, inl, inr, arith}
 use Rattle.scm_model.specs.declared.calls.Reply.{Reply}
 use Rattle.scm_model.specs.declared.calls.Request.{Request}
 use Rattle.scm_model.specs.declared.steps.Answer.{Answer}
@@ -8,7 +7,6 @@ use Rattle.scm_model.specs.declared.steps.Answer.TheVariants as answers
 use Rattle.scm_model.specs.declared.steps.Step.{Step}
 use Rattle.scm_model.specs.declared.steps.Step.TheVariants.{Call, EndStart, LaunchFailed, LaunchTaken, NoMemory}
 use Rattle.book_rule.specs.declared.view.Opening.{Opening}
-use Rattle.book_rule.specs.Ways.{Has}
 use Rattle.book_rule.proofs.Prefixes.{prefix_length}
 use Rattle.scm_book.specs.Passes.{Known, Learnt, Made}
 use Rattle.conn_desk.specs.declared.served.Served.{Served}

@@ -1,14 +1,12 @@
 -- Entries of a history that goes on, and those that name a caller.
-use Rattle.std.proofs.Common.{◌≡◌, ◌∙◌, ◌⊎◌, ◌||◌, ℕ, Bool, true, false, IsTrue, List, [], ◌∷◌, ◌++◌, length, Option, None, Some, refl, sym, ap, subst, inl, inr, ⊎_elim, append_assoc, eq-eqb, eqb-true}
+use Rattle.std.proofs.Common.{◌≡◌, ◌∙◌, ◌||◌, ℕ, Bool, true, false, IsTrue, List, [], ◌∷◌, ◌++◌, Option, None, Some, refl, sym, ap, subst, inl, ⊎_elim, append_assoc, eq-eqb, eqb-true}
 use Rattle.std.specs.Prelude.{IfSome}
 use mathlib.Core.List.{IsPrefix}
 use Rattle.scm_model.specs.declared.flat.Flat.{Flat}
 use Rattle.scm_model.specs.declared.flat.Limits.{Limits}
-use Rattle.scm_model.specs.declared.steps.Answer.{Answer}
 use Rattle.scm_model.specs.declared.steps.Answer.TheVariants as answers
 use Rattle.scm_model.specs.declared.steps.Name.{Name}
 use Rattle.scm_model.specs.declared.steps.Name.TheVariants as names
-use Rattle.scm_model.specs.declared.steps.Step.{Step}
 use Rattle.scm_model.specs.declared.steps.Step.TheVariants.{Gone}
 use Rattle.scm_model.specs.Entries.{Entry}
 use Rattle.scm_model.specs.Rows.{is_caller}
@@ -16,7 +14,7 @@ use Rattle.scm_rules.specs.Histories.{Legal, answer, state}
 use Rattle.scm_rules.specs.Named.{caller_named, has_made, is_it, makes_caller, names_caller}
 use Rattle.scm_rules.specs.Opening.{IsOpening}
 use Rattle.scm_rules.specs.Runs.{IsLegal, run_state}
-use Rattle.scm_rules.specs.Steps.{may, step_of}
+use Rattle.scm_rules.specs.Steps.{step_of}
 use Rattle.scm_runs.proofs.Histories.{legal_made, made_front, may_behind, state_is, told}
 use Rattle.scm_runs.proofs.Sound.{begun}
 use Rattle.scm_history.specs.Owned.{Made as Told, made_of}

@@ -1,5 +1,5 @@
 -- Pairs of a list, and lists that go on.
-use Rattle.std.proofs.Common.{◌≡◌, ◌⊎◌, ℕ, ◌<◌, List, [], ◌∷◌, ◌++◌, refl, sym, ap, subst, inl, inr, ⊎_elim, ◌∙◌}
+use Rattle.std.proofs.Common.{◌≡◌, ◌⊎◌, List, [], ◌∷◌, ◌++◌, refl, sym, ap, subst, inl, inr, ⊎_elim, ◌∙◌}
 use mathlib.Core.List.{IsPrefix}
 use Rattle.book_rule.specs.Ways.{Has}
 use Rattle.book_rule.proofs.Places.{has_cases, has_one}

@@ -1,5 +1,5 @@
 -- One connection more of a port.
-use Rattle.std.proofs.Common.{◌≡◌, ◌∙◌, ◌⊎◌, ◌+◌, ◌||◌, ℕ, Bool, true, false, List, [], ◌∷◌, ◌++◌, length, map, Option, None, Some, refl, sym, ap, subst, ⊎_elim, append_assoc, append-nil, length-append, arith}
+use Rattle.std.proofs.Common.{◌≡◌, ◌∙◌, ◌+◌, ◌||◌, ℕ, Bool, true, false, List, [], ◌∷◌, ◌++◌, length, map, Option, None, Some, refl, sym, ap, subst, ⊎_elim, append_assoc, append-nil, length-append, arith}
 use Rattle.std.specs.Prelude.{IfSome, option_map, if◌then◌else◌}
 use Rattle.outside.specs.Causes.{Rose}
 use Rattle.std.proofs.lemmas.List.{map-append}
@@ -11,16 +11,15 @@ use Rattle.book_rule.specs.Ways.{Has}
 use Rattle.book_rule.proofs.Places.{has_cases, has_one}
 use Rattle.book_rule.proofs.Prefixes.{prefix_self, prefix_trans}
 use Rattle.scm_book.specs.Passes.{Known}
-use Rattle.scm_listener.specs.Accepting.{HasAcceptCause, Takes}
+use Rattle.scm_listener.specs.Accepting.{Takes}
 use Rattle.scm_listener.specs.declared.accepted.Accepted.{Accepted}
 use Rattle.scm_listener.specs.Connections.{PastConnection, and_last}
 use Rattle.scm_listener.specs.declared.accepted.Accepted.TheVariants as accept
 use Rattle.scm_listener.specs.declared.accepted.Numbered.{Numbered}
 use Rattle.scm_server.specs.Handling.{Handed, Handles, IsHandled, IsHandledAs, JoinedBehind, StandsForIt}
-use Rattle.scm_server.specs.Pairs.{Each, Pairwise}
 use Rattle.scm_server.specs.declared.ending.ServeEnd.{ServeEnd}
 use Rattle.scm_server.specs.declared.ending.ServeEnd.TheVariants.{Ended, ListenFault, OutOfMemory}
-use Rattle.scm_server.specs.Ports.{Apart, AreNumbered, EndsFor, Gives, GoesOn, Serves, Told, told, was_short}
+use Rattle.scm_server.specs.Ports.{Apart, AreNumbered, EndsFor, Gives, GoesOn, Serves, Told, was_short}
 use Rattle.scm_server.proofs.Cases.{handled_still}
 use Rattle.scm_server.proofs.Lists.{pairwise_more}
 

@@ -3,7 +3,6 @@ use Rattle.std.specs.Prelude.{ℕ, ◌≡◌, ◌+◌, ◌++◌, Bool, true, fal
 use mathlib.Core.List.{IsPrefix}
 use Rattle.outside.specs.Causes.{Rose}
 use Rattle.scm_model.specs.declared.flat.Principal.{Principal}
-use Rattle.scm_rules.specs.Histories.{Legal}
 use Rattle.book_rule.specs.declared.view.Opening.{Opening}
 use Rattle.scm_book.specs.Passes.{Known}
 use Rattle.scm_listener.specs.Connections.{PastConnection}
