@@ -1,6 +1,6 @@
 -- A start is asked for, and its first service is entered.
-use Rattle.std.proofs.Common.{ℕ, zero, suc, ◌≡◌, ◌∙◌, ◌+◌, ◌/◌, ◌<◌, ◌≤◌, ◌^◌, ◌==◌, ◌||◌, ◌&&◌, ◌⊎◌, inl, inr, Bool, true, false, not, cond, List, [], ◌∷◌, ◌++◌, Option, None, Some, find, length, map, ap, sym, refl, subst, arith, ne_eqb, eq-eqb, eqb-true}
-use Rattle.std.specs.Prelude.{is_none, is_some, option_and_then, option_map, unwrap_or}
+use Rattle.std.proofs.Common.{ℕ, ◌≡◌, ◌∙◌, ◌+◌, ◌/◌, ◌<◌, ◌≤◌, ◌^◌, ◌==◌, ◌||◌, ◌&&◌, true, false, not, cond, List, [], ◌∷◌, None, Some, ap, sym, refl, subst, arith, ne_eqb, eq-eqb}
+use Rattle.std.specs.Prelude.{is_none, option_and_then}
 use Rattle.std.specs.List.{list_any}
 use Rattle.std.proofs.lemmas.Bool.{eqb-false}
 use Rattle.scm_model.specs.declared.flat.Flat.{Flat}
@@ -18,20 +18,19 @@ use Rattle.scm_model.specs.Found.{if_found}
 use Rattle.scm_model.specs.Order.{order_in, runs_in}
 use Rattle.scm_model.specs.Ready.{state_in, state_of}
 use Rattle.scm_model.specs.Rows.{handle_of, held_service, opened, opened_by, service_of}
-use Rattle.start_plan.specs.Decided.{is_numbered}
 use Rattle.start_plan.specs.Entered.{wanted_process, wanted_row}
 use Rattle.scm_rules.specs.Delete.{is_marked}
-use Rattle.scm_rules.specs.Needs.{need_rows, start_order}
+use Rattle.scm_rules.specs.Needs.{start_order}
 use Rattle.scm_rules.specs.Rights.{lacks}
 use Rattle.scm_rules.specs.Start.{is_aimed_at, is_disabled, is_missing, lacks_need, start_refusals, start_verdict, with_start}
-use Rattle.scm_rules.specs.Steps.{finished, left_by}
-use Rattle.scm_generate.specs.Listed.{asked_start, depth_of, nth_name}
+use Rattle.scm_rules.specs.Steps.{left_by}
+use Rattle.scm_generate.specs.Listed.{asked_start, nth_name}
 use Rattle.scm_generate.proofs.Built.{Each, find_built}
 use Rattle.scm_generate.proofs.Created.{all_pass}
 use Rattle.scm_generate.proofs.Goes.{Goes, all_stay, called_well, goes_one, stepped}
 use Rattle.scm_generate.proofs.Graph.{IsLine, half_within, order_is, positive}
-use Rattle.scm_generate.proofs.Settling.{HasUp, IsAtRest, at_one, deadline, enters_first, found_named, found_service, pending, plan_with, under_way}
-use Rattle.scm_generate.proofs.Shape.{Live, first_handle, graph, graph_is, handle_at, handles_to, resting, row_at, rows}
+use Rattle.scm_generate.proofs.Settling.{IsAtRest, at_one, enters_first, found_named, found_service, pending, plan_with, under_way}
+use Rattle.scm_generate.proofs.Shape.{Live, first_handle, graph_is, handle_at, resting, row_at}
 
 module _ (l : Limits) (n : ℕ) (look : ℕ → Live) (i process plan due : ℕ) (small : n < 2 ^ 64) (some : 0 < i) (lt : i ≤ n) (still : (k : ℕ) → IsAtRest (look k)) where
   abbrev rest : Flat

@@ -1,12 +1,9 @@
 -- All services of a start are launched, one after another.
-use Rattle.std.proofs.Common.{eqb, ℕ, zero, suc, ◌≡◌, ◌∙◌, ◌+◌, ◌/◌, ◌<◌, ◌≤◌, ◌^◌, ◌==◌, ◌||◌, ◌&&◌, ◌⊎◌, inl, inr, Bool, true, false, not, cond, List, [], ◌∷◌, ◌++◌, Option, None, Some, find, length, map, ap, sym, refl, subst, arith, ne_eqb, eq-eqb, eqb-true}
-use Rattle.std.specs.List.{list_any}
-use Rattle.std.proofs.lemmas.Bool.{eqb-false, or_from}
+use Rattle.std.proofs.Common.{eqb, ℕ, zero, suc, ◌≡◌, ◌∙◌, ◌+◌, ◌/◌, ◌<◌, ◌≤◌, ◌^◌, ◌==◌, ◌||◌, ◌&&◌, ◌⊎◌, inl, inr, true, false, cond, List, [], ◌∷◌, ◌++◌, length, ap, sym, refl, subst, arith, ne_eqb, eq-eqb}
+use Rattle.std.proofs.lemmas.Bool.{or_from}
 use Rattle.std.proofs.lemmas.List.Folds.{list_any-append}
 use Rattle.scm_model.specs.declared.flat.Flat.{Flat}
 use Rattle.scm_model.specs.declared.flat.Limits.{Limits}
-use Rattle.scm_model.specs.declared.flat.Process.{Process}
-use Rattle.scm_model.specs.declared.steps.Answer.TheVariants as answer
 use Rattle.scm_model.specs.declared.steps.Step.TheVariants.{LaunchTaken, Launched, Report}
 use Rattle.scm_model.specs.Entries.{Entry}
 use Rattle.start_plan.specs.Entered.{wanted_process, wanted_row}
@@ -14,9 +11,9 @@ use Rattle.start_plan.specs.Moves.{has}
 use Rattle.scm_rules.specs.Launches.{is_launched}
 use Rattle.scm_rules.specs.Reports.{current_of, report_told}
 use Rattle.scm_generate.specs.Listed.{at_once, told, up, ups}
-use Rattle.scm_generate.proofs.Goes.{Goes, all_stay, goes_both, goes_none, goes_on, goes_one, stepped}
+use Rattle.scm_generate.proofs.Goes.{Goes, all_stay, goes_both, goes_on, goes_one, stepped}
 use Rattle.scm_generate.proofs.Graph.{Climbs}
-use Rattle.scm_generate.proofs.Launching.{Climbing, IsRun, goes_up, launched_found, launching, length_ran, ran, reports_all, running_process, takes, taking, told_report, up_last}
+use Rattle.scm_generate.proofs.Launching.{Climbing, IsRun, goes_up, launched_found, length_ran, ran, reports_all, takes, taking, told_report, up_last}
 use Rattle.scm_generate.proofs.Settling.{HasUp, IsAtRest, at_one, decided, enters_next, pending, runs, under_way}
 use Rattle.scm_generate.proofs.Shape.{Live}
 

@@ -1,7 +1,6 @@
 -- The services are created.
-use Rattle.std.proofs.Common.{eqb, ℕ, zero, suc, ◌≡◌, ◌∙◌, ◌+◌, ◌/◌, ◌<◌, ◌≤◌, ◌^◌, ◌==◌, ◌||◌, ◌&&◌, Bool, true, false, not, cond, List, [], ◌∷◌, ◌++◌, Option, None, Some, filter, find, length, ap, sym, refl, subst, arith, ne_eqb, eq-eqb}
-use Rattle.std.specs.Prelude.{is_none, is_some, option_and_then, unwrap_or, nat_le}
-use Rattle.std.specs.List.{list_any}
+use Rattle.std.proofs.Common.{eqb, ℕ, zero, suc, ◌≡◌, ◌∙◌, ◌+◌, ◌/◌, ◌<◌, ◌≤◌, ◌^◌, ◌==◌, ◌||◌, ◌&&◌, true, false, cond, List, [], ◌∷◌, ◌++◌, None, Some, filter, length, ap, sym, refl, arith, ne_eqb}
+use Rattle.std.specs.Prelude.{is_none, is_some, option_and_then, nat_le}
 use Rattle.std.proofs.lemmas.Bool.{or_from, lt-leb, lt-ltb}
 use Rattle.scm_text.specs.Fold.{same_text}
 use Rattle.scm_model.specs.declared.flat.Config.{Config}
@@ -10,7 +9,6 @@ use Rattle.scm_model.specs.declared.flat.HandleKind.TheVariants as kinds
 use Rattle.scm_model.specs.declared.flat.HandleRow.{HandleRow}
 use Rattle.scm_model.specs.declared.flat.Limits.{Limits}
 use Rattle.scm_model.specs.declared.flat.NeedRow.{NeedRow}
-use Rattle.scm_model.specs.declared.flat.Next.{Next}
 use Rattle.scm_model.specs.declared.flat.Service.{Service}
 use Rattle.scm_model.specs.declared.calls.Reply.TheVariants as reply
 use Rattle.scm_model.specs.declared.calls.Reply.{Reply}
@@ -34,13 +32,12 @@ use Rattle.scm_rules.specs.OpenManager.{open_manager_refusals, open_manager_verd
 use Rattle.scm_rules.specs.OpenService.{service_granted}
 use Rattle.scm_rules.specs.Opening.{opening}
 use Rattle.scm_rules.specs.Rights.{manager_lacks}
-use Rattle.scm_rules.specs.Steps.{may}
 use Rattle.scm_rules.specs.Verdicts.{done_of, tells_right, unless_refused}
 use Rattle.scm_generate.specs.Listed.{called, at_once, creation_of, creations, nth_name, nth_service, opening_calls}
-use Rattle.scm_generate.proofs.Built.{Each, any_built, map_built, built, filter_built, find_base, length_built, none_built}
+use Rattle.scm_generate.proofs.Built.{Each, any_built, map_built, filter_built, find_base, length_built, none_built}
 use Rattle.scm_generate.proofs.Goes.{Goes, all_stay, called_well, goes_both, goes_none, goes_on, goes_one, stepped}
 use Rattle.scm_generate.proofs.Graph.{not_cyclic}
-use Rattle.scm_generate.proofs.Names.{config_at, config_good, needs_are, needs_at, needs_readable, other_names}
+use Rattle.scm_generate.proofs.Names.{config_at, config_good, needs_are, needs_readable, other_names}
 use Rattle.scm_generate.proofs.Shape.{Live, first_handle, graph, graph_is, handle_at, handles_to, need_row_at, resting, row_at, rows}
 
 -- where each test fails, nothing refuses

@@ -1,6 +1,6 @@
 -- A start is answered, and its processes end.
-use Rattle.std.proofs.Common.{ℕ, zero, suc, ◌≡◌, ◌∙◌, ◌+◌, ◌/◌, ◌<◌, ◌≤◌, ◌^◌, ◌==◌, ◌||◌, ◌&&◌, ◌⊎◌, inl, inr, Bool, true, false, not, cond, List, [], ◌∷◌, ◌++◌, Option, None, Some, filter, find, length, map, ap, sym, refl, subst, arith, ne_eqb, eq-eqb, eqb-true}
-use Rattle.std.specs.Prelude.{is_none, is_some, option_and_then, option_map, unwrap_or}
+use Rattle.std.proofs.Common.{ℕ, ◌≡◌, ◌∙◌, ◌+◌, ◌<◌, ◌≤◌, ◌==◌, ◌&&◌, ◌⊎◌, inl, inr, true, false, not, cond, List, [], ◌∷◌, ◌++◌, Option, None, Some, filter, find, length, ap, refl, arith, ne_eqb, eq-eqb, eqb-true}
+use Rattle.std.specs.Prelude.{is_some, option_and_then, option_map, unwrap_or}
 use Rattle.std.proofs.lemmas.Bool.{eqb-false}
 use Rattle.std.proofs.lemmas.List.{append-nil}
 use Rattle.std.proofs.lemmas.List.Elements.{filter-append}
@@ -14,7 +14,7 @@ use Rattle.scm_model.specs.declared.calls.Reply.TheVariants as reply
 use Rattle.scm_model.specs.declared.steps.Answer.TheVariants as answer
 use Rattle.scm_model.specs.declared.steps.Step.TheVariants.{EndStart, Ended, Report}
 use Rattle.scm_model.specs.Entries.{Entry}
-use Rattle.start_plan.specs.Decided.{code_of, plan_caller}
+use Rattle.start_plan.specs.Decided.{code_of}
 use Rattle.status_machine.specs.Moves.{take_end, take_report}
 use Rattle.scm_rules.specs.Ends.{end_told}
 use Rattle.scm_rules.specs.Launches.{fallen_if, is_launched}
@@ -26,7 +26,7 @@ use Rattle.scm_generate.proofs.Built.{Each, map_built}
 use Rattle.scm_generate.proofs.Goes.{Goes, all_stay, goes_both, goes_none, goes_on, goes_one, stepped}
 use Rattle.scm_generate.proofs.Launching.{IsRun, last_found, ran, running_process, told_report}
 use Rattle.scm_generate.proofs.Settling.{IsAtRest, decided, plan_with}
-use Rattle.scm_generate.proofs.Shape.{Live, resting, row_at, rows, standing}
+use Rattle.scm_generate.proofs.Shape.{Live, resting, row_at, standing}
 
 -- the start is answered, and its processes still run
 abbrev pub falling : (n : ℕ) (look : ℕ → Live) (first : ℕ) (done : List ℕ) (process plan due : ℕ) → Flat

@@ -1,6 +1,5 @@
 -- The limits have room for the whole list.
-use Rattle.std.proofs.Common.{ℕ, zero, suc, ◌≡◌, ◌∙◌, ◌+◌, ◌*◌, ◌/◌, ◌<◌, ◌≤◌, ◌^◌, ◌==◌, ◌&&◌, ◌⊎◌, inl, inr, Bool, true, false, not, cond, IsTrue, List, [], ◌∷◌, ◌++◌, None, Some, filter, length, length-append, map, ap, sym, refl, subst, arith}
-use Rattle.std.specs.Prelude.{All, AllPairs}
+use Rattle.std.proofs.Common.{ℕ, zero, suc, ◌≡◌, ◌+◌, ◌*◌, ◌/◌, ◌≤◌, ◌^◌, ◌==◌, ◌⊎◌, inl, inr, true, false, not, cond, IsTrue, List, [], ◌∷◌, ◌++◌, None, Some, length, length-append, map, ap, refl, arith}
 use Rattle.std.proofs.lemmas.List.{length-map}
 use Rattle.std.proofs.Math.Nat.{suc-mul}
 use Rattle.std.proofs.lemmas.Nat.{mul-le}
@@ -14,7 +13,7 @@ use Rattle.scm_model.specs.declared.calls.Request.{Request}
 use Rattle.scm_model.specs.declared.calls.Request.TheVariants as request
 use Rattle.scm_model.specs.declared.steps.Answer.{Answer}
 use Rattle.scm_model.specs.declared.steps.Step.{Step}
-use Rattle.scm_model.specs.declared.steps.Step.TheVariants.{Joined, Call, EndStart, LaunchTaken, Launched, LaunchFailed, Report, Ended, ControlTaken, Tick, Gone, NoMemory}
+use Rattle.scm_model.specs.declared.steps.Step.TheVariants.{Call, EndStart, Tick, Gone}
 use Rattle.scm_model.specs.Entries.{Entry, text_in}
 use Rattle.scm_model.specs.Purge.{leaves}
 use Rattle.scm_model.specs.Texts.{some_bytes, text_of}
@@ -34,7 +33,7 @@ use Rattle.scm_owed.specs.Paying.{FoundRoom, LawOfOwed}
 use Rattle.scm_owed.proofs.Histories.{found_legal}
 use Rattle.scm_owed.proofs.Whole.{gives as gives_owed, opened_owes}
 use Rattle.scm_generate.specs.Ample.{IsAmple}
-use Rattle.scm_generate.specs.Listed.{alone, asked_start, at_once, creation_of, creations, depth_of, down, downs, generated, lines_to, nth_name, nth_need, nth_service, opening_calls, start_of, starts, up, ups, wide_bytes}
+use Rattle.scm_generate.specs.Listed.{alone, asked_start, at_once, creation_of, creations, depth_of, down, downs, generated, nth_name, nth_need, opening_calls, start_of, starts, up, ups, wide_bytes}
 
 -- ## How many services a run can have
 
@@ -244,6 +243,9 @@ sum_texts n few =
       gone = refl;
     }) n few in
     omega (arith, all, few)
+
+pub short_text : (n : ℕ) → n ≤ 512 → text_in (generated n) ≤ 2 ^ 18
+short_text n few = let same = text_sum (generated n) in let short = sum_texts n few in omega (arith, same, short)
 
 pub all_fits : (l : Limits) (n : ℕ) → IsAmple l → n ≤ 512 → IsLegal l (opening l [] [] 0) (generated n) → IsOpening l (opening l [] [] 0) → Legal l (opening l [] [] 0) (generated n)
 all_fits l n ample few legal opens =

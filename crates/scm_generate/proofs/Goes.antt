@@ -1,10 +1,9 @@
 -- Runs from one state to another.
-use Rattle.std.proofs.Common.{ℕ, ◌≡◌, ◌∙◌, ◌&&◌, ◌==◌, Bool, true, false, not, cond, IsTrue, List, [], ◌∷◌, ◌++◌, Option, None, Some, filter, ap, sym, refl, subst}
+use Rattle.std.proofs.Common.{ℕ, ◌≡◌, ◌∙◌, true, not, List, [], ◌∷◌, ◌++◌, filter, ap, sym, refl, subst}
 use Rattle.scm_model.specs.declared.flat.Flat.{Flat}
 use Rattle.scm_model.specs.declared.flat.Limits.{Limits}
 use Rattle.scm_model.specs.declared.flat.Service.{Service}
 use Rattle.scm_model.specs.declared.calls.Request.{Request}
-use Rattle.scm_model.specs.declared.steps.Answer.{Answer}
 use Rattle.scm_model.specs.declared.steps.Kept.{Kept}
 use Rattle.scm_model.specs.declared.steps.Step.{Step}
 use Rattle.scm_model.specs.declared.steps.Step.TheVariants.{Call}
@@ -17,8 +16,8 @@ use Rattle.scm_rules.specs.Runs.{EachStep, IsLegal, run_state}
 use Rattle.scm_rules.specs.Steps.{at_moment, call_answer, effect_of, finished, may, step_of, tells_plan}
 use Rattle.scm_rules.specs.Verdicts.{done_of, told_refused, verdict}
 use Rattle.scm_generate.specs.Listed.{at_once}
-use Rattle.scm_generate.specs.Progress.{CanBeMade, IsQuietStep, is_quiet}
-use Rattle.scm_generate.proofs.Built.{built, filter_built}
+use Rattle.scm_generate.specs.Progress.{IsQuietStep, is_quiet}
+use Rattle.scm_generate.proofs.Built.{filter_built}
 use Rattle.scm_generate.proofs.Shape.{Live, rows, row_at}
 
 -- the entries can be made from the one state on, and lead to the other

@@ -1,12 +1,7 @@
 -- What the services of the list need, and the order in which they are started.
-use Rattle.std.proofs.Common.{ℕ, zero, suc, ◌≡◌, ◌∙◌, ◌+◌, ◌/◌, ◌<◌, ◌≤◌, ◌^◌, ◌==◌, ◌||◌, Bool, true, false, cond, List, [], ◌∷◌, ◌++◌, Option, None, Some, filter, find, length, length-append, map, ap, sym, refl, subst, arith, eqb, eqb-true, ne_eqb, eq-eqb, inl, inr, ◌⊎◌}
-use Rattle.std.specs.List.{list_any}
-use Rattle.std.specs.Int.Digits.{digits_of}
+use Rattle.std.proofs.Common.{ℕ, zero, suc, ◌≡◌, ◌∙◌, ◌+◌, ◌/◌, ◌<◌, ◌≤◌, ◌^◌, ◌==◌, ◌||◌, Bool, true, false, cond, List, [], ◌∷◌, ◌++◌, Some, find, length, length-append, ap, sym, refl, subst, arith, eqb, eqb-true, ne_eqb, eq-eqb, inl, inr, ◌⊎◌}
 use Rattle.std.proofs.lemmas.Bool.{eqb-false, cases_lt}
 use Rattle.std.proofs.lemmas.Int.Digits.{length-digits_of_step}
-use Rattle.std.proofs.lemmas.List.{append-nil}
-use Rattle.scm_text.specs.Fold.{same_text}
-use Rattle.scm_model.specs.declared.flat.Need.{Need}
 use Rattle.scm_model.specs.declared.flat.Need.TheVariants as needs
 use Rattle.scm_model.specs.declared.flat.NeedRow.{NeedRow}
 use Rattle.scm_model.specs.Needs.{has, is_met, met_by, met_by_all, needs_of, numbers_of, row_needs}
@@ -15,8 +10,8 @@ use Rattle.scm_model.specs.Walks.{IsAcyclic, IsWalk, Needs}
 use Rattle.dependency_index.proofs.Cycles.{acyclic_ends}
 use Rattle.dependency_index.proofs.Written.{as_written}
 use Rattle.scm_generate.specs.Listed.{depth_of, nth_name}
-use Rattle.scm_generate.proofs.Built.{Each, built, below, any_there, filter_one, find_built, map_built, none_built}
-use Rattle.scm_generate.proofs.Names.{needs_at, other_names, same_name}
+use Rattle.scm_generate.proofs.Built.{Each, any_there, filter_one, find_built, map_built, none_built}
+use Rattle.scm_generate.proofs.Names.{other_names, same_name}
 use Rattle.scm_generate.proofs.Shape.{graph, need_row_at}
 
 -- the services that one needs

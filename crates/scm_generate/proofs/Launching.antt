@@ -1,34 +1,28 @@
 -- A process of a start is launched, and runs.
-use Rattle.std.proofs.Common.{ℕ, zero, suc, ◌≡◌, ◌∙◌, ◌+◌, ◌/◌, ◌<◌, ◌≤◌, ◌^◌, ◌==◌, ◌||◌, ◌&&◌, ◌⊎◌, inl, inr, Bool, true, false, not, cond, List, [], ◌∷◌, ◌++◌, Option, None, Some, Result, Ok, Err, filter, find, length, length-append, map, ap, sym, refl, subst, arith, ne_eqb, eq-eqb, eqb-true}
-use Rattle.std.specs.Prelude.{is_none, is_some, nat_le, option_map}
-use Rattle.std.specs.List.{list_any}
+use Rattle.std.proofs.Common.{ℕ, ◌≡◌, ◌∙◌, ◌+◌, ◌<◌, ◌≤◌, ◌==◌, ◌&&◌, ◌⊎◌, inl, inr, Bool, true, false, not, cond, List, [], ◌∷◌, ◌++◌, Option, None, Some, Result, Ok, Err, filter, find, length, length-append, map, ap, sym, refl, subst, arith, ne_eqb, eq-eqb, eqb-true}
+use Rattle.std.specs.Prelude.{option_map}
 use Rattle.std.proofs.lemmas.List.{map-append}
-use Rattle.std.proofs.lemmas.Bool.{eqb-false}
 use Rattle.scm_model.specs.declared.flat.Flat.{Flat}
 use Rattle.scm_model.specs.declared.flat.Limits.{Limits}
 use Rattle.scm_model.specs.declared.flat.Phase.TheVariants as phases
-use Rattle.scm_model.specs.declared.flat.Plan.{Plan}
 use Rattle.scm_model.specs.declared.flat.Process.{Process}
 use Rattle.scm_model.specs.declared.flat.Service.{Service}
 use Rattle.scm_model.specs.declared.flat.Status.{Status}
-use Rattle.scm_model.specs.declared.flat.Wanted.{Wanted}
-use Rattle.scm_model.specs.declared.steps.Answer.{Answer}
 use Rattle.scm_model.specs.declared.steps.Answer.TheVariants as answer
 use Rattle.scm_model.specs.declared.steps.Step.TheVariants.{LaunchTaken, Launched, Report}
 use Rattle.scm_model.specs.Found.{if_found}
 use Rattle.start_plan.specs.Decided.{aims_at, decided_in}
 use Rattle.start_plan.specs.Entered.{wanted_process, wanted_row}
-use Rattle.start_plan.specs.Moves.{has}
-use Rattle.start_plan.specs.Settle.{settled, stays}
+use Rattle.start_plan.specs.Settle.{stays}
 use Rattle.status_machine.specs.Moves.{take_report}
-use Rattle.scm_rules.specs.Launches.{is_launched, is_taken, launched, launched_if, process_of, service_of_process, taken_if, wanted_of_others}
+use Rattle.scm_rules.specs.Launches.{is_launched, is_taken, launched, launched_if, process_of, taken_if, wanted_of_others}
 use Rattle.scm_rules.specs.Reports.{current_of, moved_by, report_answer, report_told, reported_if}
-use Rattle.scm_rules.specs.Steps.{effect_of, finished, may}
+use Rattle.scm_rules.specs.Steps.{finished, may}
 use Rattle.scm_generate.specs.Listed.{at_once, told, up}
-use Rattle.scm_generate.proofs.Built.{Each, built, find_right, map_built}
-use Rattle.scm_generate.proofs.Goes.{Goes, all_stay, goes_both, goes_none, goes_on, goes_one, stepped}
-use Rattle.scm_generate.proofs.Settling.{HasUp, IsAtRest, at_one, deadline, decided, decides, enters_next, found_service, pending, plan_with, runs, under_way, waits}
-use Rattle.scm_generate.proofs.Shape.{Live, row_at, rows, standing}
+use Rattle.scm_generate.proofs.Built.{Each, find_right, map_built}
+use Rattle.scm_generate.proofs.Goes.{Goes, all_stay, goes_on, goes_one, stepped}
+use Rattle.scm_generate.proofs.Settling.{IsAtRest, at_one, decided, decides, pending, plan_with, runs, under_way, waits}
+use Rattle.scm_generate.proofs.Shape.{Live, row_at, rows}
 
 -- ## The processes
 

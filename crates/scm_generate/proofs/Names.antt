@@ -1,20 +1,17 @@
 -- The names of the services of the list, their configurations, and what they need.
-use Rattle.std.proofs.Common.{ℕ, zero, suc, ◌≡◌, ◌∙◌, ◌+◌, ◌*◌, ◌/◌, ◌%◌, ◌<◌, ◌≤◌, ◌^◌, ◌==◌, ◌&&◌, ◌||◌, Bool, true, false, not, cond, List, [], ◌∷◌, ◌++◌, Option, None, Some, Ok, Err, length, length-append, map, ap, sym, refl, subst, arith, eqb-true, ne_eqb, eq-eqb}
-use Rattle.std.specs.Prelude.{codes, decimal, option_map, option_and_then, unwrap_or, is_none, nat_lt, nat_le}
+use Rattle.std.proofs.Common.{ℕ, zero, suc, ◌≡◌, ◌∙◌, ◌+◌, ◌*◌, ◌/◌, ◌%◌, ◌<◌, ◌≤◌, ◌^◌, ◌==◌, ◌||◌, Bool, true, false, cond, List, [], ◌∷◌, ◌++◌, None, Some, Ok, length, ap, sym, refl, arith, eqb-true, ne_eqb, eq-eqb}
+use Rattle.std.specs.Prelude.{codes, decimal, option_map, option_and_then, unwrap_or, is_none}
 use Rattle.std.specs.List.{list_any}
-use Rattle.std.specs.Cmp.Lexicographic.{pointwise}
-use Rattle.std.specs.Ordering.{on}
 use Rattle.std.specs.Char.Utf16.{utf16_chars}
-use Rattle.std.proofs.lemmas.Bool.{and_parts, or_from, eqb-false, true≢false, lt-ltb, le-ltb, le-leb, lt-leb}
+use Rattle.std.proofs.lemmas.Bool.{and_parts, or_from, eqb-false, le-ltb, lt-leb}
 use Rattle.std.proofs.lemmas.Fmt.{decimal_by_steps, decimal_injective, length-decimal-le}
-use Rattle.std.proofs.lemmas.List.{append-nil}
 use Rattle.scm_text.specs.Fold.{fold_unit, same_text}
-use Rattle.scm_text.specs.Multi.{pieces, names_from, names_of, with_front, read_behind, is_mark}
+use Rattle.scm_text.specs.Multi.{pieces, names_from, names_of, with_front, is_mark}
 use Rattle.scm_model.specs.declared.flat.Config.{Config}
 use Rattle.scm_model.specs.declared.flat.Need.{Need}
 use Rattle.scm_model.specs.declared.flat.Need.TheVariants as needs
-use Rattle.scm_rules.specs.Needs.{are_unreadable, needs_in_bytes, needs_or, needs_read, need_named, units_in_bytes}
-use Rattle.service_record.specs.Checks.{check_new, is_bad_name, is_bad_line, is_longer, has_bad_names, has_bad_numbers, has_bad_texts, has_bad_lists, name_of_need}
+use Rattle.scm_rules.specs.Needs.{are_unreadable, needs_in_bytes, needs_or, needs_read, units_in_bytes}
+use Rattle.service_record.specs.Checks.{check_new, is_bad_name, is_bad_line, is_longer, has_bad_names, has_bad_texts, has_bad_lists}
 use Rattle.service_record.specs.Words.{first_word, word_from}
 use Rattle.scm_generate.specs.Listed.{alone, nth_name, nth_need, wide_bytes}
 

@@ -1,14 +1,13 @@
 -- What becomes of the plan of a start that is under way.
-use Rattle.std.proofs.Common.{ℕ, zero, suc, ◌≡◌, ◌∙◌, ◌+◌, ◌/◌, ◌<◌, ◌≤◌, ◌^◌, ◌==◌, ◌||◌, ◌&&◌, Bool, true, false, not, cond, List, [], ◌∷◌, ◌++◌, Option, None, Some, filter, find, length, map, ap, sym, refl, subst, arith, ne_eqb, eq-eqb, eqb-true}
-use Rattle.std.specs.Prelude.{is_none, is_some, nat_le}
-use Rattle.std.specs.List.{list_any, list_all}
+use Rattle.std.proofs.Common.{ℕ, ◌≡◌, ◌∙◌, ◌+◌, ◌/◌, ◌<◌, ◌≤◌, ◌^◌, ◌==◌, ◌||◌, ◌&&◌, Bool, true, false, not, cond, List, [], ◌∷◌, ◌++◌, Option, None, Some, find, length, ap, sym, refl, subst, arith, eq-eqb, eqb-true}
+use Rattle.std.specs.Prelude.{is_some}
+use Rattle.std.specs.List.{list_all}
 use Rattle.std.proofs.lemmas.Bool.{lt-leb, and_right, eqb-false}
 use Rattle.scm_text.specs.Fold.{same_text}
 use Rattle.scm_model.specs.declared.flat.Due.{Due}
 use Rattle.scm_model.specs.declared.flat.DueKind.TheVariants as dues
 use Rattle.scm_model.specs.declared.flat.Flat.{Flat}
 use Rattle.scm_model.specs.declared.flat.Limits.{Limits}
-use Rattle.scm_model.specs.declared.flat.Need.{Need}
 use Rattle.scm_model.specs.declared.flat.Need.TheVariants as needs
 use Rattle.scm_model.specs.declared.flat.Plan.{Plan}
 use Rattle.scm_model.specs.declared.flat.Process.{Process}
@@ -16,16 +15,14 @@ use Rattle.scm_model.specs.declared.flat.Service.{Service}
 use Rattle.scm_model.specs.declared.flat.Wanted.{Wanted}
 use Rattle.scm_model.specs.Ready.{is_ready, is_fulfilled, is_up, state_in, state_of}
 use Rattle.scm_model.specs.Refused.{first_refusal}
-use Rattle.scm_model.specs.Rows.{named, service_of}
-use Rattle.start_plan.specs.declared.settling.Move.{Move}
 use Rattle.start_plan.specs.declared.settling.Move.TheVariants as moves
 use Rattle.start_plan.specs.Entered.{started_if, starting_in, wanted_process, wanted_row, with_entered}
 use Rattle.start_plan.specs.Moves.{cause_at, cause_of, entering_at, has, is_full, is_pending, move_by, move_of}
-use Rattle.start_plan.specs.Settle.{dropped, is_due_still, move_code, moved, settle_all, settle_entries, settle_plan, settled, stays, tidied, with_tried, words_for}
+use Rattle.start_plan.specs.Settle.{dropped, move_code, moved, settle_all, settle_entries, settle_plan, settled, tidied, with_tried, words_for}
 use Rattle.scm_generate.specs.Listed.{nth_name, told}
-use Rattle.scm_generate.proofs.Built.{Each, built, find_built, map_built}
+use Rattle.scm_generate.proofs.Built.{Each, find_built, map_built}
 use Rattle.scm_generate.proofs.Graph.{half_within, positive}
-use Rattle.scm_generate.proofs.Names.{needs_at, other_names, same_name}
+use Rattle.scm_generate.proofs.Names.{other_names, same_name}
 use Rattle.scm_generate.proofs.Shape.{Live, row_at, rows, standing}
 
 -- ## Look-ups

@@ -1,11 +1,9 @@
 -- The whole list.
-use Rattle.std.proofs.Common.{ℕ, zero, suc, ◌≡◌, ◌∙◌, ◌+◌, ◌/◌, ◌<◌, ◌≤◌, ◌^◌, ◌==◌, ◌||◌, ◌⊎◌, inl, inr, append_assoc, Bool, true, false, cond, List, [], ◌∷◌, ◌++◌, length, ap, sym, refl, subst, arith, ne_eqb, eq-eqb}
-use Rattle.std.proofs.lemmas.Bool.{eqb-false}
+use Rattle.std.proofs.Common.{ℕ, zero, suc, ◌≡◌, ◌+◌, ◌<◌, ◌≤◌, ◌^◌, ◌||◌, ◌⊎◌, inl, append_assoc, false, cond, List, [], ◌∷◌, ◌++◌, length, ap, sym, refl, subst, arith, ne_eqb, eq-eqb}
 use Rattle.std.proofs.lemmas.Int.Digits.{length-digits_of-le}
 use Rattle.scm_model.specs.declared.flat.Flat.{Flat}
 use Rattle.scm_model.specs.declared.flat.Limits.{Limits}
 use Rattle.scm_model.specs.declared.steps.Step.TheVariants.{EndStart, Gone}
-use Rattle.scm_model.specs.Entries.{Entry}
 use Rattle.start_plan.specs.Entered.{wanted_process, wanted_row}
 use Rattle.scm_rules.specs.Needs.{start_order}
 use Rattle.scm_rules.specs.Histories.{Legal}
@@ -21,7 +19,7 @@ use Rattle.scm_generate.proofs.Asking.{asks, line}
 use Rattle.scm_generate.proofs.Climbing.{HasClimbed, climbs_all}
 use Rattle.scm_generate.proofs.Created.{IsWide, begins, created, creates_all, fresh}
 use Rattle.scm_generate.proofs.Falling.{HasFallen, answers, falls_all}
-use Rattle.scm_generate.proofs.Goes.{Goes, goes_both, goes_none, goes_one, goes_on}
+use Rattle.scm_generate.proofs.Goes.{Goes, goes_both, goes_one}
 use Rattle.scm_generate.proofs.Graph.{Climbs, IsLine}
 use Rattle.scm_generate.proofs.Launching.{Climbing, IsRun, ran}
 use Rattle.scm_generate.proofs.Settling.{IsAtRest, at_one, decided, pending, under_way}

@@ -1,6 +1,6 @@
 ghost use Rattle.std.specs.Prelude.{◌≡◌, ◌∷◌, [], IfOk, OnOk};
 ghost use Rattle.scm_generate.specs.Listed.{opening_calls, creation_of, creations, nth_service};
-ghost use Rattle.scm_generate.specs.Progress.{Makes};
+ghost use Rattle.scm_generate.specs.Progress.{IsOpenTo, Makes};
 
 use super::naming::{name_of, needing, text_of};
 use super::run::Run;
@@ -20,6 +20,7 @@ const MANAGER: u64 = 1;
 
 /// The administrator joins, and opens the manager.
 pub fn begin(run: &mut Run) -> Result<(), OutOfMemory>
+    requires { IsOpenTo run.old opening_calls }
     ensures { OnOk result (Makes run.old opening_calls run.new) }
 {
     run.make(Step::Joined {
@@ -60,6 +61,7 @@ fn new_service(alloc: Global, number: u32) -> Result<NewService, OutOfMemory>
 
 /// Creates the service with this number.
 fn create(run: &mut Run, alloc: Global, number: u32) -> Result<(), OutOfMemory>
+    requires { IsOpenTo run.old (creation_of number ∷ []) }
     ensures { OnOk result (Makes run.old (creation_of number ∷ []) run.new) }
 {
     let new = new_service(alloc, number)?;
@@ -72,6 +74,7 @@ fn create(run: &mut Run, alloc: Global, number: u32) -> Result<(), OutOfMemory>
 
 /// Creates the services from the first one to the last.
 pub fn create_all(run: &mut Run, alloc: Global, services: u32) -> Result<(), OutOfMemory>
+    requires { IsOpenTo run.old (creations services) }
     ensures { OnOk result (Makes run.old (creations services) run.new) }
 {
     for before in 0..services {

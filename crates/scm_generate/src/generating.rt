@@ -1,9 +1,10 @@
 ghost use Rattle.std.specs.Prelude.{◌≡◌, ◌≤◌, [], IfOk, OnOk};
 ghost use Rattle.scm_core.specs.Managed.{AreSmall};
 ghost use Rattle.scm_rules.specs.Opening.{opening};
+ghost use Rattle.scm_generate.specs.Ample.{IsAmple};
 ghost use Rattle.scm_generate.specs.Listed.{generated};
 ghost use Rattle.scm_generate.specs.Printed.{IfMade, IsPrintCaused, Prints};
-ghost use Rattle.scm_generate.specs.Progress.{CanBeMade, Makes, progress_after, summed_up};
+ghost use Rattle.scm_generate.specs.Progress.{CanBeMade, IsOpenTo, Makes, progress_after, summed_up};
 ghost use Rattle.scm_generate.specs.Summary.{summary};
 
 use super::creating::{CALLER, begin, create_all};
@@ -17,6 +18,8 @@ use std::alloc::Global;
 
 /// Makes the whole list.
 fn make_all(run: &mut Run, alloc: Global, services: u32) -> Result<(), OutOfMemory>
+    requires few { services ≤ 512 }
+    requires open { IsOpenTo run.old (generated services) }
     ensures { OnOk result (Makes run.old (generated services) run.new) }
 {
     begin(run)?;
@@ -27,8 +30,9 @@ fn make_all(run: &mut Run, alloc: Global, services: u32) -> Result<(), OutOfMemo
 
 /// Makes the whole list, and sums it up.
 fn summed_up(run: &mut Run, alloc: Global, services: u32) -> Result<Items<u8>, OutOfMemory>
-    ensures text { IfOk result (λ text. text ≡ summed_up (progress_after run.old (generated services))) }
-    ensures can { OnOk result (CanBeMade run.old.limits run.old.flat (generated services)) }
+    requires few { services ≤ 512 }
+    requires open { IsOpenTo run.old (generated services) }
+    ensures { IfOk result (λ text. text ≡ summed_up (progress_after run.old (generated services))) }
 {
     make_all(run, alloc, services)?;
     run.summary(alloc)
@@ -36,10 +40,11 @@ fn summed_up(run: &mut Run, alloc: Global, services: u32) -> Result<Items<u8>, O
 
 /// The summary of the list for so many services.
 fn summary_of(alloc: Global, limits: Limits, services: u32) -> Result<Items<u8>, OutOfMemory>
-    requires { AreSmall limits }
-    ensures text { IfOk result (λ text. text
+    requires small { AreSmall limits }
+    requires ample { IsAmple limits }
+    requires few { services ≤ 512 }
+    ensures { IfOk result (λ text. text
         ≡ summary limits (opening limits [] [] 0) (generated services)) }
-    ensures can { OnOk result (CanBeMade limits (opening limits [] [] 0) (generated services)) }
 {
     let mut run = Run::new(alloc, limits)?;
     let text = summed_up(&mut run, alloc, services);
@@ -48,10 +53,12 @@ fn summary_of(alloc: Global, limits: Limits, services: u32) -> Result<Items<u8>,
 }
 
 /// Makes the stated list of steps for so many services over a manager of its own, one step after
-/// another, and prints its summary. A step that may not be made in its state, as one past the limits,
-/// is answered as one without memory, and so is the end of a start where a launch is still wanted.
+/// another, and prints its summary. Each step may be made in its state (`the_list_is_legal`), so that
+/// none is tested: only what wants memory ends the run before the summary is printed.
 pub fn generate<O: Sink>(alloc: Global, limits: Limits, services: u32, output: &mut O) -> Generated
-    requires { AreSmall limits }
+    requires small { AreSmall limits }
+    requires ample { IsAmple limits }
+    requires few { services ≤ 512 }
     ensures prints { Prints (summary limits (opening limits [] [] 0) (generated services))
         (O.held output.old) (O.held output.new) result }
     // What is summed up is a legal history.

@@ -3,7 +3,7 @@ ghost use Rattle.scm_core.specs.Managed.{AreSmall, WasMadeFor};
 ghost use Rattle.scm_rules.specs.Steps.{may, step_of};
 ghost use Rattle.scm_model.specs.Texts.{text_of};
 ghost use Rattle.scm_generate.specs.Listed.{at_once};
-ghost use Rattle.scm_generate.specs.Progress.{Makes, at_first, is_quiet, summed_up};
+ghost use Rattle.scm_generate.specs.Progress.{IsOpenTo, Makes, at_first, summed_up};
 ghost use Rattle.scm_generate.specs.Summary.{launch_in};
 
 use super::summary::summary_lines;
@@ -48,38 +48,6 @@ fn launch_in(step: &Step) -> u64
     }
 }
 
-/// Whether no launch is wanted any more, if the step ends a start.
-fn is_quiet(manager: &Manager, step: &Step) -> bool
-    ensures { result ≡ is_quiet manager.now.flat step.now }
-{
-    match step {
-        Step::EndStart { .. } => !manager.wanted(),
-        _ => true,
-    }
-}
-
-/// Makes the room of a step, if it may be made, and no launch is wanted if it ends a start. Any
-/// other is answered as one without memory.
-fn prepare(manager: &mut Manager, step: &Step) -> Result<(), OutOfMemory>
-    ensures flat { manager.new.flat ≡ manager.old.flat }
-    ensures limits { manager.new.limits ≡ manager.old.limits }
-    ensures steps { manager.new.steps ≡ manager.old.steps }
-    ensures may { OnOk result (IsTrue (may manager.new.limits manager.new.flat 0 step.now)) }
-    ensures quiet { OnOk result (IsTrue (is_quiet manager.new.flat step.now)) }
-    ensures room { OnOk result (WasMadeFor manager.new.room step.now) }
-    ensures count { OnOk result (manager.new.steps < 2 ^ 50) }
-    ensures text { OnOk result (manager.new.text + text_of step.now < 2 ^ 63) }
-{
-    if !manager.fits(step) {
-        return Err(OutOfMemory);
-    }
-    manager.reserve_for(step)?;
-    if !manager.admits(MOMENT, step) || !is_quiet(manager, step) {
-        return Err(OutOfMemory);
-    }
-    Ok(())
-}
-
 /// Makes a step, whatever it answers.
 fn act(manager: &mut Manager, step: Step)
     requires may { IsTrue (may manager.old.limits manager.old.flat 0 step) }
@@ -89,6 +57,7 @@ fn act(manager: &mut Manager, step: Step)
     ensures flat { manager.new.flat ≡ (step_of manager.old.limits manager.old.flat 0 step).flat }
     ensures limits { manager.new.limits ≡ manager.old.limits }
     ensures steps { manager.new.steps ≡ manager.old.steps + 1 }
+    ensures text { manager.new.text ≡ manager.old.text + text_of step }
 {
     let _answer = manager.step(MOMENT, step);
 }
@@ -107,11 +76,12 @@ impl Run {
         })
     }
 
-    /// Makes a step.
+    /// Makes a step that may be made now.
     pub fn make(&mut self, step: Step) -> Result<(), OutOfMemory>
+        requires { IsOpenTo self.old (at_once step ∷ []) }
         ensures { OnOk result (Makes self.old (at_once step ∷ []) self.new) }
     {
-        prepare(&mut self.manager, &step)?;
+        self.manager.reserve_for(&step)?;
         self.launches += launch_in(&step);
         self.steps += 1;
         act(&mut self.manager, step);

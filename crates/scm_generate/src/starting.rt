@@ -1,6 +1,6 @@
 ghost use Rattle.std.specs.Prelude.{◌≡◌, ◌<◌, ◌≤◌, ◌+◌, ◌^◌, ◌∷◌, [], IfOk, OnOk};
 ghost use Rattle.scm_generate.specs.Listed.{asked_start, down, downs, depth_of, start_of, starts, told, up, ups};
-ghost use Rattle.scm_generate.specs.Progress.{Makes};
+ghost use Rattle.scm_generate.specs.Progress.{IsOpenTo, Makes};
 
 use super::creating::CALLER;
 use super::run::Run;
@@ -43,6 +43,7 @@ fn told(state: u32, accepted: u32) -> Status
 
 /// Launches a process, which then runs.
 fn up(run: &mut Run, number: u32) -> Result<(), OutOfMemory>
+    requires { IsOpenTo run.old (up number) }
     ensures { OnOk result (Makes run.old (up number) run.new) }
 {
     let process = number as u64;
@@ -59,7 +60,8 @@ fn up(run: &mut Run, number: u32) -> Result<(), OutOfMemory>
 
 /// Launches so many processes from a first one on.
 fn ups(run: &mut Run, first: u32, count: u32) -> Result<(), OutOfMemory>
-    requires { first + count < 2 ^ 32 }
+    requires small { first + count < 2 ^ 32 }
+    requires open { IsOpenTo run.old (ups first count) }
     ensures { OnOk result (Makes run.old (ups first count) run.new) }
 {
     for before in 0..count {
@@ -73,6 +75,7 @@ fn ups(run: &mut Run, first: u32, count: u32) -> Result<(), OutOfMemory>
 
 /// Stops a process, which then ends.
 fn down(run: &mut Run, number: u32) -> Result<(), OutOfMemory>
+    requires { IsOpenTo run.old (down number) }
     ensures { OnOk result (Makes run.old (down number) run.new) }
 {
     let process = number as u64;
@@ -85,7 +88,8 @@ fn down(run: &mut Run, number: u32) -> Result<(), OutOfMemory>
 
 /// Ends so many processes from a first one on, the last one first.
 fn downs(run: &mut Run, first: u32, count: u32) -> Result<(), OutOfMemory>
-    requires { first + count < 2 ^ 32 }
+    requires small { first + count < 2 ^ 32 }
+    requires open { IsOpenTo run.old (downs first count) }
     ensures { OnOk result (Makes run.old (downs first count) run.new) }
 {
     let mut left = count;
@@ -101,6 +105,7 @@ fn downs(run: &mut Run, first: u32, count: u32) -> Result<(), OutOfMemory>
 
 /// Asks for the start of the service with this number.
 fn ask(run: &mut Run, alloc: Global, number: u32) -> Result<(), OutOfMemory>
+    requires { IsOpenTo run.old (asked_start number ∷ []) }
     ensures { OnOk result (Makes run.old (asked_start number ∷ []) run.new) }
 {
     run.make(Step::Call {
@@ -114,8 +119,7 @@ fn ask(run: &mut Run, alloc: Global, number: u32) -> Result<(), OutOfMemory>
 }
 
 /// Starts the service with this number and what it needs, and ends their processes, of which the
-/// first has the number `process`. Gives the number of the next process. A process whose number has
-/// more than 32 bits is answered as one without memory.
+/// first has the number `process`. Gives the number of the next process.
 fn start(
     run: &mut Run,
     alloc: Global,
@@ -123,13 +127,12 @@ fn start(
     process: u32,
     plan: u64,
 ) -> Result<u32, OutOfMemory>
+    requires small { process + depth_of number < 2 ^ 32 }
+    requires open { IsOpenTo run.old (start_of number process plan) }
     ensures made { OnOk result (Makes run.old (start_of number process plan) run.new) }
     ensures next { IfOk result (λ next. next ≡ process + depth_of number) }
 {
     let count = line_of(number);
-    let Some(next) = process.checked_add(count) else {
-        return Err(OutOfMemory);
-    };
     ask(run, alloc, number)?;
     ups(run, process, count)?;
     run.make(Step::EndStart {
@@ -137,11 +140,13 @@ fn start(
         plan,
     })?;
     downs(run, process, count)?;
-    Ok(next)
+    Ok(process + count)
 }
 
 /// Starts and ends the services from the last one to the first.
 pub fn start_all(run: &mut Run, alloc: Global, services: u32) -> Result<(), OutOfMemory>
+    requires few { services ≤ 512 }
+    requires open { IsOpenTo run.old (starts services 1 1) }
     ensures { OnOk result (Makes run.old (starts services 1 1) run.new) }
 {
     let mut process = 1;

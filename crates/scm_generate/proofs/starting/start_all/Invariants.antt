@@ -1,9 +1,12 @@
-use Rattle.std.proofs.Common.{◌+◌, ◌-◌}
+use Rattle.std.proofs.Common.{◌+◌, ◌-◌, ◌*◌, ◌≤◌}
 use Rattle.scm_generate.specs.Listed.{starts}
-use Rattle.scm_generate.specs.Progress.{Makes, Progress}
+use Rattle.scm_generate.specs.Progress.{IsOpenTo, Makes, Progress}
 use Rattle.scm_generate.proofs.starting.start_all.Given as goal
 
--- what starts the others starts all
+-- what starts the others starts all; a start has 32 processes at most
 abbrev pub invariant-loop-before : goal.invariant-loop-before
-invariant-loop-before l =
-    (now : Progress) → Makes l.run (starts (l.services - l.before) l.process (l.before + 1)) now → Makes l.fn.run (starts l.services 1 1) now
+invariant-loop-before l = record {
+  few : l.process ≤ 1 + 32 * l.before;
+  still : IsOpenTo l.run (starts (l.services - l.before) l.process (l.before + 1));
+  whole : (now : Progress) → Makes l.run (starts (l.services - l.before) l.process (l.before + 1)) now → Makes l.fn.run (starts l.services 1 1) now;
+}
