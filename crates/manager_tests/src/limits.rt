@@ -18,13 +18,6 @@ pub const LIMITS: Limits = Limits {
     text: 268_435_456,
 };
 
-/// One service may be.
-pub const ONE: Limits = Limits {
-    services: 1,
-    callers: 64,
-    ..LIMITS
-};
-
 /// Six steps may be made.
 pub const SIX_STEPS: Limits = Limits { steps: 6, ..LIMITS };
 
