@@ -1,26 +1,17 @@
-//! `scmd`: the service control manager. `scmd pipe` serves one connection of svcctl from its input to its output, `scmd replay`
-//! makes the steps that stand in the lines of its input and answers them, `scmd generate N` prints the summary of a stated list of steps.
+//! `scmd`: the service control manager. `scmd pipe` serves one connection of svcctl from its input
+//! to its output, `scmd replay` makes the steps that stand in the lines of its input and answers
+//! them, `scmd generate N` prints the summary of a stated list of steps.
 #![tactic(auto)]
 
-mod limits;
-mod lines;
-#[cfg(test)]
-mod rows;
-mod summary;
-#[cfg(test)]
-mod tests;
-mod top;
-mod words;
-
 use outside::{Clock, ReadSource, Sink, Source, SystemClock, WriteSink};
+use record_journal::{Keeper, MemoryKeeper};
 use scm_text::{Items, Text};
+use scmd_top::{NoWords, World, scmd_with};
 use std::alloc::Global;
 use std::io::ErrorKind;
 use std::process::ExitCode;
 use std::rt::Env;
 use std::sync::Wait;
-use top::{World, scmd_with};
-use words::NoWords;
 
 /// The words after the program's name.
 fn arguments<R: Env + AllocGlobal>(rt: &R) -> Result<Items<Text>, NoWords> {
@@ -39,19 +30,25 @@ fn arguments<R: Env + AllocGlobal>(rt: &R) -> Result<Items<Text>, NoWords> {
     Ok(Items::from_vec(words))
 }
 
-/// The whole program. Its bounds give it no leave to write to standard error, nor to any place that it isn't handed.
-fn program<R: Env + AllocGlobal + Wait, I: Source + Drop, O: Sink + Drop, C: Clock + Drop>(
-    rt: &R,
-    world: World<I, O, C>,
-) -> ExitCode {
+/// The whole program. Its bounds give it no leave to write to standard error, nor to any place that
+/// it isn't handed.
+fn program<
+    R: Env + AllocGlobal + Wait,
+    I: Source + Drop,
+    O: Sink + Drop,
+    K: Keeper,
+    C: Clock + Drop,
+>(rt: &R, world: World<I, O, K, C>) -> ExitCode {
     let (status, _world) = scmd_with(rt, rt.alloc(), arguments(rt), world);
     ExitCode::from(status)
 }
 
 fn main(rt: HostRuntime) -> ExitCode {
+    let alloc: Global = rt.alloc();
     let world = World {
         input: ReadSource::new(rt.stdin()),
         output: WriteSink::new(rt.stdout()),
+        keeper: MemoryKeeper::new(Vec::new(alloc), Vec::new(alloc)),
         clock: SystemClock::new(rt),
     };
     program(&rt, world)

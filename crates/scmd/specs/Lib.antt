@@ -1,4 +1,0 @@
-pub mod Words
-pub mod Joining
-pub mod Pipe
-pub mod Jobs

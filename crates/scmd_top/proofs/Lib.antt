@@ -1,0 +1,5 @@
+mod Ends
+mod Fronts
+mod Replays
+mod Connected
+mod Summaries

@@ -1,0 +1,15 @@
+//! The service control manager as a program: what it does by its words, with what it meets outside.
+#![tactic(auto)]
+
+mod limits;
+mod lines;
+mod opening;
+mod pipe;
+mod summary;
+mod top;
+mod words;
+mod world;
+
+pub use top::{scmd_main, scmd_with};
+pub use words::NoWords;
+pub use world::World;

@@ -1,0 +1,54 @@
+//! `scmd generate`, which may not wait: it returns.
+ghost use Rattle.std.specs.Prelude.{◌≡◌, ◌≤◌};
+ghost use Rattle.scmd_top.specs.Jobs.{HasPrinted, HasSummedUp, status_of_generate};
+ghost use Rattle.scmd_top.specs.Sides.{side};
+
+use crate::limits::LIMITS;
+use crate::world::World;
+use outside::{Clock, Sink, Source};
+use record_journal::Keeper;
+use scm_generate::{Generated, generate};
+use std::alloc::Global;
+
+/// The status of a program that printed a summary.
+fn status_of_generate(how: Generated) -> u8
+    ensures { result ≡ status_of_generate how }
+{
+    match how {
+        Generated::Ended => 0,
+        Generated::WriteFault => 2,
+        Generated::OutOfMemory => 8,
+    }
+}
+
+/// Makes the stated list of steps for so many services, prints its summary, and gives the status of
+/// the program.
+pub fn generate_main<I: Source, O: Sink, K: Keeper, C: Clock>(
+    alloc: Global,
+    services: u32,
+    world: World<I, O, K, C>,
+) -> (u8, World<I, O, K, C>)
+    ensures unread { result.1.input ≡ world.input }
+    ensures keeper { result.1.keeper ≡ world.keeper }
+    ensures clock { result.1.clock ≡ world.clock }
+    ensures output { O.faults world.output ≤ O.faults result.1.output }
+    ensures run { HasPrinted services
+        (side O.held O.faults world.output result.1.output) result.0 }
+    // Nothing else ends a run without faults.
+    ensures complete { HasSummedUp (side O.held O.faults world.output result.1.output) result.0 }
+{
+    let World {
+        input,
+        mut output,
+        keeper,
+        clock,
+    } = world;
+    let how = generate(alloc, LIMITS, services, &mut output);
+    let world = World {
+        input,
+        output,
+        keeper,
+        clock,
+    };
+    (status_of_generate(how), world)
+}
