@@ -1,5 +1,5 @@
 -- What the words ask for.
-use Rattle.std.specs.Prelude.{ℕ, Bool, ◌&&◌, nat_eq, nat_le, codes, List, [], ◌∷◌, Option, None, Some, option_and_then, option_map, if◌then◌else◌}
+use Rattle.std.specs.Prelude.{ℕ, ◌≤◌, Bool, ◌&&◌, nat_eq, nat_le, codes, List, [], ◌∷◌, Option, None, Some, option_and_then, option_map, if◌then◌else◌}
 use Rattle.std.specs.Cmp.Lexicographic.{pointwise}
 use Rattle.scm_model.specs.declared.flat.Principal.{Principal}
 use Rattle.scm_model.specs.declared.flat.Principal.TheVariants.{Admin, User}
@@ -36,6 +36,12 @@ replay_with (word ∷ words) = None
 -- at most 512 services are made, and at least one
 abbrev pub within : ℕ → Option ℕ
 within number = if nat_le 1 number && nat_le number 512 then Some number else None
+
+-- at most as many services are to be made as may be
+abbrev pub IsFew : Job → Type 0
+IsFew (Pipe principal) = Unit {0}
+IsFew Replay = Unit {0}
+IsFew (Generate services) = services ≤ 512
 
 -- for how many services steps are generated
 abbrev pub generate_with : List (List ℕ) → Option Job

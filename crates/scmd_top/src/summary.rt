@@ -28,6 +28,7 @@ pub fn generate_main<I: Source, O: Sink, K: Keeper, C: Clock>(
     services: u32,
     world: World<I, O, K, C>,
 ) -> (u8, World<I, O, K, C>)
+    requires few { services ≤ 512 }
     ensures unread { result.1.input ≡ world.input }
     ensures keeper { result.1.keeper ≡ world.keeper }
     ensures clock { result.1.clock ≡ world.clock }

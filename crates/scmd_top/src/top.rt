@@ -1,7 +1,7 @@
 ghost use Rattle.std.specs.Prelude.{◌≡◌, ◌≤◌, ◌↔◌, IfOk, IfSome, IsErrOf, IsNone};
 ghost use Rattle.scmd_top.specs.Jobs.{HasAllDone, HasEnded, HasRun, LeavesKeeper};
 ghost use Rattle.scmd_top.specs.Sides.{sides_of};
-ghost use Rattle.scmd_top.specs.Words.{job_of};
+ghost use Rattle.scmd_top.specs.Words.{IsFew, job_of};
 
 use crate::lines::replay_main;
 use crate::pipe::pipe_main;
@@ -21,6 +21,7 @@ fn run<R: Wait, I: Source, O: Sink, K: Keeper, C: Clock>(
     job: Job,
     world: World<I, O, K, C>,
 ) -> (u8, World<I, O, K, C>)
+    requires { IsFew job }
     ensures run { HasRun (C.tells world.clock) job
         (sides_of I.left I.faults O.held O.faults K.held K.faults world result.1) result.0 }
     ensures clock { result.1.clock ≡ world.clock }

@@ -1,8 +1,7 @@
-ghost use Rattle.std.specs.Prelude.{◌≡◌};
-ghost use Rattle.std.specs.Prelude.{option_and_then};
+ghost use Rattle.std.specs.Prelude.{◌≡◌, ◌≤◌, IfSome, option_and_then};
 ghost use Rattle.scm_replay.specs.Words.{decimal_at};
-ghost use Rattle.scmd_top.specs.Words.{generate_with, job_of, principal_named, principal_of_pipe};
-ghost use Rattle.scmd_top.specs.Words.{principal_word, replay_with, within};
+ghost use Rattle.scmd_top.specs.Words.{IsFew, generate_with, job_of, principal_named};
+ghost use Rattle.scmd_top.specs.Words.{principal_of_pipe, principal_word, replay_with, within};
 
 use scm_model::Principal;
 use scm_replay::number_at;
@@ -72,7 +71,8 @@ fn principal_of_pipe(words: &[Text]) -> Option<Principal>
 
 /// A replay goes by no further word.
 fn replay_with(words: &[Text]) -> Option<Job>
-    ensures { result ≡ replay_with words.now }
+    ensures job { result ≡ replay_with words.now }
+    ensures few { IfSome result IsFew }
 {
     match words {
         [] => Some(Job::Replay),
@@ -82,7 +82,8 @@ fn replay_with(words: &[Text]) -> Option<Job>
 
 /// A number of services, if there may be so many.
 fn within(number: u64) -> Option<u32>
-    ensures { result ≡ within number }
+    ensures number { result ≡ within number }
+    ensures few { IfSome result (λ services. services ≤ 512) }
 {
     if 1 <= number && number <= 512 {
         Some(number as u32)
@@ -93,7 +94,8 @@ fn within(number: u64) -> Option<u32>
 
 /// For how many services steps are generated, by the words behind `generate`.
 fn generate_with(words: &[Text]) -> Option<Job>
-    ensures { result ≡ generate_with words.now }
+    ensures job { result ≡ generate_with words.now }
+    ensures few { IfSome result IsFew }
 {
     match words {
         [word] => {
@@ -107,7 +109,8 @@ fn generate_with(words: &[Text]) -> Option<Job>
 
 /// The job that the words ask for, or none where they aren't in the set.
 pub fn job_of(words: &Items<Text>) -> Option<Job>
-    ensures { result ≡ job_of words.now }
+    ensures job { result ≡ job_of words.now }
+    ensures few { IfSome result IsFew }
 {
     match words.as_slice() {
         [] => None,
