@@ -2,6 +2,8 @@
 //! ticks that do what is due.
 #![tactic(auto)]
 
+mod children;
 mod ticking;
 
+pub use children::{ChildPast, run_child};
 pub use ticking::tick_all;
