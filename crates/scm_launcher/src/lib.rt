@@ -3,7 +3,9 @@
 #![tactic(auto)]
 
 mod children;
+mod launching;
 mod ticking;
 
 pub use children::{ChildPast, run_child};
+pub use launching::{Child, Next, launch_next};
 pub use ticking::tick_all;
