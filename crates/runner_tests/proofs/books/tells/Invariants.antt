@@ -1,0 +1,10 @@
+use Rattle.std.proofs.Common.{◌≢◌}
+use Rattle.scm_book.specs.Passes.{IsOf}
+use Rattle.runner_tests.proofs.books.tells.Given as goal
+
+-- the pass is still its caller's
+abbrev pub invariant-loop-asked : goal.invariant-loop-asked
+invariant-loop-asked g l = record {
+  book : IsOf l.book l.caller;
+  caller : l.caller.caller ≢ 0;
+}
