@@ -1,3 +1,4 @@
+use Rattle.std.proofs.Common.{refl}
 use Rattle.child_runner.specs.Launches.{spawning_of}
 use Rattle.scm_launcher.proofs.Handing.{is_handed, is_launched}
 use Rattle.scm_launcher.proofs.launching.launch_next.Goals as goal
