@@ -1,6 +1,7 @@
 //! Books in memory, and what their one caller asks.
 ghost use Rattle.std.specs.Prelude.{◌≡◌, ◌≢◌, false, true, IfSome, IsTrue};
 ghost use Rattle.scm_model.specs.Ranges.{in_range};
+ghost use Rattle.scm_core.specs.Managed.{AreSmall};
 ghost use Rattle.scm_book.specs.Called.{is_start};
 ghost use Rattle.scm_book.specs.Passes.{IsOf};
 
@@ -13,7 +14,7 @@ use scm_text::{Items, OutOfMemory, WText};
 use std::alloc::Global;
 use std::sync::Wait;
 
-const LIMITS: Limits = Limits {
+pub const LIMITS: Limits = Limits {
     services: 8,
     handles: 8,
     registrations: 8,
@@ -37,11 +38,12 @@ pub struct Stage {
 }
 
 /// A book in which nothing took place.
-fn open(alloc: Global) -> Option<Opened<MemoryKeeper>>
+fn open(alloc: Global, limits: Limits) -> Option<Opened<MemoryKeeper>>
+    requires { AreSmall limits }
     ensures { IfSome result (λ made. IsOf made.book made.pass
         × (made.pass.caller ≡ 0) × (made.pass.alone ≡ true)) }
 {
-    match Manager::new(alloc, LIMITS, Items::new(alloc), Items::new(alloc), 0) {
+    match Manager::new(alloc, limits, Items::new(alloc), Items::new(alloc), 0) {
         Ok(manager) => {
             let keeper = MemoryKeeper::new(Vec::new(alloc), Vec::new(alloc));
             Book::new(alloc, manager, Journal::empty(), keeper).ok()
@@ -50,12 +52,13 @@ fn open(alloc: Global) -> Option<Opened<MemoryKeeper>>
     }
 }
 
-/// An administrator joins.
-pub fn begin<R: Wait>(rt: &R, alloc: Global) -> Option<Stage>
+/// An administrator joins, under these limits.
+pub fn begin_within<R: Wait>(rt: &R, alloc: Global, limits: Limits) -> Option<Stage>
+    requires { AreSmall limits }
     ensures { IfSome result (λ s. IsOf s.book s.caller × (s.caller.caller ≢ 0)
         × IsOf s.book s.runner) }
 {
-    let Opened { book, pass } = open(alloc)?;
+    let Opened { book, pass } = open(alloc, limits)?;
     let mut caller = book.join_alone(rt, pass, 0, Principal::Admin).ok()?;
     let runner = book.join_runner(&mut caller);
     Some(Stage {
@@ -63,6 +66,14 @@ pub fn begin<R: Wait>(rt: &R, alloc: Global) -> Option<Stage>
         caller,
         runner,
     })
+}
+
+/// An administrator joins, with room for all that a row does.
+pub fn begin<R: Wait>(rt: &R, alloc: Global) -> Option<Stage>
+    ensures { IfSome result (λ s. IsOf s.book s.caller × (s.caller.caller ≢ 0)
+        × IsOf s.book s.runner) }
+{
+    begin_within(rt, alloc, LIMITS)
 }
 
 /// What the caller asks, by the handles that it has. The first one that is given is that of the

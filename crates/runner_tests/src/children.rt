@@ -1,0 +1,286 @@
+ghost use Rattle.std.specs.Prelude.{◌≡◌, ◌≢◌, ◌≤◌, IfSome};
+ghost use Rattle.scm_book.specs.Passes.{IsOf};
+
+use crate::books::{Ask, CLOCK, LIMITS, Stage, TestBook, begin, begin_within, tells};
+use crate::launches::{child, launch};
+use child_link::MemoryLink;
+use child_runner::{ChildEnded, ChildServed, LaunchEnd, launch_one, serve_child};
+use outside::{MemorySink, MemorySource};
+use process_runner::{MemorySpawner, Spawned};
+use scm_book::{EndedEnd, LaunchRoom, Pass, ReportEnd};
+use scm_model::{Limits, Status, Step};
+use scm_trail::Trail;
+use std::alloc::Global;
+use std::sync::Wait;
+use std::test::Fail;
+
+/// Room for twenty steps.
+const FEW: Limits = Limits {
+    steps: 20,
+    ..LIMITS
+};
+
+/// A service that is started.
+const BEGIN: [(Ask<'static>, u32); 3] = [
+    (Ask::OpensManager, 0),
+    (Ask::Creates("A", "/a", ""), 0),
+    (Ask::Starts(2), 0),
+];
+
+const STOPPED: Status = Status {
+    kind: 0x10,
+    state: 1,
+    accepted: 0,
+    win32: 0,
+    specific: 0,
+    checkpoint: 0,
+    hint: 0,
+};
+
+/// What a child writes, which of its reads and waits fail (the last of a list goes first), how it
+/// is served, and what the history then tells.
+struct Row {
+    output: &'static str,
+    reads: &'static [bool],
+    waits: &'static [bool],
+    how: ChildServed,
+    told: u64,
+}
+
+const RUNNING: &str = "STATUS 16 4 1 0 0 0 0\n";
+
+/// Thirteen reports.
+const MANY: &str = "STATUS 16 4 1 0 0 0 0\nSTATUS 16 4 1 0 0 0 0\nSTATUS 16 4 1 0 0 0 0\n\
+    STATUS 16 4 1 0 0 0 0\nSTATUS 16 4 1 0 0 0 0\nSTATUS 16 4 1 0 0 0 0\n\
+    STATUS 16 4 1 0 0 0 0\nSTATUS 16 4 1 0 0 0 0\nSTATUS 16 4 1 0 0 0 0\n\
+    STATUS 16 4 1 0 0 0 0\nSTATUS 16 4 1 0 0 0 0\nSTATUS 16 4 1 0 0 0 0\n\
+    STATUS 16 4 1 0 0 0 0\n";
+
+const ROWS: [Row; 8] = [
+    Row {
+        output: "STATUS 16 4 1 0 0 0 0\nhello\nSTATUS 16 1 0 0 0 0 0\r\n",
+        reads: &[],
+        waits: &[],
+        how: ChildServed::Ended,
+        told: 419,
+    },
+    Row {
+        output: "STATUS 16 4 1 0 0 0 0",
+        reads: &[],
+        waits: &[],
+        how: ChildServed::Ended,
+        told: 9,
+    },
+    Row {
+        output: "",
+        reads: &[],
+        waits: &[],
+        how: ChildServed::Ended,
+        told: 9,
+    },
+    Row {
+        output: "STATUS 16 04 1 0 0 0 0\n",
+        reads: &[],
+        waits: &[],
+        how: ChildServed::Ended,
+        told: 9,
+    },
+    // The read behind the whole line.
+    Row {
+        output: RUNNING,
+        reads: &[true, false, false, false, false],
+        waits: &[],
+        how: ChildServed::ReadFault,
+        told: 49,
+    },
+    Row {
+        output: RUNNING,
+        reads: &[],
+        waits: &[true],
+        how: ChildServed::ReadFault,
+        told: 49,
+    },
+    // There is room for eleven reports, and the end.
+    Row {
+        output: MANY,
+        reads: &[],
+        waits: &[],
+        how: ChildServed::Full,
+        told: 444_444_444_449,
+    },
+    Row {
+        output: MANY,
+        reads: &[],
+        waits: &[true],
+        how: ChildServed::Full,
+        told: 444_444_444_449,
+    },
+];
+
+/// The states that the reports of a history tell, each a digit, and 9 for each end of a process.
+fn told(trail: &Trail) -> u64 {
+    let mut told = 0u64;
+    for place in 0..trail.len() {
+        match trail.get(place) {
+            Some((_, Step::Report { status, .. })) => {
+                told = told.wrapping_mul(10).wrapping_add(status.state as u64);
+            }
+            Some((_, Step::Ended { .. })) => told = told.wrapping_mul(10).wrapping_add(9),
+            _ => {}
+        }
+    }
+    told
+}
+
+/// A spawner in memory that starts the child of a row, which gives seven bytes at a time.
+fn spawner(alloc: Global, row: &Row) -> Option<MemorySpawner> {
+    let (Ok(bytes), Ok(reads), Ok(waits)) = (
+        Vec::from_slice(alloc, row.output.as_bytes()),
+        Vec::from_slice(alloc, row.reads),
+        Vec::from_slice(alloc, row.waits),
+    ) else {
+        return None;
+    };
+    let output = MemorySource::in_pieces(bytes, 7, reads);
+    let fate = Ok(Spawned {
+        link: MemoryLink::new(1, output, waits),
+        feed: MemorySink::new(alloc, Vec::new(alloc)),
+    });
+    let fates = vec![in alloc; fate].ok()?;
+    Some(MemorySpawner::new(alloc, fates))
+}
+
+/// Starts a service, launches its child and serves that to its end.
+fn serve<R: Wait>(
+    rt: &R,
+    alloc: Global,
+    book: &TestBook,
+    caller: &mut Pass,
+    room: &mut LaunchRoom,
+    spawner: &mut MemorySpawner,
+) -> Option<ChildEnded>
+    requires caller { IsOf book.now caller.old × (caller.old.caller ≢ 0) }
+    requires path { 2048 ≤ room.old.path.room }
+    ensures { IfSome result (λ ended. IsOf book.now ended.spent) }
+{
+    if !tells(rt, alloc, book, caller, &BEGIN) {
+        return None;
+    }
+    let mut runner = book.join_runner(caller);
+    let LaunchEnd::Started {
+        process,
+        mut link,
+        ..
+    } = launch_one(rt, alloc, book, &mut runner, room, spawner, &CLOCK)
+    else {
+        return None;
+    };
+    let ended = serve_child(rt, alloc, book, runner, process, &mut link, &CLOCK);
+    Some(ended)
+}
+
+/// How a child is served, and what the whole history then tells.
+fn history<R: Wait>(
+    rt: &R,
+    alloc: Global,
+    stage: Stage,
+    room: &mut LaunchRoom,
+    spawner: &mut MemorySpawner,
+) -> Option<(ChildServed, u64)>
+    requires stage { IsOf stage.book stage.caller × (stage.caller.caller ≢ 0) }
+    requires path { 2048 ≤ room.old.path.room }
+{
+    let Stage {
+        book,
+        mut caller,
+        runner: _,
+    } = stage;
+    let ChildEnded { how, spent } = serve(rt, alloc, &book, &mut caller, room, spawner)?;
+    let closed = book.close(rt, spent);
+    Some((how, told(&closed.trail)))
+}
+
+/// Whether a row's child is served as the row says.
+fn is_served<R: Wait>(rt: &R, alloc: Global, row: &Row) -> bool {
+    let (Some(mut spawner), Ok(mut room), Some(stage)) = (
+        spawner(alloc, row),
+        LaunchRoom::new(alloc),
+        begin_within(rt, alloc, FEW),
+    ) else {
+        return false;
+    };
+    match history(rt, alloc, stage, &mut room, &mut spawner) {
+        Some((how, told)) => how == row.how && told == row.told,
+        None => false,
+    }
+}
+
+/// Whether a process that reports STOPPED ends while a second one runs its service, and changes
+/// nothing.
+fn ends_late<R: Wait>(
+    rt: &R,
+    alloc: Global,
+    book: &TestBook,
+    caller: &mut Pass,
+    first: &mut Pass,
+    room: &mut LaunchRoom,
+    spawner: &mut MemorySpawner,
+) -> bool
+    requires caller { IsOf book.now caller.old × (caller.old.caller ≢ 0) }
+    requires first { IsOf book.now first.old }
+    requires path { 2048 ≤ room.old.path.room }
+{
+    let begins = tells(rt, alloc, book, caller, &BEGIN);
+    let Some(former) = launch(rt, alloc, book, first, room, spawner) else {
+        return false;
+    };
+    let stopped = book.report(rt, first, 0, former, &STOPPED);
+    let starts = tells(rt, alloc, book, caller, &[(Ask::Starts(2), 0)]);
+    let mut second = book.join_runner(caller);
+    let later = launch(rt, alloc, book, &mut second, room, spawner);
+    let runs = tells(rt, alloc, book, caller, &[(Ask::Runs(2), 0)]);
+    let ended = book.ended(rt, first, 0, former);
+    // Only a service that runs is granted this.
+    let running = tells(rt, alloc, book, caller, &[(Ask::Stops(2), 0)]);
+    begins
+        && former == 1
+        && stopped == ReportEnd::Taken
+        && starts
+        && later == Some(2)
+        && runs
+        && ended == EndedEnd::Stale
+        && running
+}
+
+#[test]
+fn a_child_is_told_by_its_reports_and_its_end(rt: HostRuntime) -> Result<(), Fail> {
+    let alloc = rt.alloc();
+    for row in &ROWS {
+        assert!(rt; is_served(&rt, alloc, row));
+    }
+    Ok(())
+}
+
+#[test]
+fn the_end_of_a_former_process_stops_nothing(rt: HostRuntime) -> Result<(), Fail> {
+    let alloc = rt.alloc();
+    let Stage {
+        book,
+        mut caller,
+        mut runner,
+    } = begin(&rt, alloc).ok_or("memory")?;
+    let mut room = LaunchRoom::new(alloc).ok().ok_or("memory")?;
+    let fates = vec![in alloc; child(alloc, 7), child(alloc, 7)]?;
+    let mut spawner = MemorySpawner::new(alloc, fates);
+    let late = ends_late(
+        &rt,
+        alloc,
+        &book,
+        &mut caller,
+        &mut runner,
+        &mut room,
+        &mut spawner,
+    );
+    assert!(rt; late);
+    Ok(())
+}
