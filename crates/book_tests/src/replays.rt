@@ -132,13 +132,25 @@ fn is_told(
     }
 }
 
+/// The same of an entry.
+fn is_told_again(
+    alloc: Global,
+    manager: &mut Manager,
+    visits: &mut [Visit],
+    entry: (u64, Step),
+) -> bool {
+    let (moment, step) = entry;
+    let is_told = is_told(alloc, manager, visits, moment, &step);
+    is_told
+}
+
 /// Whether each entry is.
 fn are_told(alloc: Global, manager: &mut Manager, trail: &Trail, visits: &mut [Visit]) -> bool {
     for place in 0..trail.len() {
-        let Some((moment, step)) = trail.get(place) else {
+        let Ok(entry) = trail.entry(place) else {
             return false;
         };
-        if !is_told(alloc, manager, visits, *moment, step) {
+        if !is_told_again(alloc, manager, visits, entry) {
             return false;
         }
     }

@@ -86,12 +86,28 @@ fn four<R: Wait>(rt: &R, alloc: Global, rows: &[Row]) -> Option<Trail> {
     if is_right { Some(closed.trail) } else { None }
 }
 
+/// A copy of the entry at a place of a history.
+pub fn entry_at(trail: &Trail, place: u64) -> Option<(u64, Step)> {
+    if place < trail.len() {
+        trail.entry(place).ok()
+    } else {
+        None
+    }
+}
+
+/// Who goes by an entry.
+fn gone(entry: &Option<(u64, Step)>) -> Option<u64> {
+    match entry {
+        Some((_, Step::Gone { caller })) => Some(*caller),
+        _ => None,
+    }
+}
+
 /// Whether the history has so many entries, of which the last is that a caller went.
 fn ends_with_gone(trail: &Trail, entries: u64, who: u64) -> bool {
-    match trail.get(entries.saturating_sub(1)) {
-        Some((_, Step::Gone { caller })) => trail.len() == entries && *caller == who,
-        _ => false,
-    }
+    let last = entry_at(trail, entries.saturating_sub(1));
+    let gone = gone(&last);
+    trail.len() == entries && gone == Some(who)
 }
 
 #[test]
@@ -175,12 +191,19 @@ fn kept<R: Wait>(rt: &R, alloc: Global, rows: &[Row]) -> Option<Closed<MemoryKee
     Some(book.close(rt, spent))
 }
 
-/// What became of the change of the call at a place.
-fn append_at(trail: &Trail, place: u64) -> Option<Kept> {
-    match trail.get(place) {
+/// What became of the change of a call.
+fn kept_in(entry: &Option<(u64, Step)>) -> Option<Kept> {
+    match entry {
         Some((_, Step::Call { kept, .. })) => Some(*kept),
         _ => None,
     }
+}
+
+/// What became of the change of the call at a place.
+fn append_at(trail: &Trail, place: u64) -> Option<Kept> {
+    let entry = entry_at(trail, place);
+    let kept = kept_in(&entry);
+    kept
 }
 
 /// A journal that the services `A` and `C` were created in.

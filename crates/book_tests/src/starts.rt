@@ -3,7 +3,7 @@ ghost use Rattle.std.specs.Prelude.{◌≢◌, IfNone, IfSome};
 ghost use Rattle.scm_model.specs.declared.flat.Phase.TheVariants as phases;
 ghost use Rattle.scm_book.specs.Passes.{HasPlan, HoldsProcess, IsOf};
 
-use crate::rows::{Row, come, full, told};
+use crate::rows::{Row, come, entry_at, full, told};
 use book_calls::{Asked, guest, leaves, limits, new_book, runner, told_by};
 use record_journal::MemoryKeeper;
 use scm_book::{
@@ -181,14 +181,21 @@ fn twenty<R: Wait>(rt: &R, alloc: Global) -> Option<Trail> {
     if is_right { Some(closed.trail) } else { None }
 }
 
-/// Whether the last two of twenty entries are that caller 1 went, and that process 1 ended.
-fn ends_with_owed(trail: &Trail) -> bool {
-    match (trail.get(18), trail.get(19)) {
-        (Some((_, Step::Gone { caller: 1 })), Some((_, Step::Ended { process: 1 }))) => {
-            trail.len() == 20
+/// Whether the one entry is that caller 1 went, and the other that process 1 ended.
+fn are_gone_and_ended(one: &Option<(u64, Step)>, other: &Option<(u64, Step)>) -> bool {
+    match (one, other) {
+        (Some((_, Step::Gone { caller })), Some((_, Step::Ended { process }))) => {
+            *caller == 1 && *process == 1
         }
         _ => false,
     }
+}
+
+/// Whether the last two of twenty entries are that caller 1 went, and that process 1 ended.
+fn ends_with_owed(trail: &Trail) -> bool {
+    let (gone, ended) = (entry_at(trail, 18), entry_at(trail, 19));
+    let is_so = are_gone_and_ended(&gone, &ended);
+    is_so && trail.len() == 20
 }
 
 #[test]

@@ -117,16 +117,31 @@ const ROWS: [Row; 8] = [
     },
 ];
 
+/// The state that a report tells, or 9 for the end of a process.
+fn digit(step: &Step) -> Option<u64> {
+    match step {
+        Step::Report { status, .. } => Some(u64::from(status.state)),
+        Step::Ended { .. } => Some(9),
+        _ => None,
+    }
+}
+
+/// The same of an entry.
+fn digit_of(entry: (u64, Step)) -> Option<u64> {
+    let (_, step) = entry;
+    let digit = digit(&step);
+    digit
+}
+
 /// The states that the reports of a history tell, each a digit, and 9 for each end of a process.
 fn told(trail: &Trail) -> u64 {
     let mut told = 0u64;
     for place in 0..trail.len() {
-        match trail.get(place) {
-            Some((_, Step::Report { status, .. })) => {
-                told = told.wrapping_mul(10).wrapping_add(status.state as u64);
-            }
-            Some((_, Step::Ended { .. })) => told = told.wrapping_mul(10).wrapping_add(9),
-            _ => {}
+        let Ok(entry) = trail.entry(place) else {
+            return 0;
+        };
+        if let Some(digit) = digit_of(entry) {
+            told = told.wrapping_mul(10).wrapping_add(digit);
         }
     }
     told

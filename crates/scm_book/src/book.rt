@@ -212,10 +212,10 @@ impl<K: Keeper> Book<K> {
     {
         let refusal = refused(self.shared.alloc, &request, ERROR_NOT_ENOUGH_MEMORY);
         let caller = pass.caller;
-        let call = called(self.shared.alloc, caller, request);
+        let mut call = called(self.shared.alloc, caller, request);
         let ended = self
             .shared
-            .call_by(rt, moment, call, caller, &mut pass.badge);
+            .call_by(rt, moment, &mut call, caller, &mut pass.badge);
         Asked { ended, refusal }
     }
 
@@ -283,7 +283,8 @@ impl<K: Keeper> Book<K> {
     }
 }
 
-/// A caller's call, with a copy of it.
+/// A caller's call, with its note.
+#[inline(always)]
 fn called(alloc: Global, caller: u64, request: Request) -> Doubled
     ensures { result.step ≡ steps.Call caller request appended.NotAsked }
 {

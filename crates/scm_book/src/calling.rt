@@ -33,8 +33,8 @@ impl<K: Keeper> Shared<K> {
         ensures did { DidNone K.held K.faults self.now.turn seat.old seat.new moment caller result }
         ensures waits { Waits self.now.turn seat.new }
     {
-        let none = Doubled::new(self.alloc, Step::NoMemory { caller });
-        match self.add_new(rt, moment, none, held, seat) {
+        let mut none = Doubled::new(self.alloc, Step::NoMemory { caller });
+        match self.add_new(rt, moment, &mut none, held, seat) {
             Ok(_) => Ok(None),
             Err(_) => Err(MakeFault::OutOfMemory),
         }
@@ -46,15 +46,15 @@ impl<K: Keeper> Shared<K> {
         &self,
         rt: &R,
         moment: u64,
-        call: Doubled,
+        call: &mut Doubled,
         by: u64,
         mut held: Box<Held<K>>,
         seat: &mut TurnSeat<Held<K>>,
     ) -> Result<Option<Answer>, MakeFault>
         requires turn { HasTurn K.held K.faults self.now.turn seat.old held.value }
-        requires may { MayMakeBy self.now.turn.opening seat.old.me.0 moment call.step }
+        requires may { MayMakeBy self.now.turn.opening seat.old.me.0 moment call.old.step }
         requires none { MayMakeBy self.now.turn.opening seat.old.me.0 moment (steps.NoMemory by) }
-        ensures did { DidCall K.held K.faults self.now.turn seat.old seat.new moment by call.step result }
+        ensures did { DidCall K.held K.faults self.now.turn seat.old seat.new moment by call.old.step result }
         ensures waits { Waits self.now.turn seat.new }
     {
         match held.make_doubled(moment, call) {
@@ -77,15 +77,15 @@ impl<K: Keeper> Shared<K> {
         &self,
         rt: &R,
         moment: u64,
-        call: Doubled,
+        call: &mut Doubled,
         caller: u64,
         badge: &mut Badge<View>,
     ) -> Result<Option<Answer>, MakeFault>
         requires badge { IsSeated self.now.turn badge.old }
-        requires may { AlwaysMay self.now.turn.opening (of_badge badge.old) moment call.step }
+        requires may { AlwaysMay self.now.turn.opening (of_badge badge.old) moment call.old.step }
         requires none { AlwaysMay self.now.turn.opening (of_badge badge.old) moment (steps.NoMemory caller) }
         ensures badge { IsSeated self.now.turn badge.new }
-        ensures ends { CallEndsBy self.now.turn.opening badge.old moment caller call.step badge.new result }
+        ensures ends { CallEndsBy self.now.turn.opening badge.old moment caller call.old.step badge.new result }
     {
         let mut seat = self.sit(badge);
         let held = self.turn.enter(rt, &mut seat);

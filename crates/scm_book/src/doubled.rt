@@ -2,34 +2,36 @@ ghost use Rattle.std.specs.Prelude.{◌≡◌, IfSome};
 ghost use Rattle.std.specs.Option.{ForSome};
 
 use scm_model::Step;
-use scm_text::OutOfMemory;
+use scm_trail::Note;
 use std::alloc::Global;
 
-/// A step with a copy of it: the manager uses up the one, and the trail keeps the other. There is
-/// no copy where there was no memory for it. It is made before the turn is taken, so that no
-/// request is copied with the turn held.
+/// A step, and its note for the trail. The manager uses up the one, and the trail keeps the other.
+/// There is no note where there was no memory for it. It is made before the turn is taken, so that
+/// no request is copied with the turn held.
 #[derive(Drop)]
 pub struct Doubled {
     pub step: Step,
-    pub copy: Option<Step>,
-    ghost same: { ForSome copy (λ other. other ≡ step) },
+    pub note: Option<Note>,
+    ghost same: { ForSome note (λ other. other ≡ step) },
 }
 
-/// A copy of a step, if there is memory for it.
-fn copy_of(alloc: Global, step: &Step) -> Option<Step>
-    ensures { IfSome result (λ copy. copy ≡ step.now) }
+/// The note of a step, if there is memory for it.
+#[inline(always)]
+fn note_of(alloc: Global, step: &Step) -> Option<Note>
+    ensures { IfSome result (λ note. note ≡ step.now) }
 {
-    match step.copy(alloc) {
-        Ok(copy) => Some(copy),
-        Err(OutOfMemory) => None,
+    match Note::new(alloc, step) {
+        Ok(note) => Some(note),
+        Err(_) => None,
     }
 }
 
 impl Doubled {
+    #[inline(always)]
     pub fn new(alloc: Global, step: Step) -> Doubled
         ensures { result.step ≡ step }
     {
-        let copy = copy_of(alloc, &step);
-        Doubled { step, copy }
+        let note = note_of(alloc, &step);
+        Doubled { step, note }
     }
 }

@@ -17,8 +17,9 @@ use record_journal::{Journal, KeepFault, Keeper};
 use scm_core::Manager;
 use scm_model::{Answer, Kept, Step};
 use scm_text::OutOfMemory;
-use scm_trail::Trail;
+use scm_trail::{Note, Trail};
 use std::alloc::Global;
+use std::mem;
 
 /// What the holder of the turn has: the manager, the trail of the steps that it made, and the
 /// journal of the changes that were kept, with its keeper.
@@ -29,6 +30,15 @@ pub struct Held<K: Keeper> {
     pub journal: Journal,
     pub keeper: K,
     pub(crate) alloc: Global,
+}
+
+/// Lets a step tell what became of its change.
+fn tell(step: &mut Step, now: Kept)
+    ensures { step.new ≡ with_kept step.old now }
+{
+    if let Step::Call { kept, .. } = step {
+        *kept = now;
+    }
 }
 
 impl<K: Keeper> Content for Held<K> {
@@ -118,9 +128,10 @@ impl<K: Keeper> Held<K> {
         }
     }
 
-    /// Does a step for which there is all memory. The trail keeps the copy.
-    fn grow(&mut self, moment: u64, step: Step, copy: Step) -> Answer
-        requires copy { copy ≡ step }
+    /// Does a step for which there is all memory. The trail keeps its note.
+    #[inline(always)]
+    fn grow(&mut self, moment: u64, step: Step, note: Note) -> Answer
+        requires note { note ≡ step }
         requires may { IsTrue (may_in self.old moment step) }
         requires made { WasMadeFor self.old.manager.room step }
         requires steps { self.old.manager.steps < 2 ^ 50 }
@@ -133,23 +144,24 @@ impl<K: Keeper> Held<K> {
         ensures room { self.old.trail.room ≤ self.new.trail.room + 1 }
     {
         let answer = self.manager.step(moment, step);
-        self.trail.push(moment, copy);
+        self.trail.push(moment, note);
         answer
     }
 
     /// Makes all that a step can use, appends its change where it makes one, and says what became
     /// of that.
+    #[inline(always)]
     fn prepare(&mut self, doubled: &Doubled) -> Result<Kept, MakeFault>
         requires small { AreSmall self.old.manager.limits }
         ensures ok { IfOk result (IsPrepared K.held K.faults self.old self.new doubled.now.step) }
-        ensures copied { OnOk result (IsSome doubled.now.copy) }
+        ensures noted { OnOk result (IsSome doubled.now.note) }
         ensures err { OnErr result (IsAsItWas self.old self.new) }
         ensures why { IfErr result (λ fault. Why self.old doubled.now.step fault) }
     {
         if !self.manager.room(&doubled.step) {
             return Err(MakeFault::Full);
         }
-        if doubled.copy.is_none() {
+        if doubled.note.is_none() {
             return Err(MakeFault::OutOfMemory);
         }
         let Ok(()) = self.reserve_for(&doubled.step) else {
@@ -161,40 +173,45 @@ impl<K: Keeper> Held<K> {
         }
     }
 
-    /// Makes a step that isn't owed, with a copy of it that was made before. What it tells of what
+    /// Makes a step that isn't owed, with a note of it that was made before, and uses both up. What it tells of what
     /// became of its change plays no part: that is told by what the append of the change came to.
     /// All memory is made first.
-    pub fn make_doubled(&mut self, moment: u64, doubled: Doubled) -> Result<Answer, MakeFault>
-        requires may { IsTrue (may_come_in self.old moment doubled.step) }
+    pub fn make_doubled(&mut self, moment: u64, doubled: &mut Doubled) -> Result<Answer, MakeFault>
+        requires may { IsTrue (may_come_in self.old moment doubled.old.step) }
         requires small { AreSmall self.old.manager.limits }
-        ensures ok { IfOk result (Makes K.held K.faults self.old self.new moment doubled.step) }
+        ensures ok { IfOk result (Makes K.held K.faults self.old self.new moment doubled.old.step) }
         ensures err { OnErr result (IsAsItWas self.old self.new) }
-        ensures why { IfErr result (λ fault. Why self.old doubled.step fault) }
+        ensures why { IfErr result (λ fault. Why self.old doubled.old.step fault) }
+        ensures same { OnErr result (doubled.new ≡ doubled.old) }
     {
-        let kept = self.prepare(&doubled)?;
+        let kept = self.prepare(doubled)?;
         Ok(self.finish(moment, doubled, kept))
     }
 
     /// Does a step that was prepared.
-    fn finish(&mut self, moment: u64, doubled: Doubled, kept: Kept) -> Answer
-        requires copied { IsSome doubled.copy }
-        requires may { IsTrue (may_in self.old moment (with_kept doubled.step kept)) }
-        requires made { WasMadeFor self.old.manager.room doubled.step }
+    #[inline(always)]
+    fn finish(&mut self, moment: u64, doubled: &mut Doubled, kept: Kept) -> Answer
+        requires noted { IsSome doubled.old.note }
+        requires may { IsTrue (may_in self.old moment (with_kept doubled.old.step kept)) }
+        requires made { WasMadeFor self.old.manager.room doubled.old.step }
         requires steps { self.old.manager.steps < 2 ^ 50 }
-        requires text { self.old.manager.text + text_of doubled.step < 2 ^ 63 }
+        requires text { self.old.manager.text + text_of doubled.old.step < 2 ^ 63 }
         requires room { 1 ≤ self.old.trail.room }
-        requires text_room { text_of doubled.step ≤ self.old.trail.text_room }
-        ensures grows { Grows self.old self.new moment (with_kept doubled.step kept) result }
+        requires text_room { text_of doubled.old.step ≤ self.old.trail.text_room }
+        ensures grows { Grows self.old self.new moment (with_kept doubled.old.step kept) result }
         ensures journal { self.new.journal ≡ self.old.journal }
         ensures keeper { self.new.keeper ≡ self.old.keeper }
         ensures room { self.old.trail.room ≤ self.new.trail.room + 1 }
     {
-        let Doubled { step, copy } = doubled;
-        let Some(copy) = copy else { unreachable!() };
-        self.grow(moment, step.with_kept(kept), copy.with_kept(kept))
+        let Some(note) = doubled.note.take() else {
+            unreachable!()
+        };
+        tell(&mut doubled.step, kept);
+        let step = mem::replace(&mut doubled.step, Step::Tick);
+        self.grow(moment, step, note.with_kept(kept))
     }
 
-    /// Makes a step that isn't owed, as `make_doubled` does, and copies it itself.
+    /// Makes a step that isn't owed, as `make_doubled` does, and notes it itself.
     pub fn make(&mut self, moment: u64, step: Step) -> Result<Answer, MakeFault>
         requires may { IsTrue (may_come_in self.old moment step) }
         requires small { AreSmall self.old.manager.limits }
@@ -202,7 +219,7 @@ impl<K: Keeper> Held<K> {
         ensures err { OnErr result (IsAsItWas self.old self.new) }
         ensures why { IfErr result (λ fault. Why self.old step fault) }
     {
-        self.make_doubled(moment, Doubled::new(self.alloc, step))
+        self.make_doubled(moment, &mut Doubled::new(self.alloc, step))
     }
 
     /// Makes a step that is owed. Its room was made when it came to be owed, so it always takes
@@ -214,6 +231,6 @@ impl<K: Keeper> Held<K> {
         requires room { 1 ≤ self.old.trail.room }
         ensures { Adds self.old self.new moment (owed_step owed) result }
     {
-        self.grow(moment, owed.step(), owed.step())
+        self.grow(moment, owed.step(), owed.note())
     }
 }

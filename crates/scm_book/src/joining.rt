@@ -45,8 +45,8 @@ impl<K: Keeper> Shared<K> {
         ensures seat { Waits self.now.turn seat.new }
         ensures ends { JoinEndsAt self.now.turn.opening seat.old moment principal seat.new result }
     {
-        let joined = Doubled::new(self.alloc, Step::Joined { principal });
-        match self.make_at(rt, moment, joined, seat) {
+        let mut joined = Doubled::new(self.alloc, Step::Joined { principal });
+        match self.make_at(rt, moment, &mut joined, seat) {
             Ok(told) => Ok(caller_of(told)),
             Err(StepFault::NotNow) => Err(JoinFault::TooMany),
             Err(StepFault::Full) => Err(JoinFault::Full),

@@ -6,11 +6,11 @@ ghost use Rattle.scm_book.specs.Processes.{DidLaunch, HoldsLaunch, TakesBy};
 ghost use Rattle.scm_book.specs.Turns.{HasTurn, IsSeated, of_badge};
 
 use crate::held::Held;
+use crate::owed::Owed;
 use crate::shared::Shared;
 use atomic_table::Badge;
 use book_rule::{TurnSeat, View};
 use record_journal::Keeper;
-use scm_model::Step;
 use scm_text::{Items, OutOfMemory, TextRoom, WText};
 use std::alloc::Global;
 use std::sync::Wait;
@@ -59,7 +59,7 @@ impl<K: Keeper> Held<K> {
     {
         match self.manager.take_launch(moment, path) {
             Some((process, words)) => {
-                self.trail.push(moment, Step::LaunchTaken);
+                self.trail.push(moment, Owed::LaunchTaken.note());
                 Some(TakenLaunch { process, words })
             }
             None => None,

@@ -2,6 +2,7 @@ ghost use Rattle.std.specs.Prelude.{◌≡◌};
 ghost use Rattle.scm_book.specs.Steps.{owed_step};
 
 use scm_model::Step;
+use scm_trail::Note;
 
 /// A step that is owed: it takes place without being asked for, and its room was made when it came
 /// to be owed. It holds no memory.
@@ -34,5 +35,15 @@ impl Owed {
             Owed::Ended { process } => Step::Ended { process },
             Owed::Gone { caller } => Step::Gone { caller },
         }
+    }
+
+    /// The note of the step, which takes no memory.
+    pub fn note(self) -> Note
+        ensures { result ≡ owed_step self }
+    {
+        let Some(note) = Note::brief(&self.step()) else {
+            unreachable!()
+        };
+        note
     }
 }

@@ -85,8 +85,8 @@ impl<K: Keeper> Book<K> {
         ensures keeps { KeepsAll self.now.opening pass.old pass.new }
     {
         let status = *status;
-        let step = Doubled::new(self.shared.alloc, Step::Report { process, status });
-        let ended = self.shared.make_by(rt, moment, step, &mut pass.badge);
+        let mut step = Doubled::new(self.shared.alloc, Step::Report { process, status });
+        let ended = self.shared.make_by(rt, moment, &mut step, &mut pass.badge);
         report_of(ended)
     }
 
@@ -114,8 +114,8 @@ impl<K: Keeper> Book<K> {
         ensures ends { TickEnds self.now.opening pass.old moment result pass.new }
         ensures keeps { KeepsAll self.now.opening pass.old pass.new }
     {
-        let step = Doubled::new(self.shared.alloc, Step::Tick);
-        let ended = self.shared.make_by(rt, moment, step, &mut pass.badge);
+        let mut step = Doubled::new(self.shared.alloc, Step::Tick);
+        let ended = self.shared.make_by(rt, moment, &mut step, &mut pass.badge);
         tick_of(ended)
     }
 }
@@ -134,11 +134,11 @@ impl<K: Keeper> Shared<K> {
         ensures badge { IsSeated self.now.turn badge.new }
         ensures looks { LooksForBy self.now.turn.opening badge.old moment process badge.new result }
     {
-        let control = Doubled::new(self.alloc, Step::ControlTaken { process });
+        let mut control = Doubled::new(self.alloc, Step::ControlTaken { process });
         let mut seat = self.sit(badge);
         let held = self.turn.enter(rt, &mut seat);
         let waiting = held.manager.waiting(process);
-        let ended = self.add_where_it_may(rt, moment, control, held, &mut seat);
+        let ended = self.add_where_it_may(rt, moment, &mut control, held, &mut seat);
         *badge = self.stand(seat);
         Looked { ended, waiting }
     }

@@ -63,15 +63,15 @@ impl<K: Keeper> Shared<K> {
         &self,
         rt: &R,
         moment: u64,
-        step: Doubled,
+        step: &mut Doubled,
         mut held: Box<Held<K>>,
         seat: &mut TurnSeat<Held<K>>,
     ) -> Result<Answer, MakeFault>
         requires turn { HasTurn K.held K.faults self.now.turn seat.old held.value }
-        requires may { MayMakeBy self.now.turn.opening seat.old.me.0 moment step.step }
-        ensures ok { IfOk result (DidSoBy K.held K.faults self.now.turn seat.old seat.new moment step.step) }
+        requires may { MayMakeBy self.now.turn.opening seat.old.me.0 moment step.old.step }
+        ensures ok { IfOk result (DidSoBy K.held K.faults self.now.turn seat.old seat.new moment step.old.step) }
         ensures err { OnErr result (LeftIt seat.old seat.new) }
-        ensures why { IfErr result (MakeCause self.now.turn.opening seat.old.me.0.seen step.step) }
+        ensures why { IfErr result (MakeCause self.now.turn.opening seat.old.me.0.seen step.old.step) }
         ensures waits { Waits self.now.turn seat.new }
     {
         match held.make_doubled(moment, step) {
@@ -92,13 +92,13 @@ impl<K: Keeper> Shared<K> {
         &self,
         rt: &R,
         moment: u64,
-        step: Doubled,
+        step: &mut Doubled,
         held: Box<Held<K>>,
         seat: &mut TurnSeat<Held<K>>,
     ) -> Result<Answer, StepFault>
         requires turn { HasTurn K.held K.faults self.now.turn seat.old held.value }
-        requires own { NamesNoOther seat.old.me.0.names step.step }
-        ensures did { DidStep K.held K.faults self.now.turn seat.old seat.new moment step.step result }
+        requires own { NamesNoOther seat.old.me.0.names step.old.step }
+        ensures did { DidStep K.held K.faults self.now.turn seat.old seat.new moment step.old.step result }
         ensures waits { Waits self.now.turn seat.new }
     {
         if !held.manager.may(moment, &step.step) {
@@ -117,13 +117,13 @@ impl<K: Keeper> Shared<K> {
         &self,
         rt: &R,
         moment: u64,
-        step: Doubled,
+        step: &mut Doubled,
         seat: &mut TurnSeat<Held<K>>,
     ) -> Result<Answer, StepFault>
         requires seat { Waits self.now.turn seat.old }
-        requires own { NamesNoOther seat.old.me.0.names step.step }
+        requires own { NamesNoOther seat.old.me.0.names step.old.step }
         ensures seat { Waits self.now.turn seat.new }
-        ensures ends { StepEndsAt self.now.turn.opening seat.old moment step.step seat.new result }
+        ensures ends { StepEndsAt self.now.turn.opening seat.old moment step.old.step seat.new result }
     {
         let held = self.turn.enter(rt, seat);
         self.add_where_it_may(rt, moment, step, held, seat)
@@ -134,13 +134,13 @@ impl<K: Keeper> Shared<K> {
         &self,
         rt: &R,
         moment: u64,
-        step: Doubled,
+        step: &mut Doubled,
         badge: &mut Badge<View>,
     ) -> Result<Answer, StepFault>
         requires badge { IsSeated self.now.turn badge.old }
-        requires own { NamesNoOther (of_badge badge.old).names step.step }
+        requires own { NamesNoOther (of_badge badge.old).names step.old.step }
         ensures badge { IsSeated self.now.turn badge.new }
-        ensures ends { StepEndsBy self.now.turn.opening badge.old moment step.step badge.new result }
+        ensures ends { StepEndsBy self.now.turn.opening badge.old moment step.old.step badge.new result }
     {
         let mut seat = self.sit(badge);
         let ended = self.make_at(rt, moment, step, &mut seat);

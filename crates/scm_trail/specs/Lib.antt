@@ -1,2 +1,3 @@
 pub mod Trailed
 pub mod Chunks
+pub mod Notes

@@ -1,9 +1,9 @@
 ghost use Rattle.std.specs.Prelude.{◌≡◌, ◌+◌, ◌<◌, ◌≤◌, ◌++◌, ◌∷◌, [], IfOk, IsOk, OnOk, OnErr, Some, length, slice_get};
-ghost use Rattle.std.specs.Option.{option_copied};
 ghost use Rattle.scm_model.specs.Entries.{text_in};
 ghost use Rattle.scm_model.specs.Texts.{text_of};
 ghost use Rattle.scm_trail.specs.Chunks.{AddsChunks};
 
+use crate::note::Note;
 use scm_model::Step;
 use scm_text::{Buffer, OutOfMemory};
 use std::alloc::Global;
@@ -19,7 +19,7 @@ const CHUNK: u64 = 4096;
 /// their list may be copied, which has 24 bytes a chunk.
 #[derive(Drop)]
 pub struct Trail {
-    chunks: Vec<Buffer<(u64, Step)>>,
+    chunks: Vec<Buffer<(u64, Note)>>,
     len: u64,
     room: u64,
     text: u64,
@@ -42,7 +42,7 @@ impl Model for Trail {
 }
 
 /// Adds empty chunks until there are so many.
-fn add_chunks(chunks: &mut Vec<Buffer<(u64, Step)>>, count: u64) -> Result<(), OutOfMemory>
+fn add_chunks(chunks: &mut Vec<Buffer<(u64, Note)>>, count: u64) -> Result<(), OutOfMemory>
     ensures added { AddsChunks chunks.old.items chunks.new.items }
     ensures ok { OnOk result (count ≤ length chunks.new.items) }
 {
@@ -98,7 +98,7 @@ impl Trail {
     }
 
     /// Appends an entry, and takes no memory.
-    pub fn push(&mut self, moment: u64, step: Step)
+    pub fn push(&mut self, moment: u64, step: Note)
         requires room { 1 ≤ self.old.room }
         requires text_room { text_of step ≤ self.old.text_room }
         ensures entries { self.new.entries ≡ self.old.entries ++ (moment, step) ∷ [] }
@@ -130,23 +130,12 @@ impl Trail {
     }
 
     /// The row of an entry.
-    fn row(&self, place: u64) -> &(u64, Step)
+    fn row(&self, place: u64) -> &(u64, Note)
         requires { place < length self.now.entries }
         ensures { slice_get self.now.entries place ≡ Some result.now }
     {
         let chunk = &self.chunks[(place / CHUNK) as usize];
         &chunk.as_slice()[(place % CHUNK) as usize]
-    }
-
-    /// Looks at the entry at a place.
-    pub fn get(&self, place: u64) -> Option<&(u64, Step)>
-        ensures { option_copied result ≡ slice_get self.now.entries place }
-    {
-        if place < self.len {
-            Some(self.row(place))
-        } else {
-            None
-        }
     }
 
     /// A copy of the entry at a place.
@@ -156,6 +145,6 @@ impl Trail {
     {
         let alloc = *self.chunks.allocator();
         let (moment, step) = self.row(place);
-        Ok((*moment, step.copy(alloc)?))
+        Ok((*moment, step.step(alloc)?))
     }
 }

@@ -1,4 +1,5 @@
-use Rattle.std.proofs.Common.{ap, refl}
+use Rattle.std.proofs.Common.{◌∙◌, ◌++◌, ◌∷◌, [], ap, refl}
+use Rattle.scm_model.specs.declared.steps.Step.{Step}
 use Rattle.scm_core.specs.Managed.{Managed}
 use Rattle.scm_book.proofs.Firsts.{adds_launch, nothing_wanted, some_first}
 use Rattle.scm_book.proofs.held.Held.take_launch.Goals as goal
@@ -8,7 +9,8 @@ push-requires-clause-room g c = c.requires.room (some_first c.args.self.now.mana
 
 pub returns-in-Some : goal.returns-in-Some
 returns-in-Some g c = (
-  adds_launch c.args.self.now _ c.args.moment c.in-Some.process c.in-Some.ensures.0 c.in-Some.ensures.3 c.push.ensures.entries c.push.ensures.room refl refl,
+  adds_launch c.args.self.now _ c.args.moment c.in-Some.process c.in-Some.ensures.0 c.in-Some.ensures.3
+      (c.push.ensures.entries ∙ ap (λ (step : Step). c.args.self.now.trail.entries ++ (c.args.moment, step) ∷ []) c.note.ensures) c.push.ensures.room refl refl,
   record { lies = c.in-Some.ensures.1; rest = c.in-Some.ensures.2 },
 )
 

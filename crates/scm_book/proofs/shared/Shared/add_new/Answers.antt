@@ -12,7 +12,7 @@ use Rattle.scm_book.proofs.shared.Shared.add_new.Goals as goal
 pub make_doubled-requires-clause-may : goal.make_doubled-requires-clause-may
 make_doubled-requires-clause-may g c =
     let holds = subst (λ (x : Held _). Holds g.K.Keeper.held g.K.Keeper.faults c.args.self.now.turn.opening c.args.seat.now.me.0.seen x) (sym c.deref_mut.ensures.value) c.requires.turn.holds in
-    come_same g.K.Keeper.held g.K.Keeper.faults c.args.self.now.turn.opening c.args.seat.now.me.0.seen c.deref_mut.result.now holds c.args.moment c.args.step.step ∙ c.requires.may.may
+    come_same g.K.Keeper.held g.K.Keeper.faults c.args.self.now.turn.opening c.args.seat.now.me.0.seen c.deref_mut.result.now holds c.args.moment c.args.step.now.step ∙ c.requires.may.may
 
 pub make_doubled-requires-clause-small : goal.make_doubled-requires-clause-small
 make_doubled-requires-clause-small g c =
@@ -22,20 +22,20 @@ make_doubled-requires-clause-small g c =
 pub commit-requires-clause-content : goal.commit-requires-clause-content
 commit-requires-clause-content g c =
     let holds = subst (λ (x : Held _). Holds g.K.Keeper.held g.K.Keeper.faults c.args.self.now.turn.opening c.args.seat.now.me.0.seen x) (sym c.deref_mut.ensures.value) c.requires.turn.holds in
-    let p = stands_made g.K.Keeper.held g.K.Keeper.faults c.args.self.now.turn c.args.seat.now.me.0 c.deref_mut.result.now c.make_doubled.new.self holds c.requires.turn.runs c.args.moment c.args.step.step c.in-Ok.told c.in-Ok.ensures.ok c.requires.may.own in
+    let p = stands_made g.K.Keeper.held g.K.Keeper.faults c.args.self.now.turn c.args.seat.now.me.0 c.deref_mut.result.now c.make_doubled.new.self holds c.requires.turn.runs c.args.moment c.args.step.now.step c.in-Ok.told c.in-Ok.ensures.ok c.requires.may.own in
     record { entry = p.entry; trail = p.trail; names = p.names; follows = p.follows; fits = p.fits }
 
 pub returns-in-Ok-clause-ok : goal.returns-in-Ok-clause-ok
 returns-in-Ok-clause-ok g c =
     let holds = subst (λ (x : Held _). Holds g.K.Keeper.held g.K.Keeper.faults c.args.self.now.turn.opening c.args.seat.now.me.0.seen x) (sym c.deref_mut.ensures.value) c.requires.turn.holds in
-    let did = did_make g.K.Keeper.held g.K.Keeper.faults c.args.self.now.turn c.args.seat.now.me.0 c.deref_mut.result.now c.make_doubled.new.self holds c.requires.turn.runs c.args.moment c.args.step.step c.in-Ok.told c.in-Ok.ensures.ok c.args.seat.now c.commit.new.seat refl c.commit.ensures.table (c.commit.ensures.seat (c.args.moment, with_kept c.args.step.step c.in-Ok.ensures.ok.append) (end_made g.K.Keeper.held g.K.Keeper.faults c.args.self.now.turn c.args.seat.now.me.0 c.deref_mut.result.now c.make_doubled.new.self holds c.requires.turn.runs c.args.moment c.args.step.step c.in-Ok.told c.in-Ok.ensures.ok)) in
+    let did = did_make g.K.Keeper.held g.K.Keeper.faults c.args.self.now.turn c.args.seat.now.me.0 c.deref_mut.result.now c.make_doubled.new.self holds c.requires.turn.runs c.args.moment c.args.step.now.step c.in-Ok.told c.in-Ok.ensures.ok c.args.seat.now c.commit.new.seat refl c.commit.ensures.table (c.commit.ensures.seat (c.args.moment, with_kept c.args.step.now.step c.in-Ok.ensures.ok.append) (end_made g.K.Keeper.held g.K.Keeper.faults c.args.self.now.turn c.args.seat.now.me.0 c.deref_mut.result.now c.make_doubled.new.self holds c.requires.turn.runs c.args.moment c.args.step.now.step c.in-Ok.told c.in-Ok.ensures.ok)) in
     did
 
 pub returns-in-Ok-clause-waits : goal.returns-in-Ok-clause-waits
 returns-in-Ok-clause-waits g c =
     let holds = subst (λ (x : Held _). Holds g.K.Keeper.held g.K.Keeper.faults c.args.self.now.turn.opening c.args.seat.now.me.0.seen x) (sym c.deref_mut.ensures.value) c.requires.turn.holds in
-    let did = did_make g.K.Keeper.held g.K.Keeper.faults c.args.self.now.turn c.args.seat.now.me.0 c.deref_mut.result.now c.make_doubled.new.self holds c.requires.turn.runs c.args.moment c.args.step.step c.in-Ok.told c.in-Ok.ensures.ok c.args.seat.now c.commit.new.seat refl c.commit.ensures.table (c.commit.ensures.seat (c.args.moment, with_kept c.args.step.step c.in-Ok.ensures.ok.append) (end_made g.K.Keeper.held g.K.Keeper.faults c.args.self.now.turn c.args.seat.now.me.0 c.deref_mut.result.now c.make_doubled.new.self holds c.requires.turn.runs c.args.moment c.args.step.step c.in-Ok.told c.in-Ok.ensures.ok)) in
-    settled_waits c.args.self.now.turn c.args.seat.now c.commit.new.seat (having_made (way_of g.K.Keeper.held g.K.Keeper.faults) c.args.self.now.turn.opening c.args.seat.now.me.0 (c.args.moment, with_kept c.args.step.step did.append)) c.requires.turn.seat did.did.table did.did.me refl
+    let did = did_make g.K.Keeper.held g.K.Keeper.faults c.args.self.now.turn c.args.seat.now.me.0 c.deref_mut.result.now c.make_doubled.new.self holds c.requires.turn.runs c.args.moment c.args.step.now.step c.in-Ok.told c.in-Ok.ensures.ok c.args.seat.now c.commit.new.seat refl c.commit.ensures.table (c.commit.ensures.seat (c.args.moment, with_kept c.args.step.now.step c.in-Ok.ensures.ok.append) (end_made g.K.Keeper.held g.K.Keeper.faults c.args.self.now.turn c.args.seat.now.me.0 c.deref_mut.result.now c.make_doubled.new.self holds c.requires.turn.runs c.args.moment c.args.step.now.step c.in-Ok.told c.in-Ok.ensures.ok)) in
+    settled_waits c.args.self.now.turn c.args.seat.now c.commit.new.seat (having_made (way_of g.K.Keeper.held g.K.Keeper.faults) c.args.self.now.turn.opening c.args.seat.now.me.0 (c.args.moment, with_kept c.args.step.now.step did.append)) c.requires.turn.seat did.did.table did.did.me refl
 
 pub give_back-requires-clause-fits : goal.give_back-requires-clause-fits
 give_back-requires-clause-fits g c =
@@ -45,7 +45,7 @@ give_back-requires-clause-fits g c =
 pub returns-in-Err-clause-why : goal.returns-in-Err-clause-why
 returns-in-Err-clause-why g c =
     let holds = subst (λ (x : Held _). Holds g.K.Keeper.held g.K.Keeper.faults c.args.self.now.turn.opening c.args.seat.now.me.0.seen x) (sym c.deref_mut.ensures.value) c.requires.turn.holds in
-    why_same g.K.Keeper.held g.K.Keeper.faults c.args.self.now.turn.opening c.args.seat.now.me.0.seen c.deref_mut.result.now holds c.args.step.step c.in-Err.fault c.in-Err.ensures.why
+    why_same g.K.Keeper.held g.K.Keeper.faults c.args.self.now.turn.opening c.args.seat.now.me.0.seen c.deref_mut.result.now holds c.args.step.now.step c.in-Err.fault c.in-Err.ensures.why
 
 pub returns-in-Err-clause-waits : goal.returns-in-Err-clause-waits
 returns-in-Err-clause-waits g c =

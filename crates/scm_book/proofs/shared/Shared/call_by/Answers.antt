@@ -12,8 +12,8 @@ add_call-ended-requires-clause-turn g c =
 
 pub add_call-ended-requires-clause-may : goal.add_call-ended-requires-clause-may
 add_call-ended-requires-clause-may g c =
-    may_now g.K.Keeper.held g.K.Keeper.faults c.args.self.now.turn c.sit-seat.result c.enter-held.new.seat c.enter-held.result c.enter-held.ensures c.args.moment c.args.call.step
-    (subst (λ (k : Known). AlwaysMay c.args.self.now.turn.opening k c.args.moment c.args.call.step) c.sit-seat.ensures.knows c.requires.may)
+    may_now g.K.Keeper.held g.K.Keeper.faults c.args.self.now.turn c.sit-seat.result c.enter-held.new.seat c.enter-held.result c.enter-held.ensures c.args.moment c.args.call.now.step
+    (subst (λ (k : Known). AlwaysMay c.args.self.now.turn.opening k c.args.moment c.args.call.now.step) c.sit-seat.ensures.knows c.requires.may)
 
 pub add_call-ended-requires-clause-none : goal.add_call-ended-requires-clause-none
 add_call-ended-requires-clause-none g c =
@@ -23,5 +23,5 @@ add_call-ended-requires-clause-none g c =
 
 pub returns-clause-ends : goal.returns-clause-ends
 returns-clause-ends g c =
-    as_tokens (λ (k k' : Known). CallEnds c.args.self.now.turn.opening k c.args.moment c.args.caller c.args.call.step c.add_call-ended.result k') c.sit-seat.ensures.knows c.stand.ensures.knows
-    (did_call g.K.Keeper.held g.K.Keeper.faults c.args.self.now.turn c.sit-seat.result c.enter-held.new.seat c.enter-held.result c.enter-held.ensures c.add_call-ended.new.seat c.args.moment c.args.caller c.args.call.step c.add_call-ended.result c.add_call-ended.ensures.did)
+    as_tokens (λ (k k' : Known). CallEnds c.args.self.now.turn.opening k c.args.moment c.args.caller c.args.call.now.step c.add_call-ended.result k') c.sit-seat.ensures.knows c.stand.ensures.knows
+    (did_call g.K.Keeper.held g.K.Keeper.faults c.args.self.now.turn c.sit-seat.result c.enter-held.new.seat c.enter-held.result c.enter-held.ensures c.add_call-ended.new.seat c.args.moment c.args.caller c.args.call.now.step c.add_call-ended.result c.add_call-ended.ensures.did)
