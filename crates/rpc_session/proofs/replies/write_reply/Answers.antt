@@ -1,9 +1,9 @@
-use Rattle.std.proofs.Common.{arith, rules, ap, eqb-true, List, ℕ, [], ◌∷◌, ◌-◌, ◌<◌, ◌≡◌, length, false, sym, ◌∙◌, drop, nat_eq, refl}
+use Rattle.std.proofs.Common.{arith, ap, eqb-true, List, ℕ, [], ◌∷◌, ◌-◌, ◌<◌, ◌≡◌, length, false, sym, ◌∙◌, drop, nat_eq, refl}
 use Rattle.std.proofs.lemmas.List.{length-drop}
 use Rattle.rpc_session.specs.Replies.{room_of}
 use Rattle.outside.proofs.Sending.{sent_all, sent_failed, sent_more}
 use Rattle.rpc_session.proofs.Sending.{no_fragments, spent, fragments_step}
-use Rattle.rpc_session.proofs.replies.write_fragments.Goals as goal
+use Rattle.rpc_session.proofs.replies.write_reply.Goals as goal
 
 some_left : (xs : List ℕ) → false ≡ nat_eq (length xs) 0 → 0 < length xs
 some_left [] e = grind arith
@@ -22,7 +22,6 @@ loop-preserved g c = (
       c.in_default.ensures.written,
   c.in_default.ensures.cause.kept ∙ c.loop.invariant.1,
   omega (arith, ap length c.cut.ensures.back, length-drop c.room.result c.loop.rest.now, c.loop.invariant.2),
-  search rules,
 )
 
 pub returns-after-loop-clause-written : goal.returns-after-loop-clause-written

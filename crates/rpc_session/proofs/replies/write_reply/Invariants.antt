@@ -1,7 +1,7 @@
 use Rattle.std.proofs.Common.{length, ◌≤◌, ◌-◌, ◌≡◌}
 use Rattle.outside.proofs.Sending.{Sent}
 use Rattle.rpc_session.specs.Replies.{fragments, reply_fragments}
-use Rattle.rpc_session.proofs.replies.write_fragments.Given as goal
+use Rattle.rpc_session.proofs.replies.write_reply.Given as goal
 
 abbrev pub invariant-loop : goal.invariant-loop
 invariant-loop g l =
@@ -9,4 +9,3 @@ invariant-loop g l =
     (fragments (length l.fn.body - l.counter) l.fn.transmit l.fn.call l.fn.context l.first l.rest)
     × (g.T.Sink.faults l.sink ≡ g.T.Sink.faults l.fn.sink)
     × (length l.rest ≤ length l.fn.body)
-    × (length l.buffer ≡ length l.fn.buffer)
