@@ -1,7 +1,7 @@
 -- How a connection ends.
 use Rattle.std.proofs.Common.{ℕ, ◌≡◌, ◌+◌, ◌<◌, ◌≤◌, ◌^◌, Bool, true, false, cond, List, [], ◌∷◌, ◌++◌, length, Option, Err, refl, sym, ap, ◌∙◌, subst, append_assoc, append-nil, arith, length-append}
-use Rattle.std.specs.Io.KnownBytes.{Consumes}
-use Rattle.std.proofs.KnownBytes.{Consumes-trans}
+use Rattle.std.specs.Io.KnownBytes.{Consumes, IsAtEnd}
+use Rattle.feed_loop.specs.declared.fed.Fed.TheVariants as fed_to
 use Rattle.outside.specs.Written.{Begins}
 use Rattle.scm_model.specs.declared.calls.Request.{Request as Call}
 use Rattle.scm_model.specs.declared.calls.Reply.{Reply}
@@ -10,10 +10,12 @@ use Rattle.rpc_session.specs.Items.{Seen, StreamEnd, AtRest, Unfinished, BadPdu,
 use Rattle.rpc_session.specs.Pdus.{pdus_behind}
 use Rattle.conn_desk.specs.declared.served.Served.{Served}
 use Rattle.conn_desk.specs.declared.served.Served.TheVariants as served
+use Rattle.conn_desk.specs.declared.stop.Stop.{Stop}
+use Rattle.conn_desk.specs.declared.stop.Stop.TheVariants as stop
 use Rattle.conn_desk.specs.Talks.{AreAnswered}
-use Rattle.conn_desk.specs.Along.{Point, GoesOn, GoesBad, IsFront}
+use Rattle.conn_desk.specs.Along.{Point, FedOn, GoesOn, GoesBad, IsFront}
 use Rattle.conn_desk.specs.Connection.{Reached, AllServed, AllBefore, FirstServed, IsAhead, IsOpenEnd, piece_size}
-use Rattle.conn_desk.specs.Serves.{Leaves, Serves, ReadOnce, fed}
+use Rattle.conn_desk.specs.Serves.{Leaves, Serves, fed, served_as}
 use Rattle.conn_desk.proofs.Talking.{answers_append, answers_none, cut_both}
 use Rattle.conn_desk.proofs.Walking.{front_less}
 
@@ -46,10 +48,6 @@ end_if false = tt
 
 rest_end : (s : Seen) (b : Bool) → is_at_rest s ≡ b → open_end s ≡ cond b AtRest Unfinished
 rest_end s b e = ap (λ x. cond x AtRest Unfinished) e
-
-nothing_more : (left mid left_now : Option (List ℕ)) (read more : List ℕ) → Consumes left mid read → Consumes mid left_now more → more ≡ [] → Consumes left left_now read
-nothing_more left mid left_now read more p q e =
-    subst (Consumes left left_now) (ap (λ x. read ++ x) e ∙ append-nil read) (Consumes-trans left mid left_now read more p q)
 
 module _ {D : Type 0} (called : D → D → Call → Option Reply → Type 0) (rests : D → D → Type 0) (full : D → Call → Type 0) (d : D) (held : Option (List ℕ)) where
   -- one more read
@@ -89,12 +87,12 @@ module _ {D : Type 0} (called : D → D → Call → Option Reply → Type 0) (r
       (λ told written all. (e, record { ending = open_end m.session; goes_on = end_if (is_at_rest m.session); served = all }))
 
   -- the stream ends badly
-  serves_bad : (left mid left_now : Option (List ℕ)) (m b : Point D) (read more : List ℕ) (how : Served) (ending : StreamEnd)
-      → SoFar called d held m read → Consumes left mid read → Consumes mid left_now more → length read + length more ≤ 2 ^ 40 → length more ≤ piece_size
+  serves_bad : (left left_now : Option (List ℕ)) (m b : Point D) (read more : List ℕ) (how : Served) (ending : StreamEnd)
+      → SoFar called d held m read → Consumes left left_now (read ++ more) → length read + length more ≤ 2 ^ 40 → length more ≤ piece_size
       → GoesBad called (fed more) m b ending → Leaves rests how b.desk b.desk
       → ((done : List Incoming) (told : List (Option Reply)) (written : List ℕ) → AllBefore (read ++ more) done ending told written → Reached full b.desk how (read ++ more) left_now done told written)
       → Serves called rests full d b.desk left left_now held b.held how
-  serves_bad left mid left_now m b read more how ending on p q most short bad leaves reach =
+  serves_bad left left_now m b read more how ending on p most short bad leaves reach =
       let a = answers_append called d m.desk b.desk held m.held b.held on.given bad.given on.answers bad.answers in
       record {
         read = read ++ more;
@@ -104,7 +102,7 @@ module _ {D : Type 0} (called : D → D → Call → Option Reply → Type 0) (r
         last = b.desk;
         chain = a.talks.chain;
         leaves = leaves;
-        consumed = Consumes-trans left mid left_now read more p q;
+        consumed = p;
         most = omega (arith, most, length-append read more);
         appended = a.written;
         reached = reach (on.given ++ bad.given) a.talks.heard a.text (record {
@@ -115,12 +113,12 @@ module _ {D : Type 0} (called : D → D → Call → Option Reply → Type 0) (r
       }
 
   -- the first items are served
-  serves_first : (left mid left_now : Option (List ℕ)) (m b : Point D) (read more : List ℕ) (how : Served) (given : List Incoming) (last : D)
-      → (on : SoFar called d held m read) → Consumes left mid read → Consumes mid left_now more → length read + length more ≤ 2 ^ 40 → length more ≤ piece_size
+  serves_first : (left left_now : Option (List ℕ)) (m b : Point D) (read more : List ℕ) (how : Served) (given : List Incoming) (last : D)
+      → (on : SoFar called d held m read) → Consumes left left_now (read ++ more) → length read + length more ≤ 2 ^ 40 → length more ≤ piece_size
       → IsFront (fed more) m.session given → AreAnswered called m.desk last m.held b.held given → Leaves rests how last b.desk
       → ((told : List (Option Reply)) (written : List ℕ) → FirstServed (read ++ more) (on.given ++ given) told written → Reached full b.desk how (read ++ more) left_now (on.given ++ given) told written)
       → Serves called rests full d b.desk left left_now held b.held how
-  serves_first left mid left_now m b read more how given last on p q most short front answers leaves reach =
+  serves_first left left_now m b read more how given last on p most short front answers leaves reach =
       let a = answers_append called d m.desk last held m.held b.held on.given given on.answers answers in
       record {
         read = read ++ more;
@@ -130,7 +128,7 @@ module _ {D : Type 0} (called : D → D → Call → Option Reply → Type 0) (r
         last = last;
         chain = a.talks.chain;
         leaves = leaves;
-        consumed = Consumes-trans left mid left_now read more p q;
+        consumed = p;
         most = omega (arith, most, length-append read more);
         appended = a.written;
         reached = reach a.talks.heard a.text (record {
@@ -140,28 +138,16 @@ module _ {D : Type 0} (called : D → D → Call → Option Reply → Type 0) (r
         });
       }
 
-  -- one more read ends it
-  pub serves_end : (left mid left_now : Option (List ℕ)) (m b : Point D) (read more : List ℕ) (how : Served)
-      → SoFar called d held m read → Consumes left mid read → length read < 2 ^ 40 → Consumes mid left_now more → length read + length more ≤ 2 ^ 40 → length more ≤ piece_size
-      → ReadOnce called rests full m b left_now more (Err how)
-      → Serves called rests full d b.desk left left_now held b.held how
-  serves_end left mid left_now m b read more served.Ended on p lt q most short t =
-      subst (λ (x : Point D). Serves called rests full d x.desk left left_now held x.held served.Ended) (sym t.1)
-      (serves_all left left_now m read served.Ended on (nothing_more left mid left_now read more p q t.0) (omega (arith, lt)) refl
-      (λ told written all. (t.2, lt, subst (λ e. AllServed read on.given e told written) (rest_end m.session true t.3) all)))
-  serves_end left mid left_now m b read more served.Truncated on p lt q most short t =
-      subst (λ (x : Point D). Serves called rests full d x.desk left left_now held x.held served.Truncated) (sym t.1)
-      (serves_all left left_now m read served.Truncated on (nothing_more left mid left_now read more p q t.0) (omega (arith, lt)) refl
-      (λ told written all. (t.2, lt, subst (λ e. AllServed read on.given e told written) (rest_end m.session false t.3) all)))
-  serves_end left mid left_now m b read more served.ReadFault on p lt q most short t =
-      subst (λ (x : Point D). Serves called rests full d x.desk left left_now held x.held served.ReadFault) (sym t.1)
-      (serves_all left left_now m read served.ReadFault on (nothing_more left mid left_now read more p q t.0) (omega (arith, lt)) refl
-      (λ told written all. (lt, record { ending = open_end m.session; goes_on = end_if (is_at_rest m.session); served = all })))
-  serves_end left mid left_now m b read more (served.BadPdu place kind) on p lt q most short t =
-      serves_bad left mid left_now m b read more (served.BadPdu place kind) (BadPdu place kind) on p q most short t refl (λ done told written all. all)
-  serves_end left mid left_now m b read more (served.TooLong length) on p lt q most short t =
-      serves_bad left mid left_now m b read more (served.TooLong length) (TooLong length) on p q most short t refl (λ done told written all. all)
-  serves_end left mid left_now m b read more served.WriteFault on p lt q most short t =
+  -- a piece stops it
+  pub serves_stopped : (left left_now : Option (List ℕ)) (m b : Point D) (read more : List ℕ) (why : Stop) (rest : Bool)
+      → SoFar called d held m read → Consumes left left_now (read ++ more) → length read + length more ≤ 2 ^ 40 → length more ≤ piece_size
+      → FedOn {T = Unit {0}} called rests full (fed more) m b (Err why)
+      → Serves called rests full d b.desk left left_now held b.held (served_as (fed_to.Stopped why) rest)
+  serves_stopped left left_now m b read more (stop.Bad place kind) rest on p most short t =
+      serves_bad left left_now m b read more (served.BadPdu place kind) (BadPdu place kind) on p most short t refl (λ done told written all. all)
+  serves_stopped left left_now m b read more (stop.TooLong length) rest on p most short t =
+      serves_bad left left_now m b read more (served.TooLong length) (TooLong length) on p most short t refl (λ done told written all. all)
+  serves_stopped left left_now m b read more stop.WriteFault rest on p most short t =
       let both = cut_both called d m.desk b.desk held m.held b.held on.given t.given on.answers t.answers in
       let a = both.0 in
       record {
@@ -172,7 +158,7 @@ module _ {D : Type 0} (called : D → D → Call → Option Reply → Type 0) (r
         last = b.desk;
         chain = a.talks.chain;
         leaves = refl;
-        consumed = Consumes-trans left mid left_now read more p q;
+        consumed = p;
         most = omega (arith, most, length-append read more);
         appended = a.written;
         reached = record {
@@ -185,13 +171,31 @@ module _ {D : Type 0} (called : D → D → Call → Option Reply → Type 0) (r
           ahead = ahead_of m.session read more on.given a.earlier on.gave on.waits short both.1;
         };
       }
-  serves_end left mid left_now m b read more served.Full on p lt q most short t =
+  serves_stopped left left_now m b read more stop.Full rest on p most short t =
       let follows = subst (λ x. Begins x (items (read ++ more)).items) (sym (append_assoc on.given t.given (t.next ∷ []))) (t.front read on.given on.gave) in
-      serves_first left mid left_now m b read more served.Full t.given t.last on p q most short (front_less (fed more) m.session t.given (t.next ∷ []) t.front) t.answers t.left
+      serves_first left left_now m b read more served.Full t.given t.last on p most short (front_less (fed more) m.session t.given (t.next ∷ []) t.front) t.answers t.left
       (λ told written first. (first, record { next = t.next; follows = follows; request = t.request; asks = t.asks; met = t.met }))
-  serves_end left mid left_now m b read more served.OutOfMemory on p lt q most short t =
-      serves_first left mid left_now m b read more served.OutOfMemory t.given t.last on p q most short t.front t.answers t.left (λ told written first. first)
-  serves_end left mid left_now m b read more served.Worn on p lt q most short t = absurd t
+  serves_stopped left left_now m b read more stop.OutOfMemory rest on p most short t =
+      serves_first left left_now m b read more served.OutOfMemory t.given t.last on p most short t.front t.answers t.left (λ told written first. first)
+
+  -- the source ended
+  pub serves_ended : (left left_now : Option (List ℕ)) (m : Point D) (read : List ℕ) (rest : Bool)
+      → SoFar called d held m read → Consumes left left_now read → IsAtEnd left_now → length read < 2 ^ 40 → is_at_rest m.session ≡ rest
+      → Serves called rests full d m.desk left left_now held m.held (served_as fed_to.Ended rest)
+  serves_ended left left_now m read true on consumed out lt e =
+      serves_all left left_now m read served.Ended on consumed (omega (arith, lt)) refl
+      (λ told written all. (out, lt, subst (λ x. AllServed read on.given x told written) (rest_end m.session true e) all))
+  serves_ended left left_now m read false on consumed out lt e =
+      serves_all left left_now m read served.Truncated on consumed (omega (arith, lt)) refl
+      (λ told written all. (out, lt, subst (λ x. AllServed read on.given x told written) (rest_end m.session false e) all))
+
+  -- a read failed
+  pub serves_failed : (left left_now : Option (List ℕ)) (m : Point D) (read : List ℕ)
+      → SoFar called d held m read → Consumes left left_now read → length read < 2 ^ 40
+      → Serves called rests full d m.desk left left_now held m.held served.ReadFault
+  serves_failed left left_now m read on consumed lt =
+      serves_all left left_now m read served.ReadFault on consumed (omega (arith, lt)) refl
+      (λ told written all. (lt, record { ending = open_end m.session; goes_on = end_if (is_at_rest m.session); served = all }))
 
 -- ## The beginning
 

@@ -1,3 +1,4 @@
 pub mod Talking
 pub mod Walking
 pub mod Ends
+pub mod Whole

@@ -1,5 +1,6 @@
 -- What became of the items on a stretch of a connection.
 use Rattle.std.specs.Prelude.{ℕ, ◌≡◌, ◌≤◌, ◌<◌, ◌^◌, ◌++◌, List, [], ◌∷◌, length, Option, Some, Result, Ok, Err}
+use Rattle.feed_loop.specs.Feeding.{At}
 use Rattle.outside.specs.Causes.{Rose}
 use Rattle.outside.specs.Written.{Begins}
 use Rattle.scm_model.specs.declared.calls.Request.{Request as Call}
@@ -12,6 +13,7 @@ use Rattle.conn_desk.specs.declared.desk.Lacks.{Lacks}
 use Rattle.conn_desk.specs.declared.desk.Lacks.TheVariants as lacks
 use Rattle.conn_desk.specs.declared.stop.Stop.{Stop}
 use Rattle.conn_desk.specs.declared.stop.Stop.TheVariants as stop
+use Rattle.conn_desk.specs.declared.talker.Talker.{Talker}
 use Rattle.conn_desk.specs.Bodies.{asked_by}
 use Rattle.conn_desk.specs.Desks.{CallAnswered, IsLeft}
 use Rattle.conn_desk.specs.Talks.{AreAnswered, CutsShort}
@@ -22,6 +24,10 @@ pub record Point (D : Type 0) : Type 0 where
   pub session : Seen
   pub desk : D
   pub held : Option (List ℕ)
+
+-- where a connection stands whose session eats what is read
+abbrev pub point_of : {D O : Type 0} → (O → Option (List ℕ)) → At Talker D O → Point D
+point_of held a = record { session = a.eater.session; desk = a.place; held = held a.output }
 
 -- Whatever the session had been fed and had given: it was fed as grown says, and gave these items more.
 abbrev pub GaveMore : (List ℕ → List ℕ) → Seen → Seen → List Incoming → Type 0

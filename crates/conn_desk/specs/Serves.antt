@@ -1,10 +1,11 @@
 -- A whole connection at a desk.
-use Rattle.std.specs.Prelude.{◌^◌, ℕ, ◌≡◌, ◌<◌, ◌≤◌, ◌++◌, List, [], length, Option, Result, Ok, Err, true, false}
-use Rattle.std.specs.Io.KnownBytes.{Appends, Consumes, IsAtEnd}
+use Rattle.std.specs.Prelude.{◌^◌, ℕ, ◌≡◌, ◌≤◌, ◌++◌, Bool, List, length, Option, Err, true, false}
+use Rattle.std.specs.Io.KnownBytes.{Appends, Consumes}
+use Rattle.feed_loop.specs.declared.fed.Fed.{Fed}
+use Rattle.feed_loop.specs.declared.fed.Fed.TheVariants as fed_to
 use Rattle.scm_model.specs.declared.calls.Request.{Request as Call}
 use Rattle.scm_model.specs.declared.calls.Reply.{Reply}
 use Rattle.rpc_session.specs.declared.state.Incoming.{Incoming}
-use Rattle.rpc_session.specs.Items.{BadPdu, TooLong, is_at_rest}
 use Rattle.conn_desk.specs.declared.served.Served.{Served}
 use Rattle.conn_desk.specs.declared.served.Served.TheVariants as served
 use Rattle.conn_desk.specs.declared.stop.Stop.{Stop}
@@ -12,7 +13,7 @@ use Rattle.conn_desk.specs.declared.stop.Stop.TheVariants as stop
 use Rattle.conn_desk.specs.Bodies.{asked}
 use Rattle.conn_desk.specs.Desks.{Chain, IsLeft}
 use Rattle.conn_desk.specs.Connection.{Reached}
-use Rattle.conn_desk.specs.Along.{Point, GoesOn, GoesBad, Breaks, MeetsFull, Wants}
+use Rattle.conn_desk.specs.Along.{Point, FedOn, GoesOn, HasStopCause}
 
 -- what the connection's end left of the desk: it is as the last request that was answered made it, but where the next one had no answer
 abbrev pub Leaves : {D : Type 0} → (rests : D → D → Type 0) → Served → (last now : D) → Type 0
@@ -41,29 +42,24 @@ pub record Serves {D : Type 0} (called : D → D → Call → Option Reply → T
 abbrev pub fed : List ℕ → List ℕ → List ℕ
 fed read stream = stream ++ read
 
--- how a connection ends that isn't served on
-abbrev pub served_by : Stop → Served
-served_by (stop.Bad place kind) = served.BadPdu place kind
-served_by (stop.TooLong length) = served.TooLong length
-served_by stop.WriteFault = served.WriteFault
-served_by stop.Full = served.Full
-served_by stop.OutOfMemory = served.OutOfMemory
+-- a piece was taken, and all items that it made whole are answered
+pub record Eaten {D : Type 0} (called : D → D → Call → Option Reply → Type 0) (a b : Point D) (faults faults_now : ℕ) (piece : List ℕ) : Type 0 where
+  pub goes : GoesOn called (fed piece) a b
+  pub unfailed : faults_now ≡ faults
 
--- what one read came to, by the count of bytes or by how the connection ends
-abbrev pub ReadOnce : {D : Type 0} → (called : D → D → Call → Option Reply → Type 0) → (rests : D → D → Type 0) → (full : D → Call → Type 0) → (a b : Point D) → (left_now : Option (List ℕ)) → (read : List ℕ) → Result ℕ Served → Type 0
-ReadOnce called rests full a b left_now read (Ok n) = (n ≡ length read) × (0 < n) × GoesOn called (fed read) a b
-ReadOnce called rests full a b left_now read (Err served.ReadFault) = (read ≡ []) × (b ≡ a)
-ReadOnce called rests full a b left_now read (Err served.Ended) = (read ≡ []) × (b ≡ a) × IsAtEnd left_now × (is_at_rest a.session ≡ true)
-ReadOnce called rests full a b left_now read (Err served.Truncated) = (read ≡ []) × (b ≡ a) × IsAtEnd left_now × (is_at_rest a.session ≡ false)
-ReadOnce called rests full a b left_now read (Err (served.BadPdu place kind)) = GoesBad called (fed read) a b (BadPdu place kind)
-ReadOnce called rests full a b left_now read (Err (served.TooLong length)) = GoesBad called (fed read) a b (TooLong length)
-ReadOnce called rests full a b left_now read (Err served.WriteFault) = Breaks called (fed read) a b
-ReadOnce called rests full a b left_now read (Err served.Full) = MeetsFull called rests full (fed read) a b
-ReadOnce called rests full a b left_now read (Err served.OutOfMemory) = Wants called rests (fed read) a b
-ReadOnce called rests full a b left_now read (Err served.Worn) = ⊥
+-- a piece was taken at which the serving stops
+pub record Stopped {D : Type 0} (called : D → D → Call → Option Reply → Type 0) (rests : D → D → Type 0) (full : D → Call → Type 0) (a b : Point D) (faults faults_now : ℕ) (piece : List ℕ) (why : Stop) : Type 0 where
+  pub stops : FedOn {T = Unit {0}} called rests full (fed piece) a b (Err why)
+  pub cause : HasStopCause {T = Unit {0}} faults faults_now (Err why)
 
-pub record Turn {D : Type 0} (called : D → D → Call → Option Reply → Type 0) (rests : D → D → Type 0) (full : D → Call → Type 0) (a b : Point D) (left left_now : Option (List ℕ)) (room : ℕ) (result : Result ℕ Served) : Type 0 where
-  pub read : List ℕ
-  pub consumed : Consumes left left_now read
-  pub short : length read ≤ room
-  pub turned : ReadOnce called rests full a b left_now read result
+-- how a connection ends whose feeding ended so, where its session is at rest or isn't
+abbrev pub served_as : Fed Stop → Bool → Served
+served_as fed_to.Ended true = served.Ended
+served_as fed_to.Ended false = served.Truncated
+served_as fed_to.ReadFault rest = served.ReadFault
+served_as fed_to.Worn rest = served.Worn
+served_as (fed_to.Stopped (stop.Bad place kind)) rest = served.BadPdu place kind
+served_as (fed_to.Stopped (stop.TooLong length)) rest = served.TooLong length
+served_as (fed_to.Stopped stop.WriteFault) rest = served.WriteFault
+served_as (fed_to.Stopped stop.Full) rest = served.Full
+served_as (fed_to.Stopped stop.OutOfMemory) rest = served.OutOfMemory

@@ -8,6 +8,7 @@ mod feeding;
 mod served;
 mod serving;
 mod stop;
+mod talker;
 
 pub use desk::{Desk, Lacks};
 pub use served::Served;

@@ -1,71 +1,31 @@
-ghost use Rattle.std.specs.Prelude.{◌≡◌, ◌≤◌, ◌<◌, length, IfErr, OnOk};
+ghost use Rattle.std.specs.Prelude.{◌≡◌, ◌≤◌};
+ghost use Rattle.feed_loop.specs.declared.fed.Fed.{Fed};
 ghost use Rattle.conn_desk.specs.Connection.{IsServedFor};
-ghost use Rattle.conn_desk.specs.Serves.{Serves, Turn, served_by};
-ghost use Rattle.outside.specs.Causes.{NeitherFailed};
+ghost use Rattle.conn_desk.specs.Serves.{Serves, served_as};
 
 use super::desk::Desk;
-use super::feeding::feed;
 use super::served::Served;
 use super::stop::Stop;
+use super::talker::Talker;
+use feed_loop::{Fed, feed_all};
 use outside::{Sink, Source};
 use rpc_session::Session;
 use std::alloc::Global;
 
-/// How many bytes a connection may have.
-const WORN: u64 = 1 << 40;
-
-/// How many bytes are read at once.
-const PIECE: u64 = 4096;
-
-/// How a connection ends that isn't served on.
-fn ended_by(stop: Stop) -> Served
-    ensures { result ≡ served_by stop }
+/// How a connection ends whose feeding ended so, where its session is at rest or isn't.
+fn served_as(fed: Fed<Stop>, at_rest: bool) -> Served
+    ensures { result ≡ served_as fed at_rest }
 {
-    match stop {
-        Stop::Bad(place, kind) => Served::BadPdu(place, kind),
-        Stop::TooLong(length) => Served::TooLong(length),
-        Stop::WriteFault => Served::WriteFault,
-        Stop::Full => Served::Full,
-        Stop::OutOfMemory => Served::OutOfMemory,
-    }
-}
-
-/// Reads a piece, and answers the items that it makes whole. An `Err` says how the connection ends.
-fn turn<D: Desk, I: Source, O: Sink>(
-    alloc: Global,
-    desk: &mut D,
-    session: &mut Session,
-    into: &mut [u8],
-    input: &mut I,
-    output: &mut O,
-) -> Result<usize, Served>
-    requires nonempty { 0 < length into.old }
-    requires ready { D.ready desk.old }
-    ensures ready { D.ready desk.new }
-    ensures turned { Turn D.called D.rests D.full
-        (record { session = session.old; desk = desk.old; held = O.held output.old })
-        (record { session = session.new; desk = desk.new; held = O.held output.new })
-        (I.left input.old) (I.left input.new) (length into.old) result }
-    ensures input { I.faults input.old ≤ I.faults input.new }
-    ensures output { O.faults output.old ≤ O.faults output.new }
-    ensures cause { IfErr result (λ how. IsServedFor how (I.faults input.old) (I.faults input.new)
-        (O.faults output.old) (O.faults output.new)) }
-    ensures unfailed { OnOk result (NeitherFailed (I.faults input.old) (I.faults input.new)
-        (O.faults output.old) (O.faults output.new)) }
-{
-    let Ok(n) = input.read(into) else {
-        return Err(Served::ReadFault);
-    };
-    if n == 0 {
-        if session.at_rest() {
-            return Err(Served::Ended);
-        }
-        return Err(Served::Truncated);
-    }
-    let (piece, _) = into.split_at(n);
-    match feed(alloc, desk, session, piece, output) {
-        Ok(()) => Ok(n),
-        Err(stop) => Err(ended_by(stop)),
+    match fed {
+        Fed::Ended if at_rest => Served::Ended,
+        Fed::Ended => Served::Truncated,
+        Fed::ReadFault => Served::ReadFault,
+        Fed::Worn => Served::Worn,
+        Fed::Stopped(Stop::Bad(place, kind)) => Served::BadPdu(place, kind),
+        Fed::Stopped(Stop::TooLong(length)) => Served::TooLong(length),
+        Fed::Stopped(Stop::WriteFault) => Served::WriteFault,
+        Fed::Stopped(Stop::Full) => Served::Full,
+        Fed::Stopped(Stop::OutOfMemory) => Served::OutOfMemory,
     }
 }
 
@@ -85,16 +45,11 @@ pub fn serve<D: Desk, I: Source, O: Sink>(
     ensures cause { IsServedFor result (I.faults input.old) (I.faults input.new)
         (O.faults output.old) (O.faults output.new) }
 {
-    let mut session = Session::new(alloc);
-    let mut piece = [0u8; 4096];
+    let mut talker = Talker {
+        alloc,
+        session: Session::new(alloc),
+    };
     let mut read = 0u64;
-    while read < WORN {
-        let room = (WORN - read).min(PIECE) as usize;
-        let (into, _) = piece.split_at_mut(room);
-        match turn(alloc, desk, &mut session, into, input, output) {
-            Ok(n) => read += n as u64,
-            Err(how) => return how,
-        }
-    }
-    Served::Worn
+    let fed = feed_all(&mut talker, desk, output, input, &mut read);
+    served_as(fed, talker.session.at_rest())
 }

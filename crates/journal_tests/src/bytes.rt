@@ -6,7 +6,7 @@ use std::alloc::{AllocError, Global};
 use std::test::*;
 
 /// The bytes of hex digits, in groups of at most eight bytes.
-fn bytes_of(alloc: Global, digits: &str) -> Result<Vec<u8>, AllocError> {
+pub fn bytes_of(alloc: Global, digits: &str) -> Result<Vec<u8>, AllocError> {
     let mut bytes = Vec::new(alloc);
     for group in digits.split(' ') {
         let number = u64::from_str_radix(group, 16).unwrap_or(0).to_be_bytes();
@@ -121,7 +121,7 @@ fn adds(
 const HEADER_AND_REMOVED: &str = "53434d4a01000000 03 08000000 02000000 4400 6200";
 
 /// The entry of `created`.
-const CREATED: &str =
+pub const CREATED: &str =
     "01 3d000000 01000000 4100 01000000 4100 10000000 03000000 01000000 02000000 2f00 6100 \
      00000000 00000000 00000000 00000000 00000000 00000000 00000000 00";
 

@@ -1,5 +1,5 @@
-//! Tests of the journal and its keeper in memory, and nothing else: bytes that are stated outside,
-//! and what stands after each fault.
+//! Tests of the journal and its keepers, and nothing else: bytes that are stated outside, what
+//! stands after each fault, and what is read.
 #![tactic(auto)]
 
 #[cfg(test)]
@@ -7,6 +7,10 @@ mod bytes;
 #[cfg(test)]
 mod faults;
 #[cfg(test)]
+mod files;
+#[cfg(test)]
 mod keepers;
+#[cfg(test)]
+mod opening;
 #[cfg(test)]
 mod values;

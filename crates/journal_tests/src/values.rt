@@ -1,5 +1,5 @@
 //! What the tests build their values with.
-use record_journal::{Fate, Journal, KeepFault, MemoryKeeper};
+use record_journal::{Fate, Journal, KeepFault, Keeper, MemoryKeeper};
 use scm_model::{Change, Config};
 use scm_text::{Items, OutOfMemory, WText};
 use std::alloc::Global;
@@ -71,10 +71,10 @@ pub fn keeper(
 }
 
 /// Appends a change, and lets it go.
-pub fn append(
+pub fn append<K: Keeper>(
     alloc: Global,
     journal: &mut Journal,
-    keeper: &mut MemoryKeeper,
+    keeper: &mut K,
     change: Change,
 ) -> Result<(), KeepFault> {
     journal.append(alloc, keeper, &change)

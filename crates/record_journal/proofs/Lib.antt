@@ -1,3 +1,11 @@
 pub mod Standing
 pub mod Fronts
 pub mod Growing
+pub mod Rows
+pub mod Names
+pub mod Begins
+pub mod Told
+pub mod Turns
+pub mod Back
+pub mod Restoring
+pub mod Renumbered

@@ -7,6 +7,12 @@ abbrev pub has_path : {A : Type 0} → Option A → Bool
 has_path None = false
 has_path (Some path) = true
 
+-- bytes that aren't told are not told from then on
+abbrev pub IsUntold : Option (List ℕ) → Option (List ℕ) → Type 0
+IsUntold None None = Unit {0}
+IsUntold None (Some now) = ⊥
+IsUntold (Some old) now = Unit {0}
+
 -- nothing stands
 abbrev pub IsEmptied : Option (List ℕ) → Option (List ℕ) → Type 0
 IsEmptied old (Some now) = now ≡ []

@@ -8,15 +8,15 @@ use service_record::{put_count, put_text, record_bytes};
 use std::alloc::Global;
 
 /// What a journal begins with: `SCMJ`, and the form of its entries.
-const HEADER: [u8; 8] = [0x53, 0x43, 0x4D, 0x4A, 1, 0, 0, 0];
+pub const HEADER: [u8; 8] = [0x53, 0x43, 0x4D, 0x4A, 1, 0, 0, 0];
 
 // The kinds of entries.
 
-const CREATED: u8 = 1;
+pub const CREATED: u8 = 1;
 
-const CHANGED: u8 = 2;
+pub const CHANGED: u8 = 2;
 
-const REMOVED: u8 = 3;
+pub const REMOVED: u8 = 3;
 
 /// A count of units, and these.
 fn text_bytes(alloc: Global, value: &WText) -> Result<Items<u8>, OutOfMemory>

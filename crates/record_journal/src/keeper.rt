@@ -2,7 +2,7 @@ ghost use Rattle.std.specs.Prelude.{◌≡◌, ◌≤◌, ℕ, List, Option, IfO
 ghost use Rattle.std.specs.Io.KnownBytes.{Keeps};
 ghost use Rattle.outside.specs.Causes.{HasCause, Rose};
 ghost use Rattle.outside.specs.Written.{Writes};
-ghost use Rattle.record_journal.specs.Keepers.{Cuts, Opens, has_path};
+ghost use Rattle.record_journal.specs.Keepers.{Cuts, IsUntold, Opens, has_path};
 
 use outside::Failed;
 use scm_text::Items;
@@ -34,6 +34,7 @@ pub trait Keeper: Drop {
     fn read_all(&mut self) -> Result<Items<u8>, KeepFault>
         ensures bytes { IfOk result (λ all. IfSome (held self.old) (λ bytes. all ≡ bytes)) }
         ensures same { Keeps (held self.old) (held self.new) }
+        ensures untold { IsUntold (held self.old) (held self.new) }
         ensures grows { faults self.old ≤ faults self.new }
         ensures cause { IsErrOf result KeepFault.Failed →
             Rose (faults self.old) (faults self.new) }
@@ -44,10 +45,12 @@ pub trait Keeper: Drop {
     /// Appends bytes. After a fault a front of them may stand.
     fn append(&mut self, bytes: &[u8]) -> Result<(), Failed>
         ensures bytes { Writes (held self.old) (held self.new) result bytes.now }
+        ensures untold { IsUntold (held self.old) (held self.new) }
         ensures cause { HasCause (faults self.old) (faults self.new) result };
 
     /// Keeps the front of this length alone. After a fault that is left, or all.
     fn cut(&mut self, length: u64) -> Result<(), Failed>
         ensures bytes { Cuts length (held self.old) (held self.new) result }
+        ensures untold { IsUntold (held self.old) (held self.new) }
         ensures cause { HasCause (faults self.old) (faults self.new) result };
 }

@@ -1,11 +1,18 @@
-ghost use Rattle.std.specs.Prelude.{◌≡◌, ◌++◌, List, Some};
+ghost use Rattle.std.specs.Prelude.{◌≡◌, ◌++◌, [], List, Some};
 ghost use Rattle.scm_model.specs.declared.steps.Change.{Change};
 ghost use Rattle.record_journal.specs.Bearing.{and_changes};
 ghost use Rattle.record_journal.specs.Format.{journal_bytes};
+ghost use Rattle.record_journal.specs.ReadBack.{AreReplayable, IsReadBack};
 
 /// Changes that are appended to a journal make the journal of all changes: its header stands once,
 /// and its entries in order.
 pub fn appended_changes_are_a_journal()
     ensures { (old more : List Change) →
         and_changes (Some (journal_bytes old)) more ≡ Some (journal_bytes (old ++ more)) }
+{}
+
+/// The entries of changes that can be replayed one after the other are read as what these come to,
+/// whatever part of an entry stands behind them; the part is not kept.
+pub fn a_journal_is_read_back()
+    ensures { (changes : List Change) → AreReplayable [] changes → IsReadBack changes }
 {}

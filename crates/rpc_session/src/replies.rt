@@ -43,11 +43,42 @@ fn room(transmit: u16) -> usize
     (usize::from(transmit) - 24) / 8 * 8
 }
 
-/// Writes the fragment that the rest of a body begins with, in one call where the sink takes it at once.
+/// Writes a response by a buffer, in one call where the sink takes it at once.
+fn write_by<T: Sink>(
+    sink: &mut T,
+    buffer: &mut [u8],
+    response: &ResponsePdu<&[u8]>,
+) -> Result<(), Failed>
+    requires fits { 24 + length response.now.stub.now < 2 ^ 16 }
+    requires room { 24 + length response.now.stub.now ≤ length buffer.old }
+    ensures written { Writes (T.held sink.old) (T.held sink.new) result
+        (response_bytes (seen_response response.now)) }
+    ensures cause { HasCause (T.faults sink.old) (T.faults sink.new) result }
+{
+    let size = lay(buffer, response);
+    write_all(sink, &buffer[..size])
+}
+
+/// Writes a response in one call where the sink takes it at once. To make a buffer costs its size,
+/// so a short stub has a short one: that of 64 bytes holds each reply without texts.
+fn write_response<T: Sink>(sink: &mut T, response: &ResponsePdu<&[u8]>) -> Result<(), Failed>
+    requires { 24 + length response.now.stub.now ≤ 5840 }
+    ensures written { Writes (T.held sink.old) (T.held sink.new) result
+        (response_bytes (seen_response response.now)) }
+    ensures cause { HasCause (T.faults sink.old) (T.faults sink.new) result }
+{
+    match response.stub.len() {
+        0..=40 => write_by(sink, &mut [0; 64], response),
+        41..=488 => write_by(sink, &mut [0; 512], response),
+        _ => write_by(sink, &mut [0; 5840], response),
+    }
+}
+
+/// Writes the fragment that the rest of a body begins with, in one call where the sink takes it at
+/// once.
 #[tactic(auto, unfolding(crate::specs::Replies::fragment))]
 fn write_fragment<T: Sink>(
     sink: &mut T,
-    buffer: &mut [u8],
     transmit: u16,
     call: u32,
     context: u16,
@@ -55,7 +86,7 @@ fn write_fragment<T: Sink>(
     rest: &[u8],
 ) -> Result<(), Failed>
     requires low { 1432 ≤ transmit }
-    requires high { transmit ≤ length buffer.old }
+    requires high { transmit ≤ 5840 }
     requires size { length rest.now < 2 ^ 32 }
     ensures written { Writes (T.held sink.old) (T.held sink.new) result (fragment transmit call context first rest.now) }
     ensures cause { HasCause (T.faults sink.old) (T.faults sink.new) result }
@@ -70,8 +101,7 @@ fn write_fragment<T: Sink>(
         context,
         stub,
     };
-    let size = lay(buffer, &response);
-    write_all(sink, &buffer[..size])
+    write_response(sink, &response)
 }
 
 /// Writes a body in response fragments, each in one call where the sink takes it at once.
@@ -88,31 +118,13 @@ pub fn write_reply<T: Sink>(
     ensures written { Writes (T.held sink.old) (T.held sink.new) result (reply_fragments transmit call context body.now) }
     ensures cause { HasCause (T.faults sink.old) (T.faults sink.new) result }
 {
-    let mut buffer = [0; 5840];
-    write_fragments(sink, &mut buffer, transmit, call, context, body)
-}
-
-fn write_fragments<T: Sink>(
-    sink: &mut T,
-    buffer: &mut [u8],
-    transmit: u16,
-    call: u32,
-    context: u16,
-    body: &[u8],
-) -> Result<(), Failed>
-    requires low { 1432 ≤ transmit }
-    requires high { transmit ≤ length buffer.old }
-    requires size { length body.now < 2 ^ 32 }
-    ensures written { Writes (T.held sink.old) (T.held sink.new) result (reply_fragments transmit call context body.now) }
-    ensures cause { HasCause (T.faults sink.old) (T.faults sink.new) result }
-{
     let mut rest = body;
     let mut first = true;
     for _ in 0..body.len() {
         if rest.is_empty() {
             break;
         }
-        if let Err(fault) = write_fragment(sink, buffer, transmit, call, context, first, rest) {
+        if let Err(fault) = write_fragment(sink, transmit, call, context, first, rest) {
             return Err(fault);
         }
         let (_, after) = cut(rest, room(transmit));

@@ -14,5 +14,5 @@ IsPlain _ = ⊥
 
 -- these alone, and few of them
 pub record ArePlain (shape : List Item) : Type 0 where
-  pub few : length shape ≤ 16
+  pub few : length shape ≤ 8
   pub plain : AllByRecursion IsPlain shape

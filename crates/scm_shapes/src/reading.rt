@@ -1,4 +1,4 @@
-ghost use Rattle.std.specs.Prelude.{◌≡◌, ◌==◌, List, Ok, IfOk};
+ghost use Rattle.std.specs.Prelude.{◌≡◌, ◌==◌, List, [], Ok, IfOk};
 ghost use Rattle.ndr_body.specs.Reading.{FindsMemory, Gives};
 ghost use Rattle.scm_shapes.specs.Sized.{is_size, sized_at};
 ghost use Rattle.scm_shapes.specs.declared.item.Value.{Value as AValue};
@@ -77,17 +77,23 @@ fn read_item(reader: &mut NdrReader, alloc: Global, item: Item) -> Result<Value,
     }
 }
 
-fn read_values(reader: &mut NdrReader, alloc: Global, shape: &[Item]) -> Result<Values, BodyFault>
-    ensures value { Gives (λ v. (v, reader.new.place)) result (values_at shape.now reader.old.body reader.old.place) }
+/// Reads the items of a shape behind one another.
+fn read_values(
+    reader: &mut NdrReader,
+    alloc: Global,
+    shape: &[Item],
+    values: &mut Values,
+) -> Result<(), BodyFault>
+    requires none { values.old ≡ [] }
+    ensures value { Gives (λ _. (values.new, reader.new.place)) result (values_at shape.now reader.old.body reader.old.place) }
     ensures body { reader.new.body ≡ reader.old.body }
     ensures memory { ArePlain shape.now → FindsMemory result }
 {
-    let mut values = Values::with_room(alloc, shape.len())?;
     for item in shape {
         let value = read_item(reader, alloc, *item)?;
         values.push(value)?;
     }
-    Ok(values)
+    Ok(())
 }
 
 #[tactic(auto, unfolding(crate::specs::Shapes::body_values))]
@@ -96,7 +102,8 @@ fn values_of(alloc: Global, shape: &[Item], body: &[u8]) -> Result<Values, BodyF
     ensures memory { ArePlain shape.now → FindsMemory result }
 {
     let mut reader = NdrReader::new(body);
-    let values = read_values(&mut reader, alloc, shape)?;
+    let mut values = Values::new(alloc);
+    read_values(&mut reader, alloc, shape, &mut values)?;
     reader.finish()?;
     Ok(values)
 }

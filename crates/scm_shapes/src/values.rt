@@ -9,11 +9,11 @@ use std::alloc::Global;
 use std::marker::Model;
 
 /// The values of a body, which are taken from the first on. A value of another kind than the one
-/// that is asked for is taken as 0, empty or none: the values of a shape are of its kinds. Up to 16
+/// that is asked for is taken as 0, empty or none: the values of a shape are of its kinds. Up to 8
 /// values lie in the struct itself.
 #[derive(Drop)]
 pub struct Values {
-    queue: SmallVec<Value, 16>,
+    queue: SmallVec<Value, 8>,
 }
 
 impl Model for Values {
@@ -24,7 +24,7 @@ impl Model for Values {
 
     ghost view = { λ v. v.queue.items };
 
-    ghost invariant = { λ v. 16 ≤ v.queue.capacity };
+    ghost invariant = { λ v. 8 ≤ v.queue.capacity };
 }
 
 /// The first of the values as a handle, or 0.
@@ -61,22 +61,20 @@ fn first_some_number(values: &[Value]) -> Option<u32>
 fn let_go(_value: Option<Value>) {}
 
 impl Values {
-    /// None yet, and room for so many. It takes no memory for 16 or fewer.
-    pub fn with_room(alloc: Global, room: usize) -> Result<Values, OutOfMemory>
-        ensures ok { IfOk result (λ values. values ≡ []) }
-        ensures enough { room ≤ 16 → IsOk result }
+    /// None yet, and room for 8.
+    pub fn new(alloc: Global) -> Values
+        ensures { result ≡ [] }
     {
-        match SmallVec::with_capacity(alloc, room) {
-            Ok(queue) => Ok(Values { queue }),
-            Err(_) => Err(OutOfMemory),
+        Values {
+            queue: SmallVec::new(alloc),
         }
     }
 
-    /// Adds a value behind the others. It takes no memory for the first 16.
+    /// Adds a value behind the others. It takes no memory for the first 8.
     pub fn push(&mut self, value: Value) -> Result<(), OutOfMemory>
         ensures ok { OnOk result (self.new ≡ self.old ++ value ∷ []) }
         ensures err { OnErr result (self.new ≡ self.old) }
-        ensures enough { length self.old < 16 → IsOk result }
+        ensures enough { length self.old < 8 → IsOk result }
     {
         match self.queue.push(value) {
             Ok(()) => Ok(()),

@@ -1,61 +1,32 @@
-use Rattle.std.proofs.Common.{[], ◌++◌, refl, ◌∙◌, arith, length-append}
-use Rattle.std.proofs.KnownBytes.{Consumes-nil, Consumes-trans}
-use Rattle.conn_desk.specs.Along.{Point}
-use Rattle.conn_desk.proofs.Ends.{begins, read_more, serves_worn, serves_end}
+use Rattle.feed_loop.specs.Feeding.{At}
+use Rattle.conn_desk.specs.declared.talker.Talker.{Talker}
+use Rattle.conn_desk.proofs.Ends.{begins}
+use Rattle.conn_desk.proofs.Whole.{cause_fed, grows_fed, serves_fed}
 use Rattle.conn_desk.proofs.serving.serve.Goals as goal
-
-pub loop-read-init : goal.loop-read-init
-loop-read-init g c =
-    record {
-      ready = c.requires;
-      bytes = [];
-      consumed = Consumes-nil (g.I.Source.left c.args.input.now);
-      count = refl;
-      most = omega arith;
-      on = begins g.D.Desk.called c.args.desk.now (g.O.Sink.held c.args.output.now) c.new-session.result c.new-session.ensures.value c.new-session.ensures.gave;
-      unfailed = (refl, refl);
-    }
-
-pub loop-read-preserved : goal.loop-read-preserved
-loop-read-preserved g c =
-    let d = g.D.Desk in
-    let before = c.loop-read.invariant in
-    let now = c.in-Ok.ensures in
-    let m : Point g.row.D.Denot = record { session = c.loop-read.session; desk = c.loop-read.desk; held = g.O.Sink.held c.loop-read.output } in
-    let b : Point g.row.D.Denot = record { session = c.turn.new.session; desk = c.turn.new.desk; held = g.O.Sink.held c.turn.new.output } in
-    let t = now.turned in
-    record {
-      ready = now.ready;
-      bytes = before.bytes ++ t.read;
-      consumed = Consumes-trans _ _ _ before.bytes t.read before.consumed t.consumed;
-      count = length-append before.bytes t.read ∙ omega (arith, before.count, t.turned.0);
-      most = omega (arith, c.min-room.ensures, c.split_at_mut-into.ensures.front_len, t.short, t.turned.0, before.most);
-      on = read_more d.called d.rests d.full c.args.desk.now (g.O.Sink.held c.args.output.now) m b before.bytes t.read before.on t.turned.2;
-      unfailed = (now.unfailed.0 ∙ before.unfailed.0, now.unfailed.1 ∙ before.unfailed.1);
-    }
-
-pub returns-in-Err-clause-served : goal.returns-in-Err-clause-served
-returns-in-Err-clause-served g c =
-    let d = g.D.Desk in
-    let before = c.loop-read.invariant in
-    let m : Point g.row.D.Denot = record { session = c.loop-read.session; desk = c.loop-read.desk; held = g.O.Sink.held c.loop-read.output } in
-    let b : Point g.row.D.Denot = record { session = c.turn.new.session; desk = c.turn.new.desk; held = g.O.Sink.held c.turn.new.output } in
-    let t = c.in-Err.ensures.turned in
-    serves_end d.called d.rests d.full c.args.desk.now (g.O.Sink.held c.args.output.now) (g.I.Source.left c.args.input.now) (g.I.Source.left c.loop-read.input) (g.I.Source.left c.turn.new.input)
-    m b before.bytes t.read c.in-Err.how before.on before.consumed (omega (arith, before.count, c.loop-read-test.true)) t.consumed
-    (omega (arith, c.min-room.ensures, c.split_at_mut-into.ensures.front_len, t.short, before.count, before.most))
-    (omega (arith, c.min-room.ensures, c.split_at_mut-into.ensures.front_len, t.short))
-    t.turned
 
 pub returns-clause-served : goal.returns-clause-served
 returns-clause-served g c =
     let d = g.D.Desk in
-    let before = c.loop-read.invariant in
-    let m : Point g.row.D.Denot = record { session = c.loop-read.session; desk = c.loop-read.desk; held = g.O.Sink.held c.loop-read.output } in
-    serves_worn d.called d.rests d.full c.args.desk.now (g.O.Sink.held c.args.output.now) (g.I.Source.left c.args.input.now) (g.I.Source.left c.loop-read.input)
-    m before.bytes before.on before.consumed (omega (arith, before.count, before.most, c.loop-read-test.false))
+    let a : At Talker g.row.D.Denot g.row.O.Denot = record { eater = record { alloc = c.args.alloc; session = c.new.result }; place = c.args.desk.now; output = c.args.output.now } in
+    let e : At Talker g.row.D.Denot g.row.O.Denot = record { eater = c.feed_all-fed.new.eater; place = c.feed_all-fed.new.place; output = c.feed_all-fed.new.output } in
+    rw (c.served_as.ensures, c.at_rest.ensures)
+    (serves_fed d.called d.rests d.full g.O.Sink.held g.O.Sink.faults a e (g.I.Source.left c.args.input.now) (g.I.Source.left c.feed_all-fed.new.input) c.feed_all-fed.new.count
+    (begins d.called c.args.desk.now (g.O.Sink.held c.args.output.now) c.new.result c.new.ensures.value c.new.ensures.gave)
+    c.feed_all-fed.result c.feed_all-fed.ensures.feeds c.feed_all-fed.ensures.most)
 
-pub returns-in-Err-clause-cause : goal.returns-in-Err-clause-cause
-returns-in-Err-clause-cause g c =
-    let before = c.loop-read.invariant.unfailed in
-    rw (← before.0, ← before.1) c.in-Err.ensures.cause
+pub returns-clause-output : goal.returns-clause-output
+returns-clause-output g c =
+    let d = g.D.Desk in
+    let a : At Talker g.row.D.Denot g.row.O.Denot = record { eater = record { alloc = c.args.alloc; session = c.new.result }; place = c.args.desk.now; output = c.args.output.now } in
+    let e : At Talker g.row.D.Denot g.row.O.Denot = record { eater = c.feed_all-fed.new.eater; place = c.feed_all-fed.new.place; output = c.feed_all-fed.new.output } in
+    grows_fed d.called d.rests d.full g.O.Sink.held g.O.Sink.faults a e (g.I.Source.left c.args.input.now) (g.I.Source.left c.feed_all-fed.new.input) c.feed_all-fed.new.count
+    c.feed_all-fed.result c.feed_all-fed.ensures.feeds
+
+pub returns-clause-cause : goal.returns-clause-cause
+returns-clause-cause g c =
+    let d = g.D.Desk in
+    let a : At Talker g.row.D.Denot g.row.O.Denot = record { eater = record { alloc = c.args.alloc; session = c.new.result }; place = c.args.desk.now; output = c.args.output.now } in
+    let e : At Talker g.row.D.Denot g.row.O.Denot = record { eater = c.feed_all-fed.new.eater; place = c.feed_all-fed.new.place; output = c.feed_all-fed.new.output } in
+    rw c.served_as.ensures
+    (cause_fed d.called d.rests d.full g.O.Sink.held g.O.Sink.faults a e (g.I.Source.left c.args.input.now) (g.I.Source.left c.feed_all-fed.new.input) c.feed_all-fed.new.count
+    c.feed_all-fed.result c.at_rest.result (g.I.Source.faults c.args.input.now) (g.I.Source.faults c.feed_all-fed.new.input) c.feed_all-fed.ensures.feeds c.feed_all-fed.ensures.cause)

@@ -6,7 +6,7 @@ use Rattle.scm_shapes.proofs.reading.read_values.Goals as goal
 
 pub returns-in_err-value-clause-value : goal.returns-in_err-value-clause-value
 returns-in_err-value-clause-value c =
-    let p = err_from_is_err_and c.from_residual-in_err-value.result c.from_residual-in_err-value.ensures.1 in
+    let p = err_from_is_err_and c.from_residual.result c.from_residual.ensures.1 in
     rw (p.1, p.2) (index_ends c.in_err-value.field-0.0 c.loop-item.values c.args.shape.now c.loop-item.item-index _ c.loop-item.reader.body c.loop-item.reader.place (values_at c.args.shape.now c.args.reader.now.body c.args.reader.now.place) c.loop-item-test.true c.in_err-value.ensures.value c.loop-item.invariant.so_far)
 
 pub loop-item-preserved : goal.loop-item-preserved

@@ -1,0 +1,12 @@
+/// How a feeding ended.
+#[derive(Drop)]
+pub enum Fed<S> {
+    /// The source ended.
+    Ended,
+    /// The source failed.
+    ReadFault,
+    /// As many bytes were read as may be.
+    Worn,
+    /// The last piece stopped it.
+    Stopped(S),
+}

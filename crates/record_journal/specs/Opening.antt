@@ -1,0 +1,62 @@
+-- What the opening of a journal answers and leaves.
+use Rattle.std.specs.Prelude.{ℕ, ◌≡◌, ◌≤◌, ◌⊎◌, Bool, true, false, List, [], take, Option, None, Some, Result, Ok, Err}
+use Rattle.std.specs.Io.KnownBytes.{Keeps}
+use Rattle.scm_model.specs.declared.flat.Config.{Config}
+use Rattle.scm_model.specs.declared.flat.Limits.{Limits}
+use Rattle.scm_rules.specs.Opening.{CanOpen}
+use Rattle.record_journal.specs.Entries.{read_journal}
+use Rattle.record_journal.specs.Keepers.{IsEmptied}
+use Rattle.record_journal.specs.declared.opening.JournalFault.{JournalFault}
+use Rattle.record_journal.specs.declared.opening.JournalFault.TheVariants as faults
+use Rattle.record_journal.specs.declared.opening.Restored.{Restored}
+use Rattle.record_journal.specs.declared.replaying.Replay.{Replay}
+
+-- configurations that a manager for 512 services or more can begin with
+pub record CanBegin (configs : List Config) : Type 0 where
+  pub under : (l : Limits) → 512 ≤ l.services → CanOpen l configs
+
+-- what stands under a path; without one nothing stands
+abbrev pub standing : Bool → Option (List ℕ) → Option (List ℕ)
+standing true told = told
+standing false None = None
+standing false (Some bytes) = Some []
+
+-- ## Reading
+
+-- what is read of some bytes, unless memory ran out
+abbrev pub Reads : Result Replay JournalFault → Result Replay ℕ → Type 0
+Reads (Ok replay) read = read ≡ Ok replay
+Reads (Err (faults.Damaged place)) read = read ≡ Err place
+Reads (Err faults.OutOfMemory) read = Unit {0}
+Reads (Err faults.Failed) read = ⊥
+
+-- ## Opening
+
+-- the replay of the bytes, whose journal ends behind what is kept of them; or the place of their
+-- first damage
+abbrev pub Answers : List ℕ → Result Restored JournalFault → Type 0
+Answers bytes (Ok opened) =
+    read_journal bytes ≡ Ok (record { configs = opened.configs; kept = opened.journal.good })
+Answers bytes (Err (faults.Damaged place)) = read_journal bytes ≡ Err place
+Answers bytes (Err faults.OutOfMemory) = Unit {0}
+Answers bytes (Err faults.Failed) = Unit {0}
+
+-- an unfinished last entry is cut; what is damaged or not read is left as it stood. A fault may
+-- come before or behind the cut
+abbrev pub LeavesBytes : List ℕ → List ℕ → Result Restored JournalFault → Type 0
+LeavesBytes bytes now (Ok opened) = now ≡ take opened.journal.good bytes
+LeavesBytes bytes now (Err (faults.Damaged place)) = now ≡ bytes
+LeavesBytes bytes now (Err faults.OutOfMemory) = now ≡ bytes
+LeavesBytes bytes now (Err faults.Failed) =
+    (now ≡ bytes) ⊎ ((replay : Replay) × (read_journal bytes ≡ Ok replay) × (now ≡ take replay.kept bytes))
+
+abbrev pub LeavesAll : Option (List ℕ) → Option (List ℕ) → Result Restored JournalFault → Type 0
+LeavesAll None now result = Unit {0}
+LeavesAll (Some bytes) None result = ⊥
+LeavesAll (Some bytes) (Some now) result = LeavesBytes bytes now result
+
+-- the same of what stands under a path; without one nothing stands, or a fault leaves all
+abbrev pub Leaves : Bool → Option (List ℕ) → Option (List ℕ) → Result Restored JournalFault → Type 0
+Leaves true old now result = LeavesAll old now result
+Leaves false old now (Ok opened) = IsEmptied old now
+Leaves false old now (Err fault) = Keeps old now ⊎ IsEmptied old now

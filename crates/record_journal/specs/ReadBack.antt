@@ -1,0 +1,34 @@
+-- Changes whose journal is read back.
+use Rattle.std.specs.Prelude.{ℕ, ◌≡◌, true, List, [], ◌∷◌, ◌++◌, None, length, map, Ok}
+use Rattle.std.specs.List.{flat_map}
+use Rattle.scm_model.specs.declared.flat.Config.{Config}
+use Rattle.scm_model.specs.declared.steps.Change.{Change}
+use Rattle.scm_model.specs.declared.steps.Change.TheVariants.{Created, Changed, Removed}
+use Rattle.service_record.specs.Spelling.{held}
+use Rattle.record_journal.specs.Entries.{can_replay, read_journal, whole_entry}
+use Rattle.record_journal.specs.Format.{HasEntry, entry_bytes, header}
+use Rattle.record_journal.specs.Replay.{after_change, replayed}
+
+-- what an entry holds of a change
+abbrev pub held_change : Change → Change
+held_change (Created config) = Created (held config)
+held_change (Changed config) = Changed (held config)
+held_change (Removed name) = Removed name
+
+-- each has an entry, and can be replayed behind those before it
+abbrev pub AreReplayable : List Config → List Change → Type 0
+AreReplayable configs [] = Unit {0}
+AreReplayable configs (change ∷ changes) =
+    HasEntry change × (can_replay configs (held_change change) ≡ true)
+    × AreReplayable (after_change configs (held_change change)) changes
+
+-- the header and the entries of changes
+abbrev pub written : List Change → List ℕ
+written changes = header ++ flat_map entry_bytes changes
+
+-- with less than a whole entry behind them they are read as what the changes come to
+abbrev pub IsReadBack : List Change → Type 0
+IsReadBack changes =
+    (tail : List ℕ) → whole_entry tail ≡ None
+    → read_journal (written changes ++ tail)
+    ≡ Ok (record { configs = replayed [] (map held_change changes); kept = length (written changes) })

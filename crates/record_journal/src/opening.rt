@@ -1,0 +1,103 @@
+//! The opening of a journal.
+ghost use Rattle.std.specs.Prelude.{◌≡◌, ◌≤◌, length, IfOk, IfSome, IsErrOf, OnOk};
+ghost use Rattle.outside.specs.Causes.{HasCause, Rose};
+ghost use Rattle.record_journal.specs.Bearing.{Bears};
+ghost use Rattle.record_journal.specs.Keepers.{Cuts, IsUntold, has_path};
+ghost use Rattle.record_journal.specs.Opening.{Answers, CanBegin, Leaves, LeavesAll, standing};
+
+use crate::journal::Journal;
+use crate::keeper::{KeepFault, Keeper};
+use crate::replaying::{Replay, read_journal};
+use outside::Failed;
+use scm_model::Config;
+use scm_text::Items;
+use std::alloc::Global;
+
+/// A journal that was read.
+#[derive(Drop)]
+pub struct Restored {
+    /// Where it ends.
+    pub journal: Journal,
+    /// What its entries come to: the configurations of its services, in order.
+    pub configs: Items<Config>,
+}
+
+/// Why a journal isn't read.
+#[derive(Clone, Copy, Debug, PartialEq, Eq)]
+pub enum JournalFault {
+    /// The keeper failed, and its count of faults rose.
+    Failed,
+    OutOfMemory,
+    /// Here the header or the first whole entry that is damaged begins.
+    Damaged(u64),
+}
+
+/// Cuts what stands behind the kept bytes of a journal.
+fn cut_behind<K: Keeper>(keeper: &mut K, size: usize, kept: u64) -> Result<(), Failed>
+    requires size { IfSome (K.held keeper.old) (λ bytes. length bytes ≡ size) }
+    ensures bytes { Cuts kept (K.held keeper.old) (K.held keeper.new) result }
+    ensures untold { IsUntold (K.held keeper.old) (K.held keeper.new) }
+    ensures cause { HasCause (K.faults keeper.old) (K.faults keeper.new) result }
+{
+    if size as u64 <= kept {
+        return Ok(());
+    }
+    keeper.cut(kept)
+}
+
+/// Reads bytes that a keeper holds, and cuts what stands behind those that are kept.
+fn restore<K: Keeper>(alloc: Global, keeper: &mut K, bytes: &[u8]) -> Result<Restored, JournalFault>
+    requires held { IfSome (K.held keeper.old) (λ held. bytes.now ≡ held) }
+    ensures answer { IfSome (K.held keeper.old) (λ held. Answers held result) }
+    ensures leaves { LeavesAll (K.held keeper.old) (K.held keeper.new) result }
+    ensures untold { IsUntold (K.held keeper.old) (K.held keeper.new) }
+    ensures bears { IfOk result (λ opened.
+        Bears (K.held keeper.new) opened.journal (K.held keeper.new)) }
+    ensures begins { IfOk result (λ opened. CanBegin opened.configs) }
+    ensures grows { K.faults keeper.old ≤ K.faults keeper.new }
+    ensures cause { IsErrOf result JournalFault.Failed →
+        Rose (K.faults keeper.old) (K.faults keeper.new) }
+    ensures kept { OnOk result (K.faults keeper.new ≡ K.faults keeper.old) }
+{
+    let Replay { configs, kept } = read_journal(alloc, bytes)?;
+    match cut_behind(keeper, bytes.len(), kept) {
+        Ok(()) => Ok(Restored {
+            journal: Journal {
+                good: kept,
+                dirty: false,
+            },
+            configs,
+        }),
+        Err(Failed) => Err(JournalFault::Failed),
+    }
+}
+
+/// Opens a keeper, and reads the journal that stands under the path; without a path it is empty. An
+/// unfinished last entry is cut, and so is a part of a header. A journal that is damaged is never
+/// written to.
+pub fn open_journal<K: Keeper>(
+    alloc: Global,
+    keeper: &mut K,
+    path: Option<&str>,
+) -> Result<Restored, JournalFault>
+    ensures answer { IfSome (standing (has_path path.entry) (K.held keeper.old))
+        (λ bytes. Answers bytes result) }
+    ensures leaves { Leaves (has_path path.entry) (K.held keeper.old) (K.held keeper.new) result }
+    ensures bears { IfOk result (λ opened.
+        Bears (K.held keeper.new) opened.journal (K.held keeper.new)) }
+    // What a manager can begin with.
+    ensures begins { IfOk result (λ opened. CanBegin opened.configs) }
+    ensures grows { K.faults keeper.old ≤ K.faults keeper.new }
+    ensures cause { IsErrOf result JournalFault.Failed →
+        Rose (K.faults keeper.old) (K.faults keeper.new) }
+    ensures kept { OnOk result (K.faults keeper.new ≡ K.faults keeper.old) }
+{
+    let Ok(()) = keeper.open_at(path) else {
+        return Err(JournalFault::Failed);
+    };
+    match keeper.read_all() {
+        Ok(all) => restore(alloc, keeper, all.as_slice()),
+        Err(KeepFault::Failed) => Err(JournalFault::Failed),
+        Err(KeepFault::OutOfMemory) => Err(JournalFault::OutOfMemory),
+    }
+}

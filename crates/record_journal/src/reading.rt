@@ -1,0 +1,120 @@
+//! Entries, read.
+ghost use Rattle.std.specs.Prelude.{◌≡◌, IfOk, option_map};
+ghost use Rattle.scm_model.specs.declared.steps.Change.TheVariants as changes;
+ghost use Rattle.service_record.specs.Reading.{take_number, whole_of};
+ghost use Rattle.record_journal.specs.Entries.{change_in, if_read, name_of, seen};
+ghost use Rattle.record_journal.specs.Entries.{whole_entry, with_body};
+
+use crate::entry::{CHANGED, CREATED, REMOVED};
+use ndr_body::{has_zero, units_of};
+use scm_model::{Change, Config};
+use scm_text::{OutOfMemory, WText};
+use service_record::{RecordFault, read_record};
+use std::alloc::Global;
+
+/// A whole entry at the front of some bytes, and what stands behind it.
+#[derive(Clone, Copy)]
+pub struct Front<'a> {
+    pub kind: u8,
+    pub body: &'a [u8],
+    pub rest: &'a [u8],
+}
+
+/// A number at the front, and what stands behind it.
+fn number_at(bytes: &[u8]) -> Option<(u32, &[u8])>
+    ensures { option_map (λ x. (x.0, x.1.now)) result ≡ if_read (take_number bytes.now) }
+{
+    if bytes.len() < 4 {
+        return None;
+    }
+    let (front, rest) = bytes.split_at(4);
+    let number = u32::from_le_bytes([front[0], front[1], front[2], front[3]]);
+    Some((number, rest))
+}
+
+fn with_body(kind: u8, bytes: &[u8]) -> Option<Front<'_>>
+    ensures { option_map seen result ≡ with_body kind (if_read (take_number bytes.now)) }
+{
+    let (size, bytes) = number_at(bytes)?;
+    let size = size as usize;
+    if bytes.len() < size {
+        return None;
+    }
+    let (body, rest) = bytes.split_at(size);
+    Some(Front { kind, body, rest })
+}
+
+/// The whole entry at the front of some bytes, where one stands there.
+pub fn whole_entry(bytes: &[u8]) -> Option<Front<'_>>
+    ensures { option_map seen result ≡ whole_entry bytes.now }
+{
+    match bytes {
+        [kind, rest @ ..] => with_body(*kind, rest),
+        [] => None,
+    }
+}
+
+/// The configuration that a body is.
+fn config_in(alloc: Global, body: &[u8]) -> Result<Option<Config>, OutOfMemory>
+    ensures { IfOk result (λ config. config ≡ if_read (whole_of body.now)) }
+{
+    match read_record(alloc, body) {
+        Ok(config) => Ok(Some(config)),
+        Err(RecordFault::Bad(_)) => Ok(None),
+        Err(RecordFault::OutOfMemory) => Err(OutOfMemory),
+    }
+}
+
+/// The name that a body is.
+fn name_in(alloc: Global, body: &[u8]) -> Result<Option<WText>, OutOfMemory>
+    ensures { IfOk result (λ name. name ≡ if_read (name_of body.now)) }
+{
+    let Some((count, rest)) = number_at(body) else {
+        return Ok(None);
+    };
+    let count = count as usize;
+    if rest.len() != 2 * count {
+        return Ok(None);
+    }
+    let Ok(units) = units_of(alloc, rest, count) else {
+        return Err(OutOfMemory);
+    };
+    if has_zero(units.as_slice()) {
+        return Ok(None);
+    }
+    Ok(Some(WText::from_vec(units)))
+}
+
+fn created(config: Option<Config>) -> Option<Change>
+    ensures { result ≡ option_map changes.Created config }
+{
+    config.map(Change::Created)
+}
+
+fn changed(config: Option<Config>) -> Option<Change>
+    ensures { result ≡ option_map changes.Changed config }
+{
+    config.map(Change::Changed)
+}
+
+fn removed(name: Option<WText>) -> Option<Change>
+    ensures { result ≡ option_map changes.Removed name }
+{
+    name.map(Change::Removed)
+}
+
+/// The change that a kind and a body are.
+pub fn change_in(alloc: Global, kind: u8, body: &[u8]) -> Result<Option<Change>, OutOfMemory>
+    ensures { IfOk result (λ change. change ≡ change_in kind body.now) }
+{
+    if kind == CREATED {
+        return Ok(created(config_in(alloc, body)?));
+    }
+    if kind == CHANGED {
+        return Ok(changed(config_in(alloc, body)?));
+    }
+    if kind == REMOVED {
+        return Ok(removed(name_in(alloc, body)?));
+    }
+    Ok(None)
+}
