@@ -1,7 +1,8 @@
 -- How far the reports of a child's output came.
-use Rattle.std.proofs.Common.{ℕ, ◌≡◌, ◌∙◌, ◌+◌, ◌≤◌, ◌^◌, ◌⊎◌, inl, inr, List, [], ◌∷◌, ◌++◌, length, take, Option, Err, refl, sym, ap, subst, append_assoc, append-nil, arith, length-append}
+use Rattle.std.proofs.Common.{ℕ, ◌≡◌, ◌∙◌, ◌+◌, ◌<◌, ◌≤◌, ◌^◌, ◌⊎◌, inl, inr, List, [], ◌∷◌, ◌++◌, length, Option, refl, sym, ap, subst, append_assoc, arith, length-append}
 use Rattle.std.specs.Io.KnownBytes.{Consumes, IsAtEnd}
 use Rattle.std.proofs.KnownBytes.{Consumes-trans, Consumes-whole}
+use Rattle.feed_loop.specs.declared.fed.Fed.TheVariants as fed
 use Rattle.outside.specs.Causes.{Rose}
 use Rattle.outside.specs.Written.{Begins}
 use Rattle.scm_model.specs.declared.flat.Status.{Status}
@@ -11,13 +12,10 @@ use Rattle.scm_book.specs.declared.fault.MakeFault.TheVariants as lacks
 use Rattle.scm_book.specs.Passes.{Known}
 use Rattle.child_runner.specs.declared.served.ChildServed.{ChildServed}
 use Rattle.child_runner.specs.declared.served.ChildServed.TheVariants as served
-use Rattle.child_runner.specs.Reports.{Chain, HasRead, Stops, reports}
-use Rattle.child_runner.specs.Serving.{CameTo, IsAll, IsReadOut, MakesReports, ReadsAll, ReadsOn, ReadsPiece, served_by}
+use Rattle.child_runner.specs.Reports.{Chain, GoesOn, HasRead, Stops, reports}
+use Rattle.child_runner.specs.Serving.{CameTo, IsAll, IsReadOut, MakesReports, Reached, ReadsAll, ReadsOn, served_as}
 use Rattle.child_runner.proofs.Reading.{all_told}
 use Rattle.child_runner.proofs.Stretches.{chain_append}
-
-nothing_more : (left mid left_now : Option (List ℕ)) (read : List ℕ) → Consumes left mid read → Consumes mid left_now [] → Consumes left left_now read
-nothing_more left mid left_now read p q = subst (Consumes left left_now) (append-nil read) (Consumes-trans left mid left_now read [] p q)
 
 all_of : (left left_now : Option (List ℕ)) (read : List ℕ) → Consumes left left_now read → IsAtEnd left_now → IsAll left read
 all_of left left_now read consumed end = Consumes-whole left left_now read (λ (bytes : List ℕ). read ≡ bytes) consumed end refl
@@ -25,59 +23,60 @@ all_of left left_now read consumed end = Consumes-whole left left_now read (λ (
 shorter : (front : List Status) (next : Status) (all : List Status) → Begins (front ++ next ∷ []) all → Begins front all
 shorter front next all begins = (next ∷ begins.0, begins.1 ∙ append_assoc front (next ∷ []) begins.0)
 
--- a count of bytes, with a piece more
-pub count_more : (count count_now n : ℕ) (read piece into : List ℕ) → count ≡ length read → count_now ≡ count + length (take n into) → piece ≡ take n into → count_now ≡ length read + length piece
-count_more count count_now n read piece into counted more is = more ∙ (ap (λ (c : ℕ). c + length (take n into)) counted ∙ ap (λ (bs : List ℕ). length read + length bs) (sym is))
+-- the first reports of what was read were made
+pub record SoFar (tells : ℕ → Type 0) (o : Opening) (process : ℕ) (k m : Known) (read line : List ℕ) : Type 0 where
+  pub done : List Status
+  pub has : HasRead read done line
+  pub chain : Chain tells o process k m done
 
-pub consumed_as : (mid left_now : Option (List ℕ)) (n : ℕ) (piece into : List ℕ) → Consumes mid left_now (take n into) → piece ≡ take n into → Consumes mid left_now piece
-consumed_as mid left_now n piece into consumed is = subst (Consumes mid left_now) (sym is) consumed
+-- one piece more
+pub one_piece : (tells : ℕ → Type 0) (o : Opening) (process : ℕ) (k m now : Known) (read line piece line' : List ℕ) → SoFar tells o process k m read line
+    → GoesOn tells o process piece line line' m now → SoFar tells o process k now (read ++ piece) line'
+one_piece tells o process k m now read line piece line' on goes = record {
+  done = on.done ++ goes.statuses;
+  has = goes.reads read on.done on.has;
+  chain = chain_append tells o process k m now on.done goes.statuses on.chain goes.chain;
+}
 
-module _ (tells : ℕ → Type 0) (o : Opening) (process : ℕ) (k m : Known) (left mid left_now : Option (List ℕ)) (read : List ℕ) (done : List Status) (line : List ℕ)
-    (consumed : Consumes left mid read) (has : HasRead read done line) (chain : Chain tells o process k m done) (most : length read ≤ 2 ^ 40) where
-  stops_here : (count_now : ℕ) (how : ChildServed) → Consumes mid left_now [] → count_now ≡ length read → CameTo o process m m how left read done → MakesReports tells o process k m left left_now count_now how
-  stops_here count_now how none counted came = record {
+module _ (tells : ℕ → Type 0) (o : Opening) (process : ℕ) (k m : Known) (left left_now : Option (List ℕ)) (read line : List ℕ) (on : SoFar tells o process k m read line) where
+  -- all reports of what was read were made
+  pub read_ends : (count : ℕ) (how : ChildServed) (now : Known) → Consumes left left_now read → count ≡ length read → length read ≤ 2 ^ 40
+      → CameTo o process m now how left read on.done → MakesReports tells o process k now left left_now count how
+  read_ends count how now consumed counted most came = record {
     read = read;
-    done = done;
-    consumed = nothing_more left mid left_now read consumed none;
+    done = on.done;
+    consumed = consumed;
     counted = counted;
     most = most;
     last = m;
-    chain = chain;
+    chain = on.chain;
     came = came;
   }
 
-  -- no more bytes came
-  pub read_ends : (count count_now faults faults_now : ℕ) (into : List ℕ) (how : ChildServed) → count ≡ length read → ReadsPiece mid left_now count count_now faults faults_now into (Err how)
-      → MakesReports tells o process k m left left_now count_now how
-  read_ends count count_now faults faults_now into served.Ended counted r =
-      stops_here count_now served.Ended r.consumed (let c = r.counted in omega (arith, c, counted)) (refl, (all_of left left_now read (nothing_more left mid left_now read consumed r.consumed) r.ends.0, (let c = r.ends.1 in omega (arith, c, counted)), all_told read done line has))
-  read_ends count count_now faults faults_now into served.ReadFault counted r =
-      stops_here count_now served.ReadFault r.consumed (let c = r.counted in omega (arith, c, counted)) (refl, ((let c = r.ends.0 in omega (arith, c, counted)), all_told read done line has))
-  read_ends count count_now faults faults_now into served.Worn counted r =
-      stops_here count_now served.Worn r.consumed (let c = r.counted in omega (arith, c, counted)) (refl, ((let c = r.ends.0 in omega (arith, c, counted)), all_told read done line has))
-  read_ends count count_now faults faults_now into served.Full counted r = absurd r.ends
-  read_ends count count_now faults faults_now into served.OutOfMemory counted r = absurd r.ends
+  -- the whole output was read
+  pub all_read : Consumes left left_now read → IsAtEnd left_now → length read < 2 ^ 40 → Reached o process m served.Ended left read on.done
+  all_read consumed end few = (all_of left left_now read consumed end, few, all_told read on.done line on.has)
 
   -- a report wasn't made
-  module _ (piece line' : List ℕ) (now : Known) (count_now : ℕ) (came : Consumes mid left_now piece) (counted : count_now ≡ length read + length piece) (much : count_now ≤ 2 ^ 40) where
-    next_is : (why : MakeFault) (s : Stops tells o process piece line line' m now why) (more : List ℕ) → Begins ((done ++ s.statuses) ++ s.next ∷ []) (reports ((read ++ piece) ++ more))
+  module _ (piece line' : List ℕ) (now : Known) (count : ℕ) (consumed : Consumes left left_now (read ++ piece)) (counted : count ≡ length read + length piece) (much : count ≤ 2 ^ 40) where
+    next_is : (why : MakeFault) (s : Stops tells o process piece line line' m now why) (more : List ℕ) → Begins ((on.done ++ s.statuses) ++ s.next ∷ []) (reports ((read ++ piece) ++ more))
     next_is why s more =
-        subst (λ (front : List Status). Begins front (reports ((read ++ piece) ++ more))) (sym (append_assoc done s.statuses (s.next ∷ [])))
-        (subst (λ (bs : List ℕ). Begins (done ++ (s.statuses ++ s.next ∷ [])) (reports bs)) (sym (append_assoc read piece more)) (s.follows read done has more))
+        subst (λ (front : List Status). Begins front (reports ((read ++ piece) ++ more))) (sym (append_assoc on.done s.statuses (s.next ∷ [])))
+        (subst (λ (bs : List ℕ). Begins (on.done ++ (s.statuses ++ s.next ∷ [])) (reports bs)) (sym (append_assoc read piece more)) (s.follows read on.done on.has more))
 
-    came_to : (why : MakeFault) (s : Stops tells o process piece line line' m now why) → CameTo o process s.last now (served_by why) left (read ++ piece) (done ++ s.statuses)
+    came_to : (why : MakeFault) (s : Stops tells o process piece line line' m now why) → CameTo o process s.last now (served_as (fed.Stopped why)) left (read ++ piece) (on.done ++ s.statuses)
     came_to lacks.Full s = (s.next, next_is lacks.Full s, s.lacks)
-    came_to lacks.OutOfMemory s = (s.lacks.learnt, λ more. shorter (done ++ s.statuses) s.next (reports ((read ++ piece) ++ more)) (next_is lacks.OutOfMemory s more))
+    came_to lacks.OutOfMemory s = (s.lacks.learnt, λ more. shorter (on.done ++ s.statuses) s.next (reports ((read ++ piece) ++ more)) (next_is lacks.OutOfMemory s more))
 
-    pub report_lacks : (why : MakeFault) → Stops tells o process piece line line' m now why → MakesReports tells o process k now left left_now count_now (served_by why)
+    pub report_lacks : (why : MakeFault) → Stops tells o process piece line line' m now why → MakesReports tells o process k now left left_now count (served_as (fed.Stopped why))
     report_lacks why s = record {
       read = read ++ piece;
-      done = done ++ s.statuses;
-      consumed = Consumes-trans left mid left_now read piece consumed came;
+      done = on.done ++ s.statuses;
+      consumed = consumed;
       counted = counted ∙ sym (length-append read piece);
       most = (let long = length-append read piece in omega (arith, long, counted, much));
       last = s.last;
-      chain = chain_append tells o process k m s.last done s.statuses chain s.chain;
+      chain = chain_append tells o process k m s.last on.done s.statuses on.chain s.chain;
       came = came_to why s;
     }
 

@@ -2,6 +2,7 @@ mod Telling
 mod Reading
 mod Stretches
 mod Coming
+mod Fed
 mod Owned
 mod Whole
 mod Takings

@@ -81,3 +81,14 @@ module _ (tells : ℕ → Type 0) (o : Opening) (process : ℕ) (piece : List �
   abbrev pub Fed : {T : Type 0} → Result T MakeFault → Type 0
   Fed (Ok done) = GoesOn
   Fed (Err why) = Stops why
+
+-- ## What eats a child's output
+
+-- what stays of it
+pub record Parts (B C : Type 0) : Type 0 where
+  pub book : B
+  pub clock : C
+  pub process : ℕ
+
+abbrev pub parts_of : {B C : Type 0} → B → C → ℕ → Parts B C
+parts_of book clock process = record { book = book; clock = clock; process = process }

@@ -1,7 +1,9 @@
 -- A child from its first byte to its end.
-use Rattle.std.specs.Prelude.{ℕ, ◌≡◌, ◌<◌, ◌≤◌, ◌+◌, ◌^◌, ◌⊎◌, ◌++◌, All, Bool, IfSome, false, true, List, [], ◌∷◌, length, map, slice_get, take, Option, Some, Result, Ok, Err}
+use Rattle.std.specs.Prelude.{ℕ, ◌≡◌, ◌<◌, ◌≤◌, ◌+◌, ◌^◌, ◌⊎◌, ◌++◌, All, Bool, IfSome, false, true, List, [], ◌∷◌, length, map, slice_get, Option, Some}
 use Rattle.std.specs.Io.KnownBytes.{Consumes, IsAtEnd}
 use mathlib.Core.List.{IsPrefix}
+use Rattle.feed_loop.specs.declared.fed.Fed.{Fed}
+use Rattle.feed_loop.specs.declared.fed.Fed.TheVariants as fed
 use Rattle.outside.specs.Causes.{Rose}
 use Rattle.outside.specs.Written.{Begins}
 use Rattle.scm_model.specs.declared.flat.Status.{Status}
@@ -19,34 +21,15 @@ use Rattle.child_runner.specs.declared.served.ChildServed.{ChildServed}
 use Rattle.child_runner.specs.declared.served.ChildServed.TheVariants as served
 use Rattle.child_runner.specs.Reports.{Chain, reports}
 
--- ## One read
-
--- what one read gave
-abbrev pub given : {E : Type 0} → List ℕ → Result ℕ E → List ℕ
-given into (Ok n) = take n into
-given into (Err how) = []
-
--- some bytes came; or none did, since the child's output ended, the read failed, or as many were read as a child may have
-abbrev pub ReadEnds : (left_now : Option (List ℕ)) → (count faults faults_now : ℕ) → Result ℕ ChildServed → Type 0
-ReadEnds left_now count faults faults_now (Ok n) = (0 < n) × (faults_now ≡ faults)
-ReadEnds left_now count faults faults_now (Err served.Ended) = IsAtEnd left_now × (count < 2 ^ 40) × (faults_now ≡ faults)
-ReadEnds left_now count faults faults_now (Err served.ReadFault) = (count < 2 ^ 40) × Rose faults faults_now
-ReadEnds left_now count faults faults_now (Err served.Worn) = (count ≡ 2 ^ 40) × (faults_now ≡ faults)
-ReadEnds left_now count faults faults_now (Err served.Full) = ⊥
-ReadEnds left_now count faults faults_now (Err served.OutOfMemory) = ⊥
-
-pub record ReadsPiece (left left_now : Option (List ℕ)) (count count_now faults faults_now : ℕ) (into : List ℕ) (result : Result ℕ ChildServed) : Type 0 where
-  pub consumed : Consumes left left_now (given into result)
-  pub counted : count_now ≡ count + length (given into result)
-  pub most : count_now ≤ 2 ^ 40
-  pub ends : ReadEnds left_now count faults faults_now result
-
--- how it ends that a report isn't made
-abbrev pub served_by : MakeFault → ChildServed
-served_by lacks.Full = served.Full
-served_by lacks.OutOfMemory = served.OutOfMemory
-
 -- ## All reads
+
+-- how it ends that a child's output was fed so
+abbrev pub served_as : Fed MakeFault → ChildServed
+served_as fed.Ended = served.Ended
+served_as fed.ReadFault = served.ReadFault
+served_as fed.Worn = served.Worn
+served_as (fed.Stopped lacks.Full) = served.Full
+served_as (fed.Stopped lacks.OutOfMemory) = served.OutOfMemory
 
 -- all of the link's bytes were read, where it tells them
 abbrev pub IsAll : (left : Option (List ℕ)) → (read : List ℕ) → Type 0

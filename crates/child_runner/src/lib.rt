@@ -5,6 +5,7 @@
 mod fault;
 mod launching;
 mod quitting;
+mod reporter;
 mod reports;
 mod sending;
 mod served;

@@ -1,62 +1,32 @@
 // A child from its first byte to its end.
-ghost use Rattle.std.specs.Prelude.{◌≡◌, ◌≤◌, ◌<◌, ◌^◌, [], IfOk, length};
+ghost use Rattle.std.specs.Prelude.{◌≡◌, ◌≤◌, ◌^◌, []};
 ghost use Rattle.std.specs.Io.KnownBytes.{Keeps};
 ghost use Rattle.scm_model.specs.declared.flat.Phase.TheVariants as phases;
 ghost use Rattle.scm_book.specs.Passes.{HoldsProcess, IsOf};
 ghost use Rattle.child_runner.specs.Serving.{IsComplete, IsReadFor, IsServedFor, MakesReports};
-ghost use Rattle.child_runner.specs.Serving.{ReadsAll, ReadsOn, ReadsPiece, ServesChild, Waits};
-ghost use Rattle.child_runner.specs.Serving.{served_by, waited_in_vain};
+ghost use Rattle.child_runner.specs.Serving.{ReadsAll, ReadsOn, ServesChild, Waits};
+ghost use Rattle.child_runner.specs.Serving.{served_as, waited_in_vain};
 
-use crate::reports::feed;
+use crate::reporter::{Reporter, Unread};
 use crate::served::{ChildEnded, ChildServed};
 use child_link::{LineCutter, Link};
+use feed_loop::{Fed, feed_all};
 use outside::{Clock, Failed};
 use record_journal::Keeper;
 use scm_book::{Book, MakeFault, Pass};
 use std::alloc::Global;
 use std::sync::Wait;
 
-/// How many bytes a child may have.
-const WORN: u64 = 1 << 40;
-
-/// How many bytes are read at once.
-const PIECE: u64 = 4096;
-
-/// Reads the next piece, and counts its bytes. An `Err` says why there is none.
-fn read_piece<L: Link>(
-    link: &mut L,
-    count: &mut u64,
-    piece: &mut [u8],
-) -> Result<usize, ChildServed>
-    requires room { length piece.old ≡ 4096 }
-    requires most { count.old ≤ 2 ^ 40 }
-    ensures room { length piece.new ≡ 4096 }
-    ensures bound { IfOk result (λ n. n ≤ length piece.new) }
-    ensures reads { ReadsPiece (L.left link.old) (L.left link.new) count.old count.new
-        (L.faults link.old) (L.faults link.new) piece.new result }
+/// How it ends that a child's output was fed so.
+fn served_as(fed: Fed<MakeFault>) -> ChildServed
+    ensures { result ≡ served_as fed }
 {
-    let room = (WORN - *count).min(PIECE) as usize;
-    if room == 0 {
-        return Err(ChildServed::Worn);
-    }
-    let (into, _) = piece.split_at_mut(room);
-    let Ok(n) = link.read(into) else {
-        return Err(ChildServed::ReadFault);
-    };
-    if n == 0 {
-        return Err(ChildServed::Ended);
-    }
-    *count += n as u64;
-    Ok(n)
-}
-
-/// How it ends that a report isn't made.
-fn served_by(fault: MakeFault) -> ChildServed
-    ensures { result ≡ served_by fault }
-{
-    match fault {
-        MakeFault::Full => ChildServed::Full,
-        MakeFault::OutOfMemory => ChildServed::OutOfMemory,
+    match fed {
+        Fed::Ended => ChildServed::Ended,
+        Fed::ReadFault => ChildServed::ReadFault,
+        Fed::Worn => ChildServed::Worn,
+        Fed::Stopped(MakeFault::Full) => ChildServed::Full,
+        Fed::Stopped(MakeFault::OutOfMemory) => ChildServed::OutOfMemory,
     }
 }
 
@@ -68,32 +38,28 @@ fn make_reports<R: Wait, K: Keeper, L: Link, C: Clock>(
     process: u64,
     link: &mut L,
     clock: &C,
-    line: &mut LineCutter,
+    line: LineCutter,
     count: &mut u64,
 ) -> ChildServed
     requires book { IsOf book.now pass.old }
     requires process { HoldsProcess book.now.opening pass.old process phases.Launched }
-    requires line { line.old ≡ [] }
+    requires line { line ≡ [] }
     requires count { count.old ≡ 0 }
     ensures book { IsOf book.now pass.new }
     ensures process { HoldsProcess book.now.opening pass.new process phases.Launched }
+    ensures most { count.new ≤ 2 ^ 40 }
     ensures makes { MakesReports (C.tells clock.now) book.now.opening process pass.old pass.new
         (L.left link.old) (L.left link.new) count.new result }
     ensures cause { IsReadFor result (L.faults link.old) (L.faults link.new) }
 {
-    let mut piece = [0u8; 4096];
-    loop {
-        match read_piece(link, count, &mut piece) {
-            Ok(n) => {
-                let (bytes, _) = piece.split_at(n);
-                match feed(rt, book, pass, process, clock, line, bytes) {
-                    Ok(()) => {}
-                    Err(fault) => return served_by(fault),
-                }
-            }
-            Err(how) => return how,
-        }
-    }
+    let mut reporter = Reporter {
+        rt,
+        book,
+        process,
+        clock,
+        line,
+    };
+    served_as(feed_all(&mut reporter, pass, &mut (), link, count))
 }
 
 /// Reads what is left, and makes nothing of it.
@@ -102,13 +68,7 @@ fn pass_over<L: Link>(link: &mut L, count: &mut u64)
     ensures { ReadsOn (L.left link.old) (L.left link.new) count.old
         (L.faults link.old) (L.faults link.new) }
 {
-    let mut piece = [0u8; 4096];
-    loop {
-        match read_piece(link, count, &mut piece) {
-            Ok(_) => {}
-            Err(_) => return,
-        }
-    }
+    feed_all(&mut Unread, &mut (), &mut (), link, count);
 }
 
 /// Makes the reports of a child's output, and reads it to its end.
@@ -130,11 +90,11 @@ fn read_all<R: Wait, K: Keeper, L: Link, C: Clock>(
     ensures cause { IsReadFor result (L.faults link.old) (L.faults link.new) }
 {
     let mut count = 0u64;
-    let Ok(mut line) = LineCutter::new(alloc) else {
+    let Ok(line) = LineCutter::new(alloc) else {
         pass_over(link, &mut count);
         return ChildServed::OutOfMemory;
     };
-    match make_reports(rt, book, pass, process, link, clock, &mut line, &mut count) {
+    match make_reports(rt, book, pass, process, link, clock, line, &mut count) {
         ChildServed::Full => {
             pass_over(link, &mut count);
             ChildServed::Full

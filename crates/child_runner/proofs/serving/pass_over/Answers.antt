@@ -1,16 +1,7 @@
-use Rattle.std.proofs.Common.{◌∙◌, ◌++◌, arith, length-append, take}
-use Rattle.std.proofs.KnownBytes.{Consumes-trans}
+use Rattle.child_runner.proofs.Fed.{reads_on}
 use Rattle.child_runner.proofs.serving.pass_over.Goals as goal
 
-pub loop-preserved : goal.loop-preserved
-loop-preserved g c =
-    let before = c.loop.invariant in
-    let now = c.in-Ok.ensures.reads in
-    let came = take c.in-Ok.field-0 c.read_piece.new.piece in
-    record {
-      most = now.most;
-      more = before.more ++ came;
-      consumed = Consumes-trans _ _ _ before.more came before.consumed now.consumed;
-      counted = omega (arith, now.counted, before.counted, length-append before.more came);
-      faults = now.ends.1 ∙ before.faults;
-    }
+pub returns : goal.returns
+returns g c =
+    reads_on _ _ (g.L.Source.left c.args.link.now) (g.L.Source.left c.feed_all.new.input) c.args.count.now c.feed_all.new.count
+    (g.L.Source.faults c.args.link.now) (g.L.Source.faults c.feed_all.new.input) c.feed_all.ensures.most c.feed_all.result c.feed_all.ensures.feeds c.feed_all.ensures.cause
