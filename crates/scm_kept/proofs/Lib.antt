@@ -3,3 +3,6 @@ pub mod Rows
 pub mod Found
 pub mod Calls
 pub mod Runs
+pub mod Entry
+pub mod ReadOn
+pub mod Opened

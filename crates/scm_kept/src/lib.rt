@@ -1,9 +1,15 @@
 //! What the kept changes of a history come to.
 #![tactic(auto)]
 
-ghost use Rattle.scm_kept.specs.Replayed.{UnmarkedAreKept};
+ghost use Rattle.std.specs.Prelude.{◌≡◌, List, ℕ};
+ghost use Rattle.scm_kept.specs.Read.{IsReadAgain, IsReadOn};
+ghost use Rattle.scm_kept.specs.Replayed.{UnmarkedAreKept, unmarked};
+ghost use Rattle.scm_model.specs.declared.flat.Config.{Config};
+ghost use Rattle.scm_model.specs.declared.flat.Limits.{Limits};
+ghost use Rattle.scm_model.specs.declared.steps.Change.{Change};
+ghost use Rattle.record_journal.specs.declared.replaying.Replay.{Replay};
 ghost use Rattle.scm_rules.specs.Histories.{Legal};
-ghost use Rattle.scm_rules.specs.Opening.{IsOpening};
+ghost use Rattle.scm_rules.specs.Opening.{IsOpening, opening};
 
 use scm_model::{Flat, Limits, Step};
 use scm_text::Items;
@@ -15,4 +21,20 @@ pub fn unmarked_configurations_are_kept(limits: &Limits, steps: &Items<(u64, Ste
     requires begins { IsOpening limits.now opening.now }
     requires legal { Legal limits.now opening.now steps.now }
     ensures { UnmarkedAreKept limits.now opening.now steps.now }
+{}
+
+/// Read once more, what an opening keeps of a journal comes to the same configurations, and changes
+/// that are appended to it and can be replayed are read behind them: so what one run kept is what
+/// the next one opens with.
+pub fn what_was_kept_is_read()
+    ensures again { (bytes : List ℕ) (replay : Replay) → IsReadAgain bytes replay }
+    ensures on { (bytes : List ℕ) (configs : List Config) (changes : List Change) →
+        IsReadOn bytes configs changes }
+{}
+
+/// The unmarked configurations of a state that a history opens in are those that it opens with, in
+/// order.
+pub fn openings_have_their_configurations()
+    ensures { (l : Limits) (groups : List (List ℕ)) (configs : List Config) (moment : ℕ) →
+        unmarked (opening l groups configs moment).services ≡ configs }
 {}

@@ -1,0 +1,66 @@
+-- An entry is read, over any configurations.
+use Rattle.std.proofs.Common.{ℕ, suc, ◌≡◌, ◌∙◌, ◌≤◌, ◌==◌, Bool, true, cond, List, [], ◌++◌, Option, None, Some, Ok, Err, length, length-append, append_assoc, refl, sym, ap, arith, le-ltb}
+use Rattle.std.specs.Prelude.{Result, option_and_then, option_map}
+use Rattle.std.proofs.lemmas.List.{append-nil, drop_at, take_at}
+use Rattle.scm_model.specs.declared.flat.Config.{Config}
+use Rattle.scm_model.specs.declared.steps.Change.{Change}
+use Rattle.scm_model.specs.declared.steps.Change.TheVariants.{Created, Changed, Removed}
+use Rattle.service_record.specs.Reading.{◌>>=◌, Item, placed, take_number, take_text, whole_of}
+use Rattle.service_record.specs.Spelling.{FitsText, IsConfig, held, number, spelling, text}
+use Rattle.service_record.proofs.Fields.{a_number}
+use Rattle.service_record.proofs.Records.{record_again}
+use Rattle.service_record.proofs.Texts.{a_text}
+use Rattle.record_journal.specs.Entries.{Whole, can_replay, change_in, entries_from, first_of, followed, if_read, name_of, replayable, whole_entry, with_body, with_change}
+use Rattle.record_journal.specs.Format.{HasEntry, body_of, entry_bytes, entry_kind}
+use Rattle.record_journal.specs.ReadBack.{held_change}
+use Rattle.record_journal.specs.Replay.{after_change}
+
+placed_ok : {A : Type 0} (size : ℕ) (r : Result A ℕ) (x : A) → placed size r ≡ Ok x → r ≡ Ok x
+placed_ok size (Ok y) x e = cc
+placed_ok size (Err left) x e = absurd cc
+
+config_back : (config : Config) → IsConfig config → whole_of (spelling config) ≡ Ok (held config)
+config_back config fits = placed_ok (length (spelling config)) (whole_of (spelling config)) (held config) (record_again config fits)
+
+whole_name : Item (List ℕ) → Result (List ℕ) ℕ
+whole_name read = read >>= λ name. cond (length name.1 == 0) (Ok name.0) (Err (length name.1))
+
+name_back : (name : List ℕ) → FitsText name → name_of (text name) ≡ Ok name
+unfolding whole_name
+name_back name fits =
+    let read : take_text (text name) ≡ Ok (name, []) = ap take_text (sym (append-nil (text name))) ∙ a_text.again name [] fits in
+    ap whole_name read
+
+change_back : (change : Change) → HasEntry change → change_in (entry_kind change) (body_of change) ≡ Some (held_change change)
+change_back (Created config) entry = ap (λ (r : Result Config ℕ). option_map Created (if_read r)) (config_back config entry.body)
+change_back (Changed config) entry = ap (λ (r : Result Config ℕ). option_map Changed (if_read r)) (config_back config entry.body)
+change_back (Removed name) entry = ap (λ (r : Result (List ℕ) ℕ). option_map Removed (if_read r)) (name_back name entry.body)
+
+abbrev entry_of : Change → List ℕ → Whole
+entry_of change rest = record { kind = entry_kind change; body = body_of change; rest = rest }
+
+body_back : (kind : ℕ) (body rest : List ℕ) → with_body kind (Some (length body, body ++ rest)) ≡ Some (record { kind = kind; body = body; rest = rest })
+body_back kind body rest =
+    let long = length-append body rest in
+    rw (le-ltb (length (body ++ rest)) (length body) (omega (arith, long)), take_at body rest (length body) refl, drop_at body rest (length body) refl) refl
+
+front_back : (change : Change) (rest : List ℕ) → HasEntry change → whole_entry (entry_bytes change ++ rest) ≡ Some (entry_of change rest)
+unfolding entry_bytes
+front_back change rest entry =
+    let size = length (body_of change) in
+    let read : take_number (number size ++ body_of change ++ rest) ≡ Ok (size, body_of change ++ rest) =
+    ap take_number (append_assoc (number size) (body_of change) rest) ∙ a_number.again size (body_of change ++ rest) entry.length in
+    ap (λ (r : Item ℕ). with_body (entry_kind change) (if_read r)) read ∙ body_back (entry_kind change) (body_of change) rest
+
+pub entry_back : (n : ℕ) (configs : List Config) (change : Change) (rest : List ℕ) → HasEntry change → can_replay configs (held_change change) ≡ true
+    → entries_from (suc n) configs (entry_bytes change ++ rest) ≡ with_change (held_change change) (entries_from n (after_change configs (held_change change)) rest)
+unfolding entries_from
+entry_back n configs change rest entry can =
+    let left = length (entry_bytes change ++ rest) in
+    ap (first_of (entries_from n) configs left) (front_back change rest entry)
+    ∙ ap (λ (o : Option Change). followed (entries_from n) configs left rest (option_and_then (replayable configs) o)) (change_back change entry)
+    ∙ ap (λ (b : Bool). followed (entries_from n) configs left rest (cond b (Some (held_change change)) None)) can
+
+pub long_entry : (change : Change) → 1 ≤ length (entry_bytes change)
+unfolding entry_bytes
+long_entry change = omega arith

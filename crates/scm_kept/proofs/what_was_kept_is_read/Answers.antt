@@ -1,0 +1,8 @@
+use Rattle.scm_kept.proofs.ReadOn.{read_again, read_on}
+use Rattle.scm_kept.proofs.what_was_kept_is_read.Goals as goal
+
+pub returns-clause-again : goal.returns-clause-again
+returns-clause-again c = read_again
+
+pub returns-clause-on : goal.returns-clause-on
+returns-clause-on c = read_on

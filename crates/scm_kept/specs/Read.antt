@@ -1,0 +1,25 @@
+-- What is read of a journal that changes were appended to.
+use Rattle.std.specs.Prelude.{ℕ, ◌≡◌, List, Some, Ok, IfSome, length, map, take}
+use Rattle.scm_model.specs.declared.flat.Config.{Config}
+use Rattle.scm_model.specs.declared.steps.Change.{Change}
+use Rattle.record_journal.specs.Bearing.{and_changes}
+use Rattle.record_journal.specs.Entries.{read_journal}
+use Rattle.record_journal.specs.ReadBack.{AreReplayable, held_change}
+use Rattle.record_journal.specs.Replay.{replayed}
+use Rattle.record_journal.specs.declared.replaying.Replay.{Replay}
+
+-- the bytes are a journal of these configurations, each of them
+abbrev pub IsJournalOf : List ℕ → List Config → Type 0
+IsJournalOf bytes configs = read_journal bytes ≡ Ok (record { configs = configs; kept = length bytes })
+
+-- what is kept of a journal that is read is a journal of the same configurations
+abbrev pub IsReadAgain : List ℕ → Replay → Type 0
+IsReadAgain bytes replay =
+    read_journal bytes ≡ Ok replay → IsJournalOf (take replay.kept bytes) replay.configs
+
+-- changes that are appended to a journal and can be replayed are read behind what stood
+abbrev pub IsReadOn : List ℕ → List Config → List Change → Type 0
+IsReadOn bytes configs changes =
+    IsJournalOf bytes configs → AreReplayable configs changes
+    → IfSome (and_changes (Some bytes) changes)
+    (λ now. IsJournalOf now (replayed configs (map held_change changes)))
