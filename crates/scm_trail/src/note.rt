@@ -31,7 +31,7 @@ pub struct ByHandle {
     pub handle: u64,
 }
 
-/// A step. What holds no texts lies in place, in 24 bytes.
+/// A step. A report, and a call with texts, doesn't lie in place.
 #[derive(Drop)]
 pub enum Written {
     Joined(Principal),
@@ -72,8 +72,8 @@ pub enum Written {
     Whole(Box<Step>),
 }
 
-/// A step as a trail keeps it, in a tenth of its room where it holds no texts. Contracts see the
-/// step.
+/// A step as a trail keeps it. It has 24 bytes, where a step has 240; a report, and a call with
+/// texts, has memory of its own beside them. Contracts see the step.
 #[derive(Drop)]
 pub struct Note {
     written: Written,
@@ -88,6 +88,7 @@ impl Model for Note {
     ghost view = { λ n. step_by n.written };
 }
 
+/// A call that has a handle alone.
 fn by_handle(asked: Asked, handle: u64) -> Option<ByHandle>
     ensures { result ≡ Some (record { asked = asked; number = 0; handle = handle }) }
 {
@@ -153,7 +154,7 @@ fn request_of(asked: Asked, number: u32, handle: u64) -> Request
     }
 }
 
-/// A call in place, where it holds no texts.
+/// A call in place, where it has a handle, and a number beside it at most.
 fn call_in_place(caller: u64, request: &Request, kept: Kept) -> Option<Written>
     ensures { IfSome result (λ written. step_by written ≡ Call caller request.now kept) }
 {
@@ -171,7 +172,7 @@ fn call_in_place(caller: u64, request: &Request, kept: Kept) -> Option<Written>
     })
 }
 
-/// A step in place, where it holds no texts.
+/// A step in place, where it is no report, and no call but by a handle.
 fn in_place(step: &Step) -> Option<Written>
     ensures step { IfSome result (λ written. step_by written ≡ step.now) }
     ensures some { is_brief step.now ≡ true → IsSome result }
