@@ -120,10 +120,12 @@ impl<K: Keeper> Book<K> {
             keeper,
             alloc: _,
         } = turn.close(rt, badge.into_seat());
+        let services = manager.services();
+        manager.close();
         Closed {
             trail,
             keeper,
-            services: manager.services(),
+            services,
         }
     }
 

@@ -68,12 +68,13 @@ impl<K: Keeper> Held<K> {
         ensures { result ≡ self.keeper }
     {
         let Held {
-            manager: _,
+            manager,
             trail: _,
             journal: _,
             keeper,
             alloc: _,
         } = self;
+        manager.close();
         keeper
     }
 
@@ -203,12 +204,13 @@ impl<K: Keeper> Held<K> {
         ensures keeper { self.new.keeper ≡ self.old.keeper }
         ensures room { self.old.trail.room ≤ self.new.trail.room + 1 }
     {
-        let Some(note) = doubled.note.take() else {
+        let Some(mut note) = doubled.note.take() else {
             unreachable!()
         };
+        note.tell(kept);
         tell(&mut doubled.step, kept);
         let step = mem::replace(&mut doubled.step, Step::Tick);
-        self.grow(moment, step, note.with_kept(kept))
+        self.grow(moment, step, note)
     }
 
     /// Makes a step that isn't owed, as `make_doubled` does, and notes it itself.

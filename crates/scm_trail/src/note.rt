@@ -1,8 +1,9 @@
 // A step in little room.
-ghost use Rattle.std.specs.Prelude.{◌≡◌, ◌-◌, ◌^◌, min, true, IfOk, IfSome, IsSome};
+ghost use Rattle.std.specs.Prelude.{◌≡◌, ◌-◌, ◌^◌, min, true, IfOk, IfSome, IsSome, Some};
 ghost use Rattle.scm_model.specs.Entries.{with_kept};
 ghost use Rattle.scm_model.specs.Texts.{text_of};
-ghost use Rattle.scm_trail.specs.Notes.{is_brief, kept_of, request_by, step_by};
+ghost use Rattle.scm_model.specs.declared.steps.Step.TheVariants.{Call};
+ghost use Rattle.scm_trail.specs.Notes.{is_brief, request_by, step_by};
 
 use scm_model::{Kept, Principal, Request, Step};
 use scm_text::OutOfMemory;
@@ -13,106 +14,167 @@ use std::marker::Model;
 #[derive(Clone, Copy)]
 pub enum Asked {
     Close,
-    Control(u32),
+    Control,
     Delete,
     Lock,
     QueryStatus,
     Unlock,
-    QueryConfig(u32),
-    QueryLock(u32),
+    QueryConfig,
+    QueryLock,
 }
 
-/// A call that has a handle, and a number beside it at most.
+/// A call that has a handle, and a number beside it at most, which is 0 where there is none.
 #[derive(Clone, Copy)]
 pub struct ByHandle {
-    pub handle: u64,
     pub asked: Asked,
+    pub number: u32,
+    pub handle: u64,
 }
 
-/// A step, but for what a call tells of its change. What holds no texts lies in place.
+/// A step. A report, and a call with texts, doesn't lie in place.
 #[derive(Drop)]
 pub enum Written {
     Joined(Principal),
-    Called { caller: u64, call: ByHandle },
-    EndStart { caller: u64, plan: u64 },
+    Called {
+        kept: Kept,
+        asked: Asked,
+        number: u32,
+        caller: u64,
+        handle: u64,
+    },
+    EndStart {
+        caller: u64,
+        plan: u64,
+    },
     LaunchTaken,
-    Launched { process: u64, pid: u32 },
-    LaunchFailed { process: u64, code: u32 },
-    Ended { process: u64 },
-    ControlTaken { process: u64 },
+    Launched {
+        pid: u32,
+        process: u64,
+    },
+    LaunchFailed {
+        code: u32,
+        process: u64,
+    },
+    Ended {
+        process: u64,
+    },
+    ControlTaken {
+        process: u64,
+    },
     Tick,
-    Gone { caller: u64 },
-    NoMemory { caller: u64 },
+    Gone {
+        caller: u64,
+    },
+    NoMemory {
+        caller: u64,
+    },
     /// Any other, in memory of its own.
     Whole(Box<Step>),
 }
 
-/// A step as a trail keeps it, in a sixth of its room where it holds no texts. Contracts see the
-/// step.
+/// A step as a trail keeps it. It has 24 bytes, where a step has 240; a report, and a call with
+/// texts, has memory of its own beside them. Contracts see the step.
 #[derive(Drop)]
 pub struct Note {
     written: Written,
-    kept: Kept,
 }
 
 impl Model for Note {
     ghost use Rattle.scm_model.specs.declared.steps.Step.{Step};
-    ghost use Rattle.scm_model.specs.Entries.{with_kept};
     ghost use Rattle.scm_trail.specs.Notes.{step_by};
 
     ghost Value = { Step };
 
-    ghost view = { λ n. with_kept (step_by n.written) n.kept };
+    ghost view = { λ n. step_by n.written };
 }
 
-/// What a step tells of its change.
-fn kept_of(step: &Step) -> Kept
-    ensures { result ≡ kept_of step.now }
+/// A call that has a handle alone.
+fn by_handle(asked: Asked, handle: u64) -> Option<ByHandle>
+    ensures { result ≡ Some (record { asked = asked; number = 0; handle = handle }) }
 {
-    match step {
-        Step::Call { kept, .. } => *kept,
-        _ => Kept::NotAsked,
-    }
+    let number = 0;
+    Some(ByHandle {
+        asked,
+        number,
+        handle,
+    })
 }
 
 /// A request by a handle, where it is one.
-fn by_handle(request: &Request) -> Option<ByHandle>
-    ensures { IfSome result (λ call. request_by call ≡ request.now) }
+fn call_of(request: &Request) -> Option<ByHandle>
+    ensures { IfSome result (λ call. request_by call.asked call.number call.handle ≡ request.now) }
 {
-    let (handle, asked) = match request {
-        Request::Close { handle } => (*handle, Asked::Close),
-        Request::Control { handle, control } => (*handle, Asked::Control(*control)),
-        Request::Delete { handle } => (*handle, Asked::Delete),
-        Request::Lock { handle } => (*handle, Asked::Lock),
-        Request::QueryStatus { handle } => (*handle, Asked::QueryStatus),
-        Request::Unlock { handle } => (*handle, Asked::Unlock),
-        Request::QueryConfig { handle, size } => (*handle, Asked::QueryConfig(*size)),
-        Request::QueryLock { handle, size } => (*handle, Asked::QueryLock(*size)),
-        _ => return None,
-    };
-    Some(ByHandle { handle, asked })
+    match request {
+        Request::Close { handle } => by_handle(Asked::Close, *handle),
+        Request::Control { handle, control } => Some(ByHandle {
+            asked: Asked::Control,
+            number: *control,
+            handle: *handle,
+        }),
+        Request::Delete { handle } => by_handle(Asked::Delete, *handle),
+        Request::Lock { handle } => by_handle(Asked::Lock, *handle),
+        Request::QueryStatus { handle } => by_handle(Asked::QueryStatus, *handle),
+        Request::Unlock { handle } => by_handle(Asked::Unlock, *handle),
+        Request::QueryConfig { handle, size } => Some(ByHandle {
+            asked: Asked::QueryConfig,
+            number: *size,
+            handle: *handle,
+        }),
+        Request::QueryLock { handle, size } => Some(ByHandle {
+            asked: Asked::QueryLock,
+            number: *size,
+            handle: *handle,
+        }),
+        _ => None,
+    }
 }
 
 /// The request.
-fn request_of(call: ByHandle) -> Request
-    ensures { result ≡ request_by call }
+fn request_of(asked: Asked, number: u32, handle: u64) -> Request
+    ensures { result ≡ request_by asked number handle }
 {
-    let ByHandle { handle, asked } = call;
     match asked {
         Asked::Close => Request::Close { handle },
-        Asked::Control(control) => Request::Control { handle, control },
+        Asked::Control => Request::Control {
+            handle,
+            control: number,
+        },
         Asked::Delete => Request::Delete { handle },
         Asked::Lock => Request::Lock { handle },
         Asked::QueryStatus => Request::QueryStatus { handle },
         Asked::Unlock => Request::Unlock { handle },
-        Asked::QueryConfig(size) => Request::QueryConfig { handle, size },
-        Asked::QueryLock(size) => Request::QueryLock { handle, size },
+        Asked::QueryConfig => Request::QueryConfig {
+            handle,
+            size: number,
+        },
+        Asked::QueryLock => Request::QueryLock {
+            handle,
+            size: number,
+        },
     }
 }
 
-/// A step in place, where it holds no texts.
+/// A call in place, where it has a handle, and a number beside it at most.
+fn call_in_place(caller: u64, request: &Request, kept: Kept) -> Option<Written>
+    ensures { IfSome result (λ written. step_by written ≡ Call caller request.now kept) }
+{
+    let ByHandle {
+        asked,
+        number,
+        handle,
+    } = call_of(request)?;
+    Some(Written::Called {
+        kept,
+        asked,
+        number,
+        caller,
+        handle,
+    })
+}
+
+/// A step in place, where it is no report, and no call but by a handle.
 fn in_place(step: &Step) -> Option<Written>
-    ensures step { IfSome result (λ written. with_kept (step_by written) (kept_of step.now) ≡ step.now) }
+    ensures step { IfSome result (λ written. step_by written ≡ step.now) }
     ensures some { is_brief step.now ≡ true → IsSome result }
 {
     match step {
@@ -120,26 +182,20 @@ fn in_place(step: &Step) -> Option<Written>
         Step::Call {
             caller,
             request,
-            ..
-        } => match by_handle(request) {
-            Some(call) => Some(Written::Called {
-                caller: *caller,
-                call,
-            }),
-            None => None,
-        },
+            kept,
+        } => call_in_place(*caller, request, *kept),
         Step::EndStart { caller, plan } => Some(Written::EndStart {
             caller: *caller,
             plan: *plan,
         }),
         Step::LaunchTaken => Some(Written::LaunchTaken),
         Step::Launched { process, pid } => Some(Written::Launched {
-            process: *process,
             pid: *pid,
+            process: *process,
         }),
         Step::LaunchFailed { process, code } => Some(Written::LaunchFailed {
-            process: *process,
             code: *code,
+            process: *process,
         }),
         Step::Report { .. } => None,
         Step::Ended { process } => Some(Written::Ended { process: *process }),
@@ -147,6 +203,15 @@ fn in_place(step: &Step) -> Option<Written>
         Step::Tick => Some(Written::Tick),
         Step::Gone { caller } => Some(Written::Gone { caller: *caller }),
         Step::NoMemory { caller } => Some(Written::NoMemory { caller: *caller }),
+    }
+}
+
+/// Lets a step tell what became of its change.
+fn tell(step: &mut Step, now: Kept)
+    ensures { step.new ≡ with_kept step.old now }
+{
+    if let Step::Call { kept, .. } = step {
+        *kept = now;
     }
 }
 
@@ -165,12 +230,11 @@ impl Note {
     pub fn new(alloc: Global, step: &Step) -> Result<Note, OutOfMemory>
         ensures { IfOk result (λ note. note ≡ step.now) }
     {
-        let kept = kept_of(step);
         let written = match in_place(step) {
             Some(written) => written,
             None => Written::Whole(boxed(alloc, step.copy(alloc)?)?),
         };
-        Ok(Note { written, kept })
+        Ok(Note { written })
     }
 
     /// The note of a step that takes no memory. There is one of each step that is no call and no
@@ -179,17 +243,19 @@ impl Note {
         ensures note { IfSome result (λ note. note ≡ step.now) }
         ensures some { is_brief step.now ≡ true → IsSome result }
     {
-        let kept = kept_of(step);
         let written = in_place(step)?;
-        Some(Note { written, kept })
+        Some(Note { written })
     }
 
-    /// The note, which now tells what became of its change.
-    pub fn with_kept(self, now: Kept) -> Note
-        ensures { result ≡ with_kept self now }
+    /// Lets the note tell what became of its change.
+    pub fn tell(&mut self, now: Kept)
+        ensures { self.new ≡ with_kept self.old now }
     {
-        let Note { written, kept: _ } = self;
-        Note { written, kept: now }
+        match &mut self.written {
+            Written::Called { kept, .. } => *kept = now,
+            Written::Whole(step) => tell(step, now),
+            _ => {}
+        }
     }
 
     /// How much text the step has, as `Step::text` counts it.
@@ -206,7 +272,7 @@ impl Note {
     pub fn step(&self, alloc: Global) -> Result<Step, OutOfMemory>
         ensures { IfOk result (λ step. step ≡ self.now) }
     {
-        Ok(self.written.step(alloc)?.with_kept(self.kept))
+        self.written.step(alloc)
     }
 }
 
@@ -219,21 +285,27 @@ impl Written {
             Written::Joined(principal) => Step::Joined {
                 principal: *principal,
             },
-            Written::Called { caller, call } => Step::Call {
+            Written::Called {
+                kept,
+                asked,
+                number,
+                caller,
+                handle,
+            } => Step::Call {
                 caller: *caller,
-                request: request_of(*call),
-                kept: Kept::NotAsked,
+                request: request_of(*asked, *number, *handle),
+                kept: *kept,
             },
             Written::EndStart { caller, plan } => Step::EndStart {
                 caller: *caller,
                 plan: *plan,
             },
             Written::LaunchTaken => Step::LaunchTaken,
-            Written::Launched { process, pid } => Step::Launched {
+            Written::Launched { pid, process } => Step::Launched {
                 process: *process,
                 pid: *pid,
             },
-            Written::LaunchFailed { process, code } => Step::LaunchFailed {
+            Written::LaunchFailed { code, process } => Step::LaunchFailed {
                 process: *process,
                 code: *code,
             },

@@ -15,8 +15,8 @@ const CHUNK: u64 = 4096;
 /// The entries of a history: moments in milliseconds and steps, in order. Contracts see them, and
 /// how many entries and how much text more find room.
 ///
-/// They lie in chunks of 4,096, so that no entry is ever moved. Where chunks are added, only
-/// their list may be copied, which has 24 bytes a chunk.
+/// They lie in chunks of 4,096 rows of 32 bytes, so that no entry is ever moved. Where chunks are
+/// added, only their list may be copied, which has 24 bytes a chunk.
 #[derive(Drop)]
 pub struct Trail {
     chunks: Vec<Buffer<(u64, Note)>>,
