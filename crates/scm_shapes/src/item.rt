@@ -1,3 +1,4 @@
+use super::apart::Apart;
 use scm_model::Shown;
 use scm_text::{Items, WText};
 
@@ -49,7 +50,7 @@ pub enum Value {
     Words(Option<Items<WText>>),
     /// Whether it is held, by whom, and for how many seconds.
     Lock(u32, Option<WText>, u32),
-    Shown(Option<Shown>),
+    Shown(Apart),
 }
 
 /// A value to write, which is held elsewhere.

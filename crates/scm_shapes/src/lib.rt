@@ -1,6 +1,7 @@
 //! Bodies by their shapes: a shape is a list of kinds of items, and bodies of every shape are read and written here.
 #![tactic(auto)]
 
+mod apart;
 mod item;
 mod places;
 mod reading;
@@ -9,6 +10,7 @@ mod values;
 mod words;
 mod writing;
 
+pub use apart::Apart;
 pub use item::{Item, Piece, Value};
 pub use reading::read_body;
 pub use values::Values;

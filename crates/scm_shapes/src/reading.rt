@@ -7,6 +7,7 @@ ghost use Rattle.scm_shapes.specs.Plain.{IsPlain, ArePlain};
 ghost use Rattle.scm_shapes.specs.Bodies.{IsBody};
 ghost use Rattle.scm_shapes.specs.Laws.{CanHoldAll};
 
+use crate::apart::Apart;
 use crate::item::{Item, Value};
 use crate::places::{next_place, read_within};
 use crate::records::{read_lock, read_shown};
@@ -73,7 +74,10 @@ fn read_item(reader: &mut NdrReader, alloc: Global, item: Item) -> Result<Value,
         }
         Item::Words => Ok(Value::Words(read_words(reader, alloc)?)),
         Item::Lock => read_lock(reader, alloc),
-        Item::Shown => Ok(Value::Shown(read_shown(reader, alloc)?)),
+        Item::Shown => {
+            let shown = read_shown(reader, alloc)?;
+            Ok(Value::Shown(Apart::new(alloc, shown)?))
+        }
     }
 }
 

@@ -217,7 +217,7 @@ impl Values {
         ensures rest { self.new ≡ rest self.old }
     {
         match self.take() {
-            Some(Value::Shown(shown)) => shown,
+            Some(Value::Shown(shown)) => shown.into_shown(),
             other => {
                 let_go(other);
                 None
