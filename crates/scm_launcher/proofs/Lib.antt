@@ -1,2 +1,4 @@
 mod Chains
 mod Handing
+mod Lists
+mod Seeing

@@ -1,3 +1,4 @@
 pub mod Children
 pub mod Launches
+pub mod Past
 pub mod Ticks
