@@ -1,6 +1,6 @@
 -- What becomes of a connection: the first case from a join that was refused, the second from a caller's pass that was spent.
-use Rattle.std.proofs.Common.{◌≡◌, ◌≢◌, ◌∙◌, ℕ, Bool, true, false, cond, List, [], ◌∷◌, ◌++◌, length, Option, None, Some, refl, sym, ap, subst, inl, inr, eq-eqb}
-use Rattle.std.specs.Prelude.{IfSome, nat_lt}
+use Rattle.std.proofs.Common.{◌≡◌, ◌≢◌, ◌∙◌, ℕ, true, false, List, [], ◌∷◌, ◌++◌, length, Option, None, Some, refl, sym, ap, subst, inl, inr, eq-eqb}
+use Rattle.std.specs.Prelude.{IfSome}
 use Rattle.std.proofs.lemmas.List.Elements.{All-cons}
 use mathlib.Core.List.{IsPrefix}
 use Rattle.scm_model.specs.declared.calls.Reply.{Reply}
@@ -19,24 +19,24 @@ use Rattle.scm_history.specs.Owned.{Made as Told, made_of}
 use Rattle.scm_history.proofs.Anew.{makes_anew}
 use Rattle.rpc_session.specs.declared.state.Incoming.{Incoming}
 use Rattle.book_rule.specs.declared.view.Opening.{Opening}
-use Rattle.book_rule.specs.Views.{longer}
+use Rattle.book_rule.specs.Seats.{Identity}
 use Rattle.book_rule.specs.Ways.{Has}
 use Rattle.book_rule.proofs.Places.{has_left}
 use Rattle.book_rule.proofs.Prefixes.{prefix_self, prefix_snoc, prefix_trans}
 use Rattle.scm_book.specs.declared.answers.JoinFault.{JoinFault}
 use Rattle.scm_book.specs.declared.answers.JoinFault.TheVariants as joins
-use Rattle.scm_book.specs.Joins.{JoinCause, Joins, TakesIn, Watches, fresh}
+use Rattle.scm_book.specs.Joins.{JoinCause, Joins, Watches, fresh}
 use Rattle.scm_book.specs.Passes.{Known, Made}
 use Rattle.conn_desk.specs.declared.served.Served.{Served}
 use Rattle.conn_desk.specs.declared.served.Served.TheVariants as served
 use Rattle.conn_desk.specs.Bodies.{asked}
-use Rattle.conn_desk.specs.Connection.{Reached}
+use Rattle.conn_desk.specs.Connection.{IsServedFor, Reached}
 use Rattle.conn_worker.specs.Connecting.{Connects, HasNoRoomFor}
 use Rattle.conn_worker.specs.Owning.{Owns, StandAt}
 use Rattle.scm_listener.specs.Connections.{PastConnection}
-use Rattle.scm_server.specs.Handling.{Handed, Handles, HasNoRoomBehind, IsHandledAs, JoinedBehind, NamedOnlyAt, Sees, StandsForIt, WasRefused, is_without_memory, wants_memory}
+use Rattle.scm_server.specs.Handling.{Handed, HasNoRoomBehind, IsHandledAs, JoinedBehind, NamedOnlyAt, StandsForIt, WasRefused, is_without_memory, wants_memory}
 use Rattle.scm_server.specs.Pairs.{IsRising}
-use Rattle.scm_server.specs.Works.{Works}
+use Rattle.scm_server.specs.Works.{HasJoined, IsDone, Out}
 use Rattle.scm_server.proofs.Chains.{Goes, goes_on, of_chain, of_left, rises}
 use Rattle.scm_server.proofs.Entries.{but_last, caller_at, has_named, made_behind, named_only, not_made_before, stand_behind, stands_behind}
 
@@ -83,20 +83,6 @@ module _ (tells : ℕ → Type 0) (o : Opening) (begins : IsOpening o.limits o.f
   pub handled_still : (caller : Option ℕ) → IsHandledAs tells o log principal h caller → IsHandledAs tells o later principal h caller
   handled_still None r = refused_still r
   handled_still (Some caller) s = stands_still caller s
-
--- ## A pass takes another in
-
-legal_either : (o : Opening) (xs ys : List Entry) → Legal o.limits o.first xs → Legal o.limits o.first ys → (b : Bool) → Legal o.limits o.first (cond b ys xs)
-legal_either o xs ys first then true = then
-legal_either o xs ys first then false = first
-
-takes_legal : (o : Opening) (by spent by' : Known) → TakesIn by spent by' → Legal o.limits o.first by.seen → Legal o.limits o.first spent.seen → Legal o.limits o.first by'.seen
-takes_legal o by spent by' takes first then =
-    subst (Legal o.limits o.first) (sym (ap (λ (k : Known). k.seen) takes.same)) (legal_either o by.seen spent.seen first then (nat_lt (length by.seen) (length spent.seen)))
-
-takes_same : (by mid spent by' : Known) → mid ≡ record by { seen = mid.seen; alone = false } → TakesIn mid spent by' → by' ≡ record by { seen = by'.seen; alone = false }
-takes_same by mid spent by' watched takes =
-    takes.same ∙ (ap (λ (k : Known). record k { seen = longer mid.seen spent.seen }) watched ∙ ap (λ (es : List Entry). record by { seen = es; alone = false }) (sym (ap (λ (k : Known). k.seen) takes.same)))
 
 -- ## Refused
 
@@ -153,7 +139,7 @@ module _ (tells : ℕ → Type 0) (o : Opening) (begins : IsOpening o.limits o.f
       subst (λ (es : List Entry). has_made o.limits o.first p.caller es ≡ true) (sym made.seen)
       (caller_at o.limits o.first p.caller made.before (moment, Joined principal) [] (eq-eqb p.caller (state o.limits o.first made.before).next.caller next_is))
 
-  pub joined_behind : JoinedBehind o by.seen (Some p.caller)
+  pub joined_behind : JoinedBehind o by.seen p.caller
   joined_behind =
       let legal : Legal o.limits o.first (made.before ++ (moment, Joined principal) ∷ []) = subst (Legal o.limits o.first) made.seen made.legal in
       let anew : MakesAnew o.limits o.first made.before (moment, Joined principal) =
@@ -169,10 +155,8 @@ module _ (tells : ℕ → Type 0) (o : Opening) (begins : IsOpening o.limits o.f
   one_rises : IsRising p.own
   one_rises = subst IsRising (sym made.own) ((λ y none. absurd none), tt)
 
-  module _ (spent : Known) (given began : Option (List ℕ)) (past : PastConnection) (how : Served) (works : Works tells o p spent given began 0 0 past how) where
-    connects : Connects tells o p spent given past.left began past.written how
-    connects = works.connects
-
+  module _ (spent : Known) (given began : Option (List ℕ)) (past : PastConnection) (how : Served) (connects : Connects tells o p spent given past.left began past.written how)
+      (ends : IsServedFor how 0 past.read_faults 0 past.write_faults) where
     gone : Made o connects.stood connects.moment (Gone p.caller) answers.Done spent
     gone = connects.goes
 
@@ -216,7 +200,7 @@ module _ (tells : ℕ → Type 0) (o : Opening) (begins : IsOpening o.limits o.f
             written = connects.written;
             appended = connects.appended;
             reached = reached_behind o p.caller how connects.stood connects.read past.left connects.done connects.heard connects.written goes_stood.caller connects.reached;
-            cause = works.cause;
+            cause = ends;
           };
           joined = moment;
           entries = connects.entries;
@@ -234,37 +218,25 @@ module _ (tells : ℕ → Type 0) (o : Opening) (begins : IsOpening o.limits o.f
           made = made_behind o.limits o.first p.caller p.seen spent.seen kept joined_made;
         }
 
--- ## What was handed out
+-- ## At work
 
-memory_of : (how : Served) → wants_memory how ≡ false → how ≡ served.OutOfMemory → ⊥
+module _ (tells : ℕ → Type 0) (o : Opening) (begins : IsOpening o.limits o.first) (principal : Principal) (w : Out) (joined : HasJoined tells o principal w) where
+  pub worker_behind : JoinedBehind o joined.by.seen w.pass.caller
+  worker_behind = joined_behind tells o begins principal joined.by joined.by' w.pass joined.moment joined.told joined.joins
+
+  pub worker_made : has_made o.limits o.first w.pass.caller joined.by'.seen ≡ true
+  worker_made =
+      subst (λ (es : List Entry). has_made o.limits o.first w.pass.caller es ≡ true) (sym joined.joins.seen)
+      (joined_made tells o begins principal joined.by joined.by' w.pass joined.moment joined.told joined.joins)
+
+  pub stood_for : (b : Identity) (spent : Known) (past : PastConnection) (how : Served) → b.opening ≡ o → IsDone tells b w spent past how → (how ≡ served.OutOfMemory → ⊥)
+      → StandsForIt tells o spent.seen principal (record { given = w.given; began = w.began; past = past; caller = Some w.pass.caller }) w.pass.caller
+  stood_for b spent past how same done memory =
+      let connects : Connects tells o w.pass spent w.given past.left w.began past.written how =
+      subst (λ (p : Opening). Connects tells p w.pass spent w.given past.left w.began past.written how) same done.connects in
+      let one : IsServedFor how 0 past.read_faults w.write_faults past.write_faults = subst (λ (n : ℕ). IsServedFor how n past.read_faults w.write_faults past.write_faults) joined.untouched.unread done.cause in
+      let both : IsServedFor how 0 past.read_faults 0 past.write_faults = subst (λ (n : ℕ). IsServedFor how 0 past.read_faults n past.write_faults) joined.untouched.unfailed one in
+      stands_for tells o begins principal joined.by joined.by' w.pass joined.moment joined.told joined.joins spent w.given w.began past how connects both joined.somebody joined.untouched.unwritten memory
+
+pub memory_of : (how : Served) → wants_memory how ≡ false → how ≡ served.OutOfMemory → ⊥
 memory_of how quiet is = let loud : wants_memory how ≡ true = ap wants_memory is in absurd cc
-
-pub handles_served : (tells : ℕ → Type 0) (o : Opening) (begins : IsOpening o.limits o.first) (principal : Principal) (by mid p spent by' : Known) (moment : ℕ) (given began : Option (List ℕ)) (reads writes : ℕ)
-    (past : PastConnection) (how : Served) → tells moment → Watches o by mid → Joins o by moment principal mid p → Works tells o p spent given began reads writes past how → TakesIn mid spent by'
-    → p.caller ≢ 0 → IfSome began (λ bytes. bytes ≡ []) → reads ≡ 0 → writes ≡ 0 → Handles tells o principal by by' given began past (wants_memory how)
-handles_served tells o begins principal by mid p spent by' moment given began reads writes past how so watches joins works takes some fresh no_reads no_writes =
-    let h : Handed = record { given = given; began = began; past = past; caller = Some p.caller } in
-    let one : Works tells o p spent given began 0 writes past how = subst (λ (n : ℕ). Works tells o p spent given began n writes past how) no_reads works in
-    let both : Works tells o p spent given began 0 0 past how = subst (λ (n : ℕ). Works tells o p spent given began 0 n past how) no_writes one in
-    let sees : Sees o by by' = record {
-      same = takes_same by mid spent by' watches.same takes;
-      longer = prefix_trans by.seen mid.seen by'.seen watches.longer takes.this;
-      legal = takes_legal o mid spent by' takes watches.legal works.connects.goes.legal;
-    } in
-    record {
-      sees = sees;
-      caller = Some p.caller;
-      handled = λ quiet. handled_still tells o begins principal spent.seen by'.seen takes.that sees.legal h (Some p.caller)
-          (stands_for tells o begins principal by mid p moment so joins spent given began past how both some fresh (memory_of how quiet));
-      new = λ quiet. joined_behind tells o begins principal by mid p moment so joins;
-    }
-
-pub handles_refused : (tells : ℕ → Type 0) (o : Opening) (principal : Principal) (by by' : Known) (given began : Option (List ℕ)) (past : PastConnection) (fault : JoinFault)
-    → Watches o by by' → JoinCause o by' principal fault → IfSome began (λ bytes. bytes ≡ []) → past.left ≡ given → past.written ≡ began → past.read_faults ≡ 0 → past.write_faults ≡ 0
-    → Handles tells o principal by by' given began past (is_without_memory fault)
-handles_refused tells o principal by by' given began past fault watches cause fresh left written reads writes = record {
-  sees = record { same = watches.same; longer = watches.longer; legal = watches.legal };
-  caller = None;
-  handled = λ quiet. refused_by tells o principal by by' given began past fault watches cause fresh left written reads writes quiet;
-  new = λ quiet. tt;
-}

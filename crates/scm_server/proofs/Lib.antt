@@ -1,5 +1,7 @@
 mod Lists
 mod Entries
 mod Chains
+mod Far
 mod Cases
 mod Serving
+mod Workers

@@ -9,7 +9,6 @@ use Rattle.scm_model.specs.declared.steps.Answer.TheVariants as answers
 use Rattle.scm_model.specs.declared.steps.Kept.TheVariants.{NotAsked}
 use Rattle.scm_model.specs.declared.steps.Step.TheVariants.{Call, Gone, Joined}
 use Rattle.scm_model.specs.Entries.{Entry}
-use Rattle.scm_rules.specs.Histories.{Legal}
 use Rattle.scm_rules.specs.Named.{has_made, names_caller}
 use Rattle.scm_history.specs.Owned.{Made as Told, made_of}
 use Rattle.rpc_session.specs.declared.state.Incoming.{Incoming}
@@ -18,7 +17,7 @@ use Rattle.book_rule.specs.Ways.{Has}
 use Rattle.scm_book.specs.declared.answers.JoinFault.{JoinFault}
 use Rattle.scm_book.specs.declared.answers.JoinFault.TheVariants as joins
 use Rattle.scm_book.specs.Joins.{has_place}
-use Rattle.scm_book.specs.Passes.{Known, room_behind}
+use Rattle.scm_book.specs.Passes.{room_behind}
 use Rattle.conn_desk.specs.declared.served.Served.{Served}
 use Rattle.conn_desk.specs.declared.served.Served.TheVariants as served
 use Rattle.conn_desk.specs.Bodies.{asked}
@@ -121,18 +120,5 @@ abbrev pub IsHandled : (ℕ → Type 0) → Opening → List Entry → Principal
 IsHandled tells o log principal h = IsHandledAs tells o log principal h h.caller
 
 -- the caller joined behind this history
-abbrev pub JoinedBehind : Opening → List Entry → Option ℕ → Type 0
-JoinedBehind o log caller = IfSome caller (λ number. has_made o.limits o.first number log ≡ false)
-
--- a pass by which callers join has seen more, and is not the only one
-pub record Sees (o : Opening) (by by' : Known) : Type 0 where
-  pub same : by' ≡ record by { seen = by'.seen; alone = false }
-  pub longer : IsPrefix by.seen by'.seen
-  pub legal : Legal o.limits o.first by'.seen
-
--- what was handed out is past, and unless there was want of memory is one of the two cases in what the pass has then seen
-pub record Handles (tells : ℕ → Type 0) (o : Opening) (principal : Principal) (by by' : Known) (given began : Option (List ℕ)) (past : PastConnection) (is_short : Bool) : Type 0 where
-  pub sees : Sees o by by'
-  pub caller : Option ℕ
-  pub handled : is_short ≡ false → IsHandled tells o by'.seen principal (record { given = given; began = began; past = past; caller = caller })
-  pub new : is_short ≡ false → JoinedBehind o by.seen caller
+abbrev pub JoinedBehind : Opening → List Entry → ℕ → Type 0
+JoinedBehind o log caller = has_made o.limits o.first caller log ≡ false

@@ -1,72 +1,95 @@
 -- What serving a port comes to.
-use Rattle.std.specs.Prelude.{ℕ, ◌≡◌, ◌+◌, ◌++◌, Bool, true, false, List, [], ◌∷◌, length, map, Option, None, Some, IfSome, option_map, ⊤}
+use Rattle.std.specs.Prelude.{ℕ, ◌≡◌, ◌≢◌, ◌≤◌, ◌<◌, ◌+◌, ◌-◌, ◌++◌, ◌⊎◌, Bool, true, false, List, [], length, map, drop, slice_get, Option, None, Some, IfSome, option_map}
 use mathlib.Core.List.{IsPrefix}
 use Rattle.outside.specs.Causes.{Rose}
 use Rattle.scm_model.specs.declared.flat.Principal.{Principal}
+use Rattle.scm_model.specs.Entries.{Entry}
+use Rattle.scm_rules.specs.Histories.{Legal}
 use Rattle.book_rule.specs.declared.view.Opening.{Opening}
 use Rattle.scm_book.specs.Passes.{Known}
 use Rattle.scm_listener.specs.Connections.{PastConnection}
+use Rattle.scm_listener.specs.declared.listener.Listening.{Listening}
 use Rattle.scm_server.specs.declared.ending.ServeEnd.{ServeEnd}
-use Rattle.scm_server.specs.declared.ports.Next.{Next}
-use Rattle.scm_server.specs.declared.ports.Next.TheVariants as next
 use Rattle.scm_server.specs.declared.ending.ServeEnd.TheVariants.{Ended, ListenFault, OutOfMemory}
 use Rattle.scm_server.specs.Handling.{Handed, IsHandled}
 use Rattle.scm_server.specs.Pairs.{Each, Pairwise}
 
 -- what is told of a listener
 pub record Told : Type 0 where
+  -- what the peers of the connections to come send
   pub left : Option (List (List ℕ))
   pub accepted : ℕ
   pub noted : Option (List PastConnection)
+  pub listened : Option (List Listening)
   pub faults : ℕ
 
-abbrev pub told : Option (List (List ℕ)) → ℕ → Option (List PastConnection) → ℕ → Told
-told left accepted noted faults = record { left = left; accepted = accepted; noted = noted; faults = faults }
+abbrev pub told : Option (List (List ℕ)) → ℕ → Option (List PastConnection) → Option (List Listening) → ℕ → Told
+told left accepted noted listened faults = record { left = left; accepted = accepted; noted = noted; listened = listened; faults = faults }
 
--- what was left is what these connections' peers send and what is left now
-abbrev pub Gives : Option (List (List ℕ)) → List Handed → Option (List (List ℕ)) → Type 0
-Gives None handed now = now ≡ None
-Gives (Some left) handed now = (rest : List (List ℕ)) × (now ≡ Some rest) × (map Some left ≡ map (λ (h : Handed). h.given) handed ++ map Some rest)
+-- ## What was handed out
 
--- they have the numbers from this one on, in order
-abbrev pub AreNumbered : ℕ → List Handed → Type 0
-AreNumbered n [] = Unit {0}
-AreNumbered n (h ∷ hs) = (h.past.number ≡ n) × AreNumbered (n + 1) hs
+-- the first ones of what was left were handed out, so many
+abbrev pub AreHandedOut : ℕ → (left now : Option (List (List ℕ))) → Type 0
+AreHandedOut count None now = now ≡ None
+AreHandedOut count (Some left) now = (count ≤ length left) × (now ≡ Some (drop count left))
 
--- no caller stands for both
-abbrev pub Apart : Handed → Handed → Type 0
-Apart g h = (caller : ℕ) → g.caller ≡ Some caller → h.caller ≡ Some caller → ⊥
+-- this is what the peer at the place of what was left sends
+abbrev pub IsSentAt : (left : Option (List (List ℕ))) → (place : ℕ) → (given : Option (List ℕ)) → Type 0
+IsSentAt left place given = IfSome left (λ peers. given ≡ slice_get peers place)
 
--- Each connection that was handed out is noted once, in order, and unless there was want of memory is one of the two cases in what the pass
--- has then seen; no caller stands for two of them.
-pub record Serves (tells : ℕ → Type 0) (o : Opening) (principal : Principal) (by by' : Known) (l l' : Told) (is_short : Bool) : Type 0 where
-  pub same : by' ≡ record by { seen = by'.seen; alone = by'.alone }
-  pub longer : IsPrefix by.seen by'.seen
-  pub handed : List Handed
-  pub gives : Gives l.left handed l'.left
+-- a connection with this number was handed out between two moments, and its peer sends this
+pub record IsHandedOut (l l' : Told) (number : ℕ) (given : Option (List ℕ)) : Type 0 where
+  pub from : l.accepted ≤ number
+  pub before : number < l'.accepted
+  pub sent : IsSentAt l.left (number - l.accepted) given
+
+-- The connections that a listener handed out between two moments were noted, each once, in this order. Where it listened is as it was.
+pub record Hands (l l' : Told) (handed : List Handed) : Type 0 where
   pub count : l'.accepted ≡ l.accepted + length handed
-  pub numbered : AreNumbered l.accepted handed
+  pub left : AreHandedOut (length handed) l.left l'.left
+  pub each : Each (λ h. IsHandedOut l l' h.past.number h.given) handed
+  pub once : Pairwise (λ g h. g.past.number ≢ h.past.number) handed
   pub noted : l'.noted ≡ option_map (λ ps. ps ++ map (λ (h : Handed). h.past) handed) l.noted
-  pub handled : is_short ≡ false → Each (IsHandled tells o by'.seen principal) handed
-  pub apart : is_short ≡ false → Pairwise Apart handed
+  pub listened : l'.listened ≡ l.listened
 
--- why it ended; without a fault the count is as it was
+-- ## Why it ended
+
+-- none comes any more, and nothing failed
+abbrev pub IsClosed : (l l' : Told) → Type 0
+IsClosed l l' = IfSome l'.left (λ left. left ≡ []) × (l'.faults ≡ l.faults)
+
+abbrev pub HasFailed : (l l' : Told) → Type 0
+HasFailed l l' = Rose l.faults l'.faults
+
+-- it was served until none came any more, or until it failed
+abbrev pub IsOver : (l l' : Told) → Type 0
+IsOver l l' = IsClosed l l' ⊎ HasFailed l l'
+
 abbrev pub EndsFor : ServeEnd → (l l' : Told) → Type 0
-EndsFor Ended l l' = IfSome l'.left (λ left. left ≡ []) × (l'.faults ≡ l.faults)
-EndsFor ListenFault l l' = Rose l.faults l'.faults
-EndsFor OutOfMemory l l' = ⊤
+EndsFor Ended l l' = IsClosed l l'
+EndsFor ListenFault l l' = HasFailed l l'
+EndsFor OutOfMemory l l' = IsOver l l'
 
 abbrev pub was_short : ServeEnd → Bool
 was_short OutOfMemory = true
 was_short end = false
 
--- ## One connection more
+-- ## Serving it
 
--- whatever came before, as the count of faults still was, this goes on from it
-abbrev pub GoesOn : (ℕ → Type 0) → Opening → Principal → (by by' : Known) → (l l' : Told) → (is_short is_short' : Bool) → Type 0
-GoesOn tells o principal by by' l l' is_short is_short' =
-    (first : Known) (told : Told) → Serves tells o principal first by told l is_short → Serves tells o principal first by' told l' is_short'
+-- no caller stands for both
+abbrev pub Apart : Handed → Handed → Type 0
+Apart g h = (caller : ℕ) → g.caller ≡ Some caller → h.caller ≡ Some caller → ⊥
 
-abbrev pub ServesNext : (ℕ → Type 0) → Opening → Principal → (by by' : Known) → (l l' : Told) → Bool → Next → Type 0
-ServesNext tells o principal by by' l l' is_short (next.Came now) = GoesOn tells o principal by by' l l' is_short now × (l'.faults ≡ l.faults)
-ServesNext tells o principal by by' l l' is_short (next.Over end) = GoesOn tells o principal by by' l l' is_short (was_short end) × EndsFor end l l'
+-- a pass has seen more
+pub record GoesFar (o : Opening) (by by' : Known) : Type 0 where
+  pub same : by' ≡ record by { seen = by'.seen; alone = by'.alone }
+  pub longer : IsPrefix by.seen by'.seen
+  pub legal : Legal o.limits o.first by.seen → Legal o.limits o.first by'.seen
+
+-- Each connection that was handed out is noted once, and unless there was want of memory is one of the two cases in this history; no caller
+-- stands for two of them.
+pub record ServesPort (tells : ℕ → Type 0) (o : Opening) (principal : Principal) (log : List Entry) (l l' : Told) (is_short : Bool) : Type 0 where
+  pub handed : List Handed
+  pub hands : Hands l l' handed
+  pub handled : is_short ≡ false → Each (IsHandled tells o log principal) handed
+  pub apart : Pairwise Apart handed

@@ -1,12 +1,16 @@
 //! The server: connections of listeners over one book.
 #![tactic(auto)]
 
+mod accepting;
+mod beginning;
 mod ending;
+mod joining;
 mod ports;
 mod waiter;
+mod worker;
 mod working;
 
 pub use ending::ServeEnd;
-pub use ports::{Next, serve_port};
+pub use ports::{Port, serve_port};
 pub use waiter::BellWaiter;
-pub use working::{Handled, Worked, handle, work};
+pub use working::{Worked, work};

@@ -1,109 +1,153 @@
-// All connections of one listener, one after another.
-ghost use Rattle.std.specs.Prelude.{◌≡◌, ◌||◌, if◌then◌else◌};
+// All connections of one listener, served at the same time.
+ghost use Rattle.std.specs.Prelude.{◌≡◌, if◌then◌else◌};
+ghost use Rattle.std.specs.Thread.{IsSend, IsSync};
 ghost use Rattle.scm_book.specs.Passes.{IsOf};
 ghost use Rattle.scm_server.specs.declared.ending.ServeEnd.TheVariants as ends;
-ghost use Rattle.scm_server.specs.Ports.{EndsFor, ServesNext, Serves, told, was_short};
+ghost use Rattle.scm_server.specs.Ports.{EndsFor, GoesFar, ServesPort, told, was_short};
 
+use crate::accepting::{Over, accept_all};
 use crate::ending::ServeEnd;
-use crate::working::{Handled, handle};
-use outside::Clock;
+use crate::joining::{is_either, join_all};
+use outside::{Clock, Sink, Source};
 use record_journal::Keeper;
 use scm_book::{Book, Pass};
-use scm_listener::{Accepted, Listener};
+use scm_listener::Listener;
 use scm_model::Principal;
 use std::alloc::Global;
 use std::sync::Wait;
+use std::thread::{self, Scope, Threads};
 
-/// What one accept comes to.
-#[derive(Clone, Copy, Drop)]
-pub enum Next {
-    /// A connection came, and is past. There was no memory for it or for one before it, or there
-    /// was.
-    Came { is_short: bool },
-    /// None comes any more.
-    Over(ServeEnd),
+/// A listener that was served, the pass by which its callers joined, and how it ended.
+#[derive(Drop)]
+pub struct Port<N> {
+    pub listener: N,
+    pub pass: Pass,
+    pub end: ServeEnd,
 }
 
-/// Without memory for each connection it is the end that it is.
-fn end_of(is_short: bool, end: ServeEnd) -> ServeEnd
-    ensures { result ≡ (if is_short then ends.OutOfMemory else end) }
+/// Want of memory for a connection is the end that it is.
+fn end_of(is_failed: bool, is_short: bool) -> ServeEnd
+    ensures { result ≡ (if is_short then ends.OutOfMemory else
+        (if is_failed then ends.ListenFault else ends.Ended)) }
 {
-    if is_short { ServeEnd::OutOfMemory } else { end }
+    match (is_short, is_failed) {
+        (true, _) => ServeEnd::OutOfMemory,
+        (false, true) => ServeEnd::ListenFault,
+        (false, false) => ServeEnd::Ended,
+    }
 }
 
-fn is_either(one: bool, other: bool) -> bool
-    ensures { result ≡ (one || other) }
-{
-    one || other
-}
-
-/// Serves the next connection and notes it. `is_short` says whether there was no memory for one
-/// before it.
-fn serve_next<R: Wait, K: Keeper, N: Listener, C: Clock>(
-    rt: &R,
+/// As `serve_port`, by threads of this scope.
+fn serve_in<'s, E, R, K, N, I, O, P, C>(
+    scope: &Scope<'s, E>,
+    rt: &'s R,
     alloc: Global,
-    book: &Book<K>,
-    by: &mut Pass,
-    listener: &mut N,
+    book: &'s Book<K>,
+    pass: Pass,
+    listener: N,
     principal: Principal,
-    clock: &C,
-    is_short: bool,
-) -> Next
-    requires book { IsOf book.now by.old }
-    ensures book { IsOf book.now by.new }
-    ensures next { ServesNext (C.tells clock.now) book.now.opening principal by.old by.new
-        (told (N.left listener.old) (N.accepted listener.old)
-        (N.noted listener.old) (N.faults listener.old))
-        (told (N.left listener.new) (N.accepted listener.new)
-        (N.noted listener.new) (N.faults listener.new)) is_short result }
+    clock: &'s C,
+) -> Port<N>
+where
+    R: Threads + Wait + Sync + 's,
+    K: Keeper + Send + 's,
+    I: Source + Send + Drop + 's,
+    O: Sink + Send + Drop + 's,
+    P: Send + Drop + 's,
+    N: Listener<In = I, Out = O, Past = P> + Send + Drop + 's,
+    C: Clock + Sync + 's,
+    requires { IsOf book.now pass }
+    ensures book { IsOf book.now result.pass }
+    ensures goes { GoesFar book.now.opening pass result.pass }
+    ensures serves { ServesPort (C.tells clock.now) book.now.opening principal result.pass.seen
+        (told (N.left listener) (N.accepted listener) (N.noted listener)
+        (N.listened listener) (N.faults listener))
+        (told (N.left result.listener) (N.accepted result.listener) (N.noted result.listener)
+        (N.listened result.listener) (N.faults result.listener)) (was_short result.end) }
+    ensures ends { EndsFor result.end
+        (told (N.left listener) (N.accepted listener) (N.noted listener)
+        (N.listened listener) (N.faults listener))
+        (told (N.left result.listener) (N.accepted result.listener) (N.noted result.listener)
+        (N.listened result.listener) (N.faults result.listener)) }
 {
     book.opens();
-    match listener.accept() {
-        Accepted::Conn(input, output) => {
-            let Handled {
-                past,
-                is_short: one,
-            } = handle::<R, K, N, C>(rt, alloc, book, by, principal, input, output, clock);
-            listener.note(past);
-            Next::Came {
-                is_short: is_either(is_short, one),
-            }
-        }
-        Accepted::Closed => Next::Over(end_of(is_short, ServeEnd::Ended)),
-        Accepted::Failed => Next::Over(end_of(is_short, ServeEnd::ListenFault)),
+    let mut pass = pass;
+    let mut listener = listener;
+    let mut workers = Vec::new(alloc);
+    let Over {
+        is_failed,
+        is_short,
+    } = accept_all(
+        scope,
+        rt,
+        alloc,
+        book,
+        &mut pass,
+        &mut listener,
+        &mut workers,
+        principal,
+        clock,
+    );
+    let last = join_all(rt, book, &mut pass, &mut listener, &mut workers, clock);
+    Port {
+        listener,
+        pass,
+        end: end_of(is_failed, is_either(is_short, last)),
     }
 }
 
-/// Serves the connections of a listener that listens, one after another, until it is closed or
-/// fails. Each is noted once: as the caller that joined for it, or unread where none could join.
-pub fn serve_port<R: Wait, K: Keeper, N: Listener, C: Clock>(
+/// Serves the connections of a listener that listens until it is closed or fails, each in a thread
+/// of its own, or here where none can be made. Each is noted once, when its thread has ended: as
+/// the caller that joined for it, or unread where none could join.
+pub fn serve_port<R, K, N, I, O, P, C>(
     rt: &R,
     alloc: Global,
     book: &Book<K>,
-    by: &mut Pass,
-    listener: &mut N,
+    pass: Pass,
+    listener: N,
     principal: Principal,
     clock: &C,
-) -> ServeEnd
-    requires book { IsOf book.now by.old }
-    ensures book { IsOf book.now by.new }
-    ensures serves { Serves (C.tells clock.now) book.now.opening principal by.old by.new
-        (told (N.left listener.old) (N.accepted listener.old)
-        (N.noted listener.old) (N.faults listener.old))
-        (told (N.left listener.new) (N.accepted listener.new)
-        (N.noted listener.new) (N.faults listener.new)) (was_short result) }
-    ensures ends { EndsFor result
-        (told (N.left listener.old) (N.accepted listener.old)
-        (N.noted listener.old) (N.faults listener.old))
-        (told (N.left listener.new) (N.accepted listener.new)
-        (N.noted listener.new) (N.faults listener.new)) }
+) -> Port<N>
+where
+    R: Threads + Wait + Sync,
+    K: Keeper + Send,
+    I: Source + Send + Drop,
+    O: Sink + Send + Drop,
+    P: Send + Drop,
+    N: Listener<In = I, Out = O, Past = P> + Send + Drop,
+    C: Clock + Sync,
+    requires { IsOf book.now pass }
+    ensures book { IsOf book.now result.pass }
+    ensures goes { GoesFar book.now.opening pass result.pass }
+    ensures serves { ServesPort (C.tells clock.now) book.now.opening principal result.pass.seen
+        (told (N.left listener) (N.accepted listener) (N.noted listener)
+        (N.listened listener) (N.faults listener))
+        (told (N.left result.listener) (N.accepted result.listener) (N.noted result.listener)
+        (N.listened result.listener) (N.faults result.listener)) (was_short result.end) }
+    ensures ends { EndsFor result.end
+        (told (N.left listener) (N.accepted listener) (N.noted listener)
+        (N.listened listener) (N.faults listener))
+        (told (N.left result.listener) (N.accepted result.listener) (N.noted result.listener)
+        (N.listened result.listener) (N.faults result.listener)) }
 {
-    let mut is_short = false;
-    for _ in rt.forever() {
-        match serve_next(rt, alloc, book, by, listener, principal, clock, is_short) {
-            Next::Came { is_short: now } => is_short = now,
-            Next::Over(end) => return end,
-        }
-    }
-    unreachable!()
+    thread::scope(
+        thread::scope_env(),
+        rt,
+        move |scope| -> Port<N>
+            requires { IsSync R.row × IsSend K.row × IsSend I.row × IsSend O.row × IsSend P.row
+                × IsSend N.row × IsSync C.row × IsOf book.now pass }
+            ensures book { IsOf book.entry.now result.pass }
+            ensures goes { GoesFar book.entry.now.opening pass result.pass }
+            ensures serves { ServesPort (C.tells clock.entry.now) book.entry.now.opening principal result.pass.seen
+                (told (N.left listener) (N.accepted listener) (N.noted listener)
+                (N.listened listener) (N.faults listener))
+                (told (N.left result.listener) (N.accepted result.listener) (N.noted result.listener)
+                (N.listened result.listener) (N.faults result.listener)) (was_short result.end) }
+            ensures ends { EndsFor result.end
+                (told (N.left listener) (N.accepted listener) (N.noted listener)
+                (N.listened listener) (N.faults listener))
+                (told (N.left result.listener) (N.accepted result.listener) (N.noted result.listener)
+                (N.listened result.listener) (N.faults result.listener)) }
+        { serve_in(scope, rt, alloc, book, pass, listener, principal, clock) },
+    )
 }

@@ -1,0 +1,178 @@
+// Connections at work that are past, taken back.
+ghost use Rattle.std.specs.Prelude.{◌≡◌, ◌<◌, ◌+◌, ◌||◌, [], IfSome, length, map};
+ghost use Rattle.scm_book.specs.Joins.{TakesIn};
+ghost use Rattle.scm_book.specs.Passes.{IsOf};
+ghost use Rattle.scm_listener.specs.Connections.{PastConnection, and_last};
+ghost use Rattle.scm_server.specs.Handling.{wants_memory};
+ghost use Rattle.scm_server.specs.Ports.{told};
+ghost use Rattle.scm_server.specs.Serving.{Continues, OnlyNotes};
+ghost use Rattle.scm_server.specs.Workers.{AreOf, outs_of};
+
+use crate::worker::Worker;
+use crate::working::Worked;
+use conn_desk::Served;
+use outside::Clock;
+use record_journal::Keeper;
+use scm_book::{Book, Pass};
+use scm_listener::Listener;
+use std::sync::atomic::Ordering::SeqCst;
+use std::thread::Threads;
+
+/// Whether a connection ended for want of memory.
+fn wants_memory(how: Served) -> bool
+    ensures { result ≡ wants_memory how }
+{
+    match how {
+        Served::OutOfMemory => true,
+        _ => false,
+    }
+}
+
+pub fn is_either(one: bool, other: bool) -> bool
+    ensures { result ≡ (one || other) }
+{
+    one || other
+}
+
+/// Takes the pass of a connection in that was served, and notes the connection. Answers whether
+/// there was no memory for it.
+pub fn take_back<K: Keeper, N: Listener>(
+    book: &Book<K>,
+    by: &mut Pass,
+    listener: &mut N,
+    worked: Worked<N::Past>,
+) -> bool
+    requires by { IsOf book.now by.old }
+    requires spent { IsOf book.now worked.spent }
+    ensures takes { TakesIn by.old worked.spent by.new }
+    ensures only { OnlyNotes
+        (told (N.left listener.old) (N.accepted listener.old) (N.noted listener.old)
+        (N.listened listener.old) (N.faults listener.old))
+        (told (N.left listener.new) (N.accepted listener.new) (N.noted listener.new)
+        (N.listened listener.new) (N.faults listener.new)) }
+    ensures noted { N.noted listener.new ≡ and_last (N.noted listener.old) (N.tells worked.past) }
+    ensures short { result ≡ wants_memory worked.how }
+{
+    let Worked { past, spent, how } = worked;
+    book.leave(by, spent);
+    listener.note(past);
+    wants_memory(how)
+}
+
+/// Waits for the thread at this place of the list, and takes its connection back.
+fn join_at<R: Threads, K: Keeper, N: Listener, C: Clock>(
+    rt: &R,
+    book: &Book<K>,
+    by: &mut Pass,
+    listener: &mut N,
+    workers: &mut Vec<Worker<K, N, C>>,
+    clock: &C,
+    at: usize,
+) -> bool
+    requires by { IsOf book.now by.old }
+    requires of { AreOf book.now clock.now workers.old.items }
+    requires at { at < length workers.old.items }
+    ensures by { IsOf book.now by.new }
+    ensures of { AreOf book.now clock.now workers.new.items }
+    ensures fewer { length workers.new.items + 1 ≡ length workers.old.items }
+    ensures only { OnlyNotes
+        (told (N.left listener.old) (N.accepted listener.old) (N.noted listener.old)
+        (N.listened listener.old) (N.faults listener.old))
+        (told (N.left listener.new) (N.accepted listener.new) (N.noted listener.new)
+        (N.listened listener.new) (N.faults listener.new)) }
+    ensures goes { Continues (C.tells clock.now) book.now.opening
+        by.old (told (N.left listener.old) (N.accepted listener.old) (N.noted listener.old)
+        (N.listened listener.old) (N.faults listener.old))
+        (outs_of N.In.left N.Out.held N.In.faults N.Out.faults
+        workers.old.items)
+        by.new (told (N.left listener.new) (N.accepted listener.new) (N.noted listener.new)
+        (N.listened listener.new) (N.faults listener.new))
+        (outs_of N.In.left N.Out.held N.In.faults N.Out.faults
+        workers.new.items) result }
+{
+    let _ = clock;
+    let Worker { handle, done: _ } = workers.remove(at);
+    take_back(book, by, listener, handle.join(rt))
+}
+
+/// Where the first thread stands that is about to end.
+fn first_done<K: Keeper, N: Listener, C: Clock>(workers: &[Worker<K, N, C>]) -> Option<usize>
+    ensures { IfSome result (λ at. at < length workers.now) }
+{
+    workers
+        .iter()
+        .position(|worker| worker.done.load(SeqCst) != 0)
+}
+
+/// Takes the connections back whose threads are about to end. Answers whether there was no memory
+/// for one of them.
+pub fn reap<R: Threads, K: Keeper, N: Listener, C: Clock>(
+    rt: &R,
+    book: &Book<K>,
+    by: &mut Pass,
+    listener: &mut N,
+    workers: &mut Vec<Worker<K, N, C>>,
+    clock: &C,
+) -> bool
+    requires by { IsOf book.now by.old }
+    requires of { AreOf book.now clock.now workers.old.items }
+    ensures by { IsOf book.now by.new }
+    ensures of { AreOf book.now clock.now workers.new.items }
+    ensures only { OnlyNotes
+        (told (N.left listener.old) (N.accepted listener.old) (N.noted listener.old)
+        (N.listened listener.old) (N.faults listener.old))
+        (told (N.left listener.new) (N.accepted listener.new) (N.noted listener.new)
+        (N.listened listener.new) (N.faults listener.new)) }
+    ensures goes { Continues (C.tells clock.now) book.now.opening
+        by.old (told (N.left listener.old) (N.accepted listener.old) (N.noted listener.old)
+        (N.listened listener.old) (N.faults listener.old))
+        (outs_of N.In.left N.Out.held N.In.faults N.Out.faults
+        workers.old.items)
+        by.new (told (N.left listener.new) (N.accepted listener.new) (N.noted listener.new)
+        (N.listened listener.new) (N.faults listener.new))
+        (outs_of N.In.left N.Out.held N.In.faults N.Out.faults
+        workers.new.items) result }
+{
+    let mut is_short = false;
+    while let Some(at) = first_done(workers.as_slice()) {
+        let one = join_at(rt, book, by, listener, workers, clock, at);
+        is_short = is_either(is_short, one);
+    }
+    is_short
+}
+
+/// Waits for all threads, and takes their connections back. Answers as `reap` does.
+pub fn join_all<R: Threads, K: Keeper, N: Listener, C: Clock>(
+    rt: &R,
+    book: &Book<K>,
+    by: &mut Pass,
+    listener: &mut N,
+    workers: &mut Vec<Worker<K, N, C>>,
+    clock: &C,
+) -> bool
+    requires by { IsOf book.now by.old }
+    requires of { AreOf book.now clock.now workers.old.items }
+    ensures by { IsOf book.now by.new }
+    ensures none { workers.new.items ≡ [] }
+    ensures only { OnlyNotes
+        (told (N.left listener.old) (N.accepted listener.old) (N.noted listener.old)
+        (N.listened listener.old) (N.faults listener.old))
+        (told (N.left listener.new) (N.accepted listener.new) (N.noted listener.new)
+        (N.listened listener.new) (N.faults listener.new)) }
+    ensures goes { Continues (C.tells clock.now) book.now.opening
+        by.old (told (N.left listener.old) (N.accepted listener.old) (N.noted listener.old)
+        (N.listened listener.old) (N.faults listener.old))
+        (outs_of N.In.left N.Out.held N.In.faults N.Out.faults
+        workers.old.items)
+        by.new (told (N.left listener.new) (N.accepted listener.new) (N.noted listener.new)
+        (N.listened listener.new) (N.faults listener.new))
+        (outs_of N.In.left N.Out.held N.In.faults N.Out.faults
+        workers.new.items) result }
+{
+    let mut is_short = false;
+    while workers.len() != 0 {
+        let one = join_at(rt, book, by, listener, workers, clock, 0);
+        is_short = is_either(is_short, one);
+    }
+    is_short
+}
