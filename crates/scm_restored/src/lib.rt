@@ -1,0 +1,53 @@
+//! A manager over what a keeper has.
+#![tactic(auto)]
+
+ghost use Rattle.std.specs.Prelude.{◌≡◌, ◌≤◌, IfOk, IsErrOf, OnOk};
+ghost use Rattle.outside.specs.Causes.{Rose};
+ghost use Rattle.record_journal.specs.Bearing.{Bears};
+ghost use Rattle.record_journal.specs.Keepers.{has_path};
+ghost use Rattle.scm_core.specs.Managed.{AreSmall};
+ghost use Rattle.scm_rules.specs.Opening.{IsOpening};
+ghost use Rattle.scm_restored.specs.Restored.{Comes, IsUnmoved};
+
+use record_journal::{Journal, JournalFault, Keeper, Restored, open_journal};
+use scm_core::Manager;
+use scm_model::Limits;
+use scm_text::Items;
+use std::alloc::Global;
+
+/// A manager that made no step, and the journal of its configurations.
+#[derive(Drop)]
+pub struct Opened {
+    pub manager: Manager,
+    pub journal: Journal,
+}
+
+/// Opens a keeper, and makes a manager whose services have the configurations that its journal
+/// comes to: each is stopped, and never ran. Where there was no memory for the manager, the keeper
+/// stays as the opening of its journal left it.
+pub fn open_manager<K: Keeper>(
+    alloc: Global,
+    limits: Limits,
+    keeper: &mut K,
+    path: Option<&str>,
+    moment: u64,
+) -> Result<Opened, JournalFault>
+    requires places { 512 ≤ limits.services }
+    requires small { AreSmall limits }
+    ensures comes { Comes limits moment (has_path path.entry)
+        (K.held keeper.old) (K.held keeper.new) result }
+    ensures opens { IfOk result (λ opened. IsOpening limits opened.manager.flat) }
+    ensures unmoved { IfOk result (λ opened. IsUnmoved limits opened.manager) }
+    ensures bears { IfOk result (λ opened.
+        Bears (K.held keeper.new) opened.journal (K.held keeper.new)) }
+    ensures grows { K.faults keeper.old ≤ K.faults keeper.new }
+    ensures cause { IsErrOf result JournalFault.Failed →
+        Rose (K.faults keeper.old) (K.faults keeper.new) }
+    ensures kept { OnOk result (K.faults keeper.new ≡ K.faults keeper.old) }
+{
+    let Restored { journal, configs } = open_journal(alloc, keeper, path)?;
+    match Manager::new(alloc, limits, Items::new(alloc), configs, moment) {
+        Ok(manager) => Ok(Opened { manager, journal }),
+        Err(_) => Err(JournalFault::OutOfMemory),
+    }
+}
