@@ -1,5 +1,5 @@
 -- What a list of steps came to, in four lines.
-use Rattle.std.specs.Prelude.{ℕ, ◌+◌, ◌==◌, List, [], ◌∷◌, ◌++◌, length, filter, codes, decimal}
+use Rattle.std.specs.Prelude.{ℕ, ◌+◌, ◌==◌, List, [], ◌∷◌, ◌++◌, length, filter, codes}
 use Rattle.scm_model.specs.declared.flat.Flat.{Flat}
 use Rattle.scm_model.specs.declared.flat.Limits.{Limits}
 use Rattle.scm_model.specs.declared.flat.Service.{Service}
@@ -7,6 +7,7 @@ use Rattle.scm_model.specs.declared.steps.Step.{Step}
 use Rattle.scm_model.specs.declared.steps.Step.TheVariants.{LaunchTaken}
 use Rattle.scm_rules.specs.Runs.{run_state}
 use Rattle.scm_model.specs.Entries.{Entry}
+use Rattle.scm_summary.specs.Lines.{numbered}
 use Rattle.scm_model.specs.declared.codes.TheConstants.{SERVICE_RUNNING}
 
 -- whether a step takes a launch in hand: 1 or 0
@@ -22,10 +23,6 @@ launches (e ∷ es) = launch_in e.1 + launches es
 -- how many services are RUNNING
 abbrev pub running : List Service → ℕ
 running rows = length (filter (λ (row : Service). row.status.state == SERVICE_RUNNING) rows)
-
--- a word, a number and a line feed
-abbrev pub numbered : List ℕ → ℕ → List ℕ
-numbered word number = word ++ (decimal number ++ 10 ∷ [])
 
 abbrev pub four_lines : (steps services taken running : ℕ) → List ℕ
 four_lines steps services taken running =

@@ -1,16 +1,9 @@
-ghost use Rattle.std.specs.Prelude.{◌≡◌, ◌++◌, IfOk, OnOk};
-ghost use Rattle.scm_generate.specs.Summary.{four_lines, numbered};
+ghost use Rattle.std.specs.Prelude.{◌≡◌, IfOk};
+ghost use Rattle.scm_generate.specs.Summary.{four_lines};
 
+use scm_summary::add_numbered;
 use scm_text::{Items, OutOfMemory};
 use std::alloc::Global;
-
-/// Appends a word, a number and a line feed.
-fn add(text: &mut Items<u8>, word: &str, number: u64) -> Result<(), OutOfMemory>
-    ensures { OnOk result (text.new ≡ text.old ++ numbered word.now number) }
-{
-    text.append(word.as_bytes())?;
-    text.append_pair(itoa::Buffer::new().format(number).as_bytes(), b"\n")
-}
 
 /// The four lines of a summary.
 pub fn summary_lines(
@@ -23,9 +16,9 @@ pub fn summary_lines(
     ensures { IfOk result (λ text. text ≡ four_lines steps services launches running) }
 {
     let mut text = Items::new(alloc);
-    add(&mut text, "steps ", steps)?;
-    add(&mut text, "services ", services)?;
-    add(&mut text, "launches ", launches)?;
-    add(&mut text, "running ", running)?;
+    add_numbered(&mut text, "steps ", steps)?;
+    add_numbered(&mut text, "services ", services)?;
+    add_numbered(&mut text, "launches ", launches)?;
+    add_numbered(&mut text, "running ", running)?;
     Ok(text)
 }

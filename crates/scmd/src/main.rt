@@ -1,10 +1,14 @@
 //! `scmd`: the service control manager. `scmd pipe` serves one connection of svcctl from its input
 //! to its output, `scmd replay` makes the steps that stand in the lines of its input and answers
-//! them, `scmd generate N` prints the summary of a stated list of steps.
+//! them, `scmd generate N` prints the summary of a stated list of steps, and `scmd serve` serves the
+//! connections of two ports of the loopback.
 #![tactic(auto)]
 
+use child_link::{Feed, Link};
 use outside::{Clock, ReadSource, Sink, Source, SystemClock, WriteSink};
+use process_runner::{ProcessSpawner, Spawner};
 use record_journal::{Keeper, MemoryKeeper};
+use scm_listener::{Listener, PortListener};
 use scm_text::{Items, Text};
 use scmd_top::{NoWords, World, scmd_with};
 use std::alloc::Global;
@@ -12,6 +16,8 @@ use std::io::ErrorKind;
 use std::process::ExitCode;
 use std::rt::Env;
 use std::sync::Wait;
+use std::thread::Threads;
+use std::time;
 
 /// The words after the program's name.
 fn arguments<R: Env + AllocGlobal>(rt: &R) -> Result<Items<Text>, NoWords> {
@@ -32,13 +38,21 @@ fn arguments<R: Env + AllocGlobal>(rt: &R) -> Result<Items<Text>, NoWords> {
 
 /// The whole program. Its bounds give it no leave to write to standard error, nor to any place that
 /// it isn't handed.
-fn program<
-    R: Env + AllocGlobal + Wait,
+fn program<R, I, O, K, N, NI, NO, A, P, L, F, C>(rt: &R, world: World<I, O, K, N, P, C>) -> ExitCode
+where
+    R: Env + AllocGlobal + Threads + Wait + time::Clock + Sync,
     I: Source + Drop,
     O: Sink + Drop,
-    K: Keeper,
-    C: Clock + Drop,
->(rt: &R, world: World<I, O, K, C>) -> ExitCode {
+    K: Keeper + Send,
+    NI: Source + Send + Drop,
+    NO: Sink + Send + Drop,
+    A: Send + Drop,
+    N: Listener<In = NI, Out = NO, Past = A> + Send + Drop,
+    L: Link + Send + Drop,
+    F: Feed + Send + Drop,
+    P: Spawner<Link = L, Feed = F> + Send + Drop,
+    C: Clock + Sync + Drop,
+{
     let (status, _world) = scmd_with(rt, rt.alloc(), arguments(rt), world);
     ExitCode::from(status)
 }
@@ -49,6 +63,9 @@ fn main(rt: HostRuntime) -> ExitCode {
         input: ReadSource::new(rt.stdin()),
         output: WriteSink::new(rt.stdout()),
         keeper: MemoryKeeper::new(Vec::new(alloc), Vec::new(alloc)),
+        admin: PortListener::new(rt),
+        user: PortListener::new(rt),
+        spawner: ProcessSpawner::new(rt, alloc),
         clock: SystemClock::new(rt),
     };
     program(&rt, world)

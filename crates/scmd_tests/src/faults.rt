@@ -1,11 +1,13 @@
 //! What fails outside, how a run then ends, and what it wrote and kept until then.
 use crate::asking::{Side, side_of, whole};
 use crate::bodies::put_hex;
-use crate::running::{Outside, run};
+use crate::running::{Outside, nobody, run};
 use record_journal::Fate;
 use std::alloc::Global;
 use std::sync::Wait;
 use std::test::*;
+use std::thread::Threads;
+use std::time;
 
 /// A connection where something fails: what it asks; what becomes of its reads, of its writes and
 /// of the calls of its keeper, the next one last; the status; the rows whose whole text is written
@@ -84,7 +86,7 @@ const A_AND_B: &str = "53434d4a01000000\
     00000000000000000000000000000000000000000000000000";
 
 /// A copy of a list.
-fn copied<T: Copy + Drop>(alloc: Global, items: &[T]) -> Result<Vec<T>, Fail> {
+pub fn copied<T: Copy + Drop>(alloc: Global, items: &[T]) -> Result<Vec<T>, Fail> {
     let mut all = Vec::new(alloc);
     all.extend_from_slice(items)?;
     Ok(all)
@@ -97,11 +99,16 @@ fn outside_of(alloc: Global, row: &Row, asked: &str) -> Result<Outside, Fail> {
         reads: copied(alloc, row.reads)?,
         writes: copied(alloc, row.writes)?,
         keeps: copied(alloc, row.keeps)?,
+        admin: nobody(alloc),
+        user: nobody(alloc),
     })
 }
 
 /// Whether a run comes to what a row says.
-fn holds<R: Wait + AllocGlobal>(rt: &R, row: &Row) -> Result<bool, Fail> {
+fn holds<R: Threads + Wait + time::Clock + Sync + AllocGlobal>(
+    rt: &R,
+    row: &Row,
+) -> Result<bool, Fail> {
     let alloc = rt.alloc();
     let asked = whole(alloc, row.asked)?;
     let least = whole(alloc, row.told)?;

@@ -13,4 +13,6 @@ mod rows;
 #[cfg(test)]
 mod running;
 #[cfg(test)]
+mod serving;
+#[cfg(test)]
 mod talks;

@@ -529,6 +529,27 @@ pub const JOBS: &str = "
 | hex 05 |
 = 5 pipe --as user --as=user: twice
 | hex 05 |
+= 0 serve --admin 135 --user 139: nobody comes
+|| steps 0; services 0
+= 0 serve --take-user=0 --user=65535 --take-admin 4294967295 --admin 1: in another order
+|| steps 0; services 0
+= 5 serve: no port
+= 5 serve --admin 135 --take-user 1: one port
+= 5 serve --admin 135 --user: no value
+= 5 serve --admin 135 --user --take-user 1: no value
+= 5 serve --admin 135 --user=: no value
+= 5 serve --admin 135 --user 139=139: no number
+= 5 serve --admin 135 --user 0139: no number
+= 5 serve --admin 135 --user -1: no number
+= 5 serve --admin 0 --user 139: no port has this number
+= 5 serve --admin 135 --user 65536: no port has this number
+= 5 serve --admin 135 --user 139 --take-admin 4294967296: too great a count
+= 5 serve --admin 135 --user 139 --admin 135: twice
+= 5 serve --admin 135 --user 139 --take-user=1 --take-user 1: twice
+= 5 serve --admin 135 --user 139 139: a word too many
+= 5 serve --admin 135 --user 139 --: a word too many
+= 5 serve --admin 135 --user 139 --as admin: no option of a server
+= 5 serve --Admin 135 --user 139: no option of a server
 ";
 
 pub const GREATEST: &str = "0 generate 512: as many services as there may be

@@ -7,6 +7,8 @@ use std::alloc::Global;
 use std::process::Abort;
 use std::sync::Wait;
 use std::test::*;
+use std::thread::Threads;
+use std::time;
 
 /// What stands behind `=`: the status, the words and the rows.
 #[derive(Drop)]
@@ -49,7 +51,10 @@ fn compare<R: Abort + AllocGlobal>(
 }
 
 /// Fails unless `scmd`, asked what these rows ask, writes what they are told and ends as they say.
-fn talks<R: Abort + Wait + AllocGlobal>(rt: &R, text: &str) -> Result<(), Fail> {
+fn talks<R: Abort + Threads + Wait + time::Clock + Sync + AllocGlobal>(
+    rt: &R,
+    text: &str,
+) -> Result<(), Fail> {
     let alloc = rt.alloc();
     let Matter {
         status,
@@ -64,7 +69,10 @@ fn talks<R: Abort + Wait + AllocGlobal>(rt: &R, text: &str) -> Result<(), Fail> 
 }
 
 /// Fails unless all these matters are as told.
-fn all_talk<R: Abort + Wait + AllocGlobal>(rt: &R, matters: &str) -> Result<(), Fail> {
+fn all_talk<R: Abort + Threads + Wait + time::Clock + Sync + AllocGlobal>(
+    rt: &R,
+    matters: &str,
+) -> Result<(), Fail> {
     for matter in matters.split("\n= ").skip(1) {
         talks(rt, matter)?;
     }
@@ -72,7 +80,7 @@ fn all_talk<R: Abort + Wait + AllocGlobal>(rt: &R, matters: &str) -> Result<(), 
 }
 
 /// The bytes of hex in lines.
-fn bytes_of(alloc: Global, hex: &str) -> Result<Vec<u8>, Fail> {
+pub fn bytes_of(alloc: Global, hex: &str) -> Result<Vec<u8>, Fail> {
     let mut all = Vec::new(alloc);
     for line in hex.lines() {
         put_hex(alloc, &mut all, line)?;
@@ -96,7 +104,10 @@ fn bodies_of_words_are_the_formats(rt: HostRuntime) -> Result<(), Fail> {
 }
 
 /// Whether the smallest session, read in pieces of this size, is told its bytes, and ends.
-fn is_told<R: Wait + AllocGlobal>(rt: &R, piece: usize) -> Result<bool, Fail> {
+fn is_told<R: Threads + Wait + time::Clock + Sync + AllocGlobal>(
+    rt: &R,
+    piece: usize,
+) -> Result<bool, Fail> {
     let alloc = rt.alloc();
     let told = bytes_of(alloc, SMALLEST_TOLD)?;
     let mut outside = without_faults(alloc, bytes_of(alloc, SMALLEST_ASKED)?);

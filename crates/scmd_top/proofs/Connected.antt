@@ -68,7 +68,7 @@ journal_where (Some bytes) changes e = ap (λ b. and_changes (Some b) changes) e
 
 module _ {K : Type 0} (told : K → Option (List ℕ)) (faulted : K → ℕ) where
   -- a keeper that held nothing has the kept changes of a history
-  keeps : (l : Limits) (f : Flat) (history : List Entry) (keeper now : K) → IfSome (told keeper) (λ bytes. bytes ≡ [])
+  pub keeps : (l : Limits) (f : Flat) (history : List Entry) (keeper now : K) → IfSome (told keeper) (λ bytes. bytes ≡ [])
       → IsKept told faulted (begun_with told faulted l f keeper) history now
       → KeepsJournal (kept_changes l f history) (failures_in history) (side told faulted keeper now)
   keeps l f history keeper now empty k = record {
@@ -78,7 +78,7 @@ module _ {K : Type 0} (told : K → Option (List ℕ)) (faulted : K → ℕ) whe
   }
 
   -- nothing was asked of it
-  rests : (keeper now : K) → IfSome (told keeper) (λ bytes. bytes ≡ []) → now ≡ keeper → KeepsJournal [] 0 (side told faulted keeper now)
+  pub rests : (keeper now : K) → IfSome (told keeper) (λ bytes. bytes ≡ []) → now ≡ keeper → KeepsJournal [] 0 (side told faulted keeper now)
   rests keeper now empty e = subst (λ (k : K). KeepsJournal [] 0 (side told faulted keeper k)) (sym e) (record {
     journal = empty_journal;
     bears = subst (λ (good : Option (List ℕ)). Bears good empty_journal (told keeper)) (journal_where (told keeper) [] empty) (bears_nothing (told keeper) empty);
@@ -138,10 +138,10 @@ bears_behind (Some bytes) None now changes j e h = absurd cc
 bears_behind (Some bytes) (Some other) now changes j e h = h
 
 -- the keeper that was emptied, and failed no more by that
-abbrev behind : Side → Option (List ℕ) → ℕ → Side
+abbrev pub behind : Side → Option (List ℕ) → ℕ → Side
 behind s told faults = record s { told = told; faults = faults }
 
-keeps_behind : (changes : List Change) (failed : ℕ) (s : Side) (mid : Option (List ℕ)) (faults : ℕ) → IsEmptied s.told mid → faults ≡ s.faults
+pub keeps_behind : (changes : List Change) (failed : ℕ) (s : Side) (mid : Option (List ℕ)) (faults : ℕ) → IsEmptied s.told mid → faults ≡ s.faults
     → KeepsJournal changes failed (behind s mid faults) → KeepsJournal changes failed s
 keeps_behind changes failed s mid faults e same k = record {
   journal = k.journal;

@@ -7,10 +7,13 @@ use Rattle.scm_generate.specs.declared.generated.Generated.TheVariants as printe
 use Rattle.scm_replay.specs.declared.replayed.Replayed.{Replayed}
 use Rattle.scm_replay.specs.declared.replayed.Replayed.TheVariants as answered
 use Rattle.scmd_top.specs.declared.words.Job.{Job}
-use Rattle.scmd_top.specs.declared.words.Job.TheVariants.{Pipe, Replay, Generate}
+use Rattle.scmd_top.specs.declared.words.Job.TheVariants.{Pipe, Replay, Generate, Serve}
 use Rattle.scmd_top.specs.Jobs.{HasRun, status_of_generate, status_of_replay}
 use Rattle.scmd_top.specs.Pipe.{status_of}
-use Rattle.scmd_top.specs.Sides.{Sides}
+use Rattle.scm_serving.specs.declared.serving.BookEnd.{BookEnd}
+use Rattle.scm_serving.specs.declared.serving.BookEnd.TheVariants.{Ended, ListenFault, OutOfMemory}
+use Rattle.scmd_top.specs.Serving.{HasWritten}
+use Rattle.scmd_top.specs.Sides.{Ports, Side, Sides}
 
 not_of_pipe : (how : Served) → status_of how ≢ 5
 not_of_pipe served.Ended = λ e. cc
@@ -40,8 +43,20 @@ not_of_generate printed.OutOfMemory = λ e. cc
 not_3 : (status : ℕ) → status ≡ 3 → status ≢ 5
 not_3 status is = λ e. cc
 
-pub not_5 : (tells : ℕ → Type 0) (job : Job) (s : Sides) (status : ℕ) → HasRun tells job s status → status ≢ 5
-not_5 tells (Pipe principal) s status (inl h) = λ e. not_of_pipe h.how (sym h.status_is ∙ e)
-not_5 tells (Pipe principal) s status (inr h) = not_3 status h.status_is
-not_5 tells Replay s status h = λ e. not_of_replay h.0.how (sym h.0.status_is ∙ e)
-not_5 tells (Generate services) s status h = λ e. not_of_generate h.0.how (sym h.0.status_is ∙ e)
+not_10 : (status : ℕ) → status ≡ 10 → status ≢ 5
+not_10 status is = λ e. cc
+
+not_of_serve : (end : BookEnd) (output : Side) (status : ℕ) → HasWritten end output status → status ≢ 5
+not_of_serve (Ended text) output status (inl h) = λ e. absurd (cc (h.0, e))
+not_of_serve (Ended text) output status (inr h) = λ e. absurd (cc (h.0, e))
+not_of_serve OutOfMemory output status h = λ e. absurd (cc (h.0, e))
+not_of_serve ListenFault output status h = not_10 status h.0
+
+pub not_5 : (tells : ℕ → Type 0) (job : Job) (s : Sides) (p : Ports) (status : ℕ) → HasRun tells job s p status → status ≢ 5
+not_5 tells (Pipe principal) s p status (inl h) = λ e. not_of_pipe h.how (sym h.status_is ∙ e)
+not_5 tells (Pipe principal) s p status (inr h) = not_3 status h.status_is
+not_5 tells Replay s p status h = λ e. not_of_replay h.0.how (sym h.0.status_is ∙ e)
+not_5 tells (Generate services) s p status h = λ e. not_of_generate h.0.how (sym h.0.status_is ∙ e)
+not_5 tells (Serve admin user) s p status (inl h, untouched) = not_of_serve h.end s.output status h.written
+not_5 tells (Serve admin user) s p status (inr (inl h), untouched) = not_10 status h.status_is
+not_5 tells (Serve admin user) s p status (inr (inr h), untouched) = not_3 status h.0.status_is

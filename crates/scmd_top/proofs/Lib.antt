@@ -3,3 +3,5 @@ mod Fronts
 mod Replays
 mod Connected
 mod Summaries
+mod Options
+mod Served

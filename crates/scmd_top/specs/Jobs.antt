@@ -15,9 +15,11 @@ use Rattle.scm_replay.specs.declared.replayed.Replayed.TheVariants as answered
 use Rattle.scm_model.specs.declared.flat.Flat.{Flat}
 use Rattle.scm_rules.specs.Opening.{opening}
 use Rattle.scmd_top.specs.declared.words.Job.{Job}
-use Rattle.scmd_top.specs.declared.words.Job.TheVariants.{Pipe, Replay, Generate}
+use Rattle.scmd_top.specs.declared.words.Job.TheVariants.{Pipe, Replay, Generate, Serve}
 use Rattle.scmd_top.specs.Pipe.{HasPiped, IsComplete}
-use Rattle.scmd_top.specs.Sides.{IsUntouched, Side, Sides}
+use Rattle.scmd_top.specs.Serving.{HasServed, IsComplete as IsServed}
+use Rattle.scmd_top.specs.Sides.{IsUntouched, LeavesPorts, Ports, Side, Sides}
+use Rattle.scmd_top.specs.declared.world.World.{World}
 use Rattle.scmd_top.specs.Statuses.{IsOrLacks, program_limits}
 use Rattle.scmd_top.specs.Words.{job_of}
 
@@ -66,16 +68,23 @@ pub record HasPrinted (services : ℕ) (output : Side) (status : ℕ) : Type 0 w
   pub can : IfMade how (CanBeMade program_limits program_opening (generated services))
   pub cause : IsPrintCaused how output.faults output.faults_now
 
-abbrev pub HasRun : (tells : ℕ → Type 0) → Job → Sides → (status : ℕ) → Type 0
-HasRun tells (Pipe principal) s status = HasPiped tells principal s status
-HasRun tells Replay s status = HasReplayed s.input s.output status × IsUntouched s.keeper
-HasRun tells (Generate services) s status = HasPrinted services s.output status × IsUntouched s.input × IsUntouched s.keeper
+abbrev pub HasRun : (tells : ℕ → Type 0) → Job → Sides → Ports → (status : ℕ) → Type 0
+HasRun tells (Pipe principal) s p status = HasPiped tells principal s status
+HasRun tells Replay s p status = HasReplayed s.input s.output status × IsUntouched s.keeper
+HasRun tells (Generate services) s p status = HasPrinted services s.output status × IsUntouched s.input × IsUntouched s.keeper
+HasRun tells (Serve admin user) s p status = HasServed tells admin user s p status × IsUntouched s.input
 
--- no other job than a pipe touches the keeper
+-- no other jobs than a pipe and a server touch the keeper
 abbrev pub LeavesKeeper : {K : Type 0} → Job → (keeper now : K) → Type 0
 LeavesKeeper (Pipe principal) keeper now = Unit {0}
 LeavesKeeper Replay keeper now = now ≡ keeper
 LeavesKeeper (Generate services) keeper now = now ≡ keeper
+LeavesKeeper (Serve admin user) keeper now = Unit {0}
+
+-- no other job than a server touches the listeners and what starts programs
+abbrev pub LeavesOthers : {I O K N P C : Type 0} → Job → (w w' : World I O K N P C) → Type 0
+LeavesOthers (Serve admin user) w w' = Unit {0}
+LeavesOthers job w w' = LeavesPorts w w'
 
 -- ## Completeness
 
@@ -100,15 +109,16 @@ abbrev pub HasSummedUp : (output : Side) (status : ℕ) → Type 0
 HasSummedUp output status = (Rose output.faults output.faults_now → ⊥) → IsOrLacks 0 status
 
 -- nothing else ends a run without faults
-abbrev pub HasAllDone : Job → Sides → (status : ℕ) → Type 0
-HasAllDone (Pipe principal) s status = IsComplete principal s status
-HasAllDone Replay s status = HasAllReplayed s.input s.output status
-HasAllDone (Generate services) s status = HasSummedUp s.output status
+abbrev pub HasAllDone : Job → Sides → Ports → (status : ℕ) → Type 0
+HasAllDone (Pipe principal) s p status = IsComplete principal s status
+HasAllDone Replay s p status = HasAllReplayed s.input s.output status
+HasAllDone (Generate services) s p status = HasSummedUp s.output status
+HasAllDone (Serve admin user) s p status = IsServed s p status
 
 -- ## The program
 
 -- what words came to: 5 exactly where they are no job, and else what the job came to
-pub record HasEnded (tells : ℕ → Type 0) (words : List (List ℕ)) (s : Sides) (status : ℕ) : Type 0 where
+pub record HasEnded (tells : ℕ → Type 0) (words : List (List ℕ)) (s : Sides) (p : Ports) (status : ℕ) : Type 0 where
   pub words_are : status ≡ 5 ↔ IsNone (job_of words)
-  pub run : IfSome (job_of words) (λ job. HasRun tells job s status)
-  pub complete : IfSome (job_of words) (λ job. HasAllDone job s status)
+  pub run : IfSome (job_of words) (λ job. HasRun tells job s p status)
+  pub complete : IfSome (job_of words) (λ job. HasAllDone job s p status)

@@ -1,6 +1,9 @@
 pub mod Statuses
 pub mod Sides
+pub mod Settings
+pub mod Parts
 pub mod Words
 pub mod Opening
 pub mod Pipe
+pub mod Serving
 pub mod Jobs

@@ -5,6 +5,8 @@ mod limits;
 mod lines;
 mod opening;
 mod pipe;
+mod serving;
+mod settings;
 mod summary;
 mod top;
 mod words;

@@ -3,12 +3,14 @@ ghost use Rattle.std.specs.Prelude.{◌≡◌, ◌≤◌};
 ghost use Rattle.scm_replay.specs.Replay.{IsReplayCaused};
 ghost use Rattle.scmd_top.specs.Jobs.{HasAllReplayed, HasReplayed, LeavesReplayed};
 ghost use Rattle.scmd_top.specs.Jobs.{status_of_replay};
-ghost use Rattle.scmd_top.specs.Sides.{side};
+ghost use Rattle.scmd_top.specs.Sides.{LeavesPorts, side};
 
 use crate::opening::new_manager;
 use crate::world::World;
 use outside::{Clock, Sink, Source};
+use process_runner::Spawner;
 use record_journal::Keeper;
+use scm_listener::Listener;
 use scm_replay::{Replayed, replay};
 use std::alloc::Global;
 
@@ -45,12 +47,13 @@ fn answer_lines<I: Source, O: Sink>(alloc: Global, input: &mut I, output: &mut O
 }
 
 /// The same, and gives the status of the program.
-pub fn replay_main<I: Source, O: Sink, K: Keeper, C: Clock>(
+pub fn replay_main<I: Source, O: Sink, K: Keeper, N: Listener, P: Spawner, C: Clock>(
     alloc: Global,
-    world: World<I, O, K, C>,
-) -> (u8, World<I, O, K, C>)
+    world: World<I, O, K, N, P, C>,
+) -> (u8, World<I, O, K, N, P, C>)
     ensures keeper { result.1.keeper ≡ world.keeper }
     ensures clock { result.1.clock ≡ world.clock }
+    ensures ports { LeavesPorts world result.1 }
     ensures input { I.faults world.input ≤ I.faults result.1.input }
     ensures output { O.faults world.output ≤ O.faults result.1.output }
     // What was read, answered and written, and why the run ended.
@@ -64,6 +67,9 @@ pub fn replay_main<I: Source, O: Sink, K: Keeper, C: Clock>(
         mut input,
         mut output,
         keeper,
+        admin,
+        user,
+        spawner,
         clock,
     } = world;
     let how = answer_lines(alloc, &mut input, &mut output);
@@ -71,6 +77,9 @@ pub fn replay_main<I: Source, O: Sink, K: Keeper, C: Clock>(
         input,
         output,
         keeper,
+        admin,
+        user,
+        spawner,
         clock,
     };
     (status_of_replay(how), world)

@@ -3,12 +3,14 @@ ghost use Rattle.std.specs.Prelude.{◌≡◌, ◌≤◌, [], IfSome};
 ghost use Rattle.conn_desk.specs.Connection.{IsServedFor};
 ghost use Rattle.conn_worker.specs.Complete.{IsComplete as EndsAsItsInput};
 ghost use Rattle.scmd_top.specs.Pipe.{HasCome, HasPiped, HasRoomAlways, IsComplete, status_of};
-ghost use Rattle.scmd_top.specs.Sides.{side, sides_of};
+ghost use Rattle.scmd_top.specs.Sides.{LeavesPorts, side, sides_of};
 
 use crate::opening::new_manager;
 use crate::world::World;
 use outside::{Clock, Sink, Source};
+use process_runner::Spawner;
 use record_journal::{Journal, Keeper};
+use scm_listener::Listener;
 use scm_model::Principal;
 use scm_pipe::{Piped, Served, serve_alone};
 use std::alloc::Global;
@@ -69,13 +71,14 @@ fn connect<R: Wait, I: Source, O: Sink, K: Keeper, C: Clock>(
 
 /// Serves one connection from the input to the output, and gives the status of the program. Without
 /// a file the journal begins empty.
-pub fn pipe_main<R: Wait, I: Source, O: Sink, K: Keeper, C: Clock>(
+pub fn pipe_main<R: Wait, I: Source, O: Sink, K: Keeper, N: Listener, P: Spawner, C: Clock>(
     rt: &R,
     alloc: Global,
     principal: Principal,
-    world: World<I, O, K, C>,
-) -> (u8, World<I, O, K, C>)
+    world: World<I, O, K, N, P, C>,
+) -> (u8, World<I, O, K, N, P, C>)
     ensures clock { result.1.clock ≡ world.clock }
+    ensures ports { LeavesPorts world result.1 }
     ensures input { I.faults world.input ≤ I.faults result.1.input }
     ensures output { O.faults world.output ≤ O.faults result.1.output }
     // What was read, answered, written and kept, and why the run ended.
@@ -89,6 +92,9 @@ pub fn pipe_main<R: Wait, I: Source, O: Sink, K: Keeper, C: Clock>(
         mut input,
         mut output,
         mut keeper,
+        admin,
+        user,
+        spawner,
         clock,
     } = world;
     let Ok(()) = keeper.open_at(None) else {
@@ -96,6 +102,9 @@ pub fn pipe_main<R: Wait, I: Source, O: Sink, K: Keeper, C: Clock>(
             input,
             output,
             keeper,
+            admin,
+            user,
+            spawner,
             clock,
         };
         return (3, world);
@@ -113,6 +122,9 @@ pub fn pipe_main<R: Wait, I: Source, O: Sink, K: Keeper, C: Clock>(
         input,
         output,
         keeper,
+        admin,
+        user,
+        spawner,
         clock,
     };
     (status_of(how), world)

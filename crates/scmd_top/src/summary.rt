@@ -1,13 +1,15 @@
 //! `scmd generate`, which may not wait: it returns.
 ghost use Rattle.std.specs.Prelude.{◌≡◌, ◌≤◌};
 ghost use Rattle.scmd_top.specs.Jobs.{HasPrinted, HasSummedUp, status_of_generate};
-ghost use Rattle.scmd_top.specs.Sides.{side};
+ghost use Rattle.scmd_top.specs.Sides.{LeavesPorts, side};
 
 use crate::limits::LIMITS;
 use crate::world::World;
 use outside::{Clock, Sink, Source};
+use process_runner::Spawner;
 use record_journal::Keeper;
 use scm_generate::{Generated, generate};
+use scm_listener::Listener;
 use std::alloc::Global;
 
 /// The status of a program that printed a summary.
@@ -23,15 +25,16 @@ fn status_of_generate(how: Generated) -> u8
 
 /// Makes the stated list of steps for so many services, prints its summary, and gives the status of
 /// the program.
-pub fn generate_main<I: Source, O: Sink, K: Keeper, C: Clock>(
+pub fn generate_main<I: Source, O: Sink, K: Keeper, N: Listener, P: Spawner, C: Clock>(
     alloc: Global,
     services: u32,
-    world: World<I, O, K, C>,
-) -> (u8, World<I, O, K, C>)
+    world: World<I, O, K, N, P, C>,
+) -> (u8, World<I, O, K, N, P, C>)
     requires few { services ≤ 512 }
     ensures unread { result.1.input ≡ world.input }
     ensures keeper { result.1.keeper ≡ world.keeper }
     ensures clock { result.1.clock ≡ world.clock }
+    ensures ports { LeavesPorts world result.1 }
     ensures output { O.faults world.output ≤ O.faults result.1.output }
     ensures run { HasPrinted services
         (side O.held O.faults world.output result.1.output) result.0 }
@@ -42,6 +45,9 @@ pub fn generate_main<I: Source, O: Sink, K: Keeper, C: Clock>(
         input,
         mut output,
         keeper,
+        admin,
+        user,
+        spawner,
         clock,
     } = world;
     let how = generate(alloc, LIMITS, services, &mut output);
@@ -49,6 +55,9 @@ pub fn generate_main<I: Source, O: Sink, K: Keeper, C: Clock>(
         input,
         output,
         keeper,
+        admin,
+        user,
+        spawner,
         clock,
     };
     (status_of_generate(how), world)

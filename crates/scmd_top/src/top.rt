@@ -1,70 +1,109 @@
 ghost use Rattle.std.specs.Prelude.{◌≡◌, ◌≤◌, ◌↔◌, IfOk, IfSome, IsErrOf, IsNone};
-ghost use Rattle.scmd_top.specs.Jobs.{HasAllDone, HasEnded, HasRun, LeavesKeeper};
-ghost use Rattle.scmd_top.specs.Sides.{sides_of};
+ghost use Rattle.scmd_top.specs.Jobs.{HasAllDone, HasEnded, HasRun, LeavesKeeper, LeavesOthers};
+ghost use Rattle.scmd_top.specs.Sides.{ports_of, sides_of};
 ghost use Rattle.scmd_top.specs.Words.{IsFew, job_of};
 
 use crate::lines::replay_main;
 use crate::pipe::pipe_main;
+use crate::serving::serve_main;
 use crate::summary::generate_main;
 use crate::words::{Job, NoWords, job_of};
 use crate::world::World;
+use child_link::{Feed, Link};
 use outside::{Clock, Sink, Source};
+use process_runner::Spawner;
 use record_journal::Keeper;
+use scm_listener::Listener;
 use scm_text::{Items, Text};
 use std::alloc::Global;
 use std::sync::Wait;
+use std::thread::Threads;
+use std::time;
 
 /// Does a job, and answers the status of the program, which isn't that of words that are no job.
-fn run<R: Wait, I: Source, O: Sink, K: Keeper, C: Clock>(
+fn run<R, I, O, K, N, NI, NO, A, P, L, F, C>(
     rt: &R,
     alloc: Global,
     job: Job,
-    world: World<I, O, K, C>,
-) -> (u8, World<I, O, K, C>)
+    world: World<I, O, K, N, P, C>,
+) -> (u8, World<I, O, K, N, P, C>)
+where
+    R: Threads + Wait + time::Clock + Sync,
+    I: Source,
+    O: Sink,
+    K: Keeper + Send,
+    NI: Source + Send + Drop,
+    NO: Sink + Send + Drop,
+    A: Send + Drop,
+    N: Listener<In = NI, Out = NO, Past = A> + Send + Drop,
+    L: Link + Send + Drop,
+    F: Feed + Send + Drop,
+    P: Spawner<Link = L, Feed = F> + Send + Drop,
+    C: Clock + Sync,
     requires { IsFew job }
     ensures run { HasRun (C.tells world.clock) job
-        (sides_of I.left I.faults O.held O.faults K.held K.faults world result.1) result.0 }
+        (sides_of I.left I.faults O.held O.faults K.held K.faults world result.1)
+        (ports_of N.left N.accepted N.noted N.listened N.faults world result.1) result.0 }
     ensures clock { result.1.clock ≡ world.clock }
     ensures input { I.faults world.input ≤ I.faults result.1.input }
     ensures output { O.faults world.output ≤ O.faults result.1.output }
     ensures keeper { LeavesKeeper job world.keeper result.1.keeper }
+    ensures ports { LeavesOthers job world result.1 }
     ensures complete { HasAllDone job
-        (sides_of I.left I.faults O.held O.faults K.held K.faults world result.1) result.0 }
+        (sides_of I.left I.faults O.held O.faults K.held K.faults world result.1)
+        (ports_of N.left N.accepted N.noted N.listened N.faults world result.1) result.0 }
 {
     match job {
         Job::Pipe { principal } => pipe_main(rt, alloc, principal, world),
         Job::Replay => replay_main(alloc, world),
         Job::Generate { services } => generate_main(alloc, services, world),
+        Job::Serve { admin, user } => serve_main(rt, alloc, admin, user, world),
     }
 }
 
 /// Does what the words ask for, and answers the status of the program: 0 done, 1 the input failed,
 /// 2 the output failed, 3 the keeper failed when the journal was opened, 5 words that are no job,
 /// 6 an input that ends within a PDU, a request or a line, 7 a bad PDU or a request that is too
-/// long, 8 want of memory, 9 no room for a request by the limits, 11 a bad line, 12 as many bytes
-/// of input as are read at most, 2^40.
-pub fn scmd_main<R: Wait, I: Source, O: Sink, K: Keeper, C: Clock>(
+/// long, 8 want of memory, 9 no room for a request by the limits, 10 a listener failed, 11 a bad
+/// line, 12 as many bytes of input as are read at most, 2^40.
+pub fn scmd_main<R, I, O, K, N, NI, NO, A, P, L, F, C>(
     rt: &R,
     alloc: Global,
     words: &Items<Text>,
-    world: World<I, O, K, C>,
-) -> (u8, World<I, O, K, C>)
+    world: World<I, O, K, N, P, C>,
+) -> (u8, World<I, O, K, N, P, C>)
+where
+    R: Threads + Wait + time::Clock + Sync,
+    I: Source,
+    O: Sink,
+    K: Keeper + Send,
+    NI: Source + Send + Drop,
+    NO: Sink + Send + Drop,
+    A: Send + Drop,
+    N: Listener<In = NI, Out = NO, Past = A> + Send + Drop,
+    L: Link + Send + Drop,
+    F: Feed + Send + Drop,
+    P: Spawner<Link = L, Feed = F> + Send + Drop,
+    C: Clock + Sync,
     // 5 exactly where the words aren't in the set; then nothing is read, written or kept.
     ensures words { result.0 ≡ 5 ↔ IsNone (job_of words.now) }
     ensures untouched { result.0 ≡ 5 → result.1 ≡ world }
     ensures clock { result.1.clock ≡ world.clock }
-    // Only a pipe touches the keeper.
+    // Only a pipe and a server touch the keeper, only a server the listeners and the spawner.
     ensures keeper { IfSome (job_of words.now) (λ job.
         LeavesKeeper job world.keeper result.1.keeper) }
+    ensures ports { IfSome (job_of words.now) (λ job. LeavesOthers job world result.1) }
     // Counts of faults never fall.
     ensures input { I.faults world.input ≤ I.faults result.1.input }
     ensures output { O.faults world.output ≤ O.faults result.1.output }
     // What was read, answered, written and kept, and why the run ended.
     ensures run { IfSome (job_of words.now) (λ job. HasRun (C.tells world.clock) job
-        (sides_of I.left I.faults O.held O.faults K.held K.faults world result.1) result.0) }
+        (sides_of I.left I.faults O.held O.faults K.held K.faults world result.1)
+        (ports_of N.left N.accepted N.noted N.listened N.faults world result.1) result.0) }
     // Nothing else ends a run without faults.
     ensures complete { IfSome (job_of words.now) (λ job. HasAllDone job
-        (sides_of I.left I.faults O.held O.faults K.held K.faults world result.1) result.0) }
+        (sides_of I.left I.faults O.held O.faults K.held K.faults world result.1)
+        (ports_of N.left N.accepted N.noted N.listened N.faults world result.1) result.0) }
 {
     match job_of(words) {
         Some(job) => run(rt, alloc, job, world),
@@ -74,16 +113,30 @@ pub fn scmd_main<R: Wait, I: Source, O: Sink, K: Keeper, C: Clock>(
 
 /// `scmd_main` with the words that the program was given. Where they can't be had nothing is read
 /// or written: words that aren't text are no job, and else there was no memory for them.
-pub fn scmd_with<R: Wait, I: Source, O: Sink, K: Keeper, C: Clock>(
+pub fn scmd_with<R, I, O, K, N, NI, NO, A, P, L, F, C>(
     rt: &R,
     alloc: Global,
     words: Result<Items<Text>, NoWords>,
-    world: World<I, O, K, C>,
-) -> (u8, World<I, O, K, C>)
+    world: World<I, O, K, N, P, C>,
+) -> (u8, World<I, O, K, N, P, C>)
+where
+    R: Threads + Wait + time::Clock + Sync,
+    I: Source,
+    O: Sink,
+    K: Keeper + Send,
+    NI: Source + Send + Drop,
+    NO: Sink + Send + Drop,
+    A: Send + Drop,
+    N: Listener<In = NI, Out = NO, Past = A> + Send + Drop,
+    L: Link + Send + Drop,
+    F: Feed + Send + Drop,
+    P: Spawner<Link = L, Feed = F> + Send + Drop,
+    C: Clock + Sync,
     ensures lacks { IsErrOf words NoWords.OutOfMemory → result ≡ (8, world) }
     ensures not_text { IsErrOf words NoWords.NotText → result ≡ (5, world) }
     ensures ended { IfOk words (λ w. HasEnded (C.tells world.clock) w
-        (sides_of I.left I.faults O.held O.faults K.held K.faults world result.1) result.0) }
+        (sides_of I.left I.faults O.held O.faults K.held K.faults world result.1)
+        (ports_of N.left N.accepted N.noted N.listened N.faults world result.1) result.0) }
 {
     match words {
         Ok(words) => scmd_main(rt, alloc, &words, world),

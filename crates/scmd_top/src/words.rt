@@ -1,8 +1,11 @@
 ghost use Rattle.std.specs.Prelude.{◌≡◌, ◌≤◌, IfSome, option_and_then};
 ghost use Rattle.scm_replay.specs.Words.{decimal_at};
 ghost use Rattle.scmd_top.specs.Words.{IsFew, generate_with, job_of, principal_named};
-ghost use Rattle.scmd_top.specs.Words.{principal_of_pipe, principal_word, replay_with, within};
+ghost use Rattle.scmd_top.specs.Words.{principal_of_pipe, principal_word, replay_with};
+ghost use Rattle.scmd_top.specs.Words.{serve_with, serving_of, within};
 
+use crate::settings::Settings;
+use scm_listener::Listening;
 use scm_model::Principal;
 use scm_replay::number_at;
 use scm_text::{Items, Text};
@@ -24,6 +27,8 @@ pub enum Job {
     Replay,
     /// Makes the stated list of steps for so many services, and prints its summary.
     Generate { services: u32 },
+    /// Serves the connections of two ports over one book, and prints the summary of its history.
+    Serve { admin: Listening, user: Listening },
 }
 
 fn principal_named(value: &str) -> Option<Principal>
@@ -107,6 +112,33 @@ fn generate_with(words: &[Text]) -> Option<Job>
     }
 }
 
+/// Where connections are served, once both ports are given and no value is waited for.
+fn serving_of(settings: Settings) -> Option<Job>
+    ensures { result ≡ serving_of settings }
+{
+    match (settings.waits, settings.admin, settings.user) {
+        (None, Some(admin), Some(user)) => Some(Job::Serve {
+            admin: Listening {
+                port: admin,
+                take: settings.take_admin,
+            },
+            user: Listening {
+                port: user,
+                take: settings.take_user,
+            },
+        }),
+        _ => None,
+    }
+}
+
+/// Where connections are served, by the words behind `serve`.
+fn serve_with(words: &[Text]) -> Option<Job>
+    ensures job { result ≡ serve_with words.now }
+    ensures few { IfSome result IsFew }
+{
+    serving_of(Settings::of(words)?)
+}
+
 /// The job that the words ask for, or none where they aren't in the set.
 pub fn job_of(words: &Items<Text>) -> Option<Job>
     ensures job { result ≡ job_of words.now }
@@ -122,6 +154,8 @@ pub fn job_of(words: &Items<Text>) -> Option<Job>
                 replay_with(rest)
             } else if word.as_str() == "generate" {
                 generate_with(rest)
+            } else if word.as_str() == "serve" {
+                serve_with(rest)
             } else {
                 None
             }

@@ -11,7 +11,7 @@ returns-clause-run g c =
       status_is = c.status_of.ensures;
       come = comes_behind (g.C.Clock.tells c.args.world.clock) c.args.principal how.result.how
           (sides_of g.I.Source.left g.I.Source.faults g.O.Sink.held g.O.Sink.faults g.K.Keeper.held g.K.Keeper.faults c.args.world
-          (record { input = how.new.input; output = how.new.output; keeper = how.result.keeper; clock = c.args.world.clock }))
+          (record { input = how.new.input; output = how.new.output; keeper = how.result.keeper; admin = c.args.world.admin; user = c.args.world.user; spawner = c.args.world.spawner; clock = c.args.world.clock }))
           (g.K.Keeper.held c.open_at.new.self) (g.K.Keeper.faults c.open_at.new.self)
           c.in-Ok.ensures.bytes c.in-Ok.ensures.cause.kept how.ensures.come;
       cause = how.ensures.cause;
@@ -23,5 +23,5 @@ returns-clause-complete g c =
     rw c.status_of.ensures
     (complete_pipe c.args.principal
     (sides_of g.I.Source.left g.I.Source.faults g.O.Sink.held g.O.Sink.faults g.K.Keeper.held g.K.Keeper.faults c.args.world
-    (record { input = how.new.input; output = how.new.output; keeper = how.result.keeper; clock = c.args.world.clock }))
+    (record { input = how.new.input; output = how.new.output; keeper = how.result.keeper; admin = c.args.world.admin; user = c.args.world.user; spawner = c.args.world.spawner; clock = c.args.world.clock }))
     how.result.how how.ensures.complete)

@@ -1,0 +1,169 @@
+// The options of a server.
+ghost use Rattle.std.specs.Prelude.{◌≡◌, option_and_then};
+ghost use Rattle.decimal_words.specs.Numbers.{number_at};
+ghost use Rattle.scmd_top.specs.Parts.{IsParts};
+ghost use Rattle.scmd_top.specs.Settings.{count_of, no_settings, once, port_of, setting_named};
+ghost use Rattle.scmd_top.specs.Settings.{settings_from, with_name, with_value, with_word};
+ghost use Rattle.scmd_top.specs.Settings.{named_value};
+
+use scm_replay::number_at;
+use scm_text::Text;
+
+/// What an option says.
+#[derive(Clone, Copy, Debug, PartialEq, Eq)]
+pub enum Setting {
+    AdminPort,
+    UserPort,
+    AdminTake,
+    UserTake,
+}
+
+/// What options say, so far as they were read.
+#[derive(Clone, Copy, Debug, PartialEq, Eq)]
+pub struct Settings {
+    pub admin: Option<u16>,
+    pub user: Option<u16>,
+    /// How many connections are taken, where that is said.
+    pub take_admin: Option<u64>,
+    pub take_user: Option<u64>,
+    /// The option whose value is the next word.
+    pub waits: Option<Setting>,
+}
+
+fn setting_named(word: &str) -> Option<Setting>
+    ensures { result ≡ setting_named word.now }
+{
+    if word == "--admin" {
+        Some(Setting::AdminPort)
+    } else if word == "--user" {
+        Some(Setting::UserPort)
+    } else if word == "--take-admin" {
+        Some(Setting::AdminTake)
+    } else if word == "--take-user" {
+        Some(Setting::UserTake)
+    } else {
+        None
+    }
+}
+
+/// A name and a value that stand in one word.
+fn parts_of(word: &str) -> Option<(&str, &str)>
+    ensures { IsParts (named_value word.now) result }
+{
+    word.split_once('=')
+}
+
+/// A port, of which there are those from 1 to 65535.
+fn port_of(number: u64) -> Option<u16>
+    ensures { result ≡ port_of number }
+{
+    if 1 <= number && number <= 65535 {
+        Some(number as u16)
+    } else {
+        None
+    }
+}
+
+fn port_at(value: &str) -> Option<u16>
+    ensures { result ≡ option_and_then port_of (number_at value.now) }
+{
+    port_of(number_at(value.as_bytes())?)
+}
+
+/// A count of connections, of 32 bits.
+fn count_of(number: u64) -> Option<u64>
+    ensures { result ≡ count_of number }
+{
+    if number <= 4_294_967_295 {
+        Some(number)
+    } else {
+        None
+    }
+}
+
+fn count_at(value: &str) -> Option<u64>
+    ensures { result ≡ option_and_then count_of (number_at value.now) }
+{
+    count_of(number_at(value.as_bytes())?)
+}
+
+/// A value, where none was given before.
+fn once<T: Copy>(before: Option<T>, value: Option<T>) -> Option<T>
+    ensures { result ≡ once before value }
+{
+    match before {
+        None => value,
+        Some(_) => None,
+    }
+}
+
+impl Settings {
+    const NONE: Settings = Settings {
+        admin: None,
+        user: None,
+        take_admin: None,
+        take_user: None,
+        waits: None,
+    };
+
+    fn with_value(self, name: Setting, value: &str) -> Option<Settings>
+        ensures { result ≡ with_value self name value.now }
+    {
+        let settings = Settings {
+            waits: None,
+            ..self
+        };
+        match name {
+            Setting::AdminPort => Some(Settings {
+                admin: Some(once(self.admin, port_at(value))?),
+                ..settings
+            }),
+            Setting::UserPort => Some(Settings {
+                user: Some(once(self.user, port_at(value))?),
+                ..settings
+            }),
+            Setting::AdminTake => Some(Settings {
+                take_admin: Some(once(self.take_admin, count_at(value))?),
+                ..settings
+            }),
+            Setting::UserTake => Some(Settings {
+                take_user: Some(once(self.take_user, count_at(value))?),
+                ..settings
+            }),
+        }
+    }
+
+    /// A name, with its value or before it.
+    fn with_name(self, word: &str) -> Option<Settings>
+        ensures { result ≡ with_name self word.now (named_value word.now) }
+    {
+        match parts_of(word) {
+            Some((name, value)) => self.with_value(setting_named(name)?, value),
+            None => Some(Settings {
+                waits: Some(setting_named(word)?),
+                ..self
+            }),
+        }
+    }
+
+    /// One word further.
+    fn with_word(self, word: &str) -> Option<Settings>
+        ensures { result ≡ with_word self self.waits word.now }
+    {
+        match self.waits {
+            Some(name) => self.with_value(name, word),
+            None => self.with_name(word),
+        }
+    }
+
+    /// What these words say, if each is an option or a value.
+    pub fn of(words: &[Text]) -> Option<Settings>
+        ensures { result ≡ settings_from no_settings words.now }
+    {
+        let mut settings = Settings::NONE;
+        for word in words {
+            settings = settings.with_word(word.as_str())?;
+        }
+        Some(settings)
+    }
+}
