@@ -1,8 +1,9 @@
 -- How a run ends.
 use Rattle.std.proofs.Common.{inl, inr, ℕ, ◌≡◌, ◌+◌, ◌<◌, ◌≤◌, ◌^◌, ◌==◌, Bool, true, false, cond, List, [], ◌∷◌, ◌++◌, length, Err, refl, sym, ap, ◌∙◌, subst, append_assoc, append-nil, arith, length-append}
 use Rattle.std.specs.Prelude.{◌⊎◌, Option}
-use Rattle.std.specs.Io.KnownBytes.{Appends, Consumes}
-use Rattle.std.proofs.KnownBytes.{Appends-nil, Appends-trans, Consumes-nil, Consumes-trans}
+use Rattle.std.specs.Io.KnownBytes.{Appends, Consumes, IsAtEnd}
+use Rattle.std.proofs.KnownBytes.{Appends-nil, Appends-trans, Consumes-nil}
+use Rattle.feed_loop.specs.declared.fed.Fed.TheVariants as fed
 use Rattle.outside.specs.Written.{Begins}
 use Rattle.scm_model.specs.declared.flat.Limits.{Limits}
 use Rattle.scm_replay.specs.declared.replayed.Replayed.{Replayed}
@@ -12,7 +13,7 @@ use Rattle.scm_replay.specs.declared.stop.Stop.TheVariants as stop
 use Rattle.scm_replay.specs.Answers.{answer_line}
 use Rattle.scm_replay.specs.Outcomes.{Standing, goes_on, outcome_at}
 use Rattle.scm_replay.specs.Replay.{AtRest, BadLine, EndsBad, IsAnswered, IsCut, IsLeft, IsOpenText, IsReplayed, ReachedLine, StopsIn, Told, Unfinished, text_behind, text_end, ends_text, replayed, replayed_from, with_line}
-use Rattle.scm_replay.specs.Along.{Point, GoesOn, HaltsIn, LinesRead}
+use Rattle.scm_replay.specs.Along.{Point, GoesOn, HaltsIn, replayed_as}
 use Rattle.scm_replay.proofs.Bad.{bad_at}
 use Rattle.scm_replay.proofs.Lines.{clean_none, rest_alone, told_behind, whole_line}
 use Rattle.scm_replay.proofs.Stretches.{goes_further, goes_nowhere}
@@ -110,9 +111,20 @@ module _ (l : Limits) (s : Standing) (held : Option (List ℕ)) where
       → Consumes left left_now read → length read ≡ 2 ^ 40 → IsReplayed l s m.at left left_now held m.held ended.Worn
   worn left left_now read m on consumed e = all_read left left_now read m ended.Worn on consumed (omega (arith, e)) (e, answered read m on)
 
-  nothing_more : (left mid left_now : Option (List ℕ)) (read more : List ℕ) → Consumes left mid read → Consumes mid left_now more → more ≡ [] → Consumes left left_now read
-  nothing_more left mid left_now read more p q e =
-      subst (Consumes left left_now) (ap (λ x. read ++ x) e ∙ append-nil read) (Consumes-trans left mid left_now read more p q)
+  -- the source ended
+  pub source_ends : (left left_now : Option (List ℕ)) (read : List ℕ) (m : Point) (rest : Bool) → GoesOn l read (beginning s held) m
+      → Consumes left left_now read → IsAtEnd left_now → length read < 2 ^ 40 → (length m.pending == 0) ≡ rest → IsReplayed l s m.at left left_now held m.held (replayed_as fed.Ended rest)
+  source_ends left left_now read m true on consumed out lt e =
+      all_read left left_now read m ended.Ended on consumed (omega (arith, lt))
+      (out, lt, so_far read m on ∙ ap (λ x. record { text = on.text; ending = x; at = m.at }) (end_if m.pending true e))
+  source_ends left left_now read m false on consumed out lt e =
+      all_read left left_now read m ended.Truncated on consumed (omega (arith, lt))
+      (out, lt, so_far read m on ∙ ap (λ x. record { text = on.text; ending = x; at = m.at }) (end_if m.pending false e))
+
+  -- a read failed
+  pub read_fails : (left left_now : Option (List ℕ)) (read : List ℕ) (m : Point) → GoesOn l read (beginning s held) m
+      → Consumes left left_now read → length read < 2 ^ 40 → IsReplayed l s m.at left left_now held m.held ended.ReadFault
+  read_fails left left_now read m on consumed lt = all_read left left_now read m ended.ReadFault on consumed (omega (arith, lt)) (lt, answered read m on)
 
   -- ## A line at which it stops
 
@@ -182,14 +194,14 @@ module _ (l : Limits) (s : Standing) (held : Option (List ℕ)) where
 
   -- ## The last read
 
-  module _ (left mid left_now : Option (List ℕ)) (read more : List ℕ) (m b : Point) (on : GoesOn l read (beginning s held) m)
-      (p : Consumes left mid read) (q : Consumes mid left_now more) (most : length read + length more ≤ 2 ^ 40) (little : length more ≤ 4096) where
+  module _ (left left_now : Option (List ℕ)) (read more : List ℕ) (m b : Point) (on : GoesOn l read (beginning s held) m)
+      (consumed : Consumes left left_now (read ++ more)) (most : length read + length more ≤ 2 ^ 40) (little : length more ≤ 4096) where
     stopped : (how : Replayed) (written : List ℕ) → Appends held b.held written → ReachedLine l s b.at how (read ++ more) left_now written
         → IsReplayed l s b.at left left_now held b.held how
     stopped how written appended reached = record {
       read = read ++ more;
       written = written;
-      consumed = Consumes-trans left mid left_now read more p q;
+      consumed = consumed;
       most = omega (arith, most, length-append read more);
       appended = appended;
       reached = reached;
@@ -226,27 +238,10 @@ module _ (l : Limits) (s : Standing) (held : Option (List ℕ)) where
         (is_left (read ++ more) (read ++ t.before) t.point b (t.byte ∷ t.rest) go
         (parts stop.OutOfMemory t) (short stop.OutOfMemory t) t.halts.0)
 
-  -- one more read ends it
-  pub ends_so : (left mid left_now : Option (List ℕ)) (read more : List ℕ) (m b : Point) (how : Replayed)
-      → GoesOn l read (beginning s held) m → Consumes left mid read → length read < 2 ^ 40
-      → Consumes mid left_now more → length read + length more ≤ 2 ^ 40 → length more ≤ 4096
-      → LinesRead l m b left_now more (Err how)
-      → IsReplayed l s b.at left left_now held b.held how
-  ends_so left mid left_now read more m b ended.Ended on p lt q most little t =
-      subst (λ (x : Point). IsReplayed l s x.at left left_now held x.held ended.Ended) (sym t.1)
-      (all_read left left_now read m ended.Ended on (nothing_more left mid left_now read more p q t.0) (omega (arith, lt))
-      (t.2, lt, so_far read m on ∙ ap (λ x. record { text = on.text; ending = x; at = m.at }) (end_if m.pending true t.3)))
-  ends_so left mid left_now read more m b ended.Truncated on p lt q most little t =
-      subst (λ (x : Point). IsReplayed l s x.at left left_now held x.held ended.Truncated) (sym t.1)
-      (all_read left left_now read m ended.Truncated on (nothing_more left mid left_now read more p q t.0) (omega (arith, lt))
-      (t.2, lt, so_far read m on ∙ ap (λ x. record { text = on.text; ending = x; at = m.at }) (end_if m.pending false t.3)))
-  ends_so left mid left_now read more m b ended.ReadFault on p lt q most little t =
-      subst (λ (x : Point). IsReplayed l s x.at left left_now held x.held ended.ReadFault) (sym t.1)
-      (all_read left left_now read m ended.ReadFault on (nothing_more left mid left_now read more p q t.0) (omega (arith, lt)) (lt, answered read m on))
-  ends_so left mid left_now read more m b ended.BadLine on p lt q most little t = bad_line left mid left_now read more m b on p q most little t
-  ends_so left mid left_now read more m b ended.WriteFault on p lt q most little t = write_fault left mid left_now read more m b on p q most little t
-  ends_so left mid left_now read more m b ended.OutOfMemory on p lt q most little t = no_memory left mid left_now read more m b on p q most little t
-  ends_so left mid left_now read more m b ended.Worn on p lt q most little t = absurd t
+    pub stops_so : (why : Stop) (rest : Bool) → HaltsIn l more m b why → IsReplayed l s b.at left left_now held b.held (replayed_as (fed.Stopped why) rest)
+    stops_so stop.BadLine rest t = bad_line t
+    stops_so stop.WriteFault rest t = write_fault t
+    stops_so stop.OutOfMemory rest t = no_memory t
 
 -- there was no memory to begin
 pub nothing_read : (l : Limits) (s : Standing) (left held : Option (List ℕ)) → IsReplayed l s s left left held held ended.OutOfMemory

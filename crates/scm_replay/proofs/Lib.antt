@@ -2,4 +2,5 @@ mod Lines
 mod Stretches
 mod Bad
 pub mod Ends
+mod Whole
 mod Admitted

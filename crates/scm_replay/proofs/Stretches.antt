@@ -45,9 +45,9 @@ module _ (l : Limits) where
   }
 
   -- a byte at which a line stops the run
-  halts_at : (a b : Point) (byte : ℕ) (why : Stop) → IsOneLine a.pending → IsFeed why byte
+  halts_at : (a b : Point) (byte : ℕ) (why : Stop) → IsOneLine a.pending → IsOneLine b.pending → IsFeed why byte
       → Halts l a.number a.pending a.at b.at a.held b.held why → HaltsIn l (byte ∷ []) a b why
-  halts_at a b byte why clean feed halts = record {
+  halts_at a b byte why clean still feed halts = record {
     before = [];
     byte = byte;
     rest = [];
@@ -56,15 +56,16 @@ module _ (l : Limits) where
     on = goes_nowhere a clean;
     feed = feed;
     halts = halts;
+    clean = still;
   }
 
   -- a line stops the run
-  pub line_stops : (a b : Point) (why : Stop) → IsOneLine a.pending → Halts l a.number a.pending a.at b.at a.held b.held why → HaltsIn l (10 ∷ []) a b why
-  line_stops a b why clean halts = halts_at a b 10 why clean (is_feed why) halts
+  pub line_stops : (a b : Point) (why : Stop) → IsOneLine a.pending → IsOneLine b.pending → Halts l a.number a.pending a.at b.at a.held b.held why → HaltsIn l (10 ∷ []) a b why
+  line_stops a b why clean still halts = halts_at a b 10 why clean still (is_feed why) halts
 
   -- there is no memory for a byte more
-  pub byte_lost : (a b : Point) (byte : ℕ) → IsOneLine a.pending → b.at ≡ a.at → b.held ≡ a.held → HaltsIn l (byte ∷ []) a b stop.OutOfMemory
-  byte_lost a b byte clean at held = halts_at a b byte stop.OutOfMemory clean tt (inl at, held)
+  pub byte_lost : (a b : Point) (byte : ℕ) → IsOneLine a.pending → IsOneLine b.pending → b.at ≡ a.at → b.held ≡ a.held → HaltsIn l (byte ∷ []) a b stop.OutOfMemory
+  byte_lost a b byte clean still at held = halts_at a b byte stop.OutOfMemory clean still tt (inl at, held)
 
   -- a part of a piece stops the run
   pub stops_there : (piece xs ys zs : List ℕ) (a m b : Point) (why : Stop) → piece ≡ xs ++ (ys ++ zs)
@@ -80,6 +81,7 @@ module _ (l : Limits) where
     on = goes_further xs q.before a m q.point p q.on;
     feed = q.feed;
     halts = q.halts;
+    clean = q.clean;
   }
 
   -- one byte more of a piece

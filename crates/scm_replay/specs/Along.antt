@@ -1,6 +1,8 @@
 -- What became of the bytes on a stretch of an input.
-use Rattle.std.specs.Prelude.{ℕ, ◌≡◌, ◌+◌, ◌<◌, ◌≤◌, ◌^◌, ◌==◌, ◌⊎◌, true, false, List, [], ◌∷◌, ◌++◌, length, Option, Result, Ok, Err}
-use Rattle.std.specs.Io.KnownBytes.{Appends, Consumes, IsAtEnd}
+use Rattle.std.specs.Prelude.{ℕ, ◌≡◌, ◌+◌, ◌<◌, ◌≤◌, ◌^◌, ◌⊎◌, Bool, true, false, List, [], ◌∷◌, ◌++◌, length, Option, Result, Ok, Err}
+use Rattle.std.specs.Io.KnownBytes.{Appends}
+use Rattle.feed_loop.specs.declared.fed.Fed.{Fed}
+use Rattle.feed_loop.specs.declared.fed.Fed.TheVariants as fed
 use Rattle.outside.specs.Causes.{Rose}
 use Rattle.outside.specs.Written.{AppendsFront}
 use Rattle.scm_model.specs.declared.flat.Limits.{Limits}
@@ -62,6 +64,7 @@ pub record HaltsIn (l : Limits) (piece : List ℕ) (a b : Point) (why : Stop) : 
   pub on : GoesOn l before a point
   pub feed : IsFeed why byte
   pub halts : Halts l point.number point.pending point.at b.at point.held b.held why
+  pub clean : IsOneLine b.pending
 
 abbrev pub LinesFed : {T : Type 0} → Limits → (piece : List ℕ) → Point → Point → Result T Stop → Type 0
 LinesFed l piece a b (Ok done) = GoesOn l piece a b
@@ -89,28 +92,27 @@ pub record IsFit (m : Managed) (line more : ℕ) : Type 0 where
   pub steps : m.steps + more ≤ 2 ^ 50
   pub lines : line + more ≤ 2 ^ 50
 
--- what one read came to
-abbrev pub LinesRead : Limits → Point → Point → (left_now : Option (List ℕ)) → (read : List ℕ) → Result ℕ Replayed → Type 0
-LinesRead l a b left_now read (Ok n) = (n ≡ length read) × (0 < n) × GoesOn l read a b
-LinesRead l a b left_now read (Err ended.ReadFault) = (read ≡ []) × (b ≡ a)
-LinesRead l a b left_now read (Err ended.Ended) = (read ≡ []) × (b ≡ a) × IsAtEnd left_now × ((length a.pending == 0) ≡ true)
-LinesRead l a b left_now read (Err ended.Truncated) = (read ≡ []) × (b ≡ a) × IsAtEnd left_now × ((length a.pending == 0) ≡ false)
-LinesRead l a b left_now read (Err ended.BadLine) = HaltsIn l read a b stop.BadLine
-LinesRead l a b left_now read (Err ended.WriteFault) = HaltsIn l read a b stop.WriteFault
-LinesRead l a b left_now read (Err ended.OutOfMemory) = HaltsIn l read a b stop.OutOfMemory
-LinesRead l a b left_now read (Err ended.Worn) = ⊥
+-- a piece was taken, and the lines that end in it are answered
+pub record LinesEaten (old new : Managed) (piece : List ℕ) (a b : Point) (faults faults_now : ℕ) : Type 0 where
+  pub goes : GoesOn old.limits piece a b
+  pub limits : new.limits ≡ old.limits
+  pub unfailed : faults_now ≡ faults
 
-pub record Turn (l : Limits) (a b : Point) (left left_now : Option (List ℕ)) (room : ℕ) (result : Result ℕ Replayed) : Type 0 where
-  pub read : List ℕ
-  pub consumed : Consumes left left_now read
-  pub short : length read ≤ room
-  pub turned : LinesRead l a b left_now read result
+-- a piece was taken in which the run stopped
+pub record LinesHalted (old new : Managed) (piece : List ℕ) (a b : Point) (faults faults_now : ℕ) (why : Stop) : Type 0 where
+  pub halts : HaltsIn old.limits piece a b why
+  pub limits : new.limits ≡ old.limits
+  pub cause : HasStopCause {T = Unit {0}} faults faults_now (Err why)
 
--- how a run ends whose bytes aren't answered on
-abbrev pub replay_ended : Stop → Replayed
-replay_ended stop.BadLine = ended.BadLine
-replay_ended stop.WriteFault = ended.WriteFault
-replay_ended stop.OutOfMemory = ended.OutOfMemory
+-- how a run ends whose feeding ended so, where nothing stands behind the last line or something does
+abbrev pub replayed_as : Fed Stop → Bool → Replayed
+replayed_as fed.Ended true = ended.Ended
+replayed_as fed.Ended false = ended.Truncated
+replayed_as fed.ReadFault rest = ended.ReadFault
+replayed_as fed.Worn rest = ended.Worn
+replayed_as (fed.Stopped stop.BadLine) rest = ended.BadLine
+replayed_as (fed.Stopped stop.WriteFault) rest = ended.WriteFault
+replayed_as (fed.Stopped stop.OutOfMemory) rest = ended.OutOfMemory
 
 -- a write that failed ends it
 abbrev pub line_stopped : {E : Type 0} → Result (Unit {0}) E → Result (Unit {0}) Stop

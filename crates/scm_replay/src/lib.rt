@@ -10,6 +10,7 @@ mod missed;
 mod outcome;
 mod reading;
 mod replayed;
+mod replayer;
 mod replaying;
 mod stop;
 mod verb;

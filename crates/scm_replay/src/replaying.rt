@@ -1,72 +1,30 @@
-ghost use Rattle.std.specs.Prelude.{◌≡◌, ◌≤◌, ◌<◌, ◌+◌, length, IfErr, IfOk, OnOk};
-ghost use Rattle.outside.specs.Causes.{NeitherFailed};
-ghost use Rattle.scm_replay.specs.Along.{IsFit, Keeps, Turn, replay_ended, point};
-ghost use Rattle.scm_replay.specs.Replay.{IsReplayCaused, IsFresh, IsOneLine, IsReplayed};
+ghost use Rattle.std.specs.Prelude.{◌≡◌, ◌≤◌};
+ghost use Rattle.feed_loop.specs.declared.fed.Fed.{Fed};
+ghost use Rattle.scm_replay.specs.Along.{replayed_as};
+ghost use Rattle.scm_replay.specs.Replay.{IsReplayCaused, IsFresh, IsReplayed};
 ghost use Rattle.scm_replay.specs.Outcomes.{standing};
 
-use super::feeding::{Reading, feed};
+use super::feeding::Reading;
 use super::replayed::Replayed;
+use super::replayer::Replayer;
 use super::stop::Stop;
+use feed_loop::{Fed, feed_all};
 use outside::{Sink, Source};
 use scm_core::Manager;
 use std::alloc::Global;
 
-/// How many bytes an input may have.
-const WORN: u64 = 1 << 40;
-
-/// How many bytes are read at once.
-const PIECE: u64 = 4096;
-
-/// How a run ends whose bytes aren't answered on.
-fn ended_by(stop: Stop) -> Replayed
-    ensures { result ≡ replay_ended stop }
+/// How a run ends whose feeding ended so, where nothing stands behind the last line or something does.
+fn replayed_as(fed: Fed<Stop>, at_rest: bool) -> Replayed
+    ensures { result ≡ replayed_as fed at_rest }
 {
-    match stop {
-        Stop::BadLine => Replayed::BadLine,
-        Stop::WriteFault => Replayed::WriteFault,
-        Stop::OutOfMemory => Replayed::OutOfMemory,
-    }
-}
-
-/// Reads a piece, and answers the lines that end in it. An `Err` says how the run ends.
-fn turn<I: Source, O: Sink>(
-    alloc: Global,
-    manager: &mut Manager,
-    reading: &mut Reading,
-    into: &mut [u8],
-    input: &mut I,
-    output: &mut O,
-) -> Result<usize, Replayed>
-    requires nonempty { 0 < length into.old }
-    requires fit { IsFit manager.old reading.old.number (length into.old) }
-    requires clean { IsOneLine reading.old.pending.items }
-    ensures turned { Turn manager.old.limits
-        (point manager.old reading.old (O.held output.old))
-        (point manager.new reading.new (O.held output.new))
-        (I.left input.old) (I.left input.new) (length into.old) result }
-    ensures limits { manager.new.limits ≡ manager.old.limits }
-    ensures keeps { IfOk result (λ n. Keeps manager.old manager.new n) }
-    ensures number { IfOk result (λ n. reading.new.number ≤ reading.old.number + n) }
-    ensures input { I.faults input.old ≤ I.faults input.new }
-    ensures output { O.faults output.old ≤ O.faults output.new }
-    ensures cause { IfErr result (λ how. IsReplayCaused how
-        (I.faults input.old) (I.faults input.new) (O.faults output.old) (O.faults output.new)) }
-    ensures unfailed { OnOk result (NeitherFailed
-        (I.faults input.old) (I.faults input.new) (O.faults output.old) (O.faults output.new)) }
-{
-    let Ok(n) = input.read(into) else {
-        return Err(Replayed::ReadFault);
-    };
-    if n == 0 {
-        if reading.pending.is_empty() {
-            return Err(Replayed::Ended);
-        }
-        return Err(Replayed::Truncated);
-    }
-    let (piece, _) = into.split_at(n);
-    match feed(alloc, manager, reading, piece, output) {
-        Ok(()) => Ok(n),
-        Err(stop) => Err(ended_by(stop)),
+    match fed {
+        Fed::Ended if at_rest => Replayed::Ended,
+        Fed::Ended => Replayed::Truncated,
+        Fed::ReadFault => Replayed::ReadFault,
+        Fed::Worn => Replayed::Worn,
+        Fed::Stopped(Stop::BadLine) => Replayed::BadLine,
+        Fed::Stopped(Stop::WriteFault) => Replayed::WriteFault,
+        Fed::Stopped(Stop::OutOfMemory) => Replayed::OutOfMemory,
     }
 }
 
@@ -93,19 +51,14 @@ pub fn replay<I: Source, O: Sink>(
     ensures cause { IsReplayCaused result
         (I.faults input.old) (I.faults input.new) (O.faults output.old) (O.faults output.new) }
 {
-    let mut reading = Reading {
-        pending: Vec::new(alloc),
-        number: 1,
+    let mut replayer = Replayer {
+        alloc,
+        reading: Reading {
+            pending: Vec::new(alloc),
+            number: 1,
+        },
     };
-    let mut piece = [0u8; 4096];
     let mut read = 0u64;
-    while read < WORN {
-        let room = (WORN - read).min(PIECE) as usize;
-        let (into, _) = piece.split_at_mut(room);
-        match turn(alloc, manager, &mut reading, into, input, output) {
-            Ok(n) => read += n as u64,
-            Err(how) => return how,
-        }
-    }
-    Replayed::Worn
+    let fed = feed_all(&mut replayer, manager, output, input, &mut read);
+    replayed_as(fed, replayer.reading.pending.is_empty())
 }

@@ -15,5 +15,5 @@ pub returns-in-Err-clause-fed : goal.returns-in-Err-clause-fed
 returns-in-Err-clause-fed g c =
     let a : Point = point c.args.manager.now c.args.reading.now (g.O.Sink.held c.args.output.now) in
     let b : Point = point c.answer.new.manager c.args.reading.now (g.O.Sink.held c.answer.new.output) in
-    line_stops c.args.manager.now.limits a b c.in-Err.stop c.requires.clean
+    line_stops c.args.manager.now.limits a b c.in-Err.stop c.requires.clean c.requires.clean
     (lined_of c.args.manager.now.limits a.number a.pending _ a.at b.at a.held b.held (Unit {0}) (Err c.in-Err.stop) c.as_slice.ensures.value c.in-Err.ensures.lined)

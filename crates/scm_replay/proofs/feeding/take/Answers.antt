@@ -1,5 +1,6 @@
-use Rattle.std.proofs.Common.{ap, refl}
+use Rattle.std.proofs.Common.{ap, refl, subst, sym}
 use Rattle.scm_replay.specs.Along.{Point, point}
+use Rattle.scm_replay.specs.Replay.{IsOneLine}
 use Rattle.scm_replay.proofs.Lines.{one_byte}
 use Rattle.scm_replay.proofs.Stretches.{byte_lost}
 use Rattle.scm_replay.proofs.feeding.take.Goals as goal
@@ -13,4 +14,5 @@ returns-in-Ok-clause-fed g c =
 pub returns-in-Err-clause-fed : goal.returns-in-Err-clause-fed
 returns-in-Err-clause-fed g c =
     let a : Point = point c.args.manager.now c.args.reading.now (g.O.Sink.held c.args.output.now) in
-    byte_lost c.args.manager.now.limits a (record a { pending = c.push.new.self.items }) c.args.byte c.requires.clean refl refl
+    byte_lost c.args.manager.now.limits a (record a { pending = c.push.new.self.items }) c.args.byte c.requires.clean
+    (subst IsOneLine (sym c.in-Err.ensures.items) c.requires.clean) refl refl
