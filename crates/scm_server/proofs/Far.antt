@@ -6,7 +6,7 @@ use Rattle.scm_rules.specs.Histories.{Legal}
 use Rattle.book_rule.specs.declared.view.Opening.{Opening}
 use Rattle.book_rule.specs.Views.{longer}
 use Rattle.book_rule.proofs.Prefixes.{prefix_self, prefix_trans}
-use Rattle.scm_book.specs.Joins.{TakesIn, Watches}
+use Rattle.scm_book.specs.Joins.{TakesIn, Watches, accompanied, fresh}
 use Rattle.scm_book.specs.Passes.{Known}
 use Rattle.scm_server.specs.Ports.{GoesFar}
 
@@ -45,3 +45,14 @@ module _ (o : Opening) where
     longer = takes.this;
     legal = λ so. takes_legal by spent by' takes so (legal so);
   }
+
+  -- a pass that has made another, seen more, and taken that one in
+  pub both_far : (pass one two by' : Known) → GoesFar o (fresh pass) one → GoesFar o (accompanied pass) two → TakesIn two one by' → GoesFar o pass by'
+  both_far pass one two by' first other takes =
+      let seen : by' ≡ record two { seen = by'.seen; alone = by'.alone } = same_but two by' (longer two.seen one.seen) two.alone takes.same in
+      let all : by' ≡ record pass { seen = by'.seen; alone = by'.alone } = seen ∙ ap (λ (k : Known). record k { seen = by'.seen; alone = by'.alone }) other.same in
+      record {
+        same = all;
+        longer = prefix_trans pass.seen two.seen by'.seen other.longer takes.this;
+        legal = λ so. takes_legal two one by' takes (other.legal so) (first.legal so);
+      }

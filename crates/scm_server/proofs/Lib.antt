@@ -5,3 +5,5 @@ mod Far
 mod Cases
 mod Serving
 mod Workers
+mod Callers
+pub mod Still

@@ -1,13 +1,22 @@
 -- What serving two listeners comes to.
 use Rattle.std.specs.Prelude.{ℕ, ◌≡◌, ◌⊎◌, ◌++◌, Bool, false, List}
 use Rattle.scm_model.specs.declared.flat.Principal.TheVariants.{Admin, User}
+use mathlib.Core.List.{IsPrefix}
 use Rattle.scm_model.specs.Entries.{Entry}
+use Rattle.scm_rules.specs.Histories.{Legal}
+use Rattle.scm_book.specs.Passes.{Known}
 use Rattle.book_rule.specs.declared.view.Opening.{Opening}
 use Rattle.scm_server.specs.declared.ending.ServeEnd.{ServeEnd}
 use Rattle.scm_server.specs.declared.ending.ServeEnd.TheVariants.{Ended, ListenFault, OutOfMemory}
 use Rattle.scm_server.specs.Handling.{Handed, IsHandled}
 use Rattle.scm_server.specs.Pairs.{Each, Pairwise}
 use Rattle.scm_server.specs.Ports.{Apart, Hands, HasFailed, IsClosed, IsOver, Told}
+
+-- a pass by which others were made has seen more
+pub record GoesFor (o : Opening) (by by' : Known) : Type 0 where
+  pub same : by' ≡ record by { seen = by'.seen; alone = false }
+  pub longer : IsPrefix by.seen by'.seen
+  pub legal : Legal o.limits o.first by.seen → Legal o.limits o.first by'.seen
 
 -- Each connection that either listener handed out is noted once, and unless there was want of memory is one of the two cases in this history,
 -- an administrator's or a user's; no caller stands for two of them, of one listener or of both.
@@ -19,6 +28,13 @@ pub record ServedIn (tells : ℕ → Type 0) (o : Opening) (log : List Entry) (a
   pub handled_admin : is_short ≡ false → Each (IsHandled tells o log Admin) admins
   pub handled_user : is_short ≡ false → Each (IsHandled tells o log User) users
   pub apart : is_short ≡ false → Pairwise Apart (admins ++ users)
+
+-- how serving ended, of how it ended with each
+abbrev pub of_both : (admin user : ServeEnd) → ServeEnd
+of_both OutOfMemory user = OutOfMemory
+of_both ListenFault OutOfMemory = OutOfMemory
+of_both ListenFault user = ListenFault
+of_both Ended user = user
 
 -- why it ended; a listener that failed didn't end the other
 abbrev pub EndsAll : ServeEnd → (a a' u u' : Told) → Type 0

@@ -3,6 +3,7 @@
 
 mod accepting;
 mod beginning;
+mod both;
 mod ending;
 mod joining;
 mod ports;
@@ -10,6 +11,7 @@ mod waiter;
 mod worker;
 mod working;
 
+pub use both::{Both, serve_both};
 pub use ending::ServeEnd;
 pub use ports::{Port, serve_port};
 pub use waiter::BellWaiter;
