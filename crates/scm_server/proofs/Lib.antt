@@ -7,3 +7,4 @@ mod Serving
 mod Workers
 mod Callers
 pub mod Still
+mod Taken

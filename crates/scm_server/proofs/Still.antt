@@ -1,13 +1,11 @@
 -- Two listeners' connections, in a history that goes on from what was seen.
-use Rattle.std.proofs.Common.{◌≡◌, ◌∙◌, ◌⊎◌, ◌||◌, ℕ, Bool, true, false, List, [], ◌∷◌, ◌++◌, Option, None, Some, refl, sym, ap, subst, inl, inr}
+use Rattle.std.proofs.Common.{◌≡◌, ◌∙◌, ℕ, Bool, false, List, Option, refl, sym, ap, subst, inl, inr}
 use mathlib.Core.List.{IsPrefix}
-use Rattle.scm_model.specs.declared.flat.Principal.{Principal}
 use Rattle.scm_model.specs.declared.flat.Principal.TheVariants.{Admin, User}
 use Rattle.scm_model.specs.Entries.{Entry}
 use Rattle.scm_rules.specs.Histories.{Legal}
 use Rattle.scm_rules.specs.Opening.{IsOpening}
 use Rattle.book_rule.specs.declared.view.Opening.{Opening}
-use Rattle.book_rule.specs.Ways.{Has}
 use Rattle.book_rule.proofs.Prefixes.{prefix_trans}
 use Rattle.scm_book.specs.Joins.{TakesIn}
 use Rattle.scm_book.specs.Passes.{Known}
@@ -15,8 +13,8 @@ use Rattle.scm_server.specs.declared.ending.ServeEnd.{ServeEnd}
 use Rattle.scm_server.specs.declared.ending.ServeEnd.TheVariants.{Ended, ListenFault, OutOfMemory}
 use Rattle.scm_server.specs.All.{EndsAll, ServedIn, of_both}
 use Rattle.scm_server.specs.Handling.{Handed, IsHandled, IsHandledAs, StandsForIt}
-use Rattle.scm_server.specs.Pairs.{Each, Pairwise}
-use Rattle.scm_server.specs.Ports.{Apart, EndsFor, HasFailed, IsClosed, IsOver, ServesPort, Told, was_short}
+use Rattle.scm_server.specs.Pairs.{Each}
+use Rattle.scm_server.specs.Ports.{Apart, EndsFor, IsOver, ServesPort, Told, was_short}
 use Rattle.scm_server.proofs.Callers.{one_principal}
 use Rattle.scm_server.proofs.Cases.{handled_still}
 use Rattle.scm_server.proofs.Lists.{pairwise_both}

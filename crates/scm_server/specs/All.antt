@@ -4,6 +4,7 @@ use Rattle.scm_model.specs.declared.flat.Principal.TheVariants.{Admin, User}
 use mathlib.Core.List.{IsPrefix}
 use Rattle.scm_model.specs.Entries.{Entry}
 use Rattle.scm_rules.specs.Histories.{Legal}
+use Rattle.scm_book.specs.Joins.{TakesIn}
 use Rattle.scm_book.specs.Passes.{Known}
 use Rattle.book_rule.specs.declared.view.Opening.{Opening}
 use Rattle.scm_server.specs.declared.ending.ServeEnd.{ServeEnd}
@@ -41,3 +42,11 @@ abbrev pub EndsAll : ServeEnd → (a a' u u' : Told) → Type 0
 EndsAll Ended a a' u u' = IsClosed a a' × IsClosed u u'
 EndsAll ListenFault a a' u u' = (IsOver a a' × IsOver u u') × (HasFailed a a' ⊎ HasFailed u u')
 EndsAll OutOfMemory a a' u u' = IsOver a a' × IsOver u u'
+
+-- a pass took three in, one after another
+pub record TakesAll (by a b c by' : Known) : Type 0 where
+  pub one : Known
+  pub two : Known
+  pub first : TakesIn by a one
+  pub second : TakesIn one b two
+  pub third : TakesIn two c by'

@@ -2,6 +2,7 @@
 #![tactic(auto)]
 
 mod accepting;
+mod all;
 mod beginning;
 mod both;
 mod ending;
@@ -11,6 +12,7 @@ mod waiter;
 mod worker;
 mod working;
 
+pub use all::{ServedAll, serve_all};
 pub use both::{Both, serve_both};
 pub use ending::ServeEnd;
 pub use ports::{Port, serve_port};

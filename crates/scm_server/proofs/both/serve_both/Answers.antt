@@ -1,4 +1,4 @@
-use Rattle.std.proofs.Common.{◌≡◌, ap}
+use Rattle.std.proofs.Common.{ap}
 use Rattle.scm_server.specs.Ports.{Told, told}
 use Rattle.scm_server.proofs.Still.{served_so}
 use Rattle.scm_server.proofs.both.serve_both.Goals as goal

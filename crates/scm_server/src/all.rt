@@ -1,0 +1,275 @@
+// Both listeners, the launcher and the ticker over one book.
+ghost use Rattle.std.specs.Prelude.{◌≡◌, List};
+ghost use Rattle.std.specs.Thread.{IsSend, IsSync};
+ghost use mathlib.Core.List.{IsPrefix};
+ghost use Rattle.scm_book.specs.Passes.{IsOf};
+ghost use Rattle.scm_launcher.specs.Past.{SeesOn};
+ghost use Rattle.scm_launcher.specs.Ticks.{TicksOn};
+ghost use Rattle.scm_model.specs.Entries.{Entry};
+ghost use Rattle.scm_rules.specs.Histories.{Legal};
+ghost use Rattle.scm_server.specs.All.{EndsAll, GoesFor, ServedIn, TakesAll};
+ghost use Rattle.scm_server.specs.Ports.{GoesFar, told, was_short};
+
+use crate::both::{Both, serve_both};
+use crate::ending::ServeEnd;
+use child_link::{Feed, Link};
+use child_runner::BellQuit;
+use outside::{Clock, Sink, Source};
+use process_runner::Spawner;
+use record_journal::Keeper;
+use scm_book::{Book, Pass, Spent};
+use scm_launcher::{Launched, launch_all, tick_all};
+use scm_listener::Listener;
+use std::alloc::Global;
+use std::sync::Wait;
+use std::thread::{self, Threads};
+use std::time;
+
+/// Both listeners and the spawner, given back, and how serving ended.
+#[derive(Drop)]
+pub struct ServedAll<N, S> {
+    pub end: ServeEnd,
+    pub admin: N,
+    pub user: N,
+    pub spawner: S,
+}
+
+/// What the launcher and both listeners left.
+#[derive(Drop)]
+struct Served<N, S> {
+    launched: Launched<S>,
+    both: Both<N>,
+}
+
+/// Serves both listeners, and launches what is wanted in a thread of its own.
+fn serve_launching<R, K, N, I, O, P, S, L, F, C>(
+    rt: &R,
+    alloc: Global,
+    book: &Book<K>,
+    launches: Pass,
+    serves: Pass,
+    admin: N,
+    user: N,
+    spawner: S,
+    clock: &C,
+) -> Served<N, S>
+where
+    R: Threads + Wait + time::Clock + Sync,
+    K: Keeper + Send,
+    I: Source + Send + Drop,
+    O: Sink + Send + Drop,
+    P: Send + Drop,
+    N: Listener<In = I, Out = O, Past = P> + Send + Drop,
+    L: Link + Send + Drop,
+    F: Feed + Send + Drop,
+    S: Spawner<Link = L, Feed = F> + Send + Drop,
+    C: Clock + Sync,
+    requires launches { IsOf book.now launches }
+    requires launcher { launches.caller ≡ 0 }
+    requires serves { IsOf book.now serves }
+    requires server { serves.caller ≡ 0 }
+    ensures launched_book { IsOf book.now result.launched.spent }
+    ensures sees { SeesOn book.now.opening launches result.launched.spent }
+    ensures book { IsOf book.now result.both.pass }
+    ensures goes { GoesFar book.now.opening serves result.both.pass }
+    ensures serves { (log : List Entry) → IsPrefix result.both.pass.seen log
+        → Legal book.now.opening.limits book.now.opening.first log
+        → ServedIn (C.tells clock.now) book.now.opening log
+        (told (N.left admin) (N.accepted admin) (N.noted admin)
+        (N.listened admin) (N.faults admin))
+        (told (N.left result.both.admin) (N.accepted result.both.admin) (N.noted result.both.admin)
+        (N.listened result.both.admin) (N.faults result.both.admin))
+        (told (N.left user) (N.accepted user) (N.noted user)
+        (N.listened user) (N.faults user))
+        (told (N.left result.both.user) (N.accepted result.both.user) (N.noted result.both.user)
+        (N.listened result.both.user) (N.faults result.both.user))
+        (was_short result.both.end) }
+    ensures ends { EndsAll result.both.end
+        (told (N.left admin) (N.accepted admin) (N.noted admin)
+        (N.listened admin) (N.faults admin))
+        (told (N.left result.both.admin) (N.accepted result.both.admin) (N.noted result.both.admin)
+        (N.listened result.both.admin) (N.faults result.both.admin))
+        (told (N.left user) (N.accepted user) (N.noted user)
+        (N.listened user) (N.faults user))
+        (told (N.left result.both.user) (N.accepted result.both.user) (N.noted result.both.user)
+        (N.listened result.both.user) (N.faults result.both.user)) }
+{
+    let (launched, both) = thread::join(
+        rt,
+        move || -> Launched<S>
+            requires { IsSync R.row × IsSend K.row × IsSend L.row × IsSend F.row × IsSend S.row
+                × IsSync C.row × IsOf book.now launches × (launches.caller ≡ 0) }
+            ensures book { IsOf book.entry.now result.spent }
+            ensures sees { SeesOn book.entry.now.opening launches result.spent }
+        {
+            let quit = BellQuit::new(book.bell());
+            launch_all(rt, alloc, book, launches, spawner, clock, &quit)
+        },
+        move || -> Both<N>
+            requires { IsSync R.row × IsSend K.row × IsSend I.row × IsSend O.row × IsSend P.row
+                × IsSend N.row × IsSync C.row
+                × IsOf book.now serves × (serves.caller ≡ 0) }
+            ensures book { IsOf book.entry.now result.pass }
+            ensures goes { GoesFar book.entry.now.opening serves result.pass }
+            ensures serves { (log : List Entry) → IsPrefix result.pass.seen log
+                → Legal book.entry.now.opening.limits book.entry.now.opening.first log
+                → ServedIn (C.tells clock.entry.now) book.entry.now.opening log
+                (told (N.left admin) (N.accepted admin) (N.noted admin)
+                (N.listened admin) (N.faults admin))
+                (told (N.left result.admin) (N.accepted result.admin) (N.noted result.admin)
+                (N.listened result.admin) (N.faults result.admin))
+                (told (N.left user) (N.accepted user) (N.noted user)
+                (N.listened user) (N.faults user))
+                (told (N.left result.user) (N.accepted result.user) (N.noted result.user)
+                (N.listened result.user) (N.faults result.user))
+                (was_short result.end) }
+            ensures ends { EndsAll result.end
+                (told (N.left admin) (N.accepted admin) (N.noted admin)
+                (N.listened admin) (N.faults admin))
+                (told (N.left result.admin) (N.accepted result.admin) (N.noted result.admin)
+                (N.listened result.admin) (N.faults result.admin))
+                (told (N.left user) (N.accepted user) (N.noted user)
+                (N.listened user) (N.faults user))
+                (told (N.left result.user) (N.accepted result.user) (N.noted result.user)
+                (N.listened result.user) (N.faults result.user)) }
+        { serve_both(rt, alloc, book, serves, admin, user, clock) },
+    );
+    Served { launched, both }
+}
+
+/// Takes all passes in.
+fn take_all<R: Wait, K: Keeper, N, S, C: Clock>(
+    rt: &R,
+    book: &Book<K>,
+    root: &mut Pass,
+    ticked: Spent,
+    served: Served<N, S>,
+    clock: &C,
+) -> ServedAll<N, S>
+where
+    N: Drop,
+    S: Drop,
+    requires root { IsOf book.now root.old }
+    requires ticked { IsOf book.now ticked }
+    requires launched { IsOf book.now served.launched.spent }
+    requires both { IsOf book.now served.both.pass }
+    requires nobody { served.both.pass.caller ≡ 0 }
+    ensures book { IsOf book.now root.new }
+    ensures takes { TakesAll root.old ticked served.launched.spent served.both.pass root.new }
+    ensures admin { result.admin ≡ served.both.admin }
+    ensures user { result.user ≡ served.both.user }
+    ensures end { result.end ≡ served.both.end }
+{
+    let Served { launched, both } = served;
+    book.leave(root, ticked);
+    book.leave(root, launched.spent);
+    let spent = book.gone(rt, both.pass, clock.now());
+    book.leave(root, spent);
+    ServedAll {
+        end: both.end,
+        admin: both.admin,
+        user: both.user,
+        spawner: launched.spawner,
+    }
+}
+
+/// Serves both listeners until each is closed or fails and all connections and children have ended:
+/// a thread for each connection and two for each child, beside those of the launcher and the
+/// ticker. What is due is done once before the first connection.
+pub fn serve_all<R, K, N, I, O, P, S, L, F, C>(
+    rt: &R,
+    alloc: Global,
+    book: &Book<K>,
+    root: &mut Pass,
+    admin: N,
+    user: N,
+    spawner: S,
+    clock: &C,
+) -> ServedAll<N, S>
+where
+    R: Threads + Wait + time::Clock + Sync,
+    K: Keeper + Send,
+    I: Source + Send + Drop,
+    O: Sink + Send + Drop,
+    P: Send + Drop,
+    N: Listener<In = I, Out = O, Past = P> + Send + Drop,
+    L: Link + Send + Drop,
+    F: Feed + Send + Drop,
+    S: Spawner<Link = L, Feed = F> + Send + Drop,
+    C: Clock + Sync,
+    requires { IsOf book.now root.old }
+    ensures book { IsOf book.now root.new }
+    ensures goes { GoesFor book.now.opening root.old root.new }
+    ensures serves { ServedIn (C.tells clock.now) book.now.opening root.new.seen
+        (told (N.left admin) (N.accepted admin) (N.noted admin)
+        (N.listened admin) (N.faults admin))
+        (told (N.left result.admin) (N.accepted result.admin) (N.noted result.admin)
+        (N.listened result.admin) (N.faults result.admin))
+        (told (N.left user) (N.accepted user) (N.noted user)
+        (N.listened user) (N.faults user))
+        (told (N.left result.user) (N.accepted result.user) (N.noted result.user)
+        (N.listened result.user) (N.faults result.user))
+        (was_short result.end) }
+    ensures ends { EndsAll result.end
+        (told (N.left admin) (N.accepted admin) (N.noted admin)
+        (N.listened admin) (N.faults admin))
+        (told (N.left result.admin) (N.accepted result.admin) (N.noted result.admin)
+        (N.listened result.admin) (N.faults result.admin))
+        (told (N.left user) (N.accepted user) (N.noted user)
+        (N.listened user) (N.faults user))
+        (told (N.left result.user) (N.accepted result.user) (N.noted result.user)
+        (N.listened result.user) (N.faults result.user)) }
+{
+    let mut ticks = book.join_runner(root);
+    let _how = book.tick(rt, &mut ticks, clock.now());
+    let launches = book.join_runner(&mut ticks);
+    let serves = book.join_runner(&mut ticks);
+    let (ticked, served) = thread::join(
+        rt,
+        move || -> Spent
+            requires { IsSync R.row × IsSend K.row × IsSync C.row
+                × IsOf book.now ticks × (ticks.caller ≡ 0) }
+            ensures book { IsOf book.entry.now result }
+            ensures ticks { TicksOn (C.tells clock.entry.now) book.entry.now.opening ticks result }
+        {
+            let quit = BellQuit::new(book.bell());
+            tick_all(rt, book, ticks, clock, &quit)
+        },
+        move || -> Served<N, S>
+            requires { IsSync R.row × IsSend K.row × IsSend I.row × IsSend O.row × IsSend P.row
+                × IsSend N.row × IsSync C.row
+                × IsSend L.row × IsSend F.row × IsSend S.row × IsOf book.now launches
+                × (launches.caller ≡ 0) × IsOf book.now serves × (serves.caller ≡ 0) }
+            ensures launched_book { IsOf book.entry.now result.launched.spent }
+            ensures sees { SeesOn book.entry.now.opening launches result.launched.spent }
+            ensures book { IsOf book.entry.now result.both.pass }
+            ensures goes { GoesFar book.entry.now.opening serves result.both.pass }
+            ensures serves { (log : List Entry) → IsPrefix result.both.pass.seen log
+                → Legal book.entry.now.opening.limits book.entry.now.opening.first log
+                → ServedIn (C.tells clock.entry.now) book.entry.now.opening log
+                (told (N.left admin) (N.accepted admin) (N.noted admin)
+                (N.listened admin) (N.faults admin))
+                (told (N.left result.both.admin) (N.accepted result.both.admin) (N.noted result.both.admin)
+                (N.listened result.both.admin) (N.faults result.both.admin))
+                (told (N.left user) (N.accepted user) (N.noted user)
+                (N.listened user) (N.faults user))
+                (told (N.left result.both.user) (N.accepted result.both.user) (N.noted result.both.user)
+                (N.listened result.both.user) (N.faults result.both.user))
+                (was_short result.both.end) }
+            ensures ends { EndsAll result.both.end
+                (told (N.left admin) (N.accepted admin) (N.noted admin)
+                (N.listened admin) (N.faults admin))
+                (told (N.left result.both.admin) (N.accepted result.both.admin) (N.noted result.both.admin)
+                (N.listened result.both.admin) (N.faults result.both.admin))
+                (told (N.left user) (N.accepted user) (N.noted user)
+                (N.listened user) (N.faults user))
+                (told (N.left result.both.user) (N.accepted result.both.user) (N.noted result.both.user)
+                (N.listened result.both.user) (N.faults result.both.user)) }
+        {
+            serve_launching(
+                rt, alloc, book, launches, serves, admin, user, spawner, clock,
+            )
+        },
+    );
+    take_all(rt, book, root, ticked, served, clock)
+}
