@@ -6,8 +6,14 @@ mod books;
 #[cfg(test)]
 mod clocks;
 #[cfg(test)]
+mod connections;
+#[cfg(test)]
 mod events;
 #[cfg(test)]
 mod held;
 #[cfg(test)]
 mod launcher;
+#[cfg(test)]
+mod sessions;
+#[cfg(test)]
+mod side;
