@@ -4,10 +4,18 @@ use scm_trail::{Note, Trail};
 use std::alloc::Global;
 use std::test::Fail;
 
+/// A step as a history keeps it.
+fn note_of(alloc: Global, step: Step) -> Result<Note, OutOfMemory> {
+    let note = Note::new(alloc, &step);
+    note
+}
+
 /// Appends an entry, with room that it makes.
-fn add(alloc: Global, trail: &mut Trail, moment: u64, step: &Step) -> Result<(), OutOfMemory> {
-    let note = Note::new(alloc, step)?;
-    trail.reserve(1, step.text() as u64)?;
+fn add(trail: &mut Trail, moment: u64, note: Note) -> Result<(), OutOfMemory> {
+    let Ok(text) = u64::try_from(note.text()) else {
+        return Err(OutOfMemory);
+    };
+    trail.reserve(1, text)?;
     trail.push(moment, note);
     Ok(())
 }
@@ -15,27 +23,54 @@ fn add(alloc: Global, trail: &mut Trail, moment: u64, step: &Step) -> Result<(),
 /// Appends so many entries without text. The moment of each is three times its caller's number.
 fn fill(alloc: Global, trail: &mut Trail, count: u64) -> Result<(), OutOfMemory> {
     for caller in 0..count {
-        add(alloc, trail, caller.wrapping_mul(3), &Step::Gone { caller })?;
+        let note = note_of(alloc, Step::Gone { caller })?;
+        add(trail, caller.wrapping_mul(3), note)?;
     }
     Ok(())
 }
 
-/// The caller who goes by a step.
-fn gone(step: &Step) -> Option<u64> {
+/// What the tests tell steps by.
+#[derive(Clone, Copy, Debug, PartialEq, Eq)]
+enum Seen {
+    /// This caller goes.
+    Gone(u64),
+    /// Caller 1 asks, in vain, for a handle of the service `ABC`.
+    Asking,
+    Other,
+}
+
+fn look(step: &Step) -> Seen {
     match step {
-        Step::Gone { caller } => Some(*caller),
-        _ => None,
+        Step::Gone { caller } => Seen::Gone(*caller),
+        Step::Call {
+            caller: 1,
+            request: Request::OpenService {
+                handle: 9,
+                name,
+                access: 4,
+            },
+            kept: Kept::Failed,
+        } if name.units() == [65, 66, 67].as_slice() => Seen::Asking,
+        _ => Seen::Other,
     }
 }
 
-/// The moment of the entry at a place, and the caller who goes by it.
-fn gone_at(trail: &Trail, place: u64) -> Option<(u64, u64)> {
+/// The moment of an entry, and its step.
+fn look_in(entry: (u64, Step)) -> (u64, Seen) {
+    let (moment, step) = entry;
+    let told = look(&step);
+    (moment, told)
+}
+
+/// The same of the entry at a place, where there is one.
+fn look_at(trail: &Trail, place: u64) -> Option<(u64, Seen)> {
     if trail.len() <= place {
         return None;
     }
-    let (moment, step) = trail.entry(place).ok()?;
-    let gone = gone(&step);
-    Some((moment, gone?))
+    match trail.entry(place) {
+        Ok(entry) => Some(look_in(entry)),
+        Err(OutOfMemory) => None,
+    }
 }
 
 #[test]
@@ -45,19 +80,15 @@ fn entries_are_read_back_at_their_places(rt: HostRuntime) -> Result<(), Fail> {
     assert_eq!(rt; trail.len(), 5000);
     assert_eq!(rt; trail.text(), 0);
     for (place, moment) in [(0, 0), (4095, 12285), (4096, 12288), (4999, 14997)] {
-        assert_eq!(rt; gone_at(&trail, place), Some((moment, place)));
+        assert_eq!(rt; look_at(&trail, place), Some((moment, Seen::Gone(place))));
     }
-    assert_eq!(rt; gone_at(&trail, 5000), None);
+    assert_eq!(rt; look_at(&trail, 5000), None);
     Ok(())
 }
 
-#[test]
-fn text_is_counted_and_copied(rt: HostRuntime) -> Result<(), Fail> {
-    let name = WText::from_units(rt.alloc(), &[65, 66, 67])
-        .ok()
-        .ok_or("memory")?;
-    let mut trail = Trail::new(rt.alloc());
-    let opening = Step::Call {
+/// A call in vain for a handle of the service of this name.
+fn asking(name: WText) -> Step {
+    Step::Call {
         caller: 1,
         request: Request::OpenService {
             handle: 9,
@@ -65,32 +96,26 @@ fn text_is_counted_and_copied(rt: HostRuntime) -> Result<(), Fail> {
             access: 4,
         },
         kept: Kept::Failed,
+    }
+}
+
+/// A history of a launch that is taken, and of such a call.
+fn history(alloc: Global) -> Result<Trail, OutOfMemory> {
+    let Ok(name) = WText::from_units(alloc, &[65, 66, 67]) else {
+        return Err(OutOfMemory);
     };
-    add(rt.alloc(), &mut trail, 5, &Step::LaunchTaken)
-        .ok()
-        .ok_or("memory")?;
-    add(rt.alloc(), &mut trail, 7, &opening)
-        .ok()
-        .ok_or("memory")?;
+    let call = note_of(alloc, asking(name))?;
+    let launch = note_of(alloc, Step::LaunchTaken)?;
+    let mut trail = Trail::new(alloc);
+    add(&mut trail, 5, launch)?;
+    add(&mut trail, 7, call)?;
+    Ok(trail)
+}
+
+#[test]
+fn text_is_counted_and_copied(rt: HostRuntime) -> Result<(), Fail> {
+    let trail = history(rt.alloc()).ok().ok_or("memory")?;
     assert_eq!(rt; trail.text(), 6);
-    let (moment, step) = trail.entry(1).ok().ok_or("memory")?;
-    assert_eq!(rt; moment, 7);
-    let Step::Call {
-        caller: 1,
-        request,
-        kept: Kept::Failed,
-    } = step
-    else {
-        return Err("another step".into());
-    };
-    let Request::OpenService {
-        handle: 9,
-        name,
-        access: 4,
-    } = request
-    else {
-        return Err("another request".into());
-    };
-    assert_eq!(rt; name.units(), [65, 66, 67].as_slice());
+    assert_eq!(rt; look_at(&trail, 1), Some((7, Seen::Asking)));
     Ok(())
 }

@@ -68,6 +68,6 @@ module _ {K : Type 0} (told : K → Option (List ℕ)) (faulted : K → ℕ) whe
         legal = c.legal;
         kept = c.kept;
         served = said_where tells o c.history a a' u u' (was_short how) (lacked_memory end) (short_where c.history _ how end c.told_is)
-            (served_still tells o begins by.seen c.history longer c.legal a a' u u' (was_short how) served);
+            (served_still tells o by.seen c.history a a' u u' (was_short how) begins longer c.legal served);
         ends = ends_as o c.history a a' u u' how end c.told_is over;
       }

@@ -1,5 +1,5 @@
 -- No job has the status of words that are none.
-use Rattle.std.proofs.Common.{ℕ, ◌≡◌, ◌≢◌, ◌∙◌, inl, inr, sym}
+use Rattle.std.proofs.Common.{Bool, true, false, ℕ, ◌≡◌, ◌≢◌, ◌∙◌, inl, inr, sym}
 use Rattle.conn_desk.specs.declared.served.Served.{Served}
 use Rattle.conn_desk.specs.declared.served.Served.TheVariants as served
 use Rattle.scm_generate.specs.declared.generated.Generated.{Generated}
@@ -8,8 +8,10 @@ use Rattle.scm_replay.specs.declared.replayed.Replayed.{Replayed}
 use Rattle.scm_replay.specs.declared.replayed.Replayed.TheVariants as answered
 use Rattle.scmd_top.specs.declared.words.Job.{Job}
 use Rattle.scmd_top.specs.declared.words.Job.TheVariants.{Pipe, Replay, Generate, Serve}
-use Rattle.scmd_top.specs.Jobs.{HasRun, status_of_generate, status_of_replay}
+use Rattle.scmd_top.specs.Jobs.{HasAnswered, HasReplayed, HasRun, status_of_generate, status_of_replay}
+use Rattle.scmd_top.specs.Opening.{HasNotOpened}
 use Rattle.scmd_top.specs.Pipe.{status_of}
+use Rattle.scmd_top.proofs.Openings.{not_of_fault}
 use Rattle.scm_serving.specs.declared.serving.BookEnd.{BookEnd}
 use Rattle.scm_serving.specs.declared.serving.BookEnd.TheVariants.{Ended, ListenFault, OutOfMemory}
 use Rattle.scmd_top.specs.Serving.{HasWritten}
@@ -40,9 +42,6 @@ not_of_generate printed.Ended = λ e. cc
 not_of_generate printed.WriteFault = λ e. cc
 not_of_generate printed.OutOfMemory = λ e. cc
 
-not_3 : (status : ℕ) → status ≡ 3 → status ≢ 5
-not_3 status is = λ e. cc
-
 not_10 : (status : ℕ) → status ≡ 10 → status ≢ 5
 not_10 status is = λ e. cc
 
@@ -52,11 +51,22 @@ not_of_serve (Ended text) output status (inr h) = λ e. absurd (cc (h.0, e))
 not_of_serve OutOfMemory output status h = λ e. absurd (cc (h.0, e))
 not_of_serve ListenFault output status h = not_10 status h.0
 
-pub not_5 : (tells : ℕ → Type 0) (job : Job) (s : Sides) (p : Ports) (status : ℕ) → HasRun tells job s p status → status ≢ 5
-not_5 tells (Pipe principal) s p status (inl h) = λ e. not_of_pipe h.how (sym h.status_is ∙ e)
-not_5 tells (Pipe principal) s p status (inr h) = not_3 status h.status_is
-not_5 tells Replay s p status h = λ e. not_of_replay h.0.how (sym h.0.status_is ∙ e)
-not_5 tells (Generate services) s p status h = λ e. not_of_generate h.0.how (sym h.0.status_is ∙ e)
-not_5 tells (Serve admin user) s p status (inl h, untouched) = not_of_serve h.end s.output status h.written
-not_5 tells (Serve admin user) s p status (inr (inl h), untouched) = not_10 status h.status_is
-not_5 tells (Serve admin user) s p status (inr (inr h), untouched) = not_3 status h.0.status_is
+not_answered : (path : Bool) (s : Sides) (status : ℕ) → HasAnswered path s status → status ≢ 5
+not_answered path s status h = λ e. not_of_replay h.how (sym h.status_is ∙ e)
+
+not_opened : (path : Bool) (s : Sides) (status : ℕ) → HasNotOpened path s status → status ≢ 5
+not_opened path s status h = λ e. not_of_fault h.fault (sym h.status_is ∙ e)
+
+not_replayed : (path : Bool) (s : Sides) (status : ℕ) → HasReplayed path s status → status ≢ 5
+not_replayed false s status h = not_answered false s status h
+not_replayed true s status (inl h) = not_answered true s status h
+not_replayed true s status (inr h) = not_opened true s status h
+
+pub not_5 : (tells : ℕ → Type 0) (path : Bool) (job : Job) (s : Sides) (p : Ports) (status : ℕ) → HasRun tells path job s p status → status ≢ 5
+not_5 tells path (Pipe principal) s p status (inl h) = λ e. not_of_pipe h.how (sym h.status_is ∙ e)
+not_5 tells path (Pipe principal) s p status (inr h) = not_opened path s status h
+not_5 tells path Replay s p status h = not_replayed path s status h
+not_5 tells path (Generate services) s p status h = λ e. not_of_generate h.0.how (sym h.0.status_is ∙ e)
+not_5 tells path (Serve admin user) s p status (inl h, untouched) = not_of_serve h.end s.output status h.written
+not_5 tells path (Serve admin user) s p status (inr (inl h), untouched) = not_10 status h.status_is
+not_5 tells path (Serve admin user) s p status (inr (inr h), untouched) = not_opened path s status h.0

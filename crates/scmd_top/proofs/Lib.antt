@@ -1,5 +1,6 @@
 mod Ends
 mod Fronts
+mod Openings
 mod Replays
 mod Connected
 mod Summaries

@@ -1,115 +1,117 @@
 -- A server over a book of its own, behind the opening of its journal.
-use Rattle.std.proofs.Common.{ℕ, ◌≡◌, ◌∙◌, List, [], Option, refl, sym, ap, subst, inl, inr, ◌⊎◌, ⊎_elim}
-use Rattle.std.specs.Prelude.{IfSome}
+use Rattle.std.proofs.Common.{ℕ, ◌≡◌, ◌∙◌, Bool, List, [], Option, refl, sym, ap, subst, inl, inr, ◌⊎◌, ⊎_elim}
 use Rattle.outside.specs.Causes.{Rose}
 use Rattle.scm_model.specs.declared.flat.Flat.{Flat}
 use Rattle.scm_model.specs.declared.flat.Limits.{Limits}
-use Rattle.scm_core.specs.Managed.{Managed}
-use Rattle.scm_history.specs.Kept.{kept_changes}
-use Rattle.record_journal.specs.Keepers.{IsEmptied}
-use Rattle.scm_book.specs.Holds.{failures_in}
+use Rattle.record_journal.specs.declared.opening.JournalFault.{JournalFault}
+use Rattle.record_journal.specs.declared.opening.JournalFault.TheVariants as faults
 use Rattle.scm_listener.specs.declared.listener.Listening.{Listening}
 use Rattle.scm_pipe.specs.Piping.{begun_with}
+use Rattle.scm_restored.specs.declared.Opened.{Opened}
 use Rattle.scm_server.specs.Ports.{Told}
 use Rattle.scm_serving.specs.Listening.{HandsNothing, listening_at}
 use Rattle.scm_serving.specs.Serving.{ServesBook}
 use Rattle.scm_serving.specs.declared.serving.BookEnd.{BookEnd}
 use Rattle.scm_serving.specs.declared.serving.BookEnd.TheVariants.{Ended, ListenFault, OutOfMemory}
-use Rattle.scmd_top.specs.Opening.{IsNew}
-use Rattle.scmd_top.specs.Pipe.{HasNotOpened, KeepsJournal, pipe_opening}
-use Rattle.scmd_top.specs.Serving.{HasHistory, HasListened, HasNoBook, HasNotListened, HasServed, HasServedOver, HasWritten, IsComplete}
+use Rattle.scmd_top.specs.Opening.{FailsToOpen, HasNotOpened, HasOpened, IsUnopened, program_opening, status_of_fault}
+use Rattle.scmd_top.specs.Serving.{HasListened, HasNotListened, HasServed, HasServedOver, HasWritten, IsComplete}
 use Rattle.scmd_top.specs.Sides.{IsUntouched, Ports, Side, Sides, side}
 use Rattle.scmd_top.specs.Statuses.{IsOrLacks, program_limits}
-use Rattle.scmd_top.proofs.Connected.{behind, emptied, keeps, keeps_behind, rests}
+use Rattle.scmd_top.proofs.Connected.{keeps, rests}
+use Rattle.scmd_top.proofs.Openings.{fails}
 
 -- ## The book
 
 module _ {K : Type 0} (told : K → Option (List ℕ)) (faulted : K → ℕ) where
-  served : (tells : ℕ → Type 0) (opened : ℕ) (keeper now : K) (a a' u u' : Told) (end : BookEnd) → tells opened → IfSome (told keeper) (λ bytes. bytes ≡ [])
-      → ServesBook told faulted tells program_limits (pipe_opening opened) a a' u u' keeper now end → HasServedOver tells (side told faulted keeper now) a a' u u' end
-  served tells opened keeper now a a' u u' end o empty (inl s) = inl (record {
-    opened = opened;
-    opened_at = o;
-    opening = begun_with told faulted program_limits (pipe_opening opened) keeper;
+  served : (tells : ℕ → Type 0) (path : Bool) (moment : ℕ) (o : Opened) (keeper mid now : K) (a a' u u' : Told) (end : BookEnd) → tells moment
+      → (h : HasOpened path (side told faulted keeper mid) moment o) → ServesBook told faulted tells program_limits (program_opening h.replay.configs moment) a a' u u' mid now end
+      → HasServedOver tells path (side told faulted keeper now) a a' u u' end
+  served tells path moment o keeper mid now a a' u u' end at h (inl s) = inl (record {
+    replay = h.replay;
+    stood = h.read;
+    opened = moment;
+    opened_at = at;
+    opening = begun_with told faulted program_limits (program_opening h.replay.configs moment) mid;
     opens = record { limits = refl; first = refl };
     history = s.history;
     legal = s.legal;
-    kept = keeps told faulted program_limits (pipe_opening opened) s.history keeper now empty s.kept;
+    kept = keeps told faulted h.replay.kept program_limits (program_opening h.replay.configs moment) s.history keeper mid now h.cut h.faults s.kept;
     served = s.served;
     ends = s.ends;
   })
-  served tells opened keeper now a a' u u' end o empty (inr s) =
-      inr (record { lacks = s.lacks; admin = s.admin; user = s.user; kept = rests told faulted keeper now empty s.same })
+  served tells path moment o keeper mid now a a' u u' end at h (inr s) = inr (record {
+    replay = h.replay;
+    stood = h.read;
+    lacks = s.lacks;
+    admin = s.admin;
+    user = s.user;
+    kept = rests told faulted h.replay.kept o.journal keeper mid now h.cut h.faults h.bears s.same;
+  })
 
-  pub served_over : (tells : ℕ → Type 0) (opened : ℕ) (m : Managed) (keeper now : K) (a a' u u' : Told) (end : BookEnd) → tells opened → IsNew opened m
-      → IfSome (told keeper) (λ bytes. bytes ≡ []) → ServesBook told faulted tells m.limits m.flat a a' u u' keeper now end
-      → HasServedOver tells (side told faulted keeper now) a a' u u' end
-  served_over tells opened m keeper now a a' u u' end o new empty h =
-      served tells opened keeper now a a' u u' end o empty
-      (subst (λ (l : Limits). ServesBook told faulted tells l (pipe_opening opened) a a' u u' keeper now end) new.limits
-      (subst (λ (f : Flat). ServesBook told faulted tells m.limits f a a' u u' keeper now end) new.flat h))
+  served_over : (tells : ℕ → Type 0) (path : Bool) (moment : ℕ) (o : Opened) (keeper mid now : K) (a a' u u' : Told) (end : BookEnd) → tells moment
+      → HasOpened path (side told faulted keeper mid) moment o → ServesBook told faulted tells o.manager.limits o.manager.flat a a' u u' mid now end
+      → HasServedOver tells path (side told faulted keeper now) a a' u u' end
+  served_over tells path moment o keeper mid now a a' u u' end at h s =
+      served tells path moment o keeper mid now a a' u u' end at h
+      (subst (λ (l : Limits). ServesBook told faulted tells l (program_opening h.replay.configs moment) a a' u u' mid now end) h.new.limits
+      (subst (λ (f : Flat). ServesBook told faulted tells o.manager.limits f a a' u u' mid now end) h.new.flat s))
 
-  -- there was no memory for a manager
-  pub served_none : (tells : ℕ → Type 0) (keeper : K) (a u : Told) → IfSome (told keeper) (λ bytes. bytes ≡ [])
-      → HasServedOver tells (side told faulted keeper keeper) a a u u OutOfMemory
-  served_none tells keeper a u empty = inr (record { lacks = refl; admin = refl; user = refl; kept = rests told faulted keeper keeper empty refl })
+  -- both listened, and were served
+  pub has_listened : (tells : ℕ → Type 0) (path : Bool) (admin user : Listening) (input output : Side) (p : Ports) (status moment : ℕ) (o : Opened) (keeper mid now : K) (a u : Told)
+      (end : BookEnd) → tells moment → HasOpened path (side told faulted keeper mid) moment o → a ≡ listening_at p.admin admin → u ≡ listening_at p.user user
+      → ServesBook told faulted tells o.manager.limits o.manager.flat a p.admin_now u p.user_now mid now end → HasWritten end output status
+      → HasServed tells path admin user (record { input = input; output = output; keeper = side told faulted keeper now }) p status
+  has_listened tells path admin user input output p status moment o keeper mid now a u end at h at_admin at_user s wrote = inl (record {
+    end = end;
+    served = served_over tells path moment o keeper mid now (listening_at p.admin admin) p.admin_now (listening_at p.user user) p.user_now end at h
+        (subst (λ (l : Told). ServesBook told faulted tells o.manager.limits o.manager.flat l p.admin_now (listening_at p.user user) p.user_now mid now end) at_admin
+        (subst (λ (l : Told). ServesBook told faulted tells o.manager.limits o.manager.flat a p.admin_now l p.user_now mid now end) at_user s));
+    written = wrote;
+  })
 
--- ## Behind the opening of the journal
+  -- one failed to listen
+  pub has_not_listened : (tells : ℕ → Type 0) (path : Bool) (admin user : Listening) (input output : Side) (p : Ports) (moment : ℕ) (o : Opened) (keeper mid : K)
+      → HasOpened path (side told faulted keeper mid) moment o → IsUntouched output
+      → HandsNothing p.admin p.admin_now → HandsNothing p.user p.user_now → Rose p.admin.faults p.admin_now.faults ⊎ Rose p.user.faults p.user_now.faults
+      → HasServed tells path admin user (record { input = input; output = output; keeper = side told faulted keeper mid }) p 10
+  has_not_listened tells path admin user input output p moment o keeper mid h untouched a u cause = inr (inl (record {
+    status_is = refl;
+    admin = a;
+    user = u;
+    replay = h.replay;
+    stood = h.read;
+    cause = cause;
+    kept = rests told faulted h.replay.kept o.journal keeper mid mid h.cut h.faults h.bears refl;
+    output = untouched;
+  }))
 
-over_behind : (tells : ℕ → Type 0) (s : Side) (mid : Option (List ℕ)) (faults : ℕ) (a a' u u' : Told) (end : BookEnd) → IsEmptied s.told mid → faults ≡ s.faults
-    → HasServedOver tells (behind s mid faults) a a' u u' end → HasServedOver tells s a a' u u' end
-over_behind tells s mid faults a a' u u' end e same (inl h) = inl (record {
-  opened = h.opened;
-  opened_at = h.opened_at;
-  opening = h.opening;
-  opens = h.opens;
-  history = h.history;
-  legal = h.legal;
-  kept = keeps_behind (kept_changes program_limits (pipe_opening h.opened) h.history) (failures_in h.history) s mid faults e same h.kept;
-  served = h.served;
-  ends = h.ends;
-})
-over_behind tells s mid faults a a' u u' end e same (inr h) =
-    inr (record { lacks = h.lacks; admin = h.admin; user = h.user; kept = keeps_behind [] 0 s mid faults e same h.kept })
-
--- both listened, and were served
-pub has_listened : (tells : ℕ → Type 0) (admin user : Listening) (s : Sides) (p : Ports) (status : ℕ) (mid : Option (List ℕ)) (faults : ℕ) (a u : Told) (end : BookEnd)
-    → IsEmptied s.keeper.told mid → faults ≡ s.keeper.faults → a ≡ listening_at p.admin admin → u ≡ listening_at p.user user
-    → HasServedOver tells (behind s.keeper mid faults) a p.admin_now u p.user_now end → HasWritten end s.output status → HasServed tells admin user s p status
-has_listened tells admin user s p status mid faults a u end e same at_admin at_user over wrote = inl (record {
-  end = end;
-  served = over_behind tells s.keeper mid faults (listening_at p.admin admin) p.admin_now (listening_at p.user user) p.user_now end e same
-      (subst (λ (l : Told). HasServedOver tells (behind s.keeper mid faults) l p.admin_now (listening_at p.user user) p.user_now end) at_admin
-      (subst (λ (l : Told). HasServedOver tells (behind s.keeper mid faults) a p.admin_now l p.user_now end) at_user over));
-  written = wrote;
-})
-
--- one failed to listen
-pub has_not_listened : {K : Type 0} (told : K → Option (List ℕ)) (faulted : K → ℕ) (tells : ℕ → Type 0) (admin user : Listening) (s : Sides) (p : Ports) (keeper now : K)
-    → s.keeper ≡ side told faulted keeper now → IsEmptied (told keeper) (told now) → faulted now ≡ faulted keeper → IsUntouched s.output
-    → HandsNothing p.admin p.admin_now → HandsNothing p.user p.user_now → Rose p.admin.faults p.admin_now.faults ⊎ Rose p.user.faults p.user_now.faults
-    → HasServed tells admin user s p 10
-has_not_listened told faulted tells admin user s p keeper now is e same output a u cause = inr (inl (record {
-  status_is = refl;
-  admin = a;
-  user = u;
-  cause = cause;
-  kept = subst (λ (k : Side). KeepsJournal [] 0 k) (sym is)
-      (keeps_behind [] 0 (side told faulted keeper now) (told now) (faulted now) e same (rests told faulted now now (emptied (told keeper) (told now) e) refl));
-  output = output;
-}))
+-- there is no manager
+pub not_opened : (tells : ℕ → Type 0) (path : Bool) (admin user : Listening) (s : Sides) (p : Ports) (fault : JournalFault) → IsUnopened path s.keeper fault
+    → IsUntouched s.input → IsUntouched s.output → p.admin_now ≡ p.admin → p.user_now ≡ p.user → HasServed tells path admin user s p (status_of_fault fault)
+not_opened tells path admin user s p fault h input output a u =
+    inr (inr (record { fault = fault; status_is = refl; unopened = h; input = input; output = output }, a, u))
 
 -- ## Completeness
 
-written_complete : (tells : ℕ → Type 0) (admin user : Listening) (s : Sides) (p : Ports) (status : ℕ) (end : BookEnd)
-    → HasServedOver tells s.keeper (listening_at p.admin admin) p.admin_now (listening_at p.user user) p.user_now end → HasWritten end s.output status → IsComplete s p status
-written_complete tells admin user s p status (Ended text) over (inl w) = λ keeper output a u. inl w.0
-written_complete tells admin user s p status (Ended text) over (inr w) = λ keeper output a u. absurd (output w.2)
-written_complete tells admin user s p status OutOfMemory over w = λ keeper output a u. inr w.0
-written_complete tells admin user s p status ListenFault (inl h) w = λ keeper output a u. ⊎_elim (λ r. absurd (a r)) (λ r. absurd (u r)) h.ends.1
-written_complete tells admin user s p status ListenFault (inr h) w = absurd cc
+written_complete : (tells : ℕ → Type 0) (path : Bool) (admin user : Listening) (s : Sides) (p : Ports) (status : ℕ) (end : BookEnd)
+    → HasServedOver tells path s.keeper (listening_at p.admin admin) p.admin_now (listening_at p.user user) p.user_now end → HasWritten end s.output status → IsComplete path s p status
+written_complete tells path admin user s p status (Ended text) over (inl w) = λ keeper damage output a u. inl w.0
+written_complete tells path admin user s p status (Ended text) over (inr w) = λ keeper damage output a u. absurd (output w.2)
+written_complete tells path admin user s p status OutOfMemory over w = λ keeper damage output a u. inr w.0
+written_complete tells path admin user s p status ListenFault (inl h) w = λ keeper damage output a u. ⊎_elim (λ r. absurd (a r)) (λ r. absurd (u r)) h.ends.1
+written_complete tells path admin user s p status ListenFault (inr h) w = absurd cc
 
-pub complete : (tells : ℕ → Type 0) (admin user : Listening) (s : Sides) (p : Ports) (status : ℕ) → HasServed tells admin user s p status → IsComplete s p status
-complete tells admin user s p status (inl h) = written_complete tells admin user s p status h.end h.served h.written
-complete tells admin user s p status (inr (inl h)) = λ keeper output a u. ⊎_elim (λ r. absurd (a r)) (λ r. absurd (u r)) h.cause
-complete tells admin user s p status (inr (inr h)) = λ keeper output a u. absurd (keeper h.0.cause)
+unopened_complete : (path : Bool) (s : Sides) (p : Ports) (status : ℕ) → (status ≡ 8) ⊎ FailsToOpen path s.keeper status → IsComplete path s p status
+unopened_complete path s p status (inl is) = λ keeper damage output a u. inr is
+unopened_complete path s p status (inr (inl h)) = λ keeper damage output a u. absurd (keeper h.1)
+unopened_complete path s p status (inr (inr h)) = λ keeper damage output a u. absurd (damage h.1)
+
+not_opened_complete : (path : Bool) (s : Sides) (p : Ports) (status : ℕ) → HasNotOpened path s status → IsComplete path s p status
+not_opened_complete path s p status h =
+    unopened_complete path s p status
+    (subst (λ (n : ℕ). (n ≡ 8) ⊎ FailsToOpen path s.keeper n) (sym h.status_is) (fails path s.keeper h.fault h.unopened))
+
+pub complete : (tells : ℕ → Type 0) (path : Bool) (admin user : Listening) (s : Sides) (p : Ports) (status : ℕ) → HasServed tells path admin user s p status → IsComplete path s p status
+complete tells path admin user s p status (inl h) = written_complete tells path admin user s p status h.end h.served h.written
+complete tells path admin user s p status (inr (inl h)) = λ keeper damage output a u. ⊎_elim (λ r. absurd (a r)) (λ r. absurd (u r)) h.cause
+complete tells path admin user s p status (inr (inr h)) = not_opened_complete path s p status h.0

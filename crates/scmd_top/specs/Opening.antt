@@ -1,12 +1,100 @@
--- A manager in which nobody and nothing is.
-use Rattle.std.specs.Prelude.{ℕ, ◌≡◌, []}
+-- The opening of a run: what is made of the journal under its path, and the manager that stands over it.
+use Rattle.std.specs.Prelude.{ℕ, ◌≡◌, ◌⊎◌, Bool, true, false, List, [], take, Option, None, Some, option_map, Result, Ok, Err, IfSome}
+use Rattle.std.specs.Io.KnownBytes.{Keeps}
+use Rattle.outside.specs.Causes.{Rose}
+use Rattle.scm_model.specs.declared.flat.Config.{Config}
+use Rattle.scm_model.specs.declared.flat.Flat.{Flat}
 use Rattle.scm_core.specs.Managed.{Managed}
-use Rattle.scm_rules.specs.Opening.{opening}
+use Rattle.scm_rules.specs.Opening.{IsOpening, opening}
+use Rattle.record_journal.specs.Bearing.{Bears}
+use Rattle.record_journal.specs.Entries.{read_journal}
+use Rattle.record_journal.specs.Keepers.{IsEmptied}
+use Rattle.record_journal.specs.Opening.{LeavesAll}
+use Rattle.record_journal.specs.declared.opening.JournalFault.{JournalFault}
+use Rattle.record_journal.specs.declared.opening.JournalFault.TheVariants as faults
+use Rattle.record_journal.specs.declared.replaying.Replay.{Replay}
+use Rattle.scm_restored.specs.declared.Opened.{Opened}
+use Rattle.scmd_top.specs.Sides.{IsUntouched, Side, Sides}
 use Rattle.scmd_top.specs.Statuses.{program_limits}
 
--- it opened at this moment under the program's limits, and made no step
-pub record IsNew (opened : ℕ) (m : Managed) : Type 0 where
-  pub flat : m.flat ≡ opening program_limits [] [] opened
+-- ## What stood
+
+-- What stood under the path comes to these configurations, and so many of its bytes are kept. Without a path there are none.
+abbrev pub IsRead : (path : Bool) → (told : Option (List ℕ)) → Replay → Type 0
+IsRead false told replay = replay ≡ record { configs = []; kept = 0 }
+IsRead true told replay = IfSome told (λ bytes. read_journal bytes ≡ Ok replay)
+
+-- what stood under the path is damaged
+abbrev pub IsDamaged : (path : Bool) → (told : Option (List ℕ)) → Type 0
+IsDamaged false told = ⊥
+IsDamaged true told = IfSome told (λ bytes. (place : ℕ) × (read_journal bytes ≡ Err place))
+
+-- what is kept of what stood, where the keeper told it
+abbrev pub kept_front : (kept : ℕ) → Option (List ℕ) → Option (List ℕ)
+kept_front kept told = option_map (λ (bytes : List ℕ). take kept bytes) told
+
+-- that is left, and nothing else
+abbrev pub IsCut : (kept : ℕ) → (old now : Option (List ℕ)) → Type 0
+IsCut kept None now = Unit {0}
+IsCut kept (Some bytes) now = now ≡ Some (take kept bytes)
+
+-- ## An opening
+
+-- the state in which a run's history begins: these services are there, all stopped, and nobody is
+abbrev pub program_opening : (configs : List Config) → (moment : ℕ) → Flat
+program_opening configs moment = opening program_limits [] configs moment
+
+-- it opened at this moment with these configurations under the program's limits, and made no step
+pub record IsNew (configs : List Config) (moment : ℕ) (m : Managed) : Type 0 where
+  pub flat : m.flat ≡ program_opening configs moment
   pub limits : m.limits ≡ program_limits
   pub steps : m.steps ≡ 0
   pub text : m.text ≡ 0
+
+-- a manager has what stood under the path, and the keeper bears it
+pub record HasOpened (path : Bool) (keeper : Side) (moment : ℕ) (o : Opened) : Type 0 where
+  pub replay : Replay
+  pub read : IsRead path keeper.told replay
+  pub new : IsNew replay.configs moment o.manager
+  pub begins : IsOpening o.manager.limits o.manager.flat
+  pub cut : IsCut replay.kept keeper.told keeper.told_now
+  pub bears : Bears keeper.told_now o.journal keeper.told_now
+  pub faults : keeper.faults_now ≡ keeper.faults
+
+-- what stood is left, or what is kept of it
+abbrev pub IsLeft : Side → Type 0
+IsLeft keeper = LeavesAll keeper.told keeper.told_now (Err faults.Failed)
+
+-- Why there is no manager, and what is left of what stood. What is damaged is never written to. Without a path a keeper that failed holds
+-- what it held.
+abbrev pub IsUnopened : (path : Bool) → (keeper : Side) → JournalFault → Type 0
+IsUnopened false keeper faults.Failed = Keeps keeper.told keeper.told_now × Rose keeper.faults keeper.faults_now
+IsUnopened false keeper faults.OutOfMemory = IsEmptied keeper.told keeper.told_now
+IsUnopened false keeper (faults.Damaged place) = ⊥
+IsUnopened true keeper faults.Failed = IsLeft keeper × Rose keeper.faults keeper.faults_now
+IsUnopened true keeper faults.OutOfMemory = IsLeft keeper
+IsUnopened true keeper (faults.Damaged place) =
+    IfSome keeper.told (λ bytes. read_journal bytes ≡ Err place) × Keeps keeper.told keeper.told_now
+
+abbrev pub Opens : (path : Bool) → (keeper : Side) → (moment : ℕ) → Result Opened JournalFault → Type 0
+Opens path keeper moment (Ok opened) = HasOpened path keeper moment opened
+Opens path keeper moment (Err fault) = IsUnopened path keeper fault
+
+-- ## A run without one
+
+abbrev pub status_of_fault : JournalFault → ℕ
+status_of_fault faults.Failed = 3
+status_of_fault (faults.Damaged place) = 4
+status_of_fault faults.OutOfMemory = 8
+
+-- there is no manager: nothing is read or written
+pub record HasNotOpened (path : Bool) (s : Sides) (status : ℕ) : Type 0 where
+  pub fault : JournalFault
+  pub status_is : status ≡ status_of_fault fault
+  pub unopened : IsUnopened path s.keeper fault
+  pub input : IsUntouched s.input
+  pub output : IsUntouched s.output
+
+-- the journal was not opened: the keeper failed, or what stood is damaged
+abbrev pub FailsToOpen : (path : Bool) → (keeper : Side) → (status : ℕ) → Type 0
+FailsToOpen path keeper status = ((status ≡ 3) × Rose keeper.faults keeper.faults_now) ⊎ ((status ≡ 4) × IsDamaged path keeper.told)

@@ -1,7 +1,10 @@
--- The parts of a word that are told as borrowed texts.
+-- Texts that are told as borrowed ones.
 use Rattle.std.specs.Prelude.{ℕ, ◌≡◌, List, Option, None, Some}
 use Rattle.std.specs.Borrow.{Bor}
 use Rattle.std.specs.Option.{MatchOption}
 
 abbrev pub IsParts : Option (List ℕ × List ℕ) → Option (Bor (List ℕ) × Bor (List ℕ)) → Type 0
 IsParts parts told = MatchOption told (parts ≡ None) (λ x. parts ≡ Some (x.0.now, x.1.now))
+
+abbrev pub IsText : Option (List ℕ) → Option (Bor (List ℕ)) → Type 0
+IsText text told = MatchOption told (text ≡ None) (λ (x : Bor (List ℕ)). text ≡ Some x.now)

@@ -1,11 +1,13 @@
 -- `serve`: the connections of two listeners over one book.
-use Rattle.std.specs.Prelude.{ℕ, ◌≡◌, ◌⊎◌, List, []}
+use Rattle.std.specs.Prelude.{ℕ, ◌≡◌, ◌⊎◌, Bool, List, []}
 use Rattle.std.specs.Io.KnownBytes.{Appends}
 use Rattle.outside.specs.Causes.{Rose}
 use Rattle.outside.specs.Written.{AppendsFront}
 use Rattle.scm_model.specs.Entries.{Entry}
 use Rattle.scm_rules.specs.Histories.{Legal}
 use Rattle.scm_history.specs.Kept.{kept_changes}
+use Rattle.record_journal.specs.declared.replaying.Replay.{Replay}
+use Rattle.scm_model.specs.declared.flat.Config.{Config}
 use Rattle.book_rule.specs.declared.view.Opening.{Opening}
 use Rattle.scm_book.specs.Holds.{failures_in}
 use Rattle.scm_listener.specs.declared.listener.Listening.{Listening}
@@ -15,7 +17,8 @@ use Rattle.scm_serving.specs.Listening.{HandsNothing, listening_at}
 use Rattle.scm_serving.specs.Serving.{EndsAs, lacked_memory}
 use Rattle.scm_serving.specs.declared.serving.BookEnd.{BookEnd}
 use Rattle.scm_serving.specs.declared.serving.BookEnd.TheVariants.{Ended, ListenFault, OutOfMemory}
-use Rattle.scmd_top.specs.Pipe.{HasNotOpened, KeepsJournal, pipe_opening}
+use Rattle.scmd_top.specs.Opening.{HasNotOpened, IsDamaged, IsRead, program_opening}
+use Rattle.scmd_top.specs.Pipe.{KeepsJournal}
 use Rattle.scmd_top.specs.Sides.{IsUntouched, Ports, Side, Sides}
 use Rattle.scmd_top.specs.Statuses.{IsOrLacks, program_limits}
 
@@ -31,59 +34,65 @@ HasWritten ListenFault output status = (status ≡ 10) × IsUntouched output
 
 -- ## The book
 
--- it opens under the program's limits, where nobody and nothing is there
-pub record IsProgramOpening (opened : ℕ) (o : Opening) : Type 0 where
+-- it opens under the program's limits with these services, and nobody is there
+pub record IsProgramOpening (configs : List Config) (opened : ℕ) (o : Opening) : Type 0 where
   pub limits : o.limits ≡ program_limits
-  pub first : o.first ≡ pipe_opening opened
+  pub first : o.first ≡ program_opening configs opened
 
--- One history from a moment of the clock on: the connections of both listeners stand in it, its kept changes are the journal, and it is what
--- is summed up.
-pub record HasHistory (tells : ℕ → Type 0) (keeper : Side) (a a' u u' : Told) (end : BookEnd) : Type 0 where
+-- One history from a moment of the clock on, over what stood under the path: the connections of both listeners stand in it, its kept changes
+-- stand in the journal behind that, and it is what is summed up.
+pub record HasHistory (tells : ℕ → Type 0) (path : Bool) (keeper : Side) (a a' u u' : Told) (end : BookEnd) : Type 0 where
+  pub replay : Replay
+  pub stood : IsRead path keeper.told replay
   pub opened : ℕ
   pub opened_at : tells opened
   pub opening : Opening
-  pub opens : IsProgramOpening opened opening
+  pub opens : IsProgramOpening replay.configs opened opening
   pub history : List Entry
-  pub legal : Legal program_limits (pipe_opening opened) history
-  pub kept : KeepsJournal (kept_changes program_limits (pipe_opening opened) history) (failures_in history) keeper
+  pub legal : Legal program_limits (program_opening replay.configs opened) history
+  pub kept : KeepsJournal replay.kept (kept_changes program_limits (program_opening replay.configs opened) history) (failures_in history) keeper
   pub served : ServedIn tells opening history a a' u u' (lacked_memory end)
   pub ends : EndsAs opening history a a' u u' end
 
 -- there was no memory for a book: nothing was handed out, and no change is kept
-pub record HasNoBook (keeper : Side) (a a' u u' : Told) (end : BookEnd) : Type 0 where
+pub record HasNoBook (path : Bool) (keeper : Side) (a a' u u' : Told) (end : BookEnd) : Type 0 where
+  pub replay : Replay
+  pub stood : IsRead path keeper.told replay
   pub lacks : end ≡ OutOfMemory
   pub admin : a' ≡ a
   pub user : u' ≡ u
-  pub kept : KeepsJournal [] 0 keeper
+  pub kept : KeepsJournal replay.kept [] 0 keeper
 
-abbrev pub HasServedOver : (tells : ℕ → Type 0) → (keeper : Side) → (a a' u u' : Told) → BookEnd → Type 0
-HasServedOver tells keeper a a' u u' end = HasHistory tells keeper a a' u u' end ⊎ HasNoBook keeper a a' u u' end
+abbrev pub HasServedOver : (tells : ℕ → Type 0) → (path : Bool) → (keeper : Side) → (a a' u u' : Told) → BookEnd → Type 0
+HasServedOver tells path keeper a a' u u' end = HasHistory tells path keeper a a' u u' end ⊎ HasNoBook path keeper a a' u u' end
 
 -- ## The program
 
 -- both listened, each once and where it was to, and were served
-pub record HasListened (tells : ℕ → Type 0) (admin user : Listening) (s : Sides) (p : Ports) (status : ℕ) : Type 0 where
+pub record HasListened (tells : ℕ → Type 0) (path : Bool) (admin user : Listening) (s : Sides) (p : Ports) (status : ℕ) : Type 0 where
   pub end : BookEnd
-  pub served : HasServedOver tells s.keeper (listening_at p.admin admin) p.admin_now (listening_at p.user user) p.user_now end
+  pub served : HasServedOver tells path s.keeper (listening_at p.admin admin) p.admin_now (listening_at p.user user) p.user_now end
   pub written : HasWritten end s.output status
 
 -- one failed to listen: nothing was handed out, no change is kept, and nothing is written
-pub record HasNotListened (s : Sides) (p : Ports) (status : ℕ) : Type 0 where
+pub record HasNotListened (path : Bool) (s : Sides) (p : Ports) (status : ℕ) : Type 0 where
   pub status_is : status ≡ 10
   pub admin : HandsNothing p.admin p.admin_now
   pub user : HandsNothing p.user p.user_now
+  pub replay : Replay
+  pub stood : IsRead path s.keeper.told replay
   pub cause : Rose p.admin.faults p.admin_now.faults ⊎ Rose p.user.faults p.user_now.faults
-  pub kept : KeepsJournal [] 0 s.keeper
+  pub kept : KeepsJournal replay.kept [] 0 s.keeper
   pub output : IsUntouched s.output
 
-abbrev pub HasServed : (tells : ℕ → Type 0) → (admin user : Listening) → Sides → Ports → (status : ℕ) → Type 0
-HasServed tells admin user s p status =
-    HasListened tells admin user s p status
-    ⊎ HasNotListened s p status
-    ⊎ (HasNotOpened s status × (p.admin_now ≡ p.admin) × (p.user_now ≡ p.user))
+abbrev pub HasServed : (tells : ℕ → Type 0) → (path : Bool) → (admin user : Listening) → Sides → Ports → (status : ℕ) → Type 0
+HasServed tells path admin user s p status =
+    HasListened tells path admin user s p status
+    ⊎ HasNotListened path s p status
+    ⊎ (HasNotOpened path s status × (p.admin_now ≡ p.admin) × (p.user_now ≡ p.user))
 
--- where no count rose the status is 0, unless memory ran out
-abbrev pub IsComplete : Sides → Ports → (status : ℕ) → Type 0
-IsComplete s p status =
-    (Rose s.keeper.faults s.keeper.faults_now → ⊥) → (Rose s.output.faults s.output.faults_now → ⊥)
+-- where no count rose and what stood isn't damaged the status is 0, unless memory ran out
+abbrev pub IsComplete : (path : Bool) → Sides → Ports → (status : ℕ) → Type 0
+IsComplete path s p status =
+    (Rose s.keeper.faults s.keeper.faults_now → ⊥) → (IsDamaged path s.keeper.told → ⊥) → (Rose s.output.faults s.output.faults_now → ⊥)
     → (Rose p.admin.faults p.admin_now.faults → ⊥) → (Rose p.user.faults p.user_now.faults → ⊥) → IsOrLacks 0 status

@@ -1,10 +1,12 @@
--- The options of a server, in any order, each at most once: `--name value` or `--name=value`.
-use Rattle.std.specs.Prelude.{ℕ, ◌&&◌, ◌==◌, Bool, nat_eq, nat_le, nat_lt, codes, List, [], ◌∷◌, length, Option, None, Some, option_and_then, option_map, if◌then◌else◌}
+-- The options of a job, in any order, each at most once: `--name value` or `--name=value`.
+use Rattle.std.specs.Prelude.{ℕ, ◌&&◌, ◌==◌, Bool, false, true, not, nat_eq, nat_le, nat_lt, codes, List, [], ◌∷◌, length, Option, None, Some, option_and_then, option_map, if◌then◌else◌}
 use Rattle.std.specs.Cmp.Lexicographic.{pointwise}
 use Rattle.std.specs.List.{after_first, before_first, position_or_len}
 use Rattle.scm_replay.specs.Words.{decimal_at, ◌>>=◌}
+use Rattle.scm_model.specs.declared.flat.Principal.{Principal}
+use Rattle.scm_model.specs.declared.flat.Principal.TheVariants.{Admin, User}
 use Rattle.scmd_top.specs.declared.settings.Setting.{Setting}
-use Rattle.scmd_top.specs.declared.settings.Setting.TheVariants.{AdminPort, UserPort, AdminTake, UserTake}
+use Rattle.scmd_top.specs.declared.settings.Setting.TheVariants.{AdminPort, UserPort, AdminTake, UserTake, As, File}
 use Rattle.scmd_top.specs.declared.settings.Settings.{Settings}
 
 -- ## Names
@@ -18,6 +20,8 @@ setting_named word =
     else if is_word word (codes "--user") then Some UserPort
     else if is_word word (codes "--take-admin") then Some AdminTake
     else if is_word word (codes "--take-user") then Some UserTake
+    else if is_word word (codes "--as") then Some As
+    else if is_word word (codes "--db") then Some File
     else None
 
 abbrev pub is_equals : ℕ → Bool
@@ -36,6 +40,16 @@ port_of number = if nat_le 1 number && nat_le number 65535 then Some number else
 abbrev pub count_of : ℕ → Option ℕ
 count_of number = if nat_le number 4294967295 then Some number else None
 
+abbrev pub principal_named : List ℕ → Option Principal
+principal_named value =
+    if is_word value (codes "admin") then Some Admin else
+    if is_word value (codes "user") then Some User else None
+
+-- a name of a file is not empty, and doesn't begin as an option does, with `-`
+abbrev pub is_file : List ℕ → Bool
+is_file [] = false
+is_file (b ∷ value) = not (b == 45)
+
 -- a value, where none was given before
 abbrev pub once : {A : Type 0} → (before : Option A) → (value : Option A) → Option A
 once None value = value
@@ -46,11 +60,13 @@ with_value s AdminPort value = option_map (λ (n : ℕ). record s { admin = Some
 with_value s UserPort value = option_map (λ (n : ℕ). record s { user = Some n; waits = None }) (once s.user (option_and_then port_of (decimal_at value)))
 with_value s AdminTake value = option_map (λ (n : ℕ). record s { take_admin = Some n; waits = None }) (once s.take_admin (option_and_then count_of (decimal_at value)))
 with_value s UserTake value = option_map (λ (n : ℕ). record s { take_user = Some n; waits = None }) (once s.take_user (option_and_then count_of (decimal_at value)))
+with_value s As value = option_map (λ (p : Principal). record s { principal = Some p; waits = None }) (once s.principal (principal_named value))
+with_value s File value = if not s.file && is_file value then Some (record s { file = true; waits = None }) else None
 
 -- ## Words
 
 abbrev pub no_settings : Settings
-no_settings = record { admin = None; user = None; take_admin = None; take_user = None; waits = None }
+no_settings = record { admin = None; user = None; take_admin = None; take_user = None; principal = None; file = false; waits = None }
 
 -- a name, with its value or before it
 abbrev pub with_name : Settings → (word : List ℕ) → Option (List ℕ × List ℕ) → Option Settings
@@ -65,3 +81,20 @@ with_word s (Some name) word = with_value s name word
 abbrev pub settings_from : Settings → List (List ℕ) → Option Settings
 settings_from s [] = Some s
 settings_from s (word ∷ words) = with_word s s.waits word >>= λ now. settings_from now words
+
+-- ## The file
+
+-- the file of an option in one word
+abbrev pub file_in : Option (List ℕ × List ℕ) → Option (List ℕ)
+file_in None = None
+file_in (Some pair) = if is_word pair.0 (codes "--db") then Some pair.1 else None
+
+abbrev pub or_else : {A : Type 0} → Option A → Option A → Option A
+or_else None other = other
+or_else (Some a) other = Some a
+
+-- Which file the words of a job name, of which one may wait for its value: no value of another option is written as this option is.
+abbrev pub file_from : (waits : Bool) → List (List ℕ) → Option (List ℕ)
+file_from waits [] = None
+file_from true (word ∷ words) = Some word
+file_from false (word ∷ words) = or_else (file_in (named_value word)) (file_from (is_word word (codes "--db")) words)

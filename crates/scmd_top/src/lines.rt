@@ -1,17 +1,20 @@
 //! `scmd replay`, which may not wait: it returns.
-ghost use Rattle.std.specs.Prelude.{◌≡◌, ◌≤◌};
+ghost use Rattle.std.specs.Prelude.{◌≡◌, ◌≤◌, [], true};
+ghost use Rattle.record_journal.specs.Keepers.{has_path};
 ghost use Rattle.scm_replay.specs.Replay.{IsReplayCaused};
-ghost use Rattle.scmd_top.specs.Jobs.{HasAllReplayed, HasReplayed, LeavesReplayed};
+ghost use Rattle.scmd_top.specs.Jobs.{HasAllReplayed, HasReplayed, LeavesKeeper, LeavesReplayed};
 ghost use Rattle.scmd_top.specs.Jobs.{status_of_replay};
-ghost use Rattle.scmd_top.specs.Sides.{LeavesPorts, side};
+ghost use Rattle.scmd_top.specs.Sides.{LeavesPorts, side, sides_of};
+ghost use Rattle.scmd_top.specs.declared.words.Job.TheVariants as jobs;
 
-use crate::opening::new_manager;
+use crate::opening::{new_manager, open_stored, status_of_fault};
 use crate::world::World;
 use outside::{Clock, Sink, Source};
 use process_runner::Spawner;
 use record_journal::Keeper;
 use scm_listener::Listener;
 use scm_replay::{Replayed, replay};
+use scm_restored::Opened;
 use std::alloc::Global;
 
 /// The status of a program that answered lines.
@@ -31,7 +34,7 @@ fn status_of_replay(how: Replayed) -> u8
 
 /// Answers the lines of the input, over a manager in which nobody and nothing is there at moment 0.
 fn answer_lines<I: Source, O: Sink>(alloc: Global, input: &mut I, output: &mut O) -> Replayed
-    ensures replayed { LeavesReplayed
+    ensures replayed { LeavesReplayed []
         (I.left input.old) (I.left input.new) (O.held output.old) (O.held output.new) result }
     ensures input { I.faults input.old ≤ I.faults input.new }
     ensures output { O.faults output.old ≤ O.faults output.new }
@@ -46,33 +49,100 @@ fn answer_lines<I: Source, O: Sink>(alloc: Global, input: &mut I, output: &mut O
     how
 }
 
-/// The same, and gives the status of the program.
+/// Answers the lines of the input over what stands under a path, and gives the status of the
+/// program. The keeper is opened at moment 0, and nothing is kept of the changes.
+fn answer_over<I: Source, O: Sink, K: Keeper>(
+    alloc: Global,
+    path: &str,
+    keeper: &mut K,
+    input: &mut I,
+    output: &mut O,
+) -> u8
+    ensures input { I.faults input.old ≤ I.faults input.new }
+    ensures output { O.faults output.old ≤ O.faults output.new }
+    ensures run { HasReplayed true (record {
+      input = side I.left I.faults input.old input.new;
+      output = side O.held O.faults output.old output.new;
+      keeper = side K.held K.faults keeper.old keeper.new;
+    }) result }
+    ensures complete { HasAllReplayed true (record {
+      input = side I.left I.faults input.old input.new;
+      output = side O.held O.faults output.old output.new;
+      keeper = side K.held K.faults keeper.old keeper.new;
+    }) result }
+{
+    match open_stored(alloc, keeper, path, 0) {
+        Ok(
+            Opened {
+                mut manager,
+                journal: _,
+            },
+        ) => {
+            let how = replay(alloc, &mut manager, input, output);
+            manager.close();
+            status_of_replay(how)
+        }
+        Err(fault) => status_of_fault(fault),
+    }
+}
+
+/// The same, and without a path over nothing.
+fn answer<I: Source, O: Sink, K: Keeper>(
+    alloc: Global,
+    path: Option<&str>,
+    keeper: &mut K,
+    input: &mut I,
+    output: &mut O,
+) -> u8
+    ensures keeper { LeavesKeeper (has_path path.entry) jobs.Replay keeper.old keeper.new }
+    ensures input { I.faults input.old ≤ I.faults input.new }
+    ensures output { O.faults output.old ≤ O.faults output.new }
+    ensures run { HasReplayed (has_path path.entry) (record {
+      input = side I.left I.faults input.old input.new;
+      output = side O.held O.faults output.old output.new;
+      keeper = side K.held K.faults keeper.old keeper.new;
+    }) result }
+    ensures complete { HasAllReplayed (has_path path.entry) (record {
+      input = side I.left I.faults input.old input.new;
+      output = side O.held O.faults output.old output.new;
+      keeper = side K.held K.faults keeper.old keeper.new;
+    }) result }
+{
+    match path {
+        Some(path) => answer_over(alloc, path, keeper, input, output),
+        None => status_of_replay(answer_lines(alloc, input, output)),
+    }
+}
+
+/// Answers the lines of the input over what stands under the path, and gives the status of the
+/// program. Without a path nothing is asked of the keeper.
 pub fn replay_main<I: Source, O: Sink, K: Keeper, N: Listener, P: Spawner, C: Clock>(
     alloc: Global,
+    path: Option<&str>,
     world: World<I, O, K, N, P, C>,
 ) -> (u8, World<I, O, K, N, P, C>)
-    ensures keeper { result.1.keeper ≡ world.keeper }
+    ensures keeper { LeavesKeeper (has_path path.entry) jobs.Replay world.keeper result.1.keeper }
     ensures clock { result.1.clock ≡ world.clock }
     ensures ports { LeavesPorts world result.1 }
     ensures input { I.faults world.input ≤ I.faults result.1.input }
     ensures output { O.faults world.output ≤ O.faults result.1.output }
     // What was read, answered and written, and why the run ended.
-    ensures run { HasReplayed (side I.left I.faults world.input result.1.input)
-        (side O.held O.faults world.output result.1.output) result.0 }
+    ensures run { HasReplayed (has_path path.entry)
+        (sides_of I.left I.faults O.held O.faults K.held K.faults world result.1) result.0 }
     // Nothing else ends a run without faults.
-    ensures complete { HasAllReplayed (side I.left I.faults world.input result.1.input)
-        (side O.held O.faults world.output result.1.output) result.0 }
+    ensures complete { HasAllReplayed (has_path path.entry)
+        (sides_of I.left I.faults O.held O.faults K.held K.faults world result.1) result.0 }
 {
     let World {
         mut input,
         mut output,
-        keeper,
+        mut keeper,
         admin,
         user,
         spawner,
         clock,
     } = world;
-    let how = answer_lines(alloc, &mut input, &mut output);
+    let status = answer(alloc, path, &mut keeper, &mut input, &mut output);
     let world = World {
         input,
         output,
@@ -82,5 +152,5 @@ pub fn replay_main<I: Source, O: Sink, K: Keeper, N: Listener, P: Spawner, C: Cl
         spawner,
         clock,
     };
-    (status_of_replay(how), world)
+    (status, world)
 }

@@ -1,16 +1,17 @@
 //! `scmd serve`.
-ghost use Rattle.std.specs.Prelude.{◌≡◌, ◌≤◌, [], IfSome};
-ghost use Rattle.scm_serving.specs.Listening.{told_by};
-ghost use Rattle.scmd_top.specs.Serving.{HasServed, HasServedOver, HasWritten, IsComplete};
+ghost use Rattle.std.specs.Prelude.{◌≡◌, ◌≤◌};
+ghost use Rattle.record_journal.specs.Keepers.{has_path};
+ghost use Rattle.scmd_top.specs.Serving.{HasServed, HasWritten, IsComplete};
 ghost use Rattle.scmd_top.specs.Sides.{ports_of, side, sides_of};
 
-use crate::opening::new_manager;
+use crate::opening::{open_at, status_of_fault};
 use crate::world::World;
 use child_link::{Feed, Link};
 use outside::{Clock, Failed, Sink, Source, write_all};
 use process_runner::Spawner;
-use record_journal::{Journal, Keeper};
+use record_journal::Keeper;
 use scm_listener::{Listener, Listening};
+use scm_restored::Opened;
 use scm_serving::{BookEnd, BookServed, listen_both, serve_book};
 use std::alloc::Global;
 use std::sync::Wait;
@@ -32,57 +33,15 @@ fn written<O: Sink>(end: BookEnd, output: &mut O) -> u8
     }
 }
 
-/// Serves two listeners that listen over a book of their own, whose journal is empty as its keeper
-/// is.
-fn serve_over<R, K, N, I, O, A, P, L, F, C>(
-    rt: &R,
-    alloc: Global,
-    keeper: K,
-    admin: N,
-    user: N,
-    spawner: P,
-    clock: &C,
-) -> BookServed<K, N, P>
-where
-    R: Threads + Wait + time::Clock + Sync,
-    K: Keeper + Send,
-    I: Source + Send + Drop,
-    O: Sink + Send + Drop,
-    A: Send + Drop,
-    N: Listener<In = I, Out = O, Past = A> + Send + Drop,
-    L: Link + Send + Drop,
-    F: Feed + Send + Drop,
-    P: Spawner<Link = L, Feed = F> + Send + Drop,
-    C: Clock + Sync,
-    requires empty { IfSome (K.held keeper) (λ bytes. bytes ≡ []) }
-    ensures { HasServedOver (C.tells clock.now) (side K.held K.faults keeper result.keeper)
-        (told_by N.left N.accepted N.noted N.listened N.faults admin)
-        (told_by N.left N.accepted N.noted N.listened N.faults result.admin)
-        (told_by N.left N.accepted N.noted N.listened N.faults user)
-        (told_by N.left N.accepted N.noted N.listened N.faults result.user) result.end }
-{
-    let Ok(manager) = new_manager(alloc, clock.now()) else {
-        return BookServed {
-            end: BookEnd::OutOfMemory,
-            keeper,
-            admin,
-            user,
-            spawner,
-        };
-    };
-    let journal = Journal::empty();
-    serve_book(
-        rt, alloc, manager, journal, keeper, admin, user, spawner, clock,
-    )
-}
-
 /// Serves the connections of two ports, writes the summary of their history once both listeners are
-/// closed, and gives the status of the program. Without a file the journal begins empty.
+/// closed, and gives the status of the program. Without a path the journal begins empty, and is kept
+/// in memory.
 pub fn serve_main<R, I, O, K, N, NI, NO, A, P, L, F, C>(
     rt: &R,
     alloc: Global,
     admin_at: Listening,
     user_at: Listening,
+    path: Option<&str>,
     world: World<I, O, K, N, P, C>,
 ) -> (u8, World<I, O, K, N, P, C>)
 where
@@ -102,11 +61,12 @@ where
     ensures clock { result.1.clock ≡ world.clock }
     ensures output { O.faults world.output ≤ O.faults result.1.output }
     // Which history the connections and the keeper are of, what was written, and why it ended.
-    ensures run { HasServed (C.tells world.clock) admin_at user_at
+    ensures run { HasServed (C.tells world.clock)
+        (has_path path.entry) admin_at user_at
         (sides_of I.left I.faults O.held O.faults K.held K.faults world result.1)
         (ports_of N.left N.accepted N.noted N.listened N.faults world result.1) result.0 }
     // Nothing else ends a server without faults.
-    ensures complete { IsComplete
+    ensures complete { IsComplete (has_path path.entry)
         (sides_of I.left I.faults O.held O.faults K.held K.faults world result.1)
         (ports_of N.left N.accepted N.noted N.listened N.faults world result.1) result.0 }
 {
@@ -119,46 +79,54 @@ where
         spawner,
         clock,
     } = world;
-    let Ok(()) = keeper.open_at(None) else {
-        let world = World {
-            input,
-            output,
-            keeper,
-            admin,
-            user,
-            spawner,
-            clock,
-        };
-        return (3, world);
-    };
-    let Ok(()) = listen_both(&mut admin, admin_at, &mut user, user_at) else {
-        let world = World {
-            input,
-            output,
-            keeper,
-            admin,
-            user,
-            spawner,
-            clock,
-        };
-        return (10, world);
-    };
-    let BookServed {
-        end,
-        keeper,
-        admin,
-        user,
-        spawner,
-    } = serve_over(rt, alloc, keeper, admin, user, spawner, &clock);
-    let status = written(end, &mut output);
-    let world = World {
-        input,
-        output,
-        keeper,
-        admin,
-        user,
-        spawner,
-        clock,
-    };
-    (status, world)
+    let moment = clock.now();
+    match open_at(alloc, &mut keeper, path, moment) {
+        Ok(Opened { manager, journal }) => {
+            let Ok(()) = listen_both(&mut admin, admin_at, &mut user, user_at) else {
+                manager.close();
+                let world = World {
+                    input,
+                    output,
+                    keeper,
+                    admin,
+                    user,
+                    spawner,
+                    clock,
+                };
+                return (10, world);
+            };
+            let BookServed {
+                end,
+                keeper,
+                admin,
+                user,
+                spawner,
+            } = serve_book(
+                rt, alloc, manager, journal, keeper, admin, user, spawner, &clock,
+            );
+            let status = written(end, &mut output);
+            let world = World {
+                input,
+                output,
+                keeper,
+                admin,
+                user,
+                spawner,
+                clock,
+            };
+            (status, world)
+        }
+        Err(fault) => {
+            let world = World {
+                input,
+                output,
+                keeper,
+                admin,
+                user,
+                spawner,
+                clock,
+            };
+            (status_of_fault(fault), world)
+        }
+    }
 }

@@ -1,11 +1,13 @@
-// The options of a server.
-ghost use Rattle.std.specs.Prelude.{◌≡◌, option_and_then};
+// The options of jobs.
+ghost use Rattle.std.specs.Prelude.{◌≡◌, false, option_and_then};
 ghost use Rattle.decimal_words.specs.Numbers.{number_at};
-ghost use Rattle.scmd_top.specs.Parts.{IsParts};
+ghost use Rattle.scmd_top.specs.Parts.{IsParts, IsText};
 ghost use Rattle.scmd_top.specs.Settings.{count_of, no_settings, once, port_of, setting_named};
 ghost use Rattle.scmd_top.specs.Settings.{settings_from, with_name, with_value, with_word};
-ghost use Rattle.scmd_top.specs.Settings.{named_value};
+ghost use Rattle.scmd_top.specs.Settings.{file_from, file_in, is_file, named_value};
+ghost use Rattle.scmd_top.specs.Settings.{principal_named};
 
+use scm_model::Principal;
 use scm_replay::number_at;
 use scm_text::Text;
 
@@ -16,6 +18,10 @@ pub enum Setting {
     UserPort,
     AdminTake,
     UserTake,
+    /// Whose connection it is.
+    As,
+    /// Where the journal stands.
+    File,
 }
 
 /// What options say, so far as they were read.
@@ -26,6 +32,9 @@ pub struct Settings {
     /// How many connections are taken, where that is said.
     pub take_admin: Option<u64>,
     pub take_user: Option<u64>,
+    pub principal: Option<Principal>,
+    /// Whether a file is named.
+    pub file: bool,
     /// The option whose value is the next word.
     pub waits: Option<Setting>,
 }
@@ -41,6 +50,10 @@ fn setting_named(word: &str) -> Option<Setting>
         Some(Setting::AdminTake)
     } else if word == "--take-user" {
         Some(Setting::UserTake)
+    } else if word == "--as" {
+        Some(Setting::As)
+    } else if word == "--db" {
+        Some(Setting::File)
     } else {
         None
     }
@@ -87,6 +100,27 @@ fn count_at(value: &str) -> Option<u64>
     count_of(number_at(value.as_bytes())?)
 }
 
+fn principal_named(value: &str) -> Option<Principal>
+    ensures { result ≡ principal_named value.now }
+{
+    if value == "admin" {
+        Some(Principal::Admin)
+    } else if value == "user" {
+        Some(Principal::User)
+    } else {
+        None
+    }
+}
+
+fn is_file(value: &str) -> bool
+    ensures { result ≡ is_file value.now }
+{
+    match value.as_bytes() {
+        [] => false,
+        [first, ..] => *first != b'-',
+    }
+}
+
 /// A value, where none was given before.
 fn once<T: Copy>(before: Option<T>, value: Option<T>) -> Option<T>
     ensures { result ≡ once before value }
@@ -103,6 +137,8 @@ impl Settings {
         user: None,
         take_admin: None,
         take_user: None,
+        principal: None,
+        file: false,
         waits: None,
     };
 
@@ -130,6 +166,15 @@ impl Settings {
                 take_user: Some(once(self.take_user, count_at(value))?),
                 ..settings
             }),
+            Setting::As => Some(Settings {
+                principal: Some(once(self.principal, principal_named(value))?),
+                ..settings
+            }),
+            Setting::File if !self.file && is_file(value) => Some(Settings {
+                file: true,
+                ..settings
+            }),
+            Setting::File => None,
         }
     }
 
@@ -166,4 +211,29 @@ impl Settings {
         }
         Some(settings)
     }
+}
+
+/// The file of an option that stands in one word with it.
+fn file_in(word: &str) -> Option<&str>
+    ensures { IsText (file_in (named_value word.now)) result }
+{
+    let (name, value) = parts_of(word)?;
+    if name == "--db" { Some(value) } else { None }
+}
+
+/// Which file these words name, if they are options of a job and their values.
+pub fn file_of(words: &[Text]) -> Option<&str>
+    ensures { IsText (file_from false words.now) result }
+{
+    let mut waits = false;
+    for word in words {
+        if waits {
+            return Some(word.as_str());
+        }
+        if let Some(file) = file_in(word.as_str()) {
+            return Some(file);
+        }
+        waits = word.as_str() == "--db";
+    }
+    None
 }

@@ -1,5 +1,7 @@
 ghost use Rattle.std.specs.Prelude.{◌≡◌, ◌≤◌, ◌↔◌, IfOk, IfSome, IsErrOf, IsNone};
+ghost use Rattle.record_journal.specs.Keepers.{has_path};
 ghost use Rattle.scmd_top.specs.Jobs.{HasAllDone, HasEnded, HasRun, LeavesKeeper, LeavesOthers};
+ghost use Rattle.scmd_top.specs.Jobs.{names_file};
 ghost use Rattle.scmd_top.specs.Sides.{ports_of, sides_of};
 ghost use Rattle.scmd_top.specs.Words.{IsFew, job_of};
 
@@ -7,7 +9,7 @@ use crate::lines::replay_main;
 use crate::pipe::pipe_main;
 use crate::serving::serve_main;
 use crate::summary::generate_main;
-use crate::words::{Job, NoWords, job_of};
+use crate::words::{Job, NoWords, job_of, path_of};
 use crate::world::World;
 use child_link::{Feed, Link};
 use outside::{Clock, Sink, Source};
@@ -25,6 +27,7 @@ fn run<R, I, O, K, N, NI, NO, A, P, L, F, C>(
     rt: &R,
     alloc: Global,
     job: Job,
+    path: Option<&str>,
     world: World<I, O, K, N, P, C>,
 ) -> (u8, World<I, O, K, N, P, C>)
 where
@@ -41,28 +44,28 @@ where
     P: Spawner<Link = L, Feed = F> + Send + Drop,
     C: Clock + Sync,
     requires { IsFew job }
-    ensures run { HasRun (C.tells world.clock) job
+    ensures run { HasRun (C.tells world.clock) (has_path path.entry) job
         (sides_of I.left I.faults O.held O.faults K.held K.faults world result.1)
         (ports_of N.left N.accepted N.noted N.listened N.faults world result.1) result.0 }
     ensures clock { result.1.clock ≡ world.clock }
     ensures input { I.faults world.input ≤ I.faults result.1.input }
     ensures output { O.faults world.output ≤ O.faults result.1.output }
-    ensures keeper { LeavesKeeper job world.keeper result.1.keeper }
+    ensures keeper { LeavesKeeper (has_path path.entry) job world.keeper result.1.keeper }
     ensures ports { LeavesOthers job world result.1 }
-    ensures complete { HasAllDone job
+    ensures complete { HasAllDone (has_path path.entry) job
         (sides_of I.left I.faults O.held O.faults K.held K.faults world result.1)
         (ports_of N.left N.accepted N.noted N.listened N.faults world result.1) result.0 }
 {
     match job {
-        Job::Pipe { principal } => pipe_main(rt, alloc, principal, world),
-        Job::Replay => replay_main(alloc, world),
+        Job::Pipe { principal } => pipe_main(rt, alloc, principal, path, world),
+        Job::Replay => replay_main(alloc, path, world),
         Job::Generate { services } => generate_main(alloc, services, world),
-        Job::Serve { admin, user } => serve_main(rt, alloc, admin, user, world),
+        Job::Serve { admin, user } => serve_main(rt, alloc, admin, user, path, world),
     }
 }
 
 /// Does what the words ask for, and answers the status of the program: 0 done, 1 the input failed,
-/// 2 the output failed, 3 the keeper failed when the journal was opened, 5 words that are no job,
+/// 2 the output failed, 3 the keeper failed when the journal was opened, 4 that is damaged, 5 words that are no job,
 /// 6 an input that ends within a PDU, a request or a line, 7 a bad PDU or a request that is too
 /// long, 8 want of memory, 9 no room for a request by the limits, 10 a listener failed, 11 a bad
 /// line, 12 as many bytes of input as are read at most, 2^40.
@@ -89,24 +92,26 @@ where
     ensures words { result.0 ≡ 5 ↔ IsNone (job_of words.now) }
     ensures untouched { result.0 ≡ 5 → result.1 ≡ world }
     ensures clock { result.1.clock ≡ world.clock }
-    // Only a pipe and a server touch the keeper, only a server the listeners and the spawner.
+    // Only a pipe, a server and a replay over a file touch the keeper, only a server the listeners
+    // and the spawner.
     ensures keeper { IfSome (job_of words.now) (λ job.
-        LeavesKeeper job world.keeper result.1.keeper) }
+        LeavesKeeper (names_file words.now) job world.keeper result.1.keeper) }
     ensures ports { IfSome (job_of words.now) (λ job. LeavesOthers job world result.1) }
     // Counts of faults never fall.
     ensures input { I.faults world.input ≤ I.faults result.1.input }
     ensures output { O.faults world.output ≤ O.faults result.1.output }
     // What was read, answered, written and kept, and why the run ended.
-    ensures run { IfSome (job_of words.now) (λ job. HasRun (C.tells world.clock) job
+    ensures run { IfSome (job_of words.now) (λ job. HasRun (C.tells world.clock)
+        (names_file words.now) job
         (sides_of I.left I.faults O.held O.faults K.held K.faults world result.1)
         (ports_of N.left N.accepted N.noted N.listened N.faults world result.1) result.0) }
     // Nothing else ends a run without faults.
-    ensures complete { IfSome (job_of words.now) (λ job. HasAllDone job
+    ensures complete { IfSome (job_of words.now) (λ job. HasAllDone (names_file words.now) job
         (sides_of I.left I.faults O.held O.faults K.held K.faults world result.1)
         (ports_of N.left N.accepted N.noted N.listened N.faults world result.1) result.0) }
 {
     match job_of(words) {
-        Some(job) => run(rt, alloc, job, world),
+        Some(job) => run(rt, alloc, job, path_of(words), world),
         None => (5, world),
     }
 }

@@ -1,10 +1,10 @@
 ghost use Rattle.std.specs.Prelude.{◌≡◌, ◌≤◌, IfSome, option_and_then};
 ghost use Rattle.scm_replay.specs.Words.{decimal_at};
-ghost use Rattle.scmd_top.specs.Words.{IsFew, generate_with, job_of, principal_named};
-ghost use Rattle.scmd_top.specs.Words.{principal_of_pipe, principal_word, replay_with};
-ghost use Rattle.scmd_top.specs.Words.{serve_with, serving_of, within};
+ghost use Rattle.scmd_top.specs.Parts.{IsText};
+ghost use Rattle.scmd_top.specs.Words.{IsFew, generate_with, job_of, path_of, pipe_of};
+ghost use Rattle.scmd_top.specs.Words.{replay_of, serving_of, with_options, within};
 
-use crate::settings::Settings;
+use crate::settings::{Settings, file_of};
 use scm_listener::Listening;
 use scm_model::Principal;
 use scm_replay::number_at;
@@ -29,60 +29,6 @@ pub enum Job {
     Generate { services: u32 },
     /// Serves the connections of two ports over one book, and prints the summary of its history.
     Serve { admin: Listening, user: Listening },
-}
-
-fn principal_named(value: &str) -> Option<Principal>
-    ensures { result ≡ principal_named value.now }
-{
-    if value == "admin" {
-        Some(Principal::Admin)
-    } else if value == "user" {
-        Some(Principal::User)
-    } else {
-        None
-    }
-}
-
-/// The value of an option that stands in one word with it.
-fn principal_in(word: &str) -> Option<Principal>
-    ensures { result ≡ principal_word word.now }
-{
-    if word == "--as=admin" {
-        Some(Principal::Admin)
-    } else if word == "--as=user" {
-        Some(Principal::User)
-    } else {
-        None
-    }
-}
-
-/// Whose connection a pipe serves, by the words behind `pipe`.
-fn principal_of_pipe(words: &[Text]) -> Option<Principal>
-    ensures { result ≡ principal_of_pipe words.now }
-{
-    match words {
-        [] => Some(Principal::Admin),
-        [word] => principal_in(word.as_str()),
-        [word, value] => {
-            if word.as_str() == "--as" {
-                principal_named(value.as_str())
-            } else {
-                None
-            }
-        }
-        _ => None,
-    }
-}
-
-/// A replay goes by no further word.
-fn replay_with(words: &[Text]) -> Option<Job>
-    ensures job { result ≡ replay_with words.now }
-    ensures few { IfSome result IsFew }
-{
-    match words {
-        [] => Some(Job::Replay),
-        _ => None,
-    }
 }
 
 /// A number of services, if there may be so many.
@@ -112,28 +58,70 @@ fn generate_with(words: &[Text]) -> Option<Job>
     }
 }
 
-/// Where connections are served, once both ports are given and no value is waited for.
-fn serving_of(settings: Settings) -> Option<Job>
-    ensures { result ≡ serving_of settings }
+/// A pipe's connection is an administrator's, unless the options say it.
+fn pipe_of(said: Settings) -> Option<Job>
+    ensures { result ≡ pipe_of said }
 {
-    match (settings.waits, settings.admin, settings.user) {
-        (None, Some(admin), Some(user)) => Some(Job::Serve {
+    match (
+        said.waits,
+        said.admin,
+        said.user,
+        said.take_admin,
+        said.take_user,
+    ) {
+        (None, None, None, None, None) => Some(Job::Pipe {
+            principal: said.principal.unwrap_or(Principal::Admin),
+        }),
+        _ => None,
+    }
+}
+
+/// A replay has no option but its file.
+fn replay_of(said: Settings) -> Option<Job>
+    ensures { result ≡ replay_of said }
+{
+    match pipe_of(said) {
+        Some(_) if said.principal.is_none() => Some(Job::Replay),
+        _ => None,
+    }
+}
+
+/// Where connections are served, once both ports are given and no value is waited for.
+fn serving_of(said: Settings) -> Option<Job>
+    ensures { result ≡ serving_of said }
+{
+    match (said.waits, said.principal, said.admin, said.user) {
+        (None, None, Some(admin), Some(user)) => Some(Job::Serve {
             admin: Listening {
                 port: admin,
-                take: settings.take_admin,
+                take: said.take_admin,
             },
             user: Listening {
                 port: user,
-                take: settings.take_user,
+                take: said.take_user,
             },
         }),
         _ => None,
     }
 }
 
-/// Where connections are served, by the words behind `serve`.
-fn serve_with(words: &[Text]) -> Option<Job>
-    ensures job { result ≡ serve_with words.now }
+/// The job of options.
+fn with_pipe(words: &[Text]) -> Option<Job>
+    ensures job { result ≡ with_options pipe_of words.now }
+    ensures few { IfSome result IsFew }
+{
+    pipe_of(Settings::of(words)?)
+}
+
+fn with_replay(words: &[Text]) -> Option<Job>
+    ensures job { result ≡ with_options replay_of words.now }
+    ensures few { IfSome result IsFew }
+{
+    replay_of(Settings::of(words)?)
+}
+
+fn with_serve(words: &[Text]) -> Option<Job>
+    ensures job { result ≡ with_options serving_of words.now }
     ensures few { IfSome result IsFew }
 {
     serving_of(Settings::of(words)?)
@@ -148,17 +136,23 @@ pub fn job_of(words: &Items<Text>) -> Option<Job>
         [] => None,
         [word, rest @ ..] => {
             if word.as_str() == "pipe" {
-                let principal = principal_of_pipe(rest)?;
-                Some(Job::Pipe { principal })
+                with_pipe(rest)
             } else if word.as_str() == "replay" {
-                replay_with(rest)
+                with_replay(rest)
             } else if word.as_str() == "generate" {
                 generate_with(rest)
             } else if word.as_str() == "serve" {
-                serve_with(rest)
+                with_serve(rest)
             } else {
                 None
             }
         }
     }
+}
+
+/// The file that the words name, where they are a job.
+pub fn path_of(words: &Items<Text>) -> Option<&str>
+    ensures { IsText (path_of words.now) result }
+{
+    file_of(words.as_slice())
 }

@@ -1,19 +1,12 @@
-use Rattle.scm_replay.specs.Outcomes.{standing}
+use Rattle.std.proofs.Common.{[]}
 use Rattle.scm_replay.proofs.Ends.{nothing_read}
 use Rattle.scmd_top.specs.Jobs.{program_start}
 use Rattle.scmd_top.specs.Statuses.{program_limits}
-use Rattle.scmd_top.proofs.Replays.{left_by}
 use Rattle.scmd_top.proofs.lines.answer_lines.Goals as goal
 
 -- nothing is read and nothing written
 pub returns-in_default-clause-replayed : goal.returns-in_default-clause-replayed
 returns-in_default-clause-replayed g c = record {
-  now = program_start;
-  replayed = nothing_read program_limits program_start (g.I.Source.left c.args.input.now) (g.O.Sink.held c.args.output.now);
-}
-
-pub returns-clause-replayed : goal.returns-clause-replayed
-returns-clause-replayed g c = record {
-  now = standing c.replay-how.new.manager;
-  replayed = left_by c.in-Ok.manager (standing c.replay-how.new.manager) _ _ _ _ _ c.in-Ok.ensures c.replay-how.ensures.replayed;
+  now = program_start [];
+  replayed = nothing_read program_limits (program_start []) (g.I.Source.left c.args.input.now) (g.O.Sink.held c.args.output.now);
 }

@@ -1,27 +1,28 @@
 use Rattle.std.proofs.Common.{inl}
-use Rattle.scmd_top.specs.Sides.{sides_of}
-use Rattle.scmd_top.proofs.Connected.{comes_behind, complete_pipe}
+use Rattle.record_journal.specs.Keepers.{has_path}
+use Rattle.scmd_top.specs.Sides.{side, sides_of}
+use Rattle.scmd_top.proofs.Connected.{come, complete_always, complete_pipe}
 use Rattle.scmd_top.proofs.pipe.pipe_main.Goals as goal
 
-pub returns-clause-run : goal.returns-clause-run
-returns-clause-run g c =
-    let how = c.connect-how in
+pub returns-in-Ok-clause-run : goal.returns-in-Ok-clause-run
+returns-in-Ok-clause-run g c =
+    let how = c.serve_alone-how in
     inl (record {
       how = how.result.how;
       status_is = c.status_of.ensures;
-      come = comes_behind (g.C.Clock.tells c.args.world.clock) c.args.principal how.result.how
-          (sides_of g.I.Source.left g.I.Source.faults g.O.Sink.held g.O.Sink.faults g.K.Keeper.held g.K.Keeper.faults c.args.world
-          (record { input = how.new.input; output = how.new.output; keeper = how.result.keeper; admin = c.args.world.admin; user = c.args.world.user; spawner = c.args.world.spawner; clock = c.args.world.clock }))
-          (g.K.Keeper.held c.open_at.new.self) (g.K.Keeper.faults c.open_at.new.self)
-          c.in-Ok.ensures.bytes c.in-Ok.ensures.cause.kept how.ensures.come;
+      come = come g.K.Keeper.held g.K.Keeper.faults (g.C.Clock.tells c.args.world.clock) (has_path c.args.path) c.args.principal c.now-moment.result _
+          (side g.I.Source.left g.I.Source.faults c.args.world.input how.new.input) (side g.O.Sink.held g.O.Sink.faults c.args.world.output how.new.output)
+          c.args.world.keeper c.open_at.new.keeper how.result c.now-moment.ensures c.in-Ok.ensures how.ensures.ended;
       cause = how.ensures.cause;
     })
 
-pub returns-clause-complete : goal.returns-clause-complete
-returns-clause-complete g c =
-    let how = c.connect-how in
+pub returns-in-Ok-clause-complete : goal.returns-in-Ok-clause-complete
+returns-in-Ok-clause-complete g c =
+    let how = c.serve_alone-how in
     rw c.status_of.ensures
-    (complete_pipe c.args.principal
+    (complete_pipe (has_path c.args.path) c.args.principal
     (sides_of g.I.Source.left g.I.Source.faults g.O.Sink.held g.O.Sink.faults g.K.Keeper.held g.K.Keeper.faults c.args.world
     (record { input = how.new.input; output = how.new.output; keeper = how.result.keeper; admin = c.args.world.admin; user = c.args.world.user; spawner = c.args.world.spawner; clock = c.args.world.clock }))
-    how.result.how how.ensures.complete)
+    how.result.how
+    (complete_always (has_path c.args.path) c.args.principal c.now-moment.result _ (side g.K.Keeper.held g.K.Keeper.faults c.args.world.keeper c.open_at.new.keeper) _ _ _ _ _ how.result.how
+    c.in-Ok.ensures how.ensures.complete))

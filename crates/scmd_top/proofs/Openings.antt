@@ -1,0 +1,148 @@
+-- The opening of a run, and what is said where there is none.
+use Rattle.std.proofs.Common.{ℕ, ◌≡◌, ◌≢◌, ◌≤◌, ◌∙◌, ◌⊎◌, Bool, true, false, inl, inr, refl, sym, ap, subst, List, [], ◌∷◌, append-nil, length, take, Option, None, Some, Result, Ok, Err, arith}
+use Rattle.std.specs.Prelude.{IfOk, IfSome, IsErrOf, OnOk}
+use Rattle.std.specs.Io.KnownBytes.{Keeps}
+use Rattle.outside.specs.Causes.{Rose}
+use Rattle.scm_model.specs.declared.flat.Flat.{Flat}
+use Rattle.scm_model.specs.declared.flat.Limits.{Limits}
+use Rattle.scm_core.specs.Managed.{AreSmall, Managed}
+use Rattle.scm_core.proofs.Opened.{opens_empty}
+use Rattle.scm_rules.specs.Opening.{IsOpening}
+use Rattle.record_journal.specs.Bearing.{Bears}
+use Rattle.record_journal.specs.Keepers.{IsEmptied}
+use Rattle.record_journal.specs.Opening.{Answers, Leaves, LeavesAll}
+use Rattle.record_journal.specs.declared.journal.Journal.{Journal}
+use Rattle.record_journal.specs.declared.opening.JournalFault.{JournalFault}
+use Rattle.record_journal.specs.declared.opening.JournalFault.TheVariants as faults
+use Rattle.record_journal.specs.declared.opening.Restored.{Restored}
+use Rattle.scm_restored.specs.Restored.{Comes, IsUnmoved, Manages}
+use Rattle.scm_restored.specs.declared.Opened.{Opened}
+use Rattle.scmd_top.specs.Opening.{FailsToOpen, HasOpened, IsCut, IsDamaged, IsLeft, IsNew, IsUnopened, Opens, program_opening, status_of_fault}
+use Rattle.scmd_top.specs.Sides.{Side}
+use Rattle.scmd_top.specs.Statuses.{program_limits}
+
+-- ## The limits
+
+pub small_limits : AreSmall program_limits
+small_limits = search arith
+
+pub small : (m : Managed) → m.limits ≡ program_limits → AreSmall m.limits
+small m e = subst AreSmall (sym e) small_limits
+
+pub has_place : (m : Managed) → m.limits ≡ program_limits → 1 ≤ m.limits.callers
+has_place m e = subst (λ (l : Limits). 1 ≤ l.callers) (sym e) (omega arith)
+
+pub has_room : (m : Managed) → m.limits ≡ program_limits → 2 ≤ m.limits.steps
+has_room m e = subst (λ (l : Limits). 2 ≤ l.steps) (sym e) (omega arith)
+
+-- ## Without a path
+
+abbrev empty_journal : Journal
+empty_journal = record { good = 0; dirty = false }
+
+emptied_bears : (old now : Option (List ℕ)) → IsEmptied old now → Bears now empty_journal now
+emptied_bears old None e = tt
+emptied_bears old (Some bytes) e = record { tail = []; holds = sym (append-nil bytes); part = refl; long = ap length (sym e) }
+
+nothing_taken : (bytes : List ℕ) → [] ≡ take 0 bytes
+nothing_taken [] = refl
+nothing_taken (b ∷ bytes) = refl
+
+emptied_cut : (old now : Option (List ℕ)) → IsEmptied old now → IsCut 0 old now
+emptied_cut None now e = tt
+emptied_cut (Some bytes) None e = absurd cc
+emptied_cut (Some bytes) (Some now) e = ap Some (e ∙ nothing_taken bytes)
+
+begins_empty : (m : Managed) (moment : ℕ) → IsNew [] moment m → IsOpening m.limits m.flat
+begins_empty m moment new =
+    subst (λ (l : Limits). IsOpening l m.flat) (sym new.limits) (subst (λ (f : Flat). IsOpening program_limits f) (sym new.flat) (opens_empty program_limits moment))
+
+pub opens_empty_at : (keeper : Side) (moment : ℕ) (m : Managed) (j : Journal) → j ≡ empty_journal → IsEmptied keeper.told keeper.told_now → keeper.faults_now ≡ keeper.faults → IsNew [] moment m
+    → Opens false keeper moment (Ok (record { manager = m; journal = j }))
+opens_empty_at keeper moment m j is e same new = record {
+  replay = record { configs = []; kept = 0 };
+  read = refl;
+  new = new;
+  begins = begins_empty m moment new;
+  cut = emptied_cut keeper.told keeper.told_now e;
+  bears = subst (λ (x : Journal). Bears keeper.told_now x keeper.told_now) (sym is) (emptied_bears keeper.told keeper.told_now e);
+  faults = same;
+}
+
+-- ## Over what stands under a path
+
+cut_so : (old now : Option (List ℕ)) (r : Restored) → LeavesAll old now (Ok r) → IsCut r.journal.good old now
+cut_so None now r h = tt
+cut_so (Some bytes) None r h = absurd h
+cut_so (Some bytes) (Some now) r h = ap Some h
+
+left_cut : (old now : Option (List ℕ)) (r : Restored) → IfSome old (λ bytes. Answers bytes (Ok r)) → LeavesAll old now (Ok r) → LeavesAll old now (Err faults.Failed)
+left_cut None now r a h = tt
+left_cut (Some bytes) None r a h = absurd h
+left_cut (Some bytes) (Some now) r a h = inr (record { configs = r.configs; kept = r.journal.good }, a, h)
+
+left_so : (old now : Option (List ℕ)) → LeavesAll old now (Err faults.OutOfMemory) → LeavesAll old now (Err faults.Failed)
+left_so None now h = tt
+left_so (Some bytes) None h = absurd h
+left_so (Some bytes) (Some now) h = inl h
+
+keeps_so : (old now : Option (List ℕ)) (place : ℕ) → LeavesAll old now (Err (faults.Damaged place)) → Keeps old now
+keeps_so None now place h = tt
+keeps_so (Some bytes) None place h = absurd h
+keeps_so (Some bytes) (Some now) place h = h
+
+opened_so : (keeper : Side) (moment : ℕ) (o : Opened) (restored : Result Restored JournalFault) → IfSome keeper.told (λ bytes. Answers bytes restored)
+    → Leaves true keeper.told keeper.told_now restored → Manages program_limits moment restored (Ok o) → IsOpening program_limits o.manager.flat
+    → IsUnmoved program_limits o.manager → Bears keeper.told_now o.journal keeper.told_now → keeper.faults_now ≡ keeper.faults → HasOpened true keeper moment o
+opened_so keeper moment o (Err fault) a l m begins u b same = absurd m
+opened_so keeper moment o (Ok r) a l m begins u b same = record {
+  replay = record { configs = r.configs; kept = r.journal.good };
+  read = a;
+  new = record { flat = m.0; limits = u.limits_are; steps = u.steps; text = u.text };
+  begins = subst (λ (l : Limits). IsOpening l o.manager.flat) (sym u.limits_are) begins;
+  cut = cut_so keeper.told keeper.told_now r l;
+  bears = b;
+  faults = same;
+}
+
+unopened_as : (keeper : Side) (fault : JournalFault) → IfSome keeper.told (λ bytes. Answers bytes (Err fault)) → LeavesAll keeper.told keeper.told_now (Err fault)
+    → (fault ≡ faults.Failed → Rose keeper.faults keeper.faults_now) → IsUnopened true keeper fault
+unopened_as keeper faults.Failed a l c = (l, c refl)
+unopened_as keeper faults.OutOfMemory a l c = left_so keeper.told keeper.told_now l
+unopened_as keeper (faults.Damaged place) a l c = (a, keeps_so keeper.told keeper.told_now place l)
+
+unopened_so : (keeper : Side) (moment : ℕ) (fault : JournalFault) (restored : Result Restored JournalFault) → IfSome keeper.told (λ bytes. Answers bytes restored)
+    → Leaves true keeper.told keeper.told_now restored → Manages program_limits moment restored (Err fault)
+    → (fault ≡ faults.Failed → Rose keeper.faults keeper.faults_now) → IsUnopened true keeper fault
+unopened_so keeper moment fault (Err told) a l m c =
+    subst (IsUnopened true keeper) (sym m) (unopened_as keeper told a l (λ e. c (m ∙ e)))
+unopened_so keeper moment faults.OutOfMemory (Ok r) a l m c = left_cut keeper.told keeper.told_now r a l
+unopened_so keeper moment faults.Failed (Ok r) a l m c = absurd m
+unopened_so keeper moment (faults.Damaged place) (Ok r) a l m c = absurd m
+
+pub opens_so : (keeper : Side) (moment : ℕ) (result : Result Opened JournalFault) → Comes program_limits moment true keeper.told keeper.told_now result
+    → IfOk result (λ o. IsOpening program_limits o.manager.flat) → IfOk result (λ o. IsUnmoved program_limits o.manager)
+    → IfOk result (λ o. Bears keeper.told_now o.journal keeper.told_now) → (IsErrOf result faults.Failed → Rose keeper.faults keeper.faults_now)
+    → OnOk result (keeper.faults_now ≡ keeper.faults) → Opens true keeper moment result
+opens_so keeper moment (Ok o) h begins u b c same = opened_so keeper moment o h.restored h.answer h.leaves h.manages begins u b same
+opens_so keeper moment (Err fault) h begins u b c same = unopened_so keeper moment fault h.restored h.answer h.leaves h.manages (λ e. c (ap Err e))
+
+-- ## A run without one
+
+damaged_so : (told : Option (List ℕ)) (place : ℕ) → IfSome told (λ bytes. Answers bytes (Err (faults.Damaged place))) → IsDamaged true told
+damaged_so None place h = tt
+damaged_so (Some bytes) place h = (place, h)
+
+-- memory ran out, or the journal was not opened
+pub fails : (path : Bool) (keeper : Side) (fault : JournalFault) → IsUnopened path keeper fault
+    → (status_of_fault fault ≡ 8) ⊎ FailsToOpen path keeper (status_of_fault fault)
+fails false keeper faults.Failed h = inr (inl (refl, h.1))
+fails true keeper faults.Failed h = inr (inl (refl, h.1))
+fails path keeper faults.OutOfMemory h = inl refl
+fails false keeper (faults.Damaged place) h = absurd h
+fails true keeper (faults.Damaged place) h = inr (inr (refl, damaged_so keeper.told place h.0))
+
+pub not_of_fault : (fault : JournalFault) → status_of_fault fault ≢ 5
+not_of_fault faults.Failed = λ e. cc
+not_of_fault (faults.Damaged place) = λ e. cc
+not_of_fault faults.OutOfMemory = λ e. cc
