@@ -7,7 +7,7 @@
 use child_link::{Feed, Link};
 use outside::{Clock, ReadSource, Sink, Source, SystemClock, WriteSink};
 use process_runner::{ProcessSpawner, Spawner};
-use record_journal::{Keeper, MemoryKeeper};
+use record_journal::{FileKeeper, Keeper};
 use scm_listener::{Listener, PortListener};
 use scm_text::{Items, Text};
 use scmd_top::{NoWords, World, scmd_with};
@@ -62,7 +62,7 @@ fn main(rt: HostRuntime) -> ExitCode {
     let world = World {
         input: ReadSource::new(rt.stdin()),
         output: WriteSink::new(rt.stdout()),
-        keeper: MemoryKeeper::new(Vec::new(alloc), Vec::new(alloc)),
+        keeper: FileKeeper::new(alloc, rt),
         admin: PortListener::new(rt),
         user: PortListener::new(rt),
         spawner: ProcessSpawner::new(rt, alloc),
