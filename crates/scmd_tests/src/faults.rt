@@ -1,4 +1,4 @@
-//! What fails outside, how a run then ends, and what it wrote and kept until then.
+//! What stands before a run and what fails outside, how the run then ends, and what it wrote and kept.
 use crate::asking::{Side, side_of, whole};
 use crate::bodies::put_hex;
 use crate::running::{Outside, nobody, run};
@@ -9,10 +9,12 @@ use std::test::*;
 use std::thread::Threads;
 use std::time;
 
-/// A connection where something fails: what it asks; what becomes of its reads, of its writes and
+/// A connection where something stands or fails: the words; what stands in hex; what it asks; what becomes of its reads, of its writes and
 /// of the calls of its keeper, the next one last; the status; the rows whose whole text is written
 /// at the least; and the bytes that are kept, in hex.
 struct Row {
+    words: &'static str,
+    stands: &'static str,
     asked: &'static str,
     reads: &'static [bool],
     writes: &'static [bool],
@@ -23,6 +25,8 @@ struct Row {
 }
 
 const KEEPS_NOTHING: Row = Row {
+    words: "pipe",
+    stands: "",
     asked: "bind\nmanager",
     reads: &[],
     writes: &[],
@@ -67,7 +71,65 @@ const ROWS: &[Row] = &[
         kept: A_AND_B,
         ..KEEPS_NOTHING
     },
+    // What a run keeps under a path is there in the next one; without a path it isn't.
+    Row {
+        words: "pipe --db journal",
+        asked: MAKES_BOTH,
+        told: MAKES_BOTH,
+        kept: A_AND_B,
+        ..KEEPS_NOTHING
+    },
+    Row {
+        words: "pipe --as=admin --db=journal",
+        stands: A_AND_B,
+        asked: FINDS_BOTH,
+        told: FINDS_BOTH,
+        kept: A_AND_B,
+        ..KEEPS_NOTHING
+    },
+    Row {
+        stands: A_AND_B,
+        asked: FINDS_NONE,
+        told: FINDS_NONE,
+        ..KEEPS_NOTHING
+    },
+    // A wrong header is damage, and stays.
+    Row {
+        words: "pipe --db journal",
+        stands: "53434d4b01000000",
+        status: 4,
+        told: "",
+        kept: "53434d4b01000000",
+        ..KEEPS_NOTHING
+    },
+    Row {
+        words: "pipe --db journal",
+        stands: A_AND_B,
+        keeps: &[Fate::Fails { done: 0 }],
+        status: 3,
+        told: "",
+        kept: A_AND_B,
+        ..KEEPS_NOTHING
+    },
 ];
+
+const MAKES_BOTH: &str = "bind
+manager
+| create h1 'A' - own '/a' plain | - h2 0
+| create h1 'B' - own '/a' plain | - h3 0
+";
+
+const FINDS_BOTH: &str = "bind
+manager
+                     | open h1 'B' 4 | h2 0
+stopped, never began | status h2     | 16 1 0 1077 0 0 0 0
+                     | open h1 'A' 4 | h3 0
+";
+
+const FINDS_NONE: &str = "bind
+manager
+| open h1 'A' 4 | h0 1060
+";
 
 const SECOND_APPEND: &str = "bind
 manager
@@ -93,11 +155,14 @@ pub fn copied<T: Copy + Drop>(alloc: Global, items: &[T]) -> Result<Vec<T>, Fail
 }
 
 fn outside_of(alloc: Global, row: &Row, asked: &str) -> Result<Outside, Fail> {
+    let mut stands = Vec::new(alloc);
+    put_hex(alloc, &mut stands, row.stands)?;
     Ok(Outside {
         input: side_of(alloc, "pipe", asked, Side::Asks)?,
         piece: 4096,
         reads: copied(alloc, row.reads)?,
         writes: copied(alloc, row.writes)?,
+        stands,
         keeps: copied(alloc, row.keeps)?,
         admin: nobody(alloc),
         user: nobody(alloc),
@@ -116,7 +181,7 @@ fn holds<R: Threads + Wait + time::Clock + Sync + AllocGlobal>(
     let least = side_of(alloc, "pipe", least.as_str(), Side::Tells)?;
     let mut kept = Vec::new(alloc);
     put_hex(alloc, &mut kept, row.kept)?;
-    let ran = run(rt, "pipe", outside_of(alloc, row, asked.as_str())?)?;
+    let ran = run(rt, row.words, outside_of(alloc, row, asked.as_str())?)?;
     let written = ran.output.bytes();
     Ok(
         ran.status == row.status

@@ -533,6 +533,12 @@ pub const JOBS: &str = "
 || steps 0; services 0
 = 0 serve --take-user=0 --user=65535 --take-admin 4294967295 --admin 1: in another order
 || steps 0; services 0
+= 5 pipe --db: no file
+= 5 pipe --db=: no file
+= 5 pipe --db -a: another option
+= 5 replay --db a --db=a: twice
+= 5 serve --db a: no port
+= 5 generate 1 --db a: a word too many
 = 5 serve: no port
 = 5 serve --admin 135 --take-user 1: one port
 = 5 serve --admin 135 --user: no value

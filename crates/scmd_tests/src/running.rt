@@ -20,6 +20,8 @@ pub struct Outside {
     pub piece: usize,
     pub reads: Vec<bool>,
     pub writes: Vec<bool>,
+    /// What the keeper holds before the run.
+    pub stands: Vec<u8>,
     pub keeps: Vec<Fate>,
     pub admin: MemoryListener,
     pub user: MemoryListener,
@@ -36,6 +38,7 @@ pub fn without_faults(alloc: Global, input: Vec<u8>) -> Outside {
         piece: 4096,
         reads: Vec::new(alloc),
         writes: Vec::new(alloc),
+        stands: Vec::new(alloc),
         keeps: Vec::new(alloc),
         admin: nobody(alloc),
         user: nobody(alloc),
@@ -63,7 +66,7 @@ pub fn run<R: Threads + Wait + time::Clock + Sync + AllocGlobal>(
     let world = World {
         input: MemorySource::in_pieces(outside.input, outside.piece, outside.reads),
         output: MemorySink::new(alloc, outside.writes),
-        keeper: MemoryKeeper::new(Vec::new(alloc), outside.keeps),
+        keeper: MemoryKeeper::new(outside.stands, outside.keeps),
         admin: outside.admin,
         user: outside.user,
         spawner: MemorySpawner::new(alloc, Vec::new(alloc)),
