@@ -88,7 +88,8 @@ where
         → GoesOn (C.tells clock.now) book.now.opening principal
         (standing by.old came (outs_of I.left O.held I.faults O.faults
         workers.old.items) before)
-        (standing by.new (told (N.left listener.new) (N.accepted listener.new) (N.noted listener.new)
+        (standing by.new (told (N.left listener.new) (N.accepted listener.new)
+        (N.noted listener.new)
         (N.listened listener.new) (N.faults listener.new))
         (outs_of I.left O.held I.faults O.faults
         workers.new.items) (before || result)) }
@@ -131,7 +132,8 @@ where
     ensures by { IsOf book.now by.new }
     ensures of { AreOf book.now clock.now workers.new.items }
     ensures next { ServesNext (C.tells clock.now) book.now.opening principal
-        (standing by.old (told (N.left listener.old) (N.accepted listener.old) (N.noted listener.old)
+        (standing by.old (told (N.left listener.old) (N.accepted listener.old)
+        (N.noted listener.old)
         (N.listened listener.old) (N.faults listener.old))
         (outs_of I.left O.held I.faults O.faults
         workers.old.items) is_short)
@@ -187,11 +189,13 @@ where
     ensures by { IsOf book.now by.new }
     ensures of { AreOf book.now clock.now workers.new.items }
     ensures goes { GoesOn (C.tells clock.now) book.now.opening principal
-        (standing by.old (told (N.left listener.old) (N.accepted listener.old) (N.noted listener.old)
+        (standing by.old (told (N.left listener.old) (N.accepted listener.old)
+        (N.noted listener.old)
         (N.listened listener.old) (N.faults listener.old))
         (outs_of I.left O.held I.faults O.faults
         workers.old.items) false)
-        (standing by.new (told (N.left listener.new) (N.accepted listener.new) (N.noted listener.new)
+        (standing by.new (told (N.left listener.new) (N.accepted listener.new)
+        (N.noted listener.new)
         (N.listened listener.new) (N.faults listener.new))
         (outs_of I.left O.held I.faults O.faults
         workers.new.items) result.is_short) }

@@ -249,21 +249,25 @@ where
                 → ServedIn (C.tells clock.entry.now) book.entry.now.opening log
                 (told (N.left admin) (N.accepted admin) (N.noted admin)
                 (N.listened admin) (N.faults admin))
-                (told (N.left result.both.admin) (N.accepted result.both.admin) (N.noted result.both.admin)
+                (told (N.left result.both.admin) (N.accepted result.both.admin)
+                (N.noted result.both.admin)
                 (N.listened result.both.admin) (N.faults result.both.admin))
                 (told (N.left user) (N.accepted user) (N.noted user)
                 (N.listened user) (N.faults user))
-                (told (N.left result.both.user) (N.accepted result.both.user) (N.noted result.both.user)
+                (told (N.left result.both.user) (N.accepted result.both.user)
+                (N.noted result.both.user)
                 (N.listened result.both.user) (N.faults result.both.user))
                 (was_short result.both.end) }
             ensures ends { EndsAll result.both.end
                 (told (N.left admin) (N.accepted admin) (N.noted admin)
                 (N.listened admin) (N.faults admin))
-                (told (N.left result.both.admin) (N.accepted result.both.admin) (N.noted result.both.admin)
+                (told (N.left result.both.admin) (N.accepted result.both.admin)
+                (N.noted result.both.admin)
                 (N.listened result.both.admin) (N.faults result.both.admin))
                 (told (N.left user) (N.accepted user) (N.noted user)
                 (N.listened user) (N.faults user))
-                (told (N.left result.both.user) (N.accepted result.both.user) (N.noted result.both.user)
+                (told (N.left result.both.user) (N.accepted result.both.user)
+                (N.noted result.both.user)
                 (N.listened result.both.user) (N.faults result.both.user)) }
         {
             serve_launching(

@@ -1,5 +1,6 @@
 // A connection's work, begun in a thread of its own.
-ghost use Rattle.std.specs.Prelude.{◌≡◌, ◌≢◌, ◌<◌, ◌∷◌, ◌++◌, [], IfErr, IfOk, OnOk, vec_capacity, vec_len};
+ghost use Rattle.std.specs.Prelude.{◌≡◌, ◌≢◌, ◌<◌, ◌∷◌, ◌++◌, [], IfErr, IfOk, OnOk};
+ghost use Rattle.std.specs.Prelude.{vec_capacity, vec_len};
 ghost use Rattle.scm_book.specs.Passes.{IsOf};
 ghost use Rattle.scm_server.specs.Ports.{told};
 ghost use Rattle.scm_server.specs.Serving.{Continues, OnlyNotes};
@@ -48,7 +49,8 @@ where
     ensures out { IfOk result (λ w. out_at I.left O.held I.faults O.faults w
         ≡ (out_of input.number (I.left input.end)
         (O.held output.end) (I.faults input.end) (O.faults output.end) pass)) }
-    ensures done { IfErr result (λ w. IsDone (C.tells clock.now) book.now (out_of input.number (I.left input.end)
+    ensures done { IfErr result (λ w. IsDone (C.tells clock.now) book.now (out_of input.number
+        (I.left input.end)
         (O.held output.end) (I.faults input.end) (O.faults output.end) pass)
         w.spent (N.tells w.past) w.how) }
 {
@@ -61,7 +63,8 @@ where
     };
     let worker = move || -> Worked<P>
         requires { IsOf book.now pass × (pass.caller ≢ 0) × (input.number ≡ output.number) }
-        ensures { IsDone (C.tells clock.entry.now) book.entry.now (out_of input.number (I.left input.end)
+        ensures { IsDone (C.tells clock.entry.now) book.entry.now (out_of input.number
+            (I.left input.end)
             (O.held output.end) (I.faults input.end) (O.faults output.end) pass)
             result.spent (N.tells result.past) result.how }
     {

@@ -133,13 +133,15 @@ where
                 principals.Admin result.pass.seen
                 (told (N.left admin) (N.accepted admin) (N.noted admin)
                 (N.listened admin) (N.faults admin))
-                (told (N.left result.listener) (N.accepted result.listener) (N.noted result.listener)
+                (told (N.left result.listener) (N.accepted result.listener)
+                (N.noted result.listener)
                 (N.listened result.listener) (N.faults result.listener))
                 (was_short result.end) }
             ensures ends { EndsFor result.end
                 (told (N.left admin) (N.accepted admin) (N.noted admin)
                 (N.listened admin) (N.faults admin))
-                (told (N.left result.listener) (N.accepted result.listener) (N.noted result.listener)
+                (told (N.left result.listener) (N.accepted result.listener)
+                (N.noted result.listener)
                 (N.listened result.listener) (N.faults result.listener)) }
         { serve_port(rt, alloc, book, one, admin, Principal::Admin, clock) },
         move || -> Port<N>
@@ -151,13 +153,15 @@ where
                 principals.User result.pass.seen
                 (told (N.left user) (N.accepted user) (N.noted user)
                 (N.listened user) (N.faults user))
-                (told (N.left result.listener) (N.accepted result.listener) (N.noted result.listener)
+                (told (N.left result.listener) (N.accepted result.listener)
+                (N.noted result.listener)
                 (N.listened result.listener) (N.faults result.listener))
                 (was_short result.end) }
             ensures ends { EndsFor result.end
                 (told (N.left user) (N.accepted user) (N.noted user)
                 (N.listened user) (N.faults user))
-                (told (N.left result.listener) (N.accepted result.listener) (N.noted result.listener)
+                (told (N.left result.listener) (N.accepted result.listener)
+                (N.noted result.listener)
                 (N.listened result.listener) (N.faults result.listener)) }
         { serve_port(rt, alloc, book, pass, user, Principal::User, clock) },
     );

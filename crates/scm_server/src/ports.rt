@@ -138,15 +138,18 @@ where
                 × IsSend N.row × IsSync C.row × IsOf book.now pass }
             ensures book { IsOf book.entry.now result.pass }
             ensures goes { GoesFar book.entry.now.opening pass result.pass }
-            ensures serves { ServesPort (C.tells clock.entry.now) book.entry.now.opening principal result.pass.seen
+            ensures serves { ServesPort
+                (C.tells clock.entry.now) book.entry.now.opening principal result.pass.seen
                 (told (N.left listener) (N.accepted listener) (N.noted listener)
                 (N.listened listener) (N.faults listener))
-                (told (N.left result.listener) (N.accepted result.listener) (N.noted result.listener)
+                (told (N.left result.listener) (N.accepted result.listener)
+                (N.noted result.listener)
                 (N.listened result.listener) (N.faults result.listener)) (was_short result.end) }
             ensures ends { EndsFor result.end
                 (told (N.left listener) (N.accepted listener) (N.noted listener)
                 (N.listened listener) (N.faults listener))
-                (told (N.left result.listener) (N.accepted result.listener) (N.noted result.listener)
+                (told (N.left result.listener) (N.accepted result.listener)
+                (N.noted result.listener)
                 (N.listened result.listener) (N.faults result.listener)) }
         { serve_in(scope, rt, alloc, book, pass, listener, principal, clock) },
     )
