@@ -24,6 +24,10 @@ pub const ERROR_INSUFFICIENT_BUFFER: u32 = 122;
 
 pub const ERROR_INVALID_NAME: u32 = 123;
 
+pub const ERROR_INVALID_LEVEL: u32 = 124;
+
+pub const ERROR_MORE_DATA: u32 = 234;
+
 pub const ERROR_CANTWRITE: u32 = 1013;
 
 pub const ERROR_DEPENDENT_SERVICES_RUNNING: u32 = 1051;
@@ -87,6 +91,40 @@ pub const SERVICE_CONTINUE_PENDING: u32 = 5;
 pub const SERVICE_PAUSE_PENDING: u32 = 6;
 
 pub const SERVICE_PAUSED: u32 = 7;
+
+// States that are asked for, a bit each.
+
+pub const SERVICE_ACTIVE: u32 = 1;
+
+pub const SERVICE_INACTIVE: u32 = 2;
+
+pub const SERVICE_STATE_ALL: u32 = 3;
+
+// Events of which a registration is told, a bit each (`SERVICE_NOTIFY_..`).
+
+pub const SERVICE_NOTIFY_STOPPED: u32 = 0x1;
+
+pub const SERVICE_NOTIFY_START_PENDING: u32 = 0x2;
+
+pub const SERVICE_NOTIFY_STOP_PENDING: u32 = 0x4;
+
+pub const SERVICE_NOTIFY_RUNNING: u32 = 0x8;
+
+pub const SERVICE_NOTIFY_CONTINUE_PENDING: u32 = 0x10;
+
+pub const SERVICE_NOTIFY_PAUSE_PENDING: u32 = 0x20;
+
+pub const SERVICE_NOTIFY_PAUSED: u32 = 0x40;
+
+pub const SERVICE_NOTIFY_CREATED: u32 = 0x80;
+
+pub const SERVICE_NOTIFY_DELETED: u32 = 0x100;
+
+pub const SERVICE_NOTIFY_DELETE_PENDING: u32 = 0x200;
+/// The events of the manager: a service is created, and one leaves.
+pub const NOTIFY_OF_MANAGER: u32 = 0x180;
+/// The events of a service: each state, and that it is marked.
+pub const NOTIFY_OF_SERVICE: u32 = 0x27F;
 
 // Types, start types and error controls of a configuration.
 
@@ -200,9 +238,17 @@ pub const GENERIC_WRITE: u32 = 0x4000_0000;
 
 pub const GENERIC_READ: u32 = 0x8000_0000;
 
+// Levels of what is asked.
+
+/// The one level of `RQueryServiceStatusEx`.
+pub const SC_STATUS_PROCESS_INFO: u32 = 0;
+
 // Ranges of what a request states.
 
-/// The greatest `cbBufSize` of `RQueryServiceConfigW`, in bytes.
+/// The greatest `cbBufSize` of `REnumDependentServicesW` and `REnumServicesStatusW`, in bytes.
+pub const MAX_ENUM_SIZE: u32 = 262144;
+
+/// The greatest `cbBufSize` of `RQueryServiceConfigW` and `RQueryServiceStatusEx`, in bytes.
 pub const MAX_CONFIG_SIZE: u32 = 8192;
 /// The greatest `cbBufSize` of `RQueryServiceLockStatusW`, in bytes.
 pub const MAX_LOCK_STATUS_SIZE: u32 = 4096;
@@ -229,6 +275,10 @@ pub const R_CHANGE_SERVICE_CONFIG_W: u16 = 11;
 
 pub const R_CREATE_SERVICE_W: u16 = 12;
 
+pub const R_ENUM_DEPENDENT_SERVICES_W: u16 = 13;
+
+pub const R_ENUM_SERVICES_STATUS_W: u16 = 14;
+
 pub const R_OPEN_SC_MANAGER_W: u16 = 15;
 
 pub const R_OPEN_SERVICE_W: u16 = 16;
@@ -242,3 +292,11 @@ pub const R_START_SERVICE_W: u16 = 19;
 pub const R_GET_SERVICE_DISPLAY_NAME_W: u16 = 20;
 
 pub const R_GET_SERVICE_KEY_NAME_W: u16 = 21;
+
+pub const R_QUERY_SERVICE_STATUS_EX: u16 = 40;
+
+pub const R_NOTIFY_SERVICE_STATUS_CHANGE: u16 = 47;
+
+pub const R_GET_NOTIFY_RESULTS: u16 = 48;
+
+pub const R_CLOSE_NOTIFY_HANDLE: u16 = 49;
