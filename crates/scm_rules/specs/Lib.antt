@@ -13,6 +13,7 @@ pub mod OtherName
 pub mod Locks
 pub mod Due
 pub mod Start
+pub mod Notify
 pub mod Verdicts
 pub mod Launches
 pub mod Reports
