@@ -10,6 +10,9 @@ pub mod Create
 pub mod Change
 pub mod QueryConfig
 pub mod OtherName
+pub mod EnumDependents
+pub mod EnumServices
+pub mod QueryStatusEx
 pub mod Locks
 pub mod Due
 pub mod Start
