@@ -1,5 +1,5 @@
 -- REnumServicesStatusW: the services, page by page.
-use Rattle.std.specs.Prelude.{◌^◌, ◌-◌, ℕ, Bool, false, not, ◌&&◌, ◌||◌, ◌==◌, bit_and, nat_lt, length, min, List, [], ◌∷◌, Option, None, Some, filter, is_none, option_map, unwrap_or, if◌then◌else◌}
+use Rattle.std.specs.Prelude.{◌^◌, ◌-◌, ℕ, Bool, not, ◌&&◌, ◌||◌, ◌==◌, bit_and, nat_lt, length, min, List, [], ◌∷◌, Option, filter, is_none, option_map, unwrap_or, if◌then◌else◌}
 use Rattle.scm_model.specs.declared.flat.Flat.{Flat}
 use Rattle.scm_model.specs.declared.flat.Service.{Service}
 use Rattle.scm_model.specs.declared.calls.Reply.{Reply}
