@@ -9,6 +9,7 @@ use Rattle.scm_model.specs.Rows.{opened, service_of}
 use Rattle.scm_model.specs.Refused.{answered, first_refusal, Refusals}
 use Rattle.scm_model.specs.Outcomes.{Done}
 use Rattle.scm_model.specs.declared.codes.TheConstants.{ERROR_ACCESS_DENIED, ERROR_INVALID_HANDLE, ERROR_INVALID_PARAMETER, ERROR_MORE_DATA, SERVICE_ACTIVE, SERVICE_ENUMERATE_DEPENDENTS, SERVICE_INACTIVE, SERVICE_STATE_ALL, SERVICE_STOPPED}
+use Rattle.scm_model.specs.Order.{is_cyclic}
 use Rattle.dependency_index.specs.Dependents.{dependents_in}
 use Rattle.service_listing.specs.Layout.{listing_bytes, listing_size}
 use Rattle.scm_rules.specs.Needs.{need_rows}
@@ -31,9 +32,12 @@ are_states states = nat_le 1 states && nat_le states SERVICE_STATE_ALL
 abbrev pub services_of : Flat → List ℕ → List Service
 services_of f numbers = filter_map (service_of f) numbers
 
--- the dependents in the order in which they are stopped, and those of them in the states
+-- the dependents in the order in which they are stopped; none where the needs had a cycle, which those of no state that a run reaches have
+abbrev pub stop_order : Flat → ℕ → List ℕ
+stop_order f target = if is_cyclic (need_rows f.services) then [] else dependents_in (need_rows f.services) target
+
 abbrev pub listed_dependents : Flat → ℕ → ℕ → List Service
-listed_dependents f target states = filter (is_in_states states) (services_of f (dependents_in (need_rows f.services) target))
+listed_dependents f target states = filter (is_in_states states) (services_of f (stop_order f target))
 
 abbrev pub listed_for : Flat → ℕ → Option Opened → List Service
 listed_for f states None = []
