@@ -1,5 +1,5 @@
 -- The service that a handle is of.
-use Rattle.std.proofs.Common.{ℕ, ◌≡◌, ◌==◌, Bool, true, false, cond, List, [], ◌∷◌, Option, None, Some, find, eqb-true, subst, sym, refl}
+use Rattle.std.proofs.Common.{ℕ, ◌≡◌, ◌==◌, true, false, cond, List, [], ◌∷◌, Option, None, Some, find, eqb-true, subst, sym, refl}
 use Rattle.std.specs.Prelude.{option_and_then}
 use Rattle.scm_model.specs.declared.flat.Flat.{Flat}
 use Rattle.scm_model.specs.declared.flat.Opened.{Opened}

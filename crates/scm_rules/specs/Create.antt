@@ -12,6 +12,7 @@ use Rattle.scm_model.specs.declared.steps.Change.{Change}
 use Rattle.scm_model.specs.declared.steps.Change.TheVariants.{Created}
 use Rattle.scm_model.specs.declared.steps.Kept.{Kept}
 use Rattle.scm_model.specs.Rows.{manager_mask, members, named, is_shown, held_by}
+use Rattle.scm_model.specs.Notices.{event_of_creation, with_noted}
 use Rattle.scm_model.specs.Changes.{with_service, with_handle}
 use Rattle.scm_model.specs.Refused.{first_refusal, Refusals, outcome}
 use Rattle.scm_model.specs.Outcomes.{Done}
@@ -113,10 +114,14 @@ create_verdict l f caller new append = first_refusal (create_refusals l f caller
 abbrev pub told_tag : ℕ → Option ℕ → Option ℕ
 told_tag tag asked = option_map (λ number. tag) asked
 
+-- a service more, of which the manager's registrations are told
+abbrev pub with_creation : Flat → Config → Status → Flat
+with_creation f config status = with_noted (with_service f config status) (event_of_creation config.name status)
+
 abbrev pub create_done : Flat → ℕ → NewService → Done
 create_done f caller new = record {
   reply = reply.Made (told_tag (created_config f new).tag new.tag) f.next.handle 0;
-  flat = with_handle (with_service f (created_config f new) (new_status new.kind)) caller (kinds.Service f.next.service) (unwrap_or (service_granted f caller new.access) 0);
+  flat = with_handle (with_creation f (created_config f new) (new_status new.kind)) caller (kinds.Service f.next.service) (unwrap_or (service_granted f caller new.access) 0);
 }
 
 -- the change of a Create that is not refused

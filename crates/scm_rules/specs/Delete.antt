@@ -1,6 +1,8 @@
 -- RDeleteService: a service is marked.
 use Rattle.std.specs.Prelude.{ℕ, Bool, true, false, List, [], ◌∷◌, Option, None, Some, is_none, map, option_map}
 use Rattle.scm_model.specs.declared.flat.Flat.{Flat}
+use Rattle.scm_model.specs.declared.flat.Process.{Process}
+use Rattle.scm_model.specs.declared.flat.Registration.{Registration}
 use Rattle.scm_model.specs.declared.flat.Service.{Service}
 use Rattle.scm_model.specs.declared.steps.Change.{Change}
 use Rattle.scm_model.specs.declared.steps.Change.TheVariants.{Removed}
@@ -8,6 +10,7 @@ use Rattle.scm_model.specs.declared.steps.Kept.{Kept}
 use Rattle.scm_model.specs.declared.steps.Kept.TheVariants as appended
 use Rattle.scm_model.specs.declared.calls.Reply.TheVariants as reply
 use Rattle.scm_model.specs.Found.{if_found}
+use Rattle.scm_model.specs.Notices.{event_of_mark, noted, pid_of}
 use Rattle.scm_model.specs.Rows.{held_service, opened}
 use Rattle.scm_model.specs.Changes.{marked_if}
 use Rattle.scm_model.specs.Refused.{first_refusal, Refusals, outcome}
@@ -46,8 +49,18 @@ delete_verdict f caller handle append = first_refusal (delete_refusals f caller 
 abbrev pub marked_in : Option Service → List Service → List Service
 marked_in = if_found (λ row. map (marked_if row.number))
 
+-- registrations are told of the mark
+abbrev pub told_of_mark : List Process → Option Service → List Registration → List Registration
+told_of_mark processes = if_found (λ row. noted (event_of_mark (pid_of processes row) row))
+
 abbrev pub delete_done : Flat → ℕ → ℕ → Done
-delete_done f caller handle = record { reply = reply.Code 0; flat = record f { services = marked_in (held_service f caller handle) f.services } }
+delete_done f caller handle = record {
+  reply = reply.Code 0;
+  flat = record f {
+    services = marked_in (held_service f caller handle) f.services;
+    registrations = told_of_mark f.processes (held_service f caller handle) f.registrations;
+  };
+}
 
 -- the change that the removal of a service is
 abbrev pub removed : Service → Change

@@ -4,11 +4,13 @@ use Rattle.scm_model.specs.declared.flat.Flat.{Flat}
 use Rattle.scm_model.specs.declared.flat.Phase.{Phase}
 use Rattle.scm_model.specs.declared.flat.Phase.TheVariants as phases
 use Rattle.scm_model.specs.declared.flat.Process.{Process}
+use Rattle.scm_model.specs.declared.flat.Registration.{Registration}
 use Rattle.scm_model.specs.declared.flat.Service.{Service}
 use Rattle.scm_model.specs.declared.flat.Wanted.{Wanted}
 use Rattle.scm_model.specs.declared.steps.Answer.{Answer}
 use Rattle.scm_model.specs.declared.steps.Answer.TheVariants as answer
 use Rattle.scm_model.specs.Found.{if_found}
+use Rattle.scm_model.specs.Notices.{told_of_move}
 use Rattle.scm_model.specs.Outcomes.{Told}
 use Rattle.scm_model.specs.Rows.{service_of}
 use Rattle.start_plan.specs.Decided.{aims_at, decided_in}
@@ -77,8 +79,19 @@ without_process f number = record f {
 abbrev pub fallen_if : ℕ → ℕ → Service → Service
 fallen_if process code row = if row.process == process then record row { status = take_end row.status code; process = 0 } else row
 
+-- the service whose current process this is
+abbrev pub current_of : Flat → ℕ → Option Service
+current_of f process = find (λ (row : Service). row.process == process) f.services
+
+-- registrations are told that a service fell, which has no process any more
+abbrev pub told_of_fall : ℕ → ℕ → Option Service → List Registration → List Registration
+told_of_fall process code = if_found (λ row. told_of_move 0 row (fallen_if process code row))
+
 abbrev pub with_fallen : Flat → ℕ → ℕ → Flat
-with_fallen f process code = record f { services = map (fallen_if process code) f.services }
+with_fallen f process code = record f {
+  services = map (fallen_if process code) f.services;
+  registrations = told_of_fall process code (current_of f process) f.registrations;
+}
 
 -- the undecided plans with this target, if any, are decided
 abbrev pub with_decided : Flat → Option ℕ → ℕ → Flat

@@ -10,9 +10,13 @@ pub mod Create
 pub mod Change
 pub mod QueryConfig
 pub mod OtherName
+pub mod EnumDependents
+pub mod EnumServices
+pub mod QueryStatusEx
 pub mod Locks
 pub mod Due
 pub mod Start
+pub mod Notify
 pub mod Verdicts
 pub mod Launches
 pub mod Reports

@@ -1,26 +1,26 @@
 -- RSetServiceStatus, and what a process tells of its service.
-use Rattle.std.specs.Prelude.{ℕ, Bool, false, not, ◌&&◌, ◌==◌, List, [], ◌∷◌, Option, None, Some, Result, Ok, Err, find, is_none, map, if◌then◌else◌}
+use Rattle.std.specs.Prelude.{ℕ, Bool, false, not, ◌&&◌, ◌==◌, List, [], ◌∷◌, Option, None, Some, Result, Ok, Err, is_none, map, if◌then◌else◌}
 use Rattle.scm_model.specs.declared.flat.Flat.{Flat}
+use Rattle.scm_model.specs.declared.flat.Process.{Process}
+use Rattle.scm_model.specs.declared.flat.Registration.{Registration}
 use Rattle.scm_model.specs.declared.flat.Service.{Service}
 use Rattle.scm_model.specs.declared.flat.Status.{Status}
 use Rattle.scm_model.specs.declared.calls.Reply.TheVariants as reply
 use Rattle.scm_model.specs.declared.steps.Answer.{Answer}
 use Rattle.scm_model.specs.declared.steps.Answer.TheVariants as answer
 use Rattle.scm_model.specs.Found.{if_found}
+use Rattle.scm_model.specs.Notices.{pid_of, told_of_move}
 use Rattle.scm_model.specs.Rows.{held_service, opened}
 use Rattle.scm_model.specs.Refused.{first_refusal, outcome, Refusals}
 use Rattle.scm_model.specs.Outcomes.{Done, Told}
 use Rattle.scm_model.specs.declared.codes.TheConstants.{ERROR_ACCESS_DENIED, ERROR_INVALID_DATA, ERROR_INVALID_HANDLE, SERVICE_SET_STATUS, SERVICE_STOPPED}
 use Rattle.status_machine.specs.Moves.{take_report, takes}
 use Rattle.scm_rules.specs.Launches.{is_launched, process_of}
+pub use Rattle.scm_rules.specs.Launches.{current_of}
 use Rattle.scm_rules.specs.Rights.{lacks}
 use Rattle.scm_model.specs.declared.calls.Request.TheVariants as request
 
 -- ## Reports
-
--- the service whose current process this is
-abbrev pub current_of : Flat → ℕ → Option Service
-current_of f process = find (λ (row : Service). row.process == process) f.services
 
 -- a service that is STOPPED has no process any more
 abbrev pub process_in_state : ℕ → ℕ → ℕ
@@ -34,9 +34,17 @@ moved_by row (Err code) = row
 abbrev pub reported_if : ℕ → Status → Service → Service
 reported_if process report row = if row.process == process then moved_by row (take_report row.status report) else row
 
+-- registrations are told of the state that a report brings a service to
+abbrev pub told_of_report : List Process → Status → Option Service → List Registration → List Registration
+told_of_report processes report =
+    if_found (λ row. told_of_move (pid_of processes (reported_if row.process report row)) row (reported_if row.process report row))
+
 -- the service whose current process this is takes the report
 abbrev pub with_report : Flat → ℕ → Status → Flat
-with_report f process report = record f { services = map (reported_if process report) f.services }
+with_report f process report = record f {
+  services = map (reported_if process report) f.services;
+  registrations = told_of_report f.processes report (current_of f process) f.registrations;
+}
 
 -- how a report of the current process is answered
 abbrev pub report_answer : Result Status ℕ → Answer
@@ -73,7 +81,13 @@ abbrev pub reported_in : Status → Option Service → List Service → List Ser
 reported_in report = if_found (λ row. map (reported_if row.process report))
 
 abbrev pub set_status_done : Flat → ℕ → ℕ → Status → Done
-set_status_done f caller handle report = record { reply = reply.Code 0; flat = record f { services = reported_in report (held_service f caller handle) f.services } }
+set_status_done f caller handle report = record {
+  reply = reply.Code 0;
+  flat = record f {
+    services = reported_in report (held_service f caller handle) f.services;
+    registrations = told_of_report f.processes report (held_service f caller handle) f.registrations;
+  };
+}
 
 abbrev pub set_status_outcome : Flat → ℕ → ℕ → Status → Done
 set_status_outcome f caller handle report =

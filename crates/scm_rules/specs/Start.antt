@@ -1,5 +1,5 @@
 -- RStartServiceW: a plan to start a service after what it needs.
-use Rattle.std.specs.Prelude.{ℕ, Bool, true, false, not, ◌||◌, ◌&&◌, ◌==◌, ◌+◌, ◌-◌, ◌^◌, ◌++◌, min, List, [], ◌∷◌, Option, None, Some, is_none, is_some, unwrap_or, if◌then◌else◌}
+use Rattle.std.specs.Prelude.{ℕ, Bool, true, false, not, ◌||◌, ◌&&◌, ◌==◌, ◌+◌, ◌-◌, ◌^◌, ◌++◌, min, List, [], ◌∷◌, Option, None, Some, is_none, is_some, unwrap_or}
 use Rattle.std.specs.List.{list_any}
 use Rattle.std.specs.Char.Utf16.{has_unpaired_surrogate}
 use Rattle.scm_model.specs.declared.flat.DueKind.TheVariants as dues

@@ -37,6 +37,12 @@ pub record AreNumbered {A : Type 0} (number : A → ℕ) (next : ℕ) (rows : Li
   pub below : All (λ row. number row < next) rows
   pub rising : AllPairs (λ a b. number a < number b) rows
 
+-- numbers are at least 1, no two are the same, and they lie below the next one
+pub record AreApart {A : Type 0} (number : A → ℕ) (next : ℕ) (rows : List A) : Type 0 where
+  pub positive : All (λ row. 1 ≤ number row) rows
+  pub below : All (λ row. number row < next) rows
+  pub apart : AllPairs (λ a b. (number a == number b) ≡ false) rows
+
 -- ## Handles
 
 -- handles of the lock and of registrations have no rights
@@ -101,6 +107,12 @@ HasShortWord row = row.command ≡ true → IsShortWord row.words
 abbrev pub dues_of : ℕ → List Due → List Due
 dues_of service rows = filter (λ (due : Due). is_due_of service due.kind) rows
 
+-- ## Registrations
+
+-- what a registration was told is of a service whose name has at most 256 units
+abbrev pub HasShortName : Registration → Type 0
+HasShortName row = length row.name ≤ 256
+
 -- ## States
 
 pub record IsValid (l : Limits) (f : Flat) : Type 0 where
@@ -109,7 +121,7 @@ pub record IsValid (l : Limits) (f : Flat) : Type 0 where
   pub handles : AreNumbered (λ (row : HandleRow). row.number) f.next.handle f.handles
   pub processes : AreNumbered (λ (row : Process). row.number) f.next.process f.processes
   pub plans : AreNumbered (λ (row : Plan). row.number) f.next.plan f.plans
-  pub registrations : AreNumbered (λ (row : Registration). row.number) f.next.registration f.registrations
+  pub registrations : AreApart (λ (row : Registration). row.number) f.next.registration f.registrations
   pub dues : AreNumbered (λ (row : Due). row.number) f.next.due f.dues
   pub callers : AreNumbered (λ (row : Caller). row.number) f.next.caller f.callers
   -- no two services share a name or a display name, each has a configuration that is accepted, and is STOPPED exactly where it has no
@@ -135,9 +147,10 @@ pub record IsValid (l : Limits) (f : Flat) : Type 0 where
   pub locks : All (λ (row : HandleRow). is_lock row.kind ≡ is_held_by row.number f.lock) f.handles
   pub holder : IfSome f.lock (λ lock. IsTrue (list_any (λ (row : HandleRow). row.number == lock.handle) f.handles))
   pub masks : All (λ (row : HandleRow). HasPlainMask row.kind row.granted) f.handles
-  -- commands have their one word, registrations are of callers, and each service has one row at most that becomes due
+  -- commands have their one word, registrations are of callers and were told of short names, and each service has one row at most that becomes due
   pub commands : All HasShortWord f.wanted
   pub registered : All (λ (row : Registration). IsTrue (is_caller f row.caller)) f.registrations
+  pub told : All HasShortName f.registrations
   pub due_once : (service : ℕ) → length (dues_of service f.dues) ≤ 1
   -- no plan goes on by itself, and nobody is to leave
   pub settled : settled l f ≡ f

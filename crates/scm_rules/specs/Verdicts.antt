@@ -22,6 +22,10 @@ use Rattle.scm_rules.specs.Locks.{lock_verdict, lock_done, unlock_verdict, unloc
 use Rattle.scm_rules.specs.Reports.{set_status_verdict, set_status_done}
 use Rattle.scm_rules.specs.Start.{start_verdict, start_done}
 use Rattle.scm_rules.specs.OtherName.{display_by_name, name_by_display, other_name_verdict, other_name_told, other_name_done}
+use Rattle.scm_rules.specs.Notify.{notify_verdict, notify_done, notice_verdict, get_notify_done, close_notify_done}
+use Rattle.scm_rules.specs.EnumDependents.{enum_dependents_verdict, enum_dependents_told, enum_dependents_done}
+use Rattle.scm_rules.specs.EnumServices.{enum_services_verdict, enum_services_told, enum_services_done}
+use Rattle.scm_rules.specs.QueryStatusEx.{query_ex_verdict, query_ex_told, query_ex_done}
 use Rattle.scm_rules.specs.Close.{close_verdict, close_done}
 use Rattle.scm_rules.specs.OpenManager.{open_manager_verdict, open_manager_done}
 use Rattle.scm_rules.specs.OpenService.{open_service_verdict, open_service_done}
@@ -44,14 +48,23 @@ verdict l f caller (request.QueryLock handle size) append = query_lock_verdict f
 verdict l f caller (request.Start handle words) append = start_verdict f caller handle words
 verdict l f caller (request.DisplayName handle name size) append = other_name_verdict f caller handle size (display_by_name f name)
 verdict l f caller (request.KeyName handle name size) append = other_name_verdict f caller handle size (name_by_display f name)
+verdict l f caller (request.Notify handle mask) append = notify_verdict l f caller handle mask
+verdict l f caller (request.GetNotify handle) append = notice_verdict f caller handle
+verdict l f caller (request.CloseNotify handle) append = notice_verdict f caller handle
+verdict l f caller (request.EnumDependents handle states size) append = enum_dependents_verdict f caller handle states size
+verdict l f caller (request.EnumServices handle kinds states size resume) append = enum_services_verdict f caller handle kinds states size resume
+verdict l f caller (request.QueryStatusEx handle level size) append = query_ex_verdict f caller handle level size
 
--- what a call is told that is refused: where a size is too small, how much is needed; how a service stands that gets no control now
+-- what a call is told that is refused: where a size is too small, how much is needed, and what of a page there is room for; how a service stands that gets no control now
 abbrev pub told_refused : Flat → ℕ → Request → ℕ → Reply
 told_refused f caller (request.Control handle control) code = control_told f caller handle code
 told_refused f caller (request.QueryConfig handle size) code = query_config_told f caller handle code
 told_refused f caller (request.QueryLock handle size) code = query_lock_told f code
 told_refused f caller (request.DisplayName handle name size) code = other_name_told (display_by_name f name) code
 told_refused f caller (request.KeyName handle name size) code = other_name_told (name_by_display f name) code
+told_refused f caller (request.EnumDependents handle states size) code = enum_dependents_told f caller handle states size code
+told_refused f caller (request.EnumServices handle kinds states size resume) code = enum_services_told f kinds states size resume code
+told_refused f caller (request.QueryStatusEx handle level size) code = query_ex_told size code
 told_refused f caller asked code = refused asked code
 
 -- the reply and the state of a call that is not refused
@@ -72,6 +85,12 @@ done_of l f caller (request.QueryLock handle size) = query_lock_done f
 done_of l f caller (request.Start handle words) = start_done f caller handle words
 done_of l f caller (request.DisplayName handle name size) = other_name_done f (display_by_name f name)
 done_of l f caller (request.KeyName handle name size) = other_name_done f (name_by_display f name)
+done_of l f caller (request.Notify handle mask) = notify_done f caller handle mask
+done_of l f caller (request.GetNotify handle) = get_notify_done f caller handle
+done_of l f caller (request.CloseNotify handle) = close_notify_done f caller handle
+done_of l f caller (request.EnumDependents handle states size) = enum_dependents_done f caller handle states size
+done_of l f caller (request.EnumServices handle kinds states size resume) = enum_services_done f kinds states size resume
+done_of l f caller (request.QueryStatusEx handle level size) = query_ex_done f caller handle size
 
 -- the reply and the state of a call
 abbrev pub call_of : Limits → Flat → ℕ → Request → Kept → Done

@@ -29,8 +29,16 @@
 //!   and a code
 //! - `display`, `key`: manager, name, size; they are told the other name, its size, a code
 //! - `start`: service, count of words, words; it is told a code, as are `delete` and `set`
+//! - `services`: manager, types, states, size, and where it begins; it is told a count of bytes and
+//!   the bytes, the size that is needed, how many services these are, where the next page begins, a
+//!   code. `dependents`: service, states, size; it is told the same without the beginning. In the
+//!   bytes a service is where its name and its display name stand, and its status
+//! - `process`: service, level, size; it is told a count of bytes and the bytes, the size that is
+//!   needed, a code. The bytes are a status, the system's number of the process, and flags
+//! - `watch`: manager or service, events; it is told a handle and a code. `event`: this handle; it
+//!   is told the event, a status as in `process`, a name, a code
 
-pub const CALLS: [(&str, u16); 16] = [
+pub const CALLS: [(&str, u16); 22] = [
     ("close", 0),
     ("control", 1),
     ("delete", 2),
@@ -40,6 +48,8 @@ pub const CALLS: [(&str, u16); 16] = [
     ("unlock", 8),
     ("change", 11),
     ("create", 12),
+    ("dependents", 13),
+    ("services", 14),
     ("manager", 15),
     ("open", 16),
     ("config", 17),
@@ -47,6 +57,10 @@ pub const CALLS: [(&str, u16); 16] = [
     ("start", 19),
     ("display", 20),
     ("key", 21),
+    ("process", 40),
+    ("watch", 47),
+    ("event", 48),
+    ("unwatch", 49),
 ];
 
 pub const NAMED: [(&str, &str); 10] = [
@@ -224,9 +238,71 @@ bind
 = 0 pipe: faults
 bind
 a call that there is not        | 9                             | fault #1C010002
-a call that is not served yet   | 14 h1 0 0 0 0                 | fault #1C010002
+a call that is not served yet   | 37 h1 0 0 0 0                 | fault #1C010002
                                 | manager - - 0                 | h1 0
 a name whose last unit is not 0 | open h1 3 0 3 x440062000100 4 | fault #6F7
+= 0 pipe: services, page by page
+bind
+manager
+        | create h1 'A' - own '/bin/a' plain | - h2 0
+        | create h1 'B' - own '/bin/b' plain | - h3 0
+the first page  | services h1 #30 3 44 * 0 | 44 36 40 16 1 0 1077 0 0 0 x4100000041000000 44 1 * 1 234
+the second      | services h1 #30 3 44 * 1 | 44 36 40 16 1 0 1077 0 0 0 x4200000042000000 0 1 * 0 0
+room for both   | services h1 #30 3 88 - | 88 72 76 16 1 0 1077 0 0 0 80 84 16 1 0 1077 0 0 0 x41000000410000004200000042000000 0 2 - 0
+a byte less     | services h1 #30 3 87 - | 87 36 40 16 1 0 1077 0 0 0 x4100000041000000 x00^43 44 1 - 234
+no room         | services h1 #30 3 0 * 0 | 0 88 0 * 0 234
+of another type | services h1 #20 3 8 * 1 | 8 x00^8 0 0 * 0 0
+none is active  | services h1 #10 1 8 - | 8 x00^8 0 0 - 0
+of no type      | services h1 0 3 8 * 7 | 8 x00^8 0 0 * 7 87
+in no state     | services h1 #10 4 8 - | 8 x00^8 0 0 - 87
+of a service    | services h2 #10 3 8 - | 8 x00^8 0 0 - 6
+the size is out of its range | services h1 #30 3 262145 - | fault #6F7
+= 0 pipe: dependents, the last one first
+bind
+manager
+        | create h1 'A' - own '/bin/a' plain | - h2 0
+B needs A | create h1 'B' - own '/bin/b' - - * [A] 6 - - 0 | - h3 0
+C needs B | create h1 'C' - own '/bin/c' - - * [B] 6 - - 0 | - h4 0
+both            | dependents h2 3 88 | 88 72 76 16 1 0 1077 0 0 0 80 84 16 1 0 1077 0 0 0 x43000000430000004200000042000000 0 2 0
+a byte too few  | dependents h2 3 87 | 87 x00^87 88 0 234
+no room         | dependents h2 3 0  | 0 88 0 234
+none is active  | dependents h2 1 0  | 0 0 0 0
+in no state     | dependents h2 0 8  | 8 x00^8 0 0 87
+of C            | dependents h4 3 0  | 0 0 0 0
+of the manager  | dependents h1 3 0  | 0 0 0 6
+= 0 pipe: a status with its process
+bind
+manager
+                    | create h1 'A' - own '/bin/a' plain | - h2 0
+another level       | process h2 1 36 | 36 x00^36 0 124
+a byte too few      | process h2 0 35 | 35 x00^35 36 122
+no process          | process h2 0 36 | 36 16 1 0 1077 0 0 0 0 0 0 0
+more room           | process h2 0 40 | 40 16 1 0 1077 0 0 0 0 0 x00^4 0 0
+of the manager      | process h1 0 36 | 36 x00^36 0 6
+out of its range    | process h2 0 8193 | fault #6F7
+= 0 pipe: what can be watched
+bind
+manager
+                        | create h1 'A' - own '/bin/a' plain | - h2 0
+the manager marks none  | watch h1 #200 | h0 87
+a service creates none  | watch h2 #80  | h0 87
+nothing                 | watch h2 0    | h0 87
+a handle that there is not | watch h9 1 | h0 6
+the present state       | watch h2 1    | h3 0
+is told at once         | event h3      | 1 16 1 0 1077 0 0 0 0 0 * 'A' 0
+and once                | event h3      | 0 0 0 0 0 0 0 0 0 0 - 0
+a creation              | watch h1 #80  | h4 0
+no event yet            | event h4      | 0 0 0 0 0 0 0 0 0 0 - 0
+B is created            | create h1 'B' - own '/bin/b' plain | - h5 0
+                        | event h4      | #80 16 1 0 1077 0 0 0 0 0 * 'B' 0
+a mark                  | watch h2 #200 | h6 0
+A is marked             | delete h2     | 0
+                        | event h6      | #200 16 1 0 1077 0 0 0 0 0 * 'A' 0
+no service that leaves  | watch h2 1    | h0 1072
+it is no handle of these | close h6     | h6 6
+it leaves               | unwatch h6    | h0 0
+and is there no more    | event h6      | 0 0 0 0 0 0 0 0 0 0 - 6
+                        | unwatch h6    | h6 6
 = 0 pipe: a handle that there is not
 bind
                            | manager - - 0 | h1 0
@@ -419,6 +495,35 @@ A's process ends       | ended 2                                       | done
 B is stopped           | call 1 control h2 1                           | reply 16 4 1 0 0 0 0 0
                        | control 1; control 1                          | control 1; empty
 A stopped with no stop | call 1 status h3                              | reply 16 1 0 1067 0 0 0 0
+= 0 replay: a marked service leaves with its last handle
+administrator
+A
+another caller       | join admin; call 2 manager - - #F003F | caller 2; reply h3 0
+                     | call 2 open h3 'A' #F01FF             | reply h4 0
+one waits for it     | call 1 watch h1 #180                  | reply h5 0
+A is deleted         | call 1 delete h2; call 1 close h2     | reply 0; reply h0 0
+and is listed        | call 1 services h1 #30 3 44 - | reply 44 36 40 16 1 0 1077 0 0 0 x4100000041000000 0 1 - 0
+                     | call 1 event h5 | reply 0 0 0 0 0 0 0 0 0 0 - 0
+its last handle goes | gone 2          | done
+and A with it        | call 1 services h1 #30 3 44 - | reply 44 x00^44 0 0 - 0
+which is told        | call 1 event h5 | reply #100 16 1 0 1077 0 0 0 0 0 * 'A' 0
+= 0 replay: events of a service that runs
+administrator
+A
+two wait for its start   | call 1 watch h2 #A; call 1 watch h2 #A | reply h3 0; reply h4 0
+runs
+one has it               | call 1 event h3 | reply 2 16 2 0 0 0 0 0 0 0 * 'A' 0
+and nothing more         | call 1 event h3 | reply 0 0 0 0 0 0 0 0 0 0 - 0
+the other has the first  | call 1 event h4 | reply 2 16 2 0 0 0 0 0 0 0 * 'A' 0
+RUNNING is told at once  | call 1 watch h2 8 | reply h5 0
+                         | call 1 event h5   | reply 8 16 4 1 0 0 0 0 101 0 * 'A' 0
+and once                 | call 1 event h5   | reply 0 0 0 0 0 0 0 0 0 0 - 0
+its process is told      | call 1 process h2 0 36 | reply 36 16 4 1 0 0 0 0 101 0 0 0
+it is active             | call 1 services h1 #10 1 44 - | reply 44 36 40 16 4 1 0 0 0 0 x4100000041000000 0 1 - 0
+a pause and a stop       | call 1 watch h2 #44; call 1 watch h2 1 | reply h6 0; reply h7 0
+the same state again     | report 1 16 4 3 0 0 0 0; call 1 event h6 | done; reply 0 0 0 0 0 0 0 0 0 0 - 0
+it pauses                | report 1 16 7 3 0 0 0 0; call 1 event h6 | done; reply #40 16 7 3 0 0 0 0 101 0 * 'A' 0
+its process ends         | ended 1; call 1 event h7 | done; reply 1 16 1 0 1067 0 0 0 0 0 * 'A' 0
 = 0 replay: an old process stops no new run
 administrator
 A

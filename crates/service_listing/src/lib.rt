@@ -1,0 +1,2 @@
+//! Services as the bytes of a listing.
+#![tactic(auto)]
