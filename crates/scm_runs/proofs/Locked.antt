@@ -15,7 +15,6 @@ use Rattle.database_lock.specs.Locking.{is_held_by, locked, unlocked}
 use Rattle.scm_rules.specs.Close.{closes}
 use Rattle.scm_runs.proofs.Lists.{any_filter, found_has, found_owns, found_passes, none_found}
 use Rattle.std.proofs.lemmas.Bool.{and_parts}
-use Rattle.scm_model.specs.declared.flat.HandleKind.TheVariants.{Notify}
 use Rattle.scm_rules.specs.Notify.{notify_at, notify_by}
 
 -- a handle is the lock's exactly where it holds the lock
