@@ -13,7 +13,7 @@ use Rattle.scm_rules.specs.Launches.{first_wanted, path_in, service_of_process}
 use Rattle.scm_tables.specs.Lines.{first_line}
 use Rattle.scm_tables.specs.declared.process_rows.ProcessRow.{ProcessRow}
 use Rattle.scm_tables.specs.Listed.{is_wanted_row, process_shown, processes_in, wanted_in, wanted_of, without_words, words_in}
-use Rattle.scm_tables.specs.Inside.{HasShortPath}
+use Rattle.scm_tables.specs.Tabled.{HasShort}
 
 -- a row without its words
 abbrev pub emptied : ProcessRow → ProcessRow
@@ -77,9 +77,9 @@ found_has P p (row ∷ rows) all =
     elim (p row) as (λ b. IfSome (cond b (Some row) (find p rows)) P)
     [ true ↦ all zero row (omega arith) | false ↦ found_has P p rows (λ k d lt. all (suc k) d (omega (arith, lt))) ]
 
-pub short_with : (f : Flat) (service : Option ℕ) → All HasShortPath f.services → IfSome (option_and_then (service_of f) service) HasShortPath
+pub short_with : (f : Flat) (service : Option ℕ) → All HasShort f.services → IfSome (option_and_then (service_of f) service) HasShort
 short_with f None all = tt
-short_with f (Some number) all = found_has HasShortPath (λ (row : Service). row.number == number) f.services all
+short_with f (Some number) all = found_has HasShort (λ (row : Service). row.number == number) f.services all
 
 -- ## Lines
 
