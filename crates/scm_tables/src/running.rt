@@ -5,8 +5,8 @@ ghost use Rattle.scm_rules.specs.Launches.{current_of, is_launched, process_of};
 ghost use Rattle.scm_rules.specs.Reports.{with_report};
 ghost use Rattle.scm_tables.specs.Noticed.{with_report_of};
 
-use super::process_rows::{control_in, first_control_in, is_running_in, relieve_in, waiting_in};
 use super::noticing::note_report;
+use super::process_rows::{control_in, first_control_in, is_running_in, relieve_in, waiting_in};
 use super::service_rows::{active_in, current_in, report_in, row_with};
 use super::tables::Tables;
 use scm_model::{Service, Status, zero_status};

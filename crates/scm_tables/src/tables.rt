@@ -25,8 +25,8 @@ use database_lock::DatabaseLock;
 use notify_queue::NotifyQueue;
 use scm_model::codes::SERVICE_NOTIFY_CREATED;
 use scm_model::{
-    Caller, Config, Due, HandleKind, HandleRow, Limits, LockRow, Next, Opened, Principal,
-    Service, Status,
+    Caller, Config, Due, HandleKind, HandleRow, Limits, LockRow, Next, Opened, Principal, Service,
+    Status,
 };
 use scm_text::{Buffer, Items, OutOfMemory, WText};
 use start_plan::Plans;
@@ -449,12 +449,7 @@ impl Tables {
         ensures others { self.new.spare.handles ≡ self.old.spare.handles }
         ensures limits { self.new.limits ≡ self.old.limits }
     {
-        self.registrations.note(
-            0,
-            SERVICE_NOTIFY_CREATED,
-            with_pid(status, 0),
-            &config.name,
-        );
+        self.registrations.note(0, SERVICE_NOTIFY_CREATED, with_pid(status, 0), &config.name);
         self.put_service(config, status)
     }
 

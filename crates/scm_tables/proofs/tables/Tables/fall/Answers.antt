@@ -1,8 +1,16 @@
+use Rattle.std.proofs.Common.{◌==◌}
+use Rattle.scm_model.specs.declared.flat.Service.{Service}
 use Rattle.scm_rules.specs.Launches.{fallen_if}
 use Rattle.scm_rules.proofs.Needed.{same_graph}
+use Rattle.scm_tables.specs.Tabled.{HasShort}
 use Rattle.scm_tables.proofs.Keeping.{fallen_number, fallen_needs, fallen_config, texts_map}
 use Rattle.scm_tables.proofs.Rising.{rising_map}
+use Rattle.scm_tables.proofs.Wording.{found_has}
 use Rattle.scm_tables.proofs.tables.Tables.fall.Goals as goal
+
+pub note_fall-requires : goal.note_fall-requires
+note_fall-requires c =
+    rw (c.current_in.ensures, c.as_slice.ensures.value) (found_has HasShort (λ (row : Service). row.process == c.args.process) c.self.inside.services.items c.self.invariant.texts)
 
 pub invariant_of-self : goal.invariant_of-self
 invariant_of-self c =

@@ -1,8 +1,16 @@
+use Rattle.std.proofs.Common.{◌==◌, refl}
+use Rattle.scm_model.specs.declared.flat.Service.{Service}
 use Rattle.scm_rules.specs.Reports.{reported_if}
 use Rattle.scm_rules.proofs.Needed.{same_graph}
-use Rattle.scm_tables.proofs.Keeping.{texts_map, reported_needs, reported_number, reported_config}
+use Rattle.scm_tables.specs.Tabled.{HasShort}
+use Rattle.scm_tables.proofs.Keeping.{reported_config, reported_needs, reported_number, texts_map}
 use Rattle.scm_tables.proofs.Rising.{rising_map}
+use Rattle.scm_tables.proofs.Wording.{found_has}
 use Rattle.scm_tables.proofs.tables.Tables.report.Goals as goal
+
+pub note_report-requires : goal.note_report-requires
+note_report-requires c =
+    rw (c.current_in.ensures, c.as_slice.ensures.value) (found_has HasShort (λ (row : Service). row.process == c.args.process) c.self.inside.services.items c.self.invariant.texts)
 
 pub invariant_of-self : goal.invariant_of-self
 invariant_of-self c =
@@ -15,3 +23,7 @@ invariant_of-self c =
       plans = kept.plans;
       untried = kept.untried;
     }
+
+pub returns-clause-flat : goal.returns-clause-flat
+returns-clause-flat c =
+    rw (← c.self.view_is, c.report_in.ensures, c.note_report.ensures.rows, c.current_in.ensures, c.as_slice.ensures.value, c.as_slice-2.ensures.value) refl
