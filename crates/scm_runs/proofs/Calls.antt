@@ -1,6 +1,6 @@
 -- Each step keeps what is true of every state.
-use Rattle.std.proofs.Common.{ℕ, ◌≡◌, ◌<◌, ◌==◌, ◌||◌, Bool, true, false, not, cond, IsTrue, List, [], ◌∷◌, Option, None, Some, find, map, refl, subst, eq-eqb, eqb-true}
-use Rattle.std.specs.Prelude.{All, is_none, option_map, unwrap_or}
+use Rattle.std.proofs.Common.{ℕ, ◌≡◌, ◌<◌, ◌==◌, ◌||◌, Bool, true, false, not, cond, IsTrue, List, [], ◌∷◌, Option, None, Some, map, refl, subst, eq-eqb, eqb-true, arith}
+use Rattle.std.specs.Prelude.{All, is_none, unwrap_or}
 use Rattle.std.proofs.lemmas.List.Elements.{All-weaker}
 use Rattle.scm_text.specs.Fold.{same_text}
 use Rattle.scm_model.specs.declared.flat.Config.{Config}
@@ -20,8 +20,8 @@ use Rattle.scm_model.specs.declared.steps.Kept.{Kept}
 use Rattle.scm_model.specs.declared.steps.Step.{Step}
 use Rattle.scm_model.specs.declared.steps.Step.TheVariants.{Joined, Call, EndStart, LaunchTaken, Launched, LaunchFailed, Report, Ended, ControlTaken, Tick, Gone, NoMemory}
 use Rattle.scm_model.specs.Refused.{answered, first_refusal}
-use Rattle.scm_model.specs.Rows.{handle_of, is_caller, manager_mask, opened, principal_of, held_service, service_of}
-use Rattle.scm_model.specs.Changes.{configured_if, with_moment, with_service, marked_if, with_config}
+use Rattle.scm_model.specs.Rows.{handle_of, is_caller, manager_mask, principal_of, held_service, service_of}
+use Rattle.scm_model.specs.Changes.{configured_if, with_moment, with_service, with_config, with_mark}
 use Rattle.scm_model.specs.Outcomes.{Done}
 use Rattle.service_record.specs.Checks.{check_new, has_bad_names, has_bad_numbers, has_bad_texts, has_bad_lists, is_bad_account}
 use Rattle.scm_rules.specs.Change.{change_done, change_refusals, change_verdict, checked, loops, new_config, tags_no_group, takes_name}
@@ -29,12 +29,12 @@ use Rattle.scm_rules.specs.Close.{close_refusals}
 use Rattle.scm_rules.specs.Launches.{is_launched, process_of}
 use Rattle.scm_rules.specs.Locks.{lock_refusals}
 use Rattle.scm_rules.specs.Needs.{are_unreadable, makes_cycle, start_order}
-use Rattle.scm_rules.specs.Reports.{may_report, set_status_refusals, set_status_verdict, reported_if}
+use Rattle.scm_rules.specs.Reports.{may_report, set_status_refusals, set_status_verdict, reported_in, told_of_report}
 use Rattle.scm_rules.specs.Start.{start_done, start_refusals, start_verdict, is_aimed_at}
-use Rattle.start_plan.specs.Decided.{code_of, is_target}
+use Rattle.start_plan.specs.Decided.{code_of}
 use Rattle.scm_model.specs.Ready.{state_in}
 use Rattle.start_plan.specs.Settle.{settled}
-use Rattle.scm_rules.specs.Create.{created_config, create_refusals, create_verdict, new_status, tags_nothing}
+use Rattle.scm_rules.specs.Create.{created_config, create_refusals, create_verdict, new_status, tags_nothing, with_creation}
 use Rattle.scm_rules.specs.OpenManager.{open_manager_refusals}
 use Rattle.scm_rules.specs.OpenService.{open_service_refusals, service_granted}
 use Rattle.scm_rules.specs.Rights.{manager_lacks}
@@ -42,20 +42,28 @@ use Rattle.scm_rules.specs.Steps.{at_moment, effect_of, finished, finished_step,
 use Rattle.scm_rules.specs.Verdicts.{call_of, done_of, verdict}
 use Rattle.scm_runs.proofs.Along.{Keeps}
 use Rattle.scm_runs.proofs.Configured.{configured}
-use Rattle.scm_runs.proofs.Lists.{found_has, found_passes, none_found, none_any}
-use Rattle.scm_runs.proofs.Locked.{not_unlocked}
+use Rattle.scm_runs.proofs.Lists.{found_has, none_found, none_any}
+use Rattle.scm_runs.proofs.Locked.{not_unlocked, closes_another, notify_another}
 use Rattle.scm_runs.proofs.Masks.{granted_within}
 use Rattle.scm_rules.proofs.Needed.{rows_added, rows_configured, tested}
 use Rattle.scm_runs.proofs.Ordered.{order_below}
 use Rattle.scm_runs.proofs.Settling.{settles}
-use Rattle.scm_runs.proofs.Sound.{Sound, moved, joined, left, handed, taken, given_back, closed, added, marked, cleared, planned, over, due, in_hand, running, not_running, reported, no_more, control_waits, control_sent}
+use Rattle.scm_runs.proofs.Sound.{Sound, moved, joined, left, handed, taken, given_back, closed, added, marked, cleared, planned, over, due, in_hand, running, not_running, reported, no_more, control_waits, control_sent, are_named, retold, watching, reported_by, told}
 use Rattle.std.proofs.lemmas.Bool.{or_parts, not-false, and_parts}
 use Rattle.scm_model.proofs.Found.{found_keeps}
-use Rattle.scm_runs.proofs.Founds.{opened_keeps, started_keeps, IsHeld, stopped_there}
+use Rattle.scm_runs.proofs.Founds.{opened_keeps, started_keeps, IsHeld, stopped_there, found_all, notify_keeps}
 use Rattle.scm_rules.specs.Controls.{controlled_if}
 use Rattle.scm_model.specs.declared.flat.Process.{Process}
 use Rattle.status_machine.specs.Moves.{takes}
 use Rattle.scm_rules.proofs.Held.{held_is}
+use Rattle.scm_runs.proofs.Told.{IsNamed, mark_tells, notified_or, creation_proper}
+use Rattle.scm_model.specs.declared.flat.Opened.{Opened}
+use Rattle.scm_model.specs.declared.flat.Registration.{Registration}
+use Rattle.scm_model.specs.Notices.{with_registration, new_registration, notified, event_of_state, pid_of, without_registration}
+use Rattle.scm_rules.specs.Notify.{told_at_once, notify_of, notice_refusals}
+use Rattle.scm_rules.specs.Delete.{marked_in, told_of_mark}
+use Rattle.scm_runs.proofs.Registered.{AreRegistered, IsOfCaller, events_keep, result_taken, fewer_registered}
+use Rattle.scm_rules.specs.Valid.{HasShortName}
 
 -- ## A verdict of 0
 
@@ -155,30 +163,56 @@ set_status_runs f caller handle report row is e =
     let p = all_pass (set_status_refusals f caller handle report) (refl, (refl, (refl, tt))) e in
     (and_parts (is_launched (process_of f row.process)) (takes row.status report) (subst (λ found. may_report f found report ≡ true) is (not-false _ p.1.1.0))).0
 
+-- ## Registrations
+
+-- the service that a handle is of has a number and a short name
+held_named : (f : Flat) (caller handle : ℕ) (row : Service) → Sound f → held_service f caller handle ≡ Some row → IsNamed row
+held_named f caller handle row s is = found_has IsNamed (λ (r : Service). r.number == row.number) row f.services (are_named f s) (held_is f caller handle row is)
+
+-- the registration that a Notify makes
+abbrev watching_row : Flat → ℕ → ℕ → ℕ → Opened → Registration
+watching_row f caller handle mask of = told_at_once f (held_service f caller handle) (new_registration f.next.registration caller of.service mask)
+
+watches : (f : Flat) (caller handle mask : ℕ) (of : Opened) → Sound f → is_caller f caller ≡ true → Sound (with_registration f (watching_row f caller handle mask of))
+watches f caller handle mask of s there =
+    let new = new_registration f.next.registration caller of.service mask in
+    let at_once = λ (row : Service). notified (event_of_state (pid_of f.processes row) row) in
+    let service = held_service f caller handle in
+    watching f (watching_row f caller handle mask of)
+    (found_keeps (λ (row : Registration). row.number ≡ f.next.registration) at_once service new refl
+    (λ row is. notified_or (λ (r : Registration). r.number ≡ f.next.registration) (event_of_state (pid_of f.processes row) row) new (λ h. refl) refl))
+    (found_keeps (IsOfCaller f.callers) at_once service new there
+    (λ row is. notified_or (IsOfCaller f.callers) (event_of_state (pid_of f.processes row) row) new (λ h. there) there))
+    (found_keeps HasShortName at_once service new (omega arith)
+    (λ row is. notified_or HasShortName (event_of_state (pid_of f.processes row) row) new (λ h. (held_named f caller handle row s is).short) (omega arith)))
+    s
+
 -- ## Calls
 
 pub of_done : (l : Limits) (f : Flat) (caller : ℕ) (asked : Request) (append : Kept) → Sound f → is_caller f caller ≡ true → verdict l f caller asked append ≡ 0 → Sound (done_of l f caller asked).flat
 of_done l f caller (request.Close handle) append s there e =
     let p = all_pass (close_refusals f caller handle) (refl, tt) e in
-    closed f handle s (not_unlocked f.lock f.handles caller handle (handle_of f caller handle) refl (not-false _ p.0) s.handles.lock)
+    closed f handle s (not_unlocked f.lock f.handles caller handle (handle_of f caller handle) refl (closes_another (handle_of f caller handle) (not-false _ p.0)) s.handles.lock)
 of_done l f caller (request.Control handle control) append s there e =
     found_keeps (λ (rows : List Process). Sound (record f { processes = rows })) (λ (row : Service). map (controlled_if l.controls row.process control)) (held_service f caller handle) f.processes s
     (λ row is. control_waits l f row.process control s)
 of_done l f caller (request.Delete handle) append s there e =
-    found_keeps (λ (rows : List Service). Sound (record f { services = rows })) (λ (row : Service). map (marked_if row.number)) (held_service f caller handle) f.services s (λ row is. marked f row.number s)
+    found_all (λ found. Sound (record f { services = marked_in found f.services; registrations = told_of_mark f.processes found f.registrations })) (held_service f caller handle) s
+    (λ row is. retold (with_mark f row.number) _ (mark_tells (AreRegistered f.next.registration f.callers) (events_keep f.next.registration f.callers) f.processes row f.registrations
+    (held_named f caller handle row s is) s.registrations) (marked f row.number s))
 of_done l f caller (request.Lock handle) append s there e =
     let p = all_pass (lock_refusals l f caller handle) (refl, (refl, (refl, (refl, tt)))) e in
     taken f caller s there p.1.1.0
 of_done l f caller (request.SetStatus handle status) append s there e =
-    found_keeps (λ (rows : List Service). Sound (record f { services = rows })) (λ (row : Service). map (reported_if row.process status)) (held_service f caller handle) f.services s
-    (λ row is. reported f row.process status (set_status_runs f caller handle status row is e) s)
+    found_all (λ found. Sound (record f { services = reported_in status found f.services; registrations = told_of_report f.processes status found f.registrations })) (held_service f caller handle) s
+    (λ row is. reported_by f status row (held_named f caller handle row s is) (set_status_runs f caller handle status row is e) s)
 of_done l f caller (request.Unlock handle) append s there e = given_back f handle s
 of_done l f caller (request.Change change) append s there e = change_done_sound f caller change append s e
 of_done l f caller (request.Create new) append s there e =
     let p = create_passed l f caller new append e in
-    handed (with_service f (created_config f new) (new_status new.kind)) caller _ _
-    (added f (created_config f new) (new_status new.kind) s p.names p.displays p.config refl refl
-    (tested (with_service f (created_config f new) (new_status new.kind)).services _ (rows_added f.services _ s.services.numbered.below) p.free)) there (granted_within (principal_of f caller) false new.access p.given) refl
+    handed (with_creation f (created_config f new) (new_status new.kind)) caller _ _
+    (told (with_service f (created_config f new) (new_status new.kind)) _ (creation_proper (created_config f new) (new_status new.kind) p.config) (added f (created_config f new) (new_status new.kind) s p.names p.displays p.config refl refl
+    (tested (with_service f (created_config f new) (new_status new.kind)).services _ (rows_added f.services _ s.services.numbered.below) p.free))) there (granted_within (principal_of f caller) false new.access p.given) refl
 of_done l f caller (request.OpenManager database access) append s there e =
     let p = all_pass (open_manager_refusals l f caller database access) (refl, (refl, (refl, (refl, tt)))) e in
     handed f caller kinds.Manager _ s there (granted_within (principal_of f caller) true access p.1.1.0) refl
@@ -186,6 +220,17 @@ of_done l f caller (request.Start handle words) append s there e = started f cal
 of_done l f caller (request.OpenService handle name access) append s there e =
     let p = all_pass (open_service_refusals l f caller handle name access) (refl, (refl, (refl, (refl, (refl, tt))))) e in
     opened_keeps Sound f caller name access s (λ row is. handed f caller (kinds.Service row.number) _ s there (granted_within (principal_of f caller) false access p.1.1.1.0) refl)
+of_done l f caller (request.Notify handle mask) append s there e =
+    notify_keeps Sound f caller handle mask (handed f caller (kinds.Notify f.next.registration) 0 s there refl refl)
+    (λ of is. handed (with_registration f (watching_row f caller handle mask of)) caller (kinds.Notify f.next.registration) 0 (watches f caller handle mask of s there) there refl refl)
+of_done l f caller (request.GetNotify handle) append s there e =
+    retold f _ (result_taken f.next.registration (unwrap_or (notify_of f caller handle) 0) f.callers f.registrations s.registrations) s
+of_done l f caller (request.CloseNotify handle) append s there e =
+    let p = all_pass (notice_refusals f caller handle) (refl, tt) e in
+    let number = unwrap_or (notify_of f caller handle) 0 in
+    let g = without_registration f number in
+    closed g handle (retold f g.registrations (fewer_registered f.next.registration f.callers (λ (row : Registration). not (row.number == number)) f.registrations s.registrations) s)
+    (not_unlocked f.lock f.handles caller handle (handle_of f caller handle) refl (notify_another (handle_of f caller handle) p.0) s.handles.lock)
 -- the others only read
 of_done l f caller asked append s there e = s
 

@@ -1,5 +1,5 @@
 -- Every state that a run reaches is sound, nobody in it is to leave, and its decided plans and its deadlines are in order.
-use Rattle.std.proofs.Common.{IsTrue, ℕ, ◌≡◌, true, List, [], Option, None, Some, ap, sym, refl, subst}
+use Rattle.std.proofs.Common.{ℕ, ◌≡◌, true, List, [], Option, None, Some, ap, sym, refl, subst, map, ◌∷◌, ◌∙◌}
 use Rattle.std.specs.Prelude.{All}
 use Rattle.std.proofs.lemmas.List.Elements.{All-filter, All-from_recursion, All-nil, All-weaker, filter_passes}
 use Rattle.scm_model.specs.declared.flat.Config.{Config}
@@ -10,7 +10,7 @@ use Rattle.scm_model.specs.declared.flat.Plan.{Plan}
 use Rattle.scm_model.specs.declared.flat.Service.{Service}
 use Rattle.scm_model.specs.declared.steps.Answer.{Answer}
 use Rattle.scm_model.specs.declared.steps.Answer.TheVariants as answer
-use Rattle.scm_model.specs.Purge.{purged}
+use Rattle.scm_model.specs.Purge.{purged, leaving}
 use Rattle.start_plan.specs.Decided.{code_of, plan_of}
 use Rattle.start_plan.specs.Settle.{is_due_still, settle_all, settled, stays}
 use Rattle.scm_rules.specs.Opening.{IsOpening, opening}
@@ -23,11 +23,9 @@ use Rattle.scm_runs.proofs.Deadlines.{AreStill, ended_still}
 use Rattle.scm_runs.proofs.Opened.{opened_stay}
 use Rattle.scm_runs.proofs.Plain.{IsPlain, commands_short, dues_once, plain_opened, plain_step}
 use Rattle.scm_runs.proofs.Plans.{IsKnown, IsPlan, numbered, tried_once}
-use Rattle.scm_runs.proofs.Numbers.{numbered_empty}
 use Rattle.scm_runs.proofs.Handled.{HasRightsIn}
 use Rattle.scm_runs.specs.Handles.{AreRights}
 use Rattle.scm_rules.specs.Valid.{HasDeadline, HasPlainMask}
-use Rattle.scm_model.specs.Rows.{is_caller}
 use Rattle.scm_model.specs.declared.flat.Principal.{Principal}
 use Rattle.scm_model.specs.declared.flat.Registration.{Registration}
 use Rattle.scm_model.specs.declared.flat.HandleRow.{HandleRow}
@@ -36,6 +34,7 @@ use Rattle.scm_model.specs.declared.flat.HandleKind.TheVariants as kinds
 use Rattle.scm_runs.proofs.Rests.{finished_rest, is_settled, purged_rest, settled_rest}
 use Rattle.scm_runs.proofs.Settling.{settles}
 use Rattle.scm_runs.proofs.Sound.{Sound, begun, purged_twice}
+use Rattle.scm_model.specs.Notices.{Event, all_noted, event_of_leaving}
 
 -- a decided plan has a caller, and each deadline is of an undecided plan
 pub record AreTidy (f : Flat) : Type 0 where
@@ -65,8 +64,16 @@ pub record Clear (l : Limits) (f : Flat) : Type 0 where
   pub settled : settled l f ≡ f
   pub plain : IsPlain f
 
+-- without registrations nobody is told anything
+nobody_told : (events : List Event) → all_noted events [] ≡ []
+nobody_told [] = refl
+nobody_told (event ∷ events) = nobody_told events
+
 opened_purged : (l : Limits) (groups : List (List ℕ)) (configs : List Config) (moment : ℕ) → purged (opening l groups configs moment) ≡ opening l groups configs moment
-opened_purged l groups configs moment = ap (λ (services : List Service). record (opening l groups configs moment) { services = services }) (opened_stay [] 1 configs)
+opened_purged l groups configs moment =
+    let f = opening l groups configs moment in
+    ap (λ (rows : List Registration). record (purged f) { registrations = rows }) (nobody_told (map event_of_leaving (leaving f)))
+    ∙ ap (λ (services : List Service). record f { services = services }) (opened_stay [] 1 configs)
 
 opened_tidy : (l : Limits) (groups : List (List ℕ)) (configs : List Config) (moment : ℕ) → AreTidy (opening l groups configs moment)
 opened_tidy l groups configs moment = record { still = All-nil (λ (due : Due). is_due_still [] due.kind ≡ true); stay = All-nil (λ (plan : Plan). stays plan ≡ true) }
@@ -100,17 +107,13 @@ plain_mask principal kinds.Lock granted none = none
 plain_mask principal (kinds.Notify number) granted none = none
 plain_mask principal kind granted rights = tt
 
-registered : (f : Flat) → f.registrations ≡ [] → All (λ (row : Registration). IsTrue (is_caller f row.caller)) f.registrations
-registered f none =
-    subst (All (λ (row : Registration). IsTrue (is_caller f row.caller))) (sym none) (All-nil (λ (row : Registration). IsTrue (is_caller f row.caller)))
-
 pub is_valid_clear : (l : Limits) (f : Flat) → Clear l f → IsValid l f
 is_valid_clear l f c = record {
   services = c.sound.services.numbered;
   handles = c.sound.handles.handles;
   processes = c.sound.processes.numbered;
   plans = numbered f.next.plan f.next.service f.callers f.plans c.sound.plans;
-  registrations = numbered_empty (λ (row : Registration). row.number) f.next.registration f.registrations c.sound.registrations;
+  registrations = c.sound.registrations.numbered;
   dues = c.sound.dues.numbered;
   callers = c.sound.handles.callers;
   names = c.sound.services.names;
@@ -133,7 +136,8 @@ is_valid_clear l f c = record {
   holder = c.sound.handles.lock.holder;
   masks = All-weaker (HasRightsIn f.callers) (λ (row : HandleRow). HasPlainMask row.kind row.granted) (λ row rights. plain_mask _ row.kind row.granted rights) f.handles c.sound.handles.rights;
   commands = commands_short f c.plain;
-  registered = registered f c.sound.registrations;
+  registered = c.sound.registrations.held;
+  told = c.sound.registrations.told;
   due_once = dues_once f c.plain;
   settled = c.settled;
   purged = c.purged;

@@ -1,6 +1,5 @@
 -- What effects leave of numbers and plans, and what settling then makes of services.
-use Rattle.std.proofs.Common.{ℕ, ◌≡◌, Option, None, Some, IsTrue, refl, subst}
-use Rattle.scm_model.specs.declared.flat.Config.{Config}
+use Rattle.std.proofs.Common.{ℕ, ◌≡◌, IsTrue, refl, subst}
 use Rattle.scm_model.specs.declared.flat.Flat.{Flat}
 use Rattle.scm_model.specs.declared.flat.Limits.{Limits}
 use Rattle.scm_model.specs.declared.calls.Request.{Request}
@@ -18,7 +17,7 @@ use Rattle.scm_runs.proofs.Plans.{ArePlans, has_expired}
 use Rattle.scm_runs.proofs.Settling.{AreSettled, all_grown}
 use Rattle.scm_runs.proofs.Sound.{Sound, moved}
 use Rattle.std.proofs.lemmas.Bool.{and_parts}
-use Rattle.scm_runs.proofs.Founds.{opened_keeps, started_keeps}
+use Rattle.scm_runs.proofs.Founds.{opened_keeps, started_keeps, notify_apart}
 use Rattle.scm_rules.proofs.Dues.{ticked_apart, ticked_keeps}
 
 -- ## Numbers of processes
@@ -28,6 +27,7 @@ process_done l f caller (request.OpenService handle name access) =
     opened_keeps (λ (g : Flat). g.next.process ≡ f.next.process) f caller name access refl (λ row is. refl)
 process_done l f caller (request.Start handle words) =
     started_keeps (λ (g : Flat). g.next.process ≡ f.next.process) f caller handle words refl (λ row is. refl)
+process_done l f caller (request.Notify handle mask) = notify_apart (λ (g : Flat). g.next.process ≡ f.next.process) f caller handle mask (λ rows next. refl)
 process_done l f caller asked = refl
 
 process_call : (l : Limits) (f : Flat) (caller : ℕ) (asked : Request) (append : Kept) → (call_of l f caller asked append).flat.next.process ≡ f.next.process
@@ -54,6 +54,7 @@ old_done l f caller (request.Start handle words) append s there e =
     (of_done l f caller (request.Start handle words) append s there e).plans
 old_done l f caller (request.OpenService handle name access) append s there e =
     opened_keeps (AreOld f.next.service) f caller name access s.plans (λ row is. s.plans)
+old_done l f caller (request.Notify handle mask) append s there e = notify_apart (AreOld f.next.service) f caller handle mask (λ rows next. s.plans)
 old_done l f caller asked append s there e = s.plans
 
 old_call : (l : Limits) (f : Flat) (caller : ℕ) (asked : Request) (append : Kept) → Sound f → IsTrue (is_caller f caller) → AreOld f.next.service (call_of l f caller asked append).flat
@@ -75,4 +76,4 @@ pub step_settled : (l : Limits) (f : Flat) (moment : ℕ) (step : Step) → Soun
 step_settled l f moment step s ok =
     let g = (effect_of l (at_moment f moment step) step).flat in
     subst (λ n. AreSettled n f.next.service g.services (settled l g).services) (same_process l f moment step)
-    (all_grown l g f.next.service (of_effect l f moment step s ok) (old_plans l f moment step s ok)).flat.rows
+    (all_grown l (λ rows. Unit {0}) g f.next.service (λ event rows proper p. tt) (of_effect l f moment step s ok) tt (old_plans l f moment step s ok)).flat.rows

@@ -1,7 +1,8 @@
 -- What holds of the effects of calls on services that were found.
-use Rattle.std.proofs.Common.{ℕ, ◌≡◌, List, [], Option, None, Some, eqb-true, sym, ap, refl, true, ◌==◌}
+use Rattle.std.proofs.Common.{ℕ, ◌≡◌, List, [], Option, None, Some, eqb-true, sym, ap, refl, true, ◌==◌, ◌+◌}
 use Rattle.std.specs.Prelude.{unwrap_or, IfSome}
 use Rattle.scm_model.specs.declared.flat.Flat.{Flat}
+use Rattle.scm_model.specs.declared.flat.Registration.{Registration}
 use Rattle.scm_model.specs.declared.flat.Service.{Service}
 use Rattle.scm_model.specs.Rows.{held_service, named}
 use Rattle.scm_model.proofs.Found.{found_keeps}
@@ -13,6 +14,15 @@ use Rattle.scm_rules.specs.Controls.{control_sent}
 use Rattle.scm_rules.specs.Steps.{finished}
 use Rattle.scm_model.specs.declared.steps.Answer.TheVariants as answer
 use Rattle.scm_model.specs.Ready.{state_in}
+use Rattle.scm_model.specs.Changes.{with_handle}
+use Rattle.scm_model.specs.declared.flat.HandleKind.TheVariants as kinds
+use Rattle.scm_model.specs.declared.flat.Opened.{Opened}
+use Rattle.scm_rules.specs.Notify.{notify_done, registered, watched}
+
+-- what holds where nothing was found, and of whatever was found
+pub found_all : {A : Type 0} (P : Option A → Type 0) (found : Option A) → P None → ((one : A) → found ≡ Some one → P (Some one)) → P found
+found_all P None none some = none
+found_all P (Some one) none some = some one refl
 
 -- of an OpenService what holds as it was, and with a handle of a service of that name
 pub opened_keeps : (P : Flat → Type 0) (f : Flat) (caller : ℕ) (name : List ℕ) (access : ℕ) → P f
@@ -23,6 +33,19 @@ opened_keeps P f caller name access was by = found_keeps P (with_opened caller (
 pub started_keeps : (P : Flat → Type 0) (f : Flat) (caller handle : ℕ) (words : Option (List (List ℕ))) → P f
     → ((row : Service) → held_service f caller handle ≡ Some row → P (with_start caller (unwrap_or words []) row f)) → P (start_done f caller handle words).flat
 started_keeps P f caller handle words was by = found_keeps P (with_start caller (unwrap_or words [])) (held_service f caller handle) f was by
+
+-- of a Notify what holds with a handle more, whether or not there is what it is to watch
+pub notify_keeps : (P : Flat → Type 0) (f : Flat) (caller handle mask : ℕ) → P (with_handle f caller (kinds.Notify f.next.registration) 0)
+    → ((of : Opened) → watched f caller handle ≡ Some of → P (with_handle (registered f caller handle mask (Some of)) caller (kinds.Notify f.next.registration) 0)) → P (notify_done f caller handle mask).flat
+notify_keeps P f caller handle mask without by =
+    found_all (λ found. P (with_handle (registered f caller handle mask found) caller (kinds.Notify f.next.registration) 0)) (watched f caller handle) without by
+
+-- and what speaks of no registration
+pub notify_apart : (P : Flat → Type 0) (f : Flat) (caller handle mask : ℕ)
+    → ((rows : List Registration) (next : ℕ) → P (with_handle (record f { registrations = rows; next = record f.next { registration = next } }) caller (kinds.Notify f.next.registration) 0))
+    → P (notify_done f caller handle mask).flat
+notify_apart P f caller handle mask any =
+    notify_keeps P f caller handle mask (any f.registrations f.next.registration) (λ of is. any (registered f caller handle mask (Some of)).registrations (f.next.registration + 1))
 
 -- ## What was found
 

@@ -15,14 +15,14 @@ use Rattle.scm_rules.specs.Steps.{finished, left_by, at_moment, effect_of, finis
 use Rattle.scm_runs.proofs.Settling.{Beside}
 use Rattle.scm_model.specs.declared.steps.Step.{Step}
 
--- only services, processes, wanted launches, plans and due rows have changed
+-- only services, processes, wanted launches, plans, registrations and due rows have changed
 abbrev pub Frame : Flat → Flat → Type 0
-Frame f g = g ≡ record f { services = g.services; processes = g.processes; wanted = g.wanted; plans = g.plans; dues = g.dues; next = record f.next { process = g.next.process } }
+Frame f g = g ≡ record f { services = g.services; processes = g.processes; wanted = g.wanted; plans = g.plans; registrations = g.registrations; dues = g.dues; next = record f.next { process = g.next.process } }
 
 stays_beside : (l : Limits) (f : Flat) → Keeps l (Beside f) (λ plan. Unit {0})
 stays_beside l f = record {
   enters = λ g plan n words entry beside.
-      ap (λ (h : Flat). with_entered (record h { services = g.services; processes = g.processes; wanted = g.wanted; next = record h.next { process = g.next.process } }) n words) beside;
+      ap (λ (h : Flat). with_entered (record h { services = g.services; processes = g.processes; wanted = g.wanted; registrations = g.registrations; next = record h.next { process = g.next.process } }) n words) beside;
   tries = λ g plan n entry q. tt;
   drops = λ plan n rest code q. tt;
 }

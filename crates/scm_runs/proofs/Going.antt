@@ -1,9 +1,8 @@
 -- The law of plans.
-use Rattle.std.proofs.Common.{ℕ, ◌≡◌, ◌<◌, ◌∙◌, Bool, true, false, not, cond, List, [], ◌∷◌, ◌++◌, Option, None, Some, map, ap, sym, refl, subst, arith, append_assoc}
+use Rattle.std.proofs.Common.{ℕ, ◌≡◌, ◌<◌, ◌∙◌, Bool, not, List, [], ◌∷◌, ◌++◌, Option, None, Some, map, ap, sym, refl, arith, append_assoc}
 use Rattle.std.specs.List.{AllByRecursion}
 use Rattle.std.proofs.lemmas.List.{append-nil}
 use Rattle.std.proofs.lemmas.List.Elements.{All-from_recursion, All-weaker}
-use Rattle.scm_model.specs.declared.flat.Config.{Config}
 use Rattle.scm_model.specs.declared.flat.DueKind.{DueKind}
 use Rattle.scm_model.specs.declared.flat.DueKind.TheVariants as dues
 use Rattle.scm_model.specs.declared.flat.Flat.{Flat}
@@ -31,7 +30,7 @@ use Rattle.scm_runs.proofs.Plans.{IsPlan, all_more, all_weaker, tried_once}
 use Rattle.scm_runs.proofs.Sound.{Sound, moved}
 use Rattle.scm_model.proofs.Found.{found_keeps}
 use Rattle.scm_model.specs.Found.{if_found}
-use Rattle.scm_runs.proofs.Founds.{started_keeps, opened_keeps}
+use Rattle.scm_runs.proofs.Founds.{started_keeps, opened_keeps, notify_apart}
 use Rattle.scm_rules.specs.Due.{expired}
 use Rattle.scm_rules.proofs.Dues.{ticked_plans}
 
@@ -99,6 +98,7 @@ of_done l f caller (request.Start handle words) s =
     started_keeps (λ (g : Flat). AllWent f.plans g.plans) f caller handle words (all_same f.plans s.plans.rising)
     (λ row is. all_more (Went f.plans) f.plans _ (all_same f.plans s.plans.rising)
     (went_above f.plans _ (all_weaker (IsPlan f.next.plan f.next.service f.callers) (λ (plan : Plan). plan.number < f.next.plan) (λ plan is. is.below) f.plans s.plans.each)))
+of_done l f caller (request.Notify handle mask) s = notify_apart (λ (g : Flat). AllWent f.plans g.plans) f caller handle mask (λ rows next. all_same f.plans s.plans.rising)
 of_done l f caller asked s = all_same f.plans s.plans.rising
 
 of_call : (l : Limits) (f : Flat) (moment caller : ℕ) (asked : Request) (append : Kept) → Sound (with_moment f moment) → AllWent f.plans (call_of l (with_moment f moment) caller asked append).flat.plans

@@ -1,10 +1,9 @@
 -- The law of handles.
-use Rattle.std.proofs.Common.{ℕ, ◌≡◌, ◌≢◌, ◌≤◌, ◌==◌, ◌||◌, Bool, true, false, not, cond, IsTrue, List, [], ◌∷◌, Option, None, Some, filter, find, ap, sym, refl, subst, arith, eq-eqb, eqb-true, ne_eqb, inl, inr}
+use Rattle.std.proofs.Common.{ℕ, ◌≡◌, ◌≢◌, ◌≤◌, ◌==◌, ◌||◌, Bool, true, false, not, cond, IsTrue, List, [], ◌∷◌, Some, filter, find, ap, sym, refl, subst, arith, eq-eqb, eqb-true, ne_eqb, inl, inr, get_or}
 use Rattle.std.specs.Prelude.{All, Contains, is_some}
-use Rattle.std.proofs.lemmas.List.Elements.{All-from_recursion, All-nil, All-push, All-filter, All-weaker, All-contains_itself, filter_passes, All-head, All-tail}
+use Rattle.std.proofs.lemmas.List.Elements.{All-from_recursion, All-push, All-filter, All-weaker, All-contains_itself, filter_passes, All-head, All-tail, All-map}
 use Rattle.std.proofs.lemmas.Option.{IfSome_then}
 use Rattle.scm_model.specs.declared.flat.Caller.{Caller}
-use Rattle.scm_model.specs.declared.flat.Config.{Config}
 use Rattle.scm_model.specs.declared.flat.Flat.{Flat}
 use Rattle.scm_model.specs.declared.flat.HandleRow.{HandleRow}
 use Rattle.scm_model.specs.declared.flat.Limits.{Limits}
@@ -15,7 +14,6 @@ use Rattle.scm_model.specs.declared.calls.Request.TheVariants as request
 use Rattle.scm_model.specs.declared.steps.Kept.{Kept}
 use Rattle.scm_model.specs.declared.steps.Step.{Step}
 use Rattle.scm_model.specs.declared.steps.Step.TheVariants.{Call, Gone, Tick}
-use Rattle.scm_model.specs.Rows.{is_caller}
 use Rattle.scm_model.specs.Changes.{with_moment}
 use Rattle.scm_rules.specs.Steps.{at_moment, effect_of, finished_step, may, step_of}
 use Rattle.scm_rules.specs.Valid.{AreNumbered}
@@ -29,8 +27,11 @@ use Rattle.scm_runs.proofs.Lists.{any_both}
 use Rattle.scm_runs.proofs.Plans.{IsKnown, IsPlan}
 use Rattle.scm_runs.proofs.Sound.{Sound}
 use Rattle.std.proofs.lemmas.Bool.{and_parts}
-use Rattle.scm_runs.proofs.Founds.{opened_keeps, started_keeps}
+use Rattle.scm_runs.proofs.Founds.{opened_keeps, started_keeps, notify_apart}
 use Rattle.scm_rules.proofs.Dues.{ticked_apart}
+use Rattle.scm_runs.proofs.Told.{Tells, notified_or}
+use Rattle.scm_runs.proofs.Telling.{step_tells}
+use Rattle.scm_model.specs.Notices.{notified}
 
 -- ## Each number is given once
 
@@ -58,6 +59,10 @@ of_done l f caller (request.OpenService handle name access) =
     opened_keeps (Once f) f caller name access (same f) (λ row is. record { rows = All-push (StoodOrIsNew f) f.handles _ (all_stood f) (inr (omega arith)); rising = omega arith })
 of_done l f caller (request.Start handle words) =
     started_keeps (Once f) f caller handle words (same f) (λ row is. record { rows = all_stood f; rising = omega arith })
+of_done l f caller (request.Notify handle mask) =
+    notify_apart (Once f) f caller handle mask (λ rows next. record { rows = All-push (StoodOrIsNew f) f.handles _ (all_stood f) (inr (omega arith)); rising = omega arith })
+of_done l f caller (request.GetNotify handle) = record { rows = all_stood f; rising = omega arith }
+of_done l f caller (request.CloseNotify handle) = record { rows = All-filter _ (StoodOrIsNew f) f.handles (all_stood f); rising = omega arith }
 of_done l f caller asked = same f
 
 of_call : (l : Limits) (f : Flat) (moment caller : ℕ) (asked : Request) (append : Kept) → Once (with_moment f moment) (call_of l (with_moment f moment) caller asked append).flat
@@ -94,8 +99,17 @@ others caller rows passes =
     All-weaker (λ (row : HandleRow). not (row.caller == caller) ≡ true) (λ (row : HandleRow). row.caller ≢ caller)
     (λ row h same. let t = eq-eqb row.caller caller same in absurd (let u : not true ≡ true = subst (λ b. not b ≡ true) t h in cc)) rows passes
 
-none_of : {A : Type 0} (P : A → Type 0) (rows : List A) → rows ≡ [] → All P rows
-none_of P rows e = subst (λ rs. All P rs) (sym e) (All-nil P)
+-- events leave whose a registration is
+all_others : (caller : ℕ) → Tells (All (λ (row : Registration). row.caller ≢ caller))
+all_others caller event rows proper other =
+    All-map (λ (row : Registration). row.caller ≢ caller) (notified event) rows
+    (λ k d lt. notified_or (λ (row : Registration). row.caller ≢ caller) event (get_or rows k d) (λ e. other k d lt) (other k d lt))
+
+other_rows : (caller : ℕ) (rows : List Registration) → All (λ (row : Registration). row.caller ≢ caller) (filter (λ (row : Registration). not (row.caller == caller)) rows)
+other_rows caller rows =
+    All-weaker (λ (row : Registration). not (row.caller == caller) ≡ true) (λ (row : Registration). row.caller ≢ caller)
+    (λ row h same. let t = eq-eqb row.caller caller same in absurd (let u : not true ≡ true = subst (λ b. not b ≡ true) t h in cc))
+    (filter (λ (row : Registration). not (row.caller == caller)) rows) (filter_passes (λ (row : Registration). not (row.caller == caller)) rows)
 
 -- a caller isn't among the others
 pub not_there : (callers : List Caller) (caller : ℕ) → has_caller (filter (λ (row : Caller). not (row.number == caller)) callers) caller ≡ false
@@ -128,8 +142,9 @@ no_plan next service caller before after plans numbered there e known =
     (λ row h same. neither_known (caller == 0) (has_caller after caller) (not_nobody caller before numbered.positive there) (rw e (not_there before caller))
     (subst (λ n. (n == 0 || has_caller after n) ≡ true) same h)) plans known
 
-holds_nothing : (l : Limits) (f : Flat) (moment caller : ℕ) → Sound f → is_caller f caller ≡ true → Sound (step_of l f moment (Gone caller)).flat → HoldsNothing caller (step_of l f moment (Gone caller)).flat
-holds_nothing l f moment caller before there s =
+holds_nothing : (l : Limits) (f : Flat) (moment caller : ℕ) → Sound f → IsTrue (may l f moment (Gone caller)) → Sound (step_of l f moment (Gone caller)).flat → HoldsNothing caller (step_of l f moment (Gone caller)).flat
+holds_nothing l f moment caller before ok s =
+    let there = (and_parts _ _ ok).0 in
     let after = (step_of l f moment (Gone caller)).flat in
     let frame = framed l f moment (Gone caller) in
     let handles : after.handles ≡ filter (λ (row : HandleRow). not (row.caller == caller)) f.handles = ap (λ (x : Flat). x.handles) frame in
@@ -137,7 +152,8 @@ holds_nothing l f moment caller before there s =
     subst (λ (rows : List HandleRow). All (λ (row : HandleRow). not (row.caller == caller) ≡ true) rows) (sym handles) (filter_passes (λ (row : HandleRow). not (row.caller == caller)) f.handles) in
     record {
       handles = others caller after.handles passes;
-      registrations = none_of (λ (row : Registration). row.caller ≢ caller) after.registrations s.registrations;
+      registrations = step_tells l (All (λ (row : Registration). row.caller ≢ caller)) f moment (Gone caller) (all_others caller) before ok
+          (other_rows caller f.registrations);
       plans = no_plan f.next.caller f.next.service caller f.callers after.callers after.plans before.handles.callers there (ap (λ (x : Flat). x.callers) frame)
           (All-weaker (IsPlan after.next.plan after.next.service after.callers) (IsKnown after.callers) (λ plan is. is.known) after.plans
           (All-from_recursion (IsPlan after.next.plan after.next.service after.callers) after.plans s.plans.each));
@@ -146,7 +162,7 @@ holds_nothing l f moment caller before there s =
     }
 
 leaves_nothing : (l : Limits) (f : Flat) (moment : ℕ) (step : Step) → Sound f → IsTrue (may l f moment step) → Sound (step_of l f moment step).flat → LeavesNothing step (step_of l f moment step).flat
-leaves_nothing l f moment (Gone caller) before ok s = holds_nothing l f moment caller before (and_parts _ _ ok).0 s
+leaves_nothing l f moment (Gone caller) before ok s = holds_nothing l f moment caller before ok s
 leaves_nothing l f moment step before ok s = tt
 
 pub gives : (l : Limits) → Gives Sound (LawOfHandles l) l

@@ -1,6 +1,6 @@
 -- The law of leaving.
 use Rattle.std.proofs.Common.{ℕ, zero, suc, ◌≡◌, ◌<◌, ◌≤◌, ◌∙◌, ◌==◌, ◌||◌, ◌&&◌, Bool, true, false, cond, IsTrue, List, [], ◌∷◌, ◌++◌, Option, None, Some, find, length, map, take, drop, ap, sym, refl, subst, arith, eqb-true, inl, inr}
-use Rattle.std.specs.Prelude.{All, option_map}
+use Rattle.std.specs.Prelude.{All}
 use Rattle.std.specs.List.{AllZip}
 use Rattle.std.proofs.lemmas.List.{append-nil, drop_all, drop_at, length-map, map-append, map-id, take-append-le, take_all}
 use Rattle.std.proofs.lemmas.List.Elements.{All-cons, All-head, All-nil, All-tail}
@@ -45,7 +45,7 @@ use Rattle.scm_runs.proofs.Sound.{Sound}
 use Rattle.std.proofs.lemmas.Bool.{and_parts}
 use Rattle.scm_rules.proofs.Needed.{replaced}
 use Rattle.scm_model.proofs.Found.{found_keeps, found_either}
-use Rattle.scm_runs.proofs.Founds.{opened_keeps, started_keeps}
+use Rattle.scm_runs.proofs.Founds.{opened_keeps, started_keeps, notify_apart}
 use Rattle.scm_model.specs.Rows.{held_service}
 use Rattle.scm_rules.proofs.Held.{held_is}
 use Rattle.scm_rules.proofs.Dues.{ticked_apart}
@@ -231,6 +231,14 @@ stood_call l f moment caller (request.Start handle words) append s =
     let told = (step_of l f moment (Call caller asked append)).answer in
     by_verdict (λ r. Stood f (Call caller asked append) told r.flat.services) code (told_refused g caller asked code) g (done_of l g caller asked)
     (λ e. started_keeps (λ (h : Flat). Stood f (Call caller asked append) told h.services) g caller handle words (stood_same f _ _ refl (λ number. refl)) (λ row is. stood_same f _ _ refl (λ number. refl)))
+    (λ e. stood_same f _ _ refl (λ number. refl))
+stood_call l f moment caller (request.Notify handle mask) append s =
+    let g = with_moment f moment in
+    let asked = request.Notify handle mask in
+    let code = verdict l g caller asked append in
+    let told = (step_of l f moment (Call caller asked append)).answer in
+    by_verdict (λ r. Stood f (Call caller asked append) told r.flat.services) code (told_refused g caller asked code) g (done_of l g caller asked)
+    (λ e. notify_apart (λ (h : Flat). Stood f (Call caller asked append) told h.services) g caller handle mask (λ rows next. stood_same f _ _ refl (λ number. refl)))
     (λ e. stood_same f _ _ refl (λ number. refl))
 stood_call l f moment caller asked append s =
     let g = with_moment f moment in

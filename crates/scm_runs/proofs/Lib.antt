@@ -6,9 +6,11 @@ pub mod Locked
 pub mod Numbers
 pub mod Founds
 pub mod Rows
+pub mod Told
 pub mod Processes
 pub mod Opened
 pub mod Handled
+pub mod Registered
 pub mod Plans
 pub mod Deadlines
 pub mod Sound
@@ -17,6 +19,7 @@ pub mod Configured
 pub mod Ordered
 pub mod Calls
 pub mod Frames
+pub mod Telling
 pub mod Plain
 pub mod Wanted
 pub mod Effects

@@ -1,5 +1,5 @@
 -- Who holds the lock, and what each change of the handles makes of it.
-use Rattle.std.proofs.Common.{ℕ, ◌≡◌, ◌∙◌, ◌<◌, ◌==◌, ◌||◌, ◌&&◌, Bool, true, false, not, IsTrue, cond, List, [], ◌∷◌, ◌++◌, Option, None, Some, filter, find, get_or, ap, sym, refl, subst, arith, eq-eqb, eqb-true, ne_eqb}
+use Rattle.std.proofs.Common.{ℕ, ◌≡◌, ◌∙◌, ◌<◌, ◌==◌, ◌||◌, ◌&&◌, Bool, true, false, not, IsTrue, cond, List, [], ◌∷◌, ◌++◌, Option, None, Some, filter, find, get_or, ap, sym, refl, subst, arith, eq-eqb, eqb-true, ne_eqb, is_none, option_and_then}
 use Rattle.std.specs.Prelude.{All, AllPairs, IfSome, is_some}
 use Rattle.std.specs.List.{list_any}
 use Rattle.std.proofs.lemmas.List.Elements.{All-filter, All-push, filter_passes}
@@ -15,6 +15,7 @@ use Rattle.database_lock.specs.Locking.{is_held_by, locked, unlocked}
 use Rattle.scm_rules.specs.Close.{closes}
 use Rattle.scm_runs.proofs.Lists.{any_filter, found_has, found_owns, found_passes, none_found}
 use Rattle.std.proofs.lemmas.Bool.{and_parts}
+use Rattle.scm_rules.specs.Notify.{notify_at, notify_by}
 
 -- a handle is the lock's exactly where it holds the lock
 abbrev pub Matches : Option LockRow → HandleRow → Type 0
@@ -79,23 +80,44 @@ all_left caller (Some lock) rows rising old =
       | false ↦ λ e. still_held stays lock rows (λ k d lt same. another _ _ (none_found holds rows e k d lt) same) old
     ] refl
 
--- ## A handle that can be closed
+-- ## A handle that isn't the lock's
 
-not_the_lock : (kind : HandleKind) → is_closable kind ≡ true → is_lock kind ≡ false
-not_the_lock kinds.Lock e = absurd (cc)
-not_the_lock kind e = refl
+-- whether a handle that is there is another
+abbrev pub is_another : Option HandleRow → Bool
+is_another None = false
+is_another (Some row) = not (is_lock row.kind)
+
+closable_kind : (kind : HandleKind) → is_closable kind ≡ true → not (is_lock kind) ≡ true
+closable_kind kinds.Lock e = absurd (cc)
+closable_kind kind e = refl
+
+pub closes_another : (found : Option HandleRow) → closes found ≡ true → is_another found ≡ true
+closes_another None e = absurd cc
+closes_another (Some row) e = closable_kind row.kind e
+
+notify_kind : (kind : HandleKind) → is_none (notify_at kind) ≡ false → not (is_lock kind) ≡ true
+notify_kind kinds.Lock e = absurd (cc)
+notify_kind kind e = refl
+
+pub notify_another : (found : Option HandleRow) → is_none (option_and_then notify_by found) ≡ false → is_another found ≡ true
+notify_another None e = absurd cc
+notify_another (Some row) e = notify_kind row.kind e
+
+not_the_lock : (is : Bool) → not is ≡ true → is ≡ false
+not_the_lock true e = absurd cc
+not_the_lock false e = refl
 
 holds_nothing : (held : Option LockRow) (rows : List HandleRow) (caller number : ℕ) (found : Option HandleRow) → find (λ (row : HandleRow). row.caller == caller && row.number == number) rows ≡ found
-    → closes found ≡ true → Locked held rows → is_held_by number held ≡ false
+    → is_another found ≡ true → Locked held rows → is_held_by number held ≡ false
 holds_nothing held rows caller number None e closable old = absurd (cc)
 holds_nothing held rows caller number (Some row) e closable old =
     let test = λ (r : HandleRow). r.caller == caller && r.number == number in
     let same = eqb-true row.number number (and_parts (row.caller == caller) (row.number == number) (found_passes test row rows e)).1 in
-    subst (λ n. is_held_by n held ≡ false) same (sym (found_has (Matches held) test row rows old.locks e) ∙ not_the_lock row.kind closable)
+    subst (λ n. is_held_by n held ≡ false) same (sym (found_has (Matches held) test row rows old.locks e) ∙ not_the_lock (is_lock row.kind) closable)
 
 -- the lock stays as it is where such a handle leaves
 pub not_unlocked : (held : Option LockRow) (rows : List HandleRow) (caller number : ℕ) (found : Option HandleRow) → find (λ (row : HandleRow). row.caller == caller && row.number == number) rows ≡ found
-    → closes found ≡ true → Locked held rows → unlocked held number ≡ held
+    → is_another found ≡ true → Locked held rows → unlocked held number ≡ held
 not_unlocked held rows caller number found e closable old = ap (λ b. cond b None held) (holds_nothing held rows caller number found e closable old)
 
 -- ## A handle more

@@ -1,5 +1,5 @@
 -- As yet no command is launched, and nothing but deadlines becomes due.
-use Rattle.std.proofs.Common.{ℕ, ◌≡◌, ◌==◌, Bool, true, false, not, List, [], ◌∷◌, Option, None, Some, filter, length, ap, refl, arith, ◌≤◌}
+use Rattle.std.proofs.Common.{ℕ, ◌≡◌, ◌==◌, Bool, true, false, not, List, [], ◌∷◌, filter, length, ap, refl, arith, ◌≤◌}
 use Rattle.std.specs.Prelude.{All}
 use Rattle.std.proofs.lemmas.List.Elements.{All-filter, All-head, All-nil, All-push, All-tail, All-weaker}
 use Rattle.scm_model.specs.declared.flat.Config.{Config}
@@ -26,7 +26,7 @@ use Rattle.scm_runs.proofs.Calls.{by_verdict}
 use Rattle.scm_runs.proofs.Frames.{finished_keeps}
 use Rattle.scm_rules.specs.Valid.{HasShortWord, dues_of}
 use Rattle.scm_model.proofs.Found.{found_keeps}
-use Rattle.scm_runs.proofs.Founds.{opened_keeps, started_keeps}
+use Rattle.scm_runs.proofs.Founds.{opened_keeps, started_keeps, notify_apart}
 use Rattle.scm_rules.proofs.Dues.{ticked_keeps}
 use Rattle.scm_rules.specs.Due.{is_due_of}
 
@@ -51,6 +51,7 @@ plain_done l f caller (request.OpenService handle name access) p =
 plain_done l f caller (request.Start handle words) p =
     started_keeps IsPlain f caller handle words p
     (λ row is. record { wanted = p.wanted; dues = All-push (λ (due : Due). is_deadline due.kind ≡ true) f.dues _ p.dues refl })
+plain_done l f caller (request.Notify handle mask) p = notify_apart IsPlain f caller handle mask (λ rows next. record { wanted = p.wanted; dues = p.dues })
 plain_done l f caller asked p = record { wanted = p.wanted; dues = p.dues }
 
 plain_call : (l : Limits) (f : Flat) (caller : ℕ) (asked : Request) (append : Kept) → IsPlain f → IsPlain (call_of l f caller asked append).flat

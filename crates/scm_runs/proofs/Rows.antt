@@ -54,10 +54,10 @@ pub record AreServices (next process : ℕ) (rows : List Service) : Type 0 where
 -- ## A change of each row
 
 -- a change that leaves number, configuration and type, and with the process the state
-record IsMild (change : Service → Service) : Type 0 where
-  number : (row : Service) → (change row).number ≡ row.number
-  config : (row : Service) → (change row).config ≡ row.config
-  kind : (row : Service) → (change row).status.kind ≡ row.status.kind
+pub record IsMild (change : Service → Service) : Type 0 where
+  pub number : (row : Service) → (change row).number ≡ row.number
+  pub config : (row : Service) → (change row).config ≡ row.config
+  pub kind : (row : Service) → (change row).status.kind ≡ row.status.kind
 
 mild_row : (change : Service → Service) → IsMild change → (row : Service) → need_row (change row) ≡ need_row row
 mild_row change mild row = rw (mild.number row, mild.config row) refl
@@ -86,7 +86,7 @@ marked next process number rows s =
     (All-map (λ (row : Service). row.process < process) (marked_if number) rows s.current)
 
 -- a service is started by the next process
-starts_mildly : (number process : ℕ) → IsMild (started_if number process)
+pub starts_mildly : (number process : ℕ) → IsMild (started_if number process)
 starts_mildly number process = record {
   number = same_number number process;
   config = λ row. started_or (λ new. new.config ≡ row.config) number process row (λ e. refl) refl;
@@ -108,7 +108,7 @@ pub fallen_or : (P : Service → Type 0) (process code : ℕ) (row : Service) �
 fallen_or P process code row falls stays =
     elim (row.process == process) as (λ b. (row.process == process) ≡ b → P (cond b (record row { status = take_end row.status code; process = 0 }) row)) [ true ↦ falls | false ↦ λ e. stays ] refl
 
-falls_mildly : (process code : ℕ) → IsMild (fallen_if process code)
+pub falls_mildly : (process code : ℕ) → IsMild (fallen_if process code)
 falls_mildly process code = record {
   number = λ row. fallen_or (λ new. new.number ≡ row.number) process code row (λ e. refl) refl;
   config = λ row. fallen_or (λ new. new.config ≡ row.config) process code row (λ e. refl) refl;
@@ -134,7 +134,7 @@ reported_or P process report row moves stays =
 pub kind_taken : (now report : Status) → takes now report ≡ true → report.kind ≡ now.kind
 kind_taken now report taken = eqb-true report.kind now.kind (and_parts _ _ (and_parts _ _ (and_parts _ _ (and_parts _ _ taken).0).0).0).0
 
-reports_mildly : (process : ℕ) (report : Status) → IsMild (reported_if process report)
+pub reports_mildly : (process : ℕ) (report : Status) → IsMild (reported_if process report)
 reports_mildly process report = record {
   number = λ row. reported_or (λ new. new.number ≡ row.number) process report row (λ e t. refl) refl;
   config = λ row. reported_or (λ new. new.config ≡ row.config) process report row (λ e t. refl) refl;

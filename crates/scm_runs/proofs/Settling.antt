@@ -20,6 +20,9 @@ use Rattle.scm_runs.proofs.Numbers.{numbered_filter}
 use Rattle.scm_runs.proofs.Plans.{AreBelow, ArePlans, IsPlan}
 use Rattle.scm_runs.proofs.Processes.{AreProcesses, more}
 use Rattle.scm_runs.proofs.Rows.{AreServices, begun}
+use Rattle.scm_model.specs.declared.flat.Registration.{Registration}
+use Rattle.scm_runs.proofs.Registered.{AreRegistered, events_keep}
+use Rattle.scm_runs.proofs.Told.{Tells, all_named, start_tells}
 use Rattle.scm_runs.proofs.Sound.{Sound}
 use Rattle.std.proofs.lemmas.Bool.{and_parts}
 
@@ -103,16 +106,18 @@ as_before next bound (row ∷ rows) = (inl refl, as_before next bound rows)
 
 -- ## What settling makes of a state
 
--- only services, processes and wanted launches have changed
+-- only services, processes, wanted launches and registrations have changed
 abbrev pub Beside : Flat → Flat → Type 0
-Beside f g = g ≡ record f { services = g.services; processes = g.processes; wanted = g.wanted; next = record f.next { process = g.next.process } }
+Beside f g = g ≡ record f { services = g.services; processes = g.processes; wanted = g.wanted; registrations = g.registrations; next = record f.next { process = g.next.process } }
 
-pub record Grown (f : Flat) (bound : ℕ) (g : Flat) : Type 0 where
+-- with what each event keeps of registrations
+pub record Grown (P : List Registration → Type 0) (f : Flat) (bound : ℕ) (g : Flat) : Type 0 where
   pub beside : Beside f g
   pub up : f.next.process ≤ g.next.process
   pub rows : AreSettled f.next.process bound f.services g.services
   pub services : AreServices f.next.service g.next.process g.services
   pub processes : AreProcesses g.next.process g.processes g.wanted g.services
+  pub told : P g.registrations
 
 -- the service that is entered is STOPPED
 stopped_there : (n : ℕ) (row : Service) (rows : List Service) → find (λ (r : Service). r.number == n) rows ≡ Some row → (row.status.state == 1) ≡ true → list_any (λ (r : Service). r.number == n && r.status.state == 1) rows ≡ true
@@ -123,15 +128,16 @@ stopped_there n row (first ∷ rows) found stopped =
       | false ↦ λ h. stopped_there n row rows h stopped
     ] found
 
-grows : (l : Limits) (f : Flat) (bound : ℕ) → Lasts l (Grown f bound) (IsPlan f.next.plan bound f.callers) bound
-grows l f bound = record {
+grows : (l : Limits) (P : List Registration → Type 0) (f : Flat) (bound : ℕ) → Tells P → Lasts l (Grown P f bound) (IsPlan f.next.plan bound f.callers) bound
+grows l P f bound tells = record {
   enters = λ g plan n words entry small grown. record {
-    beside = ap (λ (h : Flat). with_entered (record h { services = g.services; processes = g.processes; wanted = g.wanted; next = record h.next { process = g.next.process } }) n words) grown.beside;
+    beside = ap (λ (h : Flat). with_entered (record h { services = g.services; processes = g.processes; wanted = g.wanted; registrations = g.registrations; next = record h.next { process = g.next.process } }) n words) grown.beside;
     up = (let up = grown.up in omega arith);
     rows = all_settled f.next.process bound n g.next.process f.services g.services small grown.up grown.rows;
     services = begun f.next.service g.next.process n g.services grown.services;
     processes = more g.next.process n words g.processes g.wanted g.services grown.services.first_process
         (stopped_there n entry.row g.services entry.found (eq-eqb entry.row.status.state 1 entry.stopped)) grown.processes;
+    told = start_tells P tells n g.next.process g.services g.registrations (all_named f.next.service g.next.process g.services grown.services) grown.told;
   };
   tries = λ g plan n entry q. record { positive = q.positive; below = q.below; known = q.known; once = IsDistinct-push nat_eq_equiv plan.tried n q.once entry.fresh; within = q.within };
   drops = λ plan n rest code small q. record { positive = q.positive; below = q.below; known = q.known; once = q.once; within = small };
@@ -139,16 +145,20 @@ grows l f bound = record {
 }
 
 -- a state with its plans, whatever their entries are below
-pub all_grown : (l : Limits) (f : Flat) (bound : ℕ) → Sound f → ArePlans f.next.plan bound f.callers f.plans → AllLast (Grown f bound) (IsPlan f.next.plan bound f.callers) (settle_all l f f.plans)
-all_grown l f bound s plans =
-    all_last l (Grown f bound) (IsPlan f.next.plan bound f.callers) bound (grows l f bound) f f.plans
-    (record { beside = refl; up = omega arith; rows = as_before f.next.process bound f.services; services = s.services; processes = s.processes }) plans.each
+pub all_grown : (l : Limits) (P : List Registration → Type 0) (f : Flat) (bound : ℕ) → Tells P → Sound f → P f.registrations → ArePlans f.next.plan bound f.callers f.plans → AllLast (Grown P f bound) (IsPlan f.next.plan bound f.callers) (settle_all l f f.plans)
+all_grown l P f bound tells s told plans =
+    all_last l (Grown P f bound) (IsPlan f.next.plan bound f.callers) bound (grows l P f bound tells) f f.plans
+    (record { beside = refl; up = omega arith; rows = as_before f.next.process bound f.services; services = s.services; processes = s.processes; told = told }) plans.each
+
+-- whatever each event keeps of registrations, settling keeps
+pub settled_tells : (l : Limits) (P : List Registration → Type 0) (f : Flat) → Tells P → Sound f → P f.registrations → P (settled l f).registrations
+settled_tells l P f tells s p = (all_grown l P f f.next.service tells s p s.plans).flat.told
 
 -- plans are settled
 pub settles : (l : Limits) (f : Flat) → Sound f → Sound (settled l f)
 settles l f s =
     let ends = settle_all l f f.plans in
-    let last = all_grown l f f.next.service s s.plans in
+    let last = all_grown l (AreRegistered f.next.registration f.callers) f f.next.service (events_keep f.next.registration f.callers) s s.registrations s.plans in
     let g = last.flat in
     let plans : ArePlans f.next.plan f.next.service f.callers (filter stays ends.1) = record {
       first = s.plans.first;
@@ -160,6 +170,7 @@ settles l f s =
       services = ends.0.services;
       processes = ends.0.processes;
       wanted = ends.0.wanted;
+      registrations = ends.0.registrations;
       next = record f.next { process = ends.0.next.process };
       plans = filter stays ends.1;
       dues = filter still f.dues;
@@ -170,6 +181,6 @@ settles l f s =
       plans = plans;
       dues = record { numbered = numbered_filter (λ (row : Due). row.number) f.next.due still f.dues s.dues.numbered; first = s.dues.first };
       deadlines = settled_deadlines l f f.next.plan f.plans f.dues s.deadlines;
-      registrations = s.registrations;
+      registrations = g.told;
     } in
     subst Sound (ap (λ (h : Flat). tidied h ends.1) (sym g.beside)) whole

@@ -1,5 +1,5 @@
 -- What is true of every state, before and after services leave, and that each change keeps it.
-use Rattle.std.proofs.Common.{ℕ, ◌≡◌, ◌<◌, ◌≤◌, ◌==◌, ◌&&◌, true, false, not, cond, List, [], ◌∷◌, ◌++◌, Option, None, drop, length, map, ap, sym, refl, subst, arith, eqb, ◌+◌, filter, eqb-true, Some}
+use Rattle.std.proofs.Common.{ℕ, ◌≡◌, ◌<◌, ◌≤◌, ◌==◌, ◌&&◌, true, false, not, cond, List, [], ◌∷◌, ◌++◌, Option, None, drop, length, map, ap, sym, refl, subst, arith, eqb, ◌+◌, filter, eqb-true, Some, Bool, ◌∙◌}
 use Rattle.std.specs.Prelude.{All, is_some, nat_lt}
 use Rattle.std.proofs.lemmas.List.Elements.{All-filter, All-map, All-push, recursion_from_All}
 use Rattle.std.specs.List.{IsDistinct}
@@ -19,7 +19,14 @@ use Rattle.scm_model.specs.declared.flat.Service.{Service}
 use Rattle.scm_model.specs.declared.flat.Status.{Status}
 use Rattle.scm_model.specs.Rows.{is_caller, is_lock, principal_of}
 use Rattle.scm_model.specs.Changes.{marked_if, with_caller, with_handle, with_mark, with_moment, with_service, without_handle}
-use Rattle.scm_model.specs.Purge.{leaves, purged}
+use Rattle.scm_model.specs.Purge.{leaves, leaving, purged}
+use Rattle.scm_model.specs.Notices.{Event, all_noted, event_of_leaving, noted, pid_of, told_of_move, with_noted, with_registration}
+use Rattle.scm_rules.specs.Valid.{HasShortName}
+use Rattle.scm_rules.specs.Launches.{current_of, told_of_fall}
+use Rattle.scm_rules.specs.Reports.{reported_if, told_of_report}
+use Rattle.scm_runs.proofs.Lists.{found_has}
+use Rattle.scm_runs.proofs.Registered.{AreRegistered, IsOfCaller, events_keep, no_registrations, one_registered, who_joined, who_left}
+use Rattle.scm_runs.proofs.Told.{IsNamed, IsProper, all_named, fall_tells, leaving_tells, report_tells}
 use Rattle.database_lock.specs.Locking.{unlocked}
 use Rattle.dependency_index.proofs.Lists.{or_right}
 use Rattle.service_record.specs.Checks.{check_new}
@@ -62,7 +69,7 @@ pub record Sound (f : Flat) : Type 0 where
   pub plans : ArePlans f.next.plan f.next.service f.callers f.plans
   pub dues : AreDues f.next.due f.dues
   pub deadlines : AreDeadlines f.next.plan f.plans f.dues
-  pub registrations : f.registrations ≡ []
+  pub registrations : AreRegistered f.next.registration f.callers f.registrations
 
 -- ## Changes
 
@@ -74,7 +81,7 @@ opened l groups configs moment can = record {
   plans = no_plans (length configs + 1);
   dues = record { numbered = numbered_none (λ (row : Due). row.number) 1; first = omega arith };
   deadlines = no_deadlines;
-  registrations = refl;
+  registrations = no_registrations [];
 }
 
 pub begun : (l : Limits) (f : Flat) → IsOpening l f → Sound f
@@ -82,6 +89,40 @@ begun l f o = subst Sound (sym o.is) (opened l o.groups o.configs o.moment o.can
 
 pub moved : (f : Flat) (moment : ℕ) → Sound f → Sound (with_moment f moment)
 moved f moment s = record { services = s.services; handles = s.handles; processes = s.processes; plans = s.plans; dues = s.dues; deadlines = s.deadlines; registrations = s.registrations }
+
+-- its services have numbers and short names
+pub are_named : (f : Flat) → Sound f → All IsNamed f.services
+are_named f s = all_named f.next.service f.next.process f.services s.services
+
+-- ## Registrations
+
+-- other registrations
+pub retold : (f : Flat) (rows : List Registration) → AreRegistered f.next.registration f.callers rows → Sound f → Sound (record f { registrations = rows })
+retold f rows told s = record {
+  services = s.services;
+  handles = s.handles;
+  processes = s.processes;
+  plans = s.plans;
+  dues = s.dues;
+  deadlines = s.deadlines;
+  registrations = told;
+}
+
+-- one more, with the next number
+pub watching : (f : Flat) (row : Registration) → row.number ≡ f.next.registration → IsOfCaller f.callers row → HasShortName row → Sound f → Sound (with_registration f row)
+watching f row number there short s = record {
+  services = s.services;
+  handles = s.handles;
+  processes = s.processes;
+  plans = s.plans;
+  dues = s.dues;
+  deadlines = s.deadlines;
+  registrations = one_registered f.next.registration f.callers row f.registrations number there short s.registrations;
+}
+
+-- an event of a service or of the manager
+pub told : (f : Flat) (event : Event) → IsProper event → Sound f → Sound (with_noted f event)
+told f event proper s = retold f (noted event f.registrations) (events_keep f.next.registration f.callers event f.registrations proper s.registrations) s
 
 -- ## Callers and handles
 
@@ -93,7 +134,7 @@ joined f principal s = record {
   plans = caller_more f.next.plan f.next.service f.callers (record { number = f.next.caller; principal = principal }) f.plans s.plans;
   dues = s.dues;
   deadlines = s.deadlines;
-  registrations = s.registrations;
+  registrations = who_joined f.next.registration f.callers (record { number = f.next.caller; principal = principal }) f.registrations s.registrations;
 }
 
 pub left : (f : Flat) (caller : ℕ) → Sound f → Sound (gone f caller)
@@ -104,7 +145,7 @@ left f caller s = record {
   plans = plans_left f.next.plan f.next.service f.callers caller f.plans s.plans;
   dues = s.dues;
   deadlines = plans_fewer f.next.plan (λ (plan : Plan). not (is_callers caller plan)) f.plans f.dues s.deadlines;
-  registrations = ap (λ (rows : List Registration). filter (λ (row : Registration). not (row.caller == caller)) rows) s.registrations;
+  registrations = who_left f.next.registration f.callers caller f.registrations s.registrations;
 }
 
 -- a handle more, and who then holds the lock
@@ -182,7 +223,8 @@ cleared f s =
       plans = s.plans;
       dues = s.dues;
       deadlines = s.deadlines;
-      registrations = s.registrations;
+      registrations = leaving_tells (AreRegistered f.next.registration f.callers) (events_keep f.next.registration f.callers) (leaving f) f.registrations
+          (All-filter (leaves f.handles) IsNamed f.services (are_named f s)) s.registrations;
     }
 
 -- ## Plans
@@ -274,6 +316,11 @@ running f number pid s = record {
   registrations = s.registrations;
 }
 
+-- a service falls
+registrations_fallen : (f : Flat) (number code : ℕ) → Sound f → AreRegistered f.next.registration f.callers (told_of_fall number code (current_of f number) f.registrations)
+registrations_fallen f number code s =
+    fall_tells (AreRegistered f.next.registration f.callers) (events_keep f.next.registration f.callers) number code f.services f.registrations (are_named f s) s.registrations
+
 pub not_running : (f : Flat) (number code : ℕ) → Sound f → Sound (launch_failed f number code)
 not_running f number code s = record {
   services = fallen f.next.service f.next.process number code f.services s.services;
@@ -282,20 +329,36 @@ not_running f number code s = record {
   plans = starts_decided f.next.plan f.next.service f.callers (service_of_process f number) code f.plans s.plans;
   dues = s.dues;
   deadlines = deadlines_decided f.next.plan (service_of_process f number) code f.plans f.dues s.deadlines;
-  registrations = s.registrations;
+  registrations = registrations_fallen f number code s;
 }
 
--- a process that runs tells how its service stands
-pub reported : (f : Flat) (number : ℕ) (report : Status) → is_launched (process_of f number) ≡ true → Sound f → Sound (with_report f number report)
-reported f number report runs s = record {
+-- a process that runs tells how its service stands, and registrations are told of it
+retold_report : (f : Flat) (number : ℕ) (report : Status) (rows : List Registration) → is_launched (process_of f number) ≡ true → Sound f → AreRegistered f.next.registration f.callers rows
+    → Sound (record f { services = map (reported_if number report) f.services; registrations = rows })
+retold_report f number report rows runs s told = record {
   services = rows_reported f.next.service f.next.process number report f.services (running_first f.next.process number f.processes (process_of f number) s.processes.numbered refl runs) s.services;
   handles = s.handles;
   processes = processes_reported f.next.process number report f.processes f.wanted f.services (running_launched number f.processes (process_of f number) s.processes.numbered.rising refl runs) s.processes;
   plans = s.plans;
   dues = s.dues;
   deadlines = s.deadlines;
-  registrations = s.registrations;
+  registrations = told;
 }
+
+-- the service that is found takes it
+pub reported_by : (f : Flat) (report : Status) (row : Service) → IsNamed row → is_launched (process_of f row.process) ≡ true → Sound f
+    → Sound (record f { services = map (reported_if row.process report) f.services; registrations = told_of_report f.processes report (Some row) f.registrations })
+reported_by f report row is runs s =
+    retold_report f row.process report (told_of_report f.processes report (Some row) f.registrations) runs s
+    (report_tells (AreRegistered f.next.registration f.callers) (events_keep f.next.registration f.callers) f.processes report row f.registrations is s.registrations)
+
+pub reported : (f : Flat) (number : ℕ) (report : Status) → is_launched (process_of f number) ≡ true → Sound f → Sound (with_report f number report)
+reported f number report runs s =
+    retold_report f number report (told_of_report f.processes report (current_of f number) f.registrations) runs s
+    (found_keeps (AreRegistered f.next.registration f.callers) (λ (row : Service). told_of_move (pid_of f.processes (reported_if row.process report row)) row (reported_if row.process report row))
+    (current_of f number) f.registrations s.registrations
+    (λ row is. report_tells (AreRegistered f.next.registration f.callers) (events_keep f.next.registration f.callers) f.processes report row f.registrations
+    (found_has IsNamed (λ (row : Service). row.process == number) row f.services (are_named f s) is) s.registrations))
 
 pub no_more : (f : Flat) (number : ℕ) → Sound f → Sound (process_ended f number).flat
 no_more f number s = record {
@@ -305,7 +368,7 @@ no_more f number s = record {
   plans = s.plans;
   dues = s.dues;
   deadlines = s.deadlines;
-  registrations = s.registrations;
+  registrations = registrations_fallen f number 1067 s;
 }
 
 -- ## Controls
@@ -338,6 +401,17 @@ control_sent f number s = of_controls f (relieved_if number) (controls_fewer num
 
 -- ## Services that leave
 
+-- nobody is left to leave
+none_left : (p : Service → Bool) (rows : List Service) → filter p (filter (λ (row : Service). not (p row)) rows) ≡ []
+none_left p [] = refl
+none_left p (row ∷ rows) =
+    elim (p row) as (λ b. p row ≡ b → filter p (cond (not b) (row ∷ filter (λ (r : Service). not (p r)) rows) (filter (λ (r : Service). not (p r)) rows)) ≡ []) [
+      | true ↦ λ e. none_left p rows
+      | false ↦ λ e. rw e (none_left p rows)
+    ] refl
+
 pub purged_twice : (f : Flat) → purged (purged f) ≡ purged f
 purged_twice f =
-    ap (λ (services : List Service). record f { services = services }) (filter_twice (λ (row : Service). not (leaves f.handles row)) f.services)
+    ap (λ (services : List Service). record (purged f) { services = services; registrations = all_noted (map event_of_leaving (leaving (purged f))) (purged f).registrations })
+    (filter_twice (λ (row : Service). not (leaves f.handles row)) f.services)
+    ∙ ap (λ (services : List Service). record (purged f) { registrations = all_noted (map event_of_leaving services) (purged f).registrations }) (none_left (leaves f.handles) f.services)

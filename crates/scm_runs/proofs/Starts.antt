@@ -1,5 +1,5 @@
 -- The law of starts.
-use Rattle.std.proofs.Common.{ℕ, suc, ◌≡◌, ◌<◌, ◌≤◌, ◌⊎◌, ◌==◌, ◌||◌, ◌&&◌, Bool, true, false, not, cond, IsTrue, List, [], ◌∷◌, Option, None, Some, eqb, filter, find, map, get_or, ap, sym, refl, subst, arith, eq-eqb, eqb-true, ne_eqb, inl, inr}
+use Rattle.std.proofs.Common.{ℕ, suc, ◌≡◌, ◌<◌, ◌≤◌, ◌⊎◌, ◌==◌, ◌||◌, ◌&&◌, Bool, true, false, not, cond, IsTrue, List, [], ◌∷◌, Some, eqb, filter, find, map, get_or, ap, sym, refl, subst, arith, eq-eqb, eqb-true, ne_eqb, inl, inr}
 use Rattle.std.specs.Prelude.{All, AllPairs}
 use Rattle.std.specs.List.{AllByRecursion, AllZip, IsDistinct, list_all, list_any}
 use Rattle.std.proofs.lemmas.List.Elements.{All-cons, All-filter, All-head, All-map, All-nil, All-push, All-tail, All-weaker}
@@ -39,7 +39,7 @@ use Rattle.scm_runs.proofs.Settling.{IsEntered, IsSettled}
 use Rattle.scm_runs.proofs.Sound.{Sound}
 use Rattle.std.proofs.lemmas.Bool.{or_right}
 use Rattle.scm_model.proofs.Found.{found_keeps}
-use Rattle.scm_runs.proofs.Founds.{opened_keeps, started_keeps}
+use Rattle.scm_runs.proofs.Founds.{opened_keeps, started_keeps, notify_apart}
 use Rattle.scm_model.specs.Rows.{held_service}
 use Rattle.scm_rules.specs.Change.{new_config}
 use Rattle.scm_rules.proofs.Dues.{ticked_apart}
@@ -87,6 +87,7 @@ old_done l f caller (request.OpenService handle name access) =
 old_done l f caller (request.Start handle words) =
     started_keeps (λ (g : Flat). All (HasOld f.services) g.services) f caller handle words (all_old f.services) (λ row is. all_old f.services)
 old_done l f caller (request.Create new) = All-push (HasOld f.services) f.services _ (all_old f.services) refl
+old_done l f caller (request.Notify handle mask) = notify_apart (λ (g : Flat). All (HasOld f.services) g.services) f caller handle mask (λ rows next. all_old f.services)
 old_done l f caller asked = all_old f.services
 
 old_call : (l : Limits) (f : Flat) (caller : ℕ) (asked : Request) (append : Kept) → All (HasOld f.services) (call_of l f caller asked append).flat.services

@@ -36,6 +36,10 @@ has_zero (reply.Tag tag code) = code == 0
 has_zero (reply.Shown config needed code) = code == 0
 has_zero (reply.LockState held owner seconds needed code) = code == 0
 has_zero (reply.Name name size code) = code == 0
+has_zero (reply.Listing size bytes needed returned code) = code == 0
+has_zero (reply.Page size bytes needed returned resume code) = code == 0
+has_zero (reply.Bytes size bytes needed code) = code == 0
+has_zero (reply.Notice mask status name code) = code == 0
 
 -- whether a call was not refused
 abbrev pub succeeds : Answer → Bool

@@ -1,6 +1,7 @@
 //! The lists of the service manager: the one set of reads and writes through which its calls reach them.
 #![tactic(auto)]
 
+mod depending;
 mod due_rows;
 mod handle_rows;
 mod indexing;
