@@ -68,24 +68,25 @@ impl NotifyQueue {
         );
     }
 
-    /// Adds a registration, which is told of an event of its service at once, where it waits for it. It takes no memory.
+    /// Adds a registration, which is told of an event of a service at once, where it waits for it. It takes no memory.
     pub fn register_told(
         &mut self,
         number: u64,
         caller: u64,
         service: u64,
         mask: u32,
+        of: u64,
         bit: u32,
         status: ProcessStatus,
         name: &WText,
     )
         requires room { 1 ≤ self.old.spare }
         requires short { length name.now ≤ 256 }
-        ensures { self.new.rows ≡ put_in (notified (record { service = service; bit = bit; status = status; name = name.now }) (new_registration number caller service mask)) self.old.rows }
+        ensures { self.new.rows ≡ put_in (notified (record { service = of; bit = bit; status = status; name = name.now }) (new_registration number caller service mask)) self.old.rows }
     {
         let made = replace(&mut self.made, None).unwrap();
         let mut row = NotifyRow::new(number, caller, service, mask, made);
-        row.note(service, bit, status, name);
+        row.note(of, bit, status, name);
         put_in(&mut self.rows, row);
     }
 

@@ -1,5 +1,5 @@
 -- What an entry makes was not made before.
-use Rattle.std.proofs.Common.{ℕ, ◌≡◌, ◌∙◌, ◌<◌, ◌≤◌, ◌==◌, ◌&&◌, ◌||◌, ◌++◌, Bool, true, false, cond, IsTrue, List, [], ◌∷◌, Option, None, Some, find, ap, sym, refl, subst, arith, eqb-true, map}
+use Rattle.std.proofs.Common.{ℕ, ◌≡◌, ◌∙◌, ◌<◌, ◌≤◌, ◌==◌, ◌&&◌, ◌||◌, ◌++◌, Bool, true, false, cond, IsTrue, List, [], ◌∷◌, Option, None, Some, find, ap, refl, subst, arith, map}
 use Rattle.std.specs.Prelude.{All, IfSome, is_some, option_map}
 use Rattle.std.proofs.lemmas.List.Elements.{All-head, All-tail}
 use Rattle.std.proofs.lemmas.Option.{IfSome_then}

@@ -2,7 +2,6 @@
 use Rattle.std.proofs.Common.{ℕ, ◌≡◌, ◌==◌, ◌&&◌, ◌||◌, Bool, true, false, not, cond, IsTrue, List, [], ◌∷◌, Option, None, Some, find, map, ap, sym, refl, subst, eq-eqb, eqb-true}
 use Rattle.std.specs.Prelude.{option_map}
 use Rattle.std.specs.List.{AllByRecursion}
-use Rattle.scm_model.specs.declared.flat.Due.{Due}
 use Rattle.scm_model.specs.declared.flat.DueKind.{DueKind}
 use Rattle.scm_model.specs.declared.flat.DueKind.TheVariants as dues
 use Rattle.scm_model.specs.declared.flat.Flat.{Flat}
@@ -34,7 +33,7 @@ use Rattle.scm_history.specs.Made.{AnswersItsOwn}
 use Rattle.std.proofs.lemmas.Bool.{and_parts}
 use Rattle.scm_model.proofs.Found.{found_keeps}
 use Rattle.scm_model.specs.Found.{if_found}
-use Rattle.scm_runs.proofs.Founds.{opened_keeps, started_keeps}
+use Rattle.scm_runs.proofs.Founds.{opened_keeps, started_keeps, notify_apart}
 use Rattle.scm_rules.proofs.Dues.{ticked_plans}
 use Rattle.scm_rules.specs.Due.{expired}
 
@@ -131,6 +130,9 @@ of_call number caller l f moment by (request.Start handle words) append all not_
 of_call number caller l f moment by (request.OpenService handle name access) append all not_told =
     let g = with_moment f moment in
     change_done number caller l g by (request.OpenService handle name access) append (opened_keeps (λ (h : Flat). h.plans ≡ g.plans) g by name access refl (λ row is. refl)) all
+of_call number caller l f moment by (request.Notify handle mask) append all not_told =
+    let g = with_moment f moment in
+    change_done number caller l g by (request.Notify handle mask) append (notify_apart (λ (h : Flat). h.plans ≡ g.plans) g by handle mask (λ rows next. refl)) all
 of_call number caller l f moment by asked append all not_told = change_done number caller l (with_moment f moment) by asked append refl all
 
 -- ## Steps

@@ -1,6 +1,5 @@
 -- What steps leave of callers, processes, plans and next numbers.
-use Rattle.std.proofs.Common.{ℕ, ◌≡◌, List, Option, None, Some, map, ap, refl}
-use Rattle.scm_model.specs.declared.flat.Config.{Config}
+use Rattle.std.proofs.Common.{ℕ, ◌≡◌, List, map, ap, refl}
 use Rattle.scm_model.specs.declared.flat.Flat.{Flat}
 use Rattle.scm_model.specs.declared.flat.Limits.{Limits}
 use Rattle.scm_model.specs.declared.flat.Process.{Process}
@@ -16,7 +15,7 @@ use Rattle.scm_runs.proofs.Sound.{controls_more}
 use Rattle.scm_history.specs.Processes.{apart_from_controls}
 use Rattle.scm_model.proofs.Found.{found_keeps}
 use Rattle.scm_model.specs.Rows.{held_service}
-use Rattle.scm_runs.proofs.Founds.{opened_keeps, started_keeps}
+use Rattle.scm_runs.proofs.Founds.{opened_keeps, started_keeps, notify_apart}
 use Rattle.scm_model.specs.declared.flat.Service.{Service}
 
 -- a change of the controls alone leaves all else
@@ -45,6 +44,8 @@ of_done l f caller (request.Control handle control) = record {
   next_caller = refl;
   next_process = refl;
 }
+of_done l f caller (request.Notify handle mask) =
+    notify_apart (Spares f) f caller handle mask (λ rows next. record { callers = refl; processes = refl; next_caller = refl; next_process = refl })
 of_done l f caller asked = record { callers = refl; processes = refl; next_caller = refl; next_process = refl }
 
 -- so it is with each call

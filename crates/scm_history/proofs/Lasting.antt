@@ -1,7 +1,6 @@
 -- Facts of plans that each step keeps.
 use Rattle.std.proofs.Common.{ℕ, ◌≡◌, ◌∙◌, ◌<◌, ◌==◌, Bool, true, false, cond, List, [], ◌∷◌, ◌++◌, Option, None, Some, find, map, filter, ap, sym, refl, subst, arith, ne_eqb}
 use Rattle.std.specs.Prelude.{IfSome, Result, Ok, Err, option_map}
-use Rattle.scm_model.specs.declared.flat.Due.{Due}
 use Rattle.scm_model.specs.declared.flat.DueKind.{DueKind}
 use Rattle.scm_model.specs.declared.flat.DueKind.TheVariants as dues
 use Rattle.scm_model.specs.declared.flat.Flat.{Flat}
@@ -30,7 +29,7 @@ use Rattle.scm_runs.proofs.Calls.{by_verdict}
 use Rattle.scm_rules.specs.Named.{plan_made}
 use Rattle.scm_model.proofs.Found.{found_keeps}
 use Rattle.scm_model.specs.Found.{if_found}
-use Rattle.scm_runs.proofs.Founds.{opened_keeps, started_keeps}
+use Rattle.scm_runs.proofs.Founds.{opened_keeps, started_keeps, notify_apart}
 use Rattle.scm_rules.specs.Controls.{control_sent, controls_of, first_control}
 use Rattle.scm_rules.proofs.Dues.{ticked_plans}
 use Rattle.scm_rules.specs.Due.{expired}
@@ -67,6 +66,7 @@ starts_decided number Over Left P lasts target code plans p =
 of_done : (number : ℕ) (Over Left : ℕ → Type 0) (P : List Plan → Type 0) → Lasts number Over Left P → (l : Limits) (f : Flat) (caller : ℕ) (asked : Request) → (f.next.plan == number) ≡ false → P f.plans → P (done_of l f caller asked).flat.plans
 of_done number Over Left P lasts l f caller (request.OpenService handle name access) other p = opened_keeps (λ (g : Flat). P g.plans) f caller name access p (λ row is. p)
 of_done number Over Left P lasts l f caller (request.Start handle words) other p = started_keeps (λ (g : Flat). P g.plans) f caller handle words p (λ row is. lasts.begins f.plans _ other p)
+of_done number Over Left P lasts l f caller (request.Notify handle mask) other p = notify_apart (λ (g : Flat). P g.plans) f caller handle mask (λ rows next. p)
 of_done number Over Left P lasts l f caller asked other p = p
 
 of_call : (number : ℕ) (Over Left : ℕ → Type 0) (P : List Plan → Type 0) → Lasts number Over Left P → (l : Limits) (f : Flat) (caller : ℕ) (asked : Request) (append : Kept) → (f.next.plan == number) ≡ false → P f.plans

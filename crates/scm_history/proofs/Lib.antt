@@ -17,4 +17,5 @@ pub mod Beginnings
 pub mod Shapes
 pub mod Owned
 pub mod Kept
+pub mod Registrations
 pub mod Once

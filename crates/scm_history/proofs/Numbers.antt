@@ -1,7 +1,6 @@
 -- Numbers are given once.
 use Rattle.std.proofs.Common.{ℕ, ◌≡◌, ◌∙◌, ◌<◌, ◌≤◌, ◌==◌, Bool, true, false, not, cond, List, Option, None, Some, ap, sym, refl, subst, arith, leb, leb-true, leb-false, eqb-true, unwrap_or, []}
 use Rattle.std.specs.Prelude.{IfSome, is_some}
-use Rattle.scm_model.specs.declared.flat.Config.{Config}
 use Rattle.scm_model.specs.declared.flat.Flat.{Flat}
 use Rattle.scm_model.specs.Outcomes.{Done}
 use Rattle.scm_model.specs.declared.flat.Limits.{Limits}
@@ -31,7 +30,7 @@ use Rattle.scm_history.proofs.Lasting.{Allows, Lasts, coded_sides, end_none, of_
 use Rattle.scm_history.proofs.Processes.{after_effect, none_effect, process_rises}
 use Rattle.scm_runs.proofs.Frames.{framed}
 use Rattle.scm_model.specs.Found.{if_found}
-use Rattle.scm_runs.proofs.Founds.{opened_keeps, started_keeps}
+use Rattle.scm_runs.proofs.Founds.{opened_keeps, started_keeps, notify_apart}
 use Rattle.scm_rules.specs.Launches.{first_wanted}
 use Rattle.scm_rules.specs.Controls.{controls_of, first_control}
 use Rattle.scm_rules.proofs.Dues.{ticked_apart}
@@ -65,6 +64,7 @@ stays_none l f moment step number low none = of_step number (λ plan. Unit {0}) 
 plan_done : (l : Limits) (f : Flat) (caller : ℕ) (asked : Request) → f.next.plan ≤ (done_of l f caller asked).flat.next.plan
 plan_done l f caller (request.OpenService handle name access) = opened_keeps (λ (g : Flat). f.next.plan ≤ g.next.plan) f caller name access (omega arith) (λ row is. omega arith)
 plan_done l f caller (request.Start handle words) = started_keeps (λ (g : Flat). f.next.plan ≤ g.next.plan) f caller handle words (omega arith) (λ row is. omega arith)
+plan_done l f caller (request.Notify handle mask) = notify_apart (λ (g : Flat). f.next.plan ≤ g.next.plan) f caller handle mask (λ rows next. omega arith)
 plan_done l f caller asked = omega arith
 
 plan_call : (l : Limits) (f : Flat) (caller : ℕ) (asked : Request) (append : Kept) → f.next.plan ≤ (call_of l f caller asked append).flat.next.plan

@@ -1,5 +1,5 @@
 -- No number is given again.
-use Rattle.std.proofs.Common.{ℕ, ◌≡◌, ◌⊎◌, ◌∙◌, ◌<◌, ◌≤◌, ◌==◌, Bool, true, false, cond, IsTrue, List, [], ◌∷◌, ◌++◌, ap, sym, refl, subst, arith, eqb-true, eq-eqb, inl, inr}
+use Rattle.std.proofs.Common.{ℕ, ◌≡◌, ◌⊎◌, ◌∙◌, ◌<◌, ◌≤◌, ◌==◌, Bool, true, false, cond, IsTrue, List, [], ◌∷◌, ◌++◌, ap, sym, refl, subst, arith, eqb-true, eq-eqb, inl, inr, get_or}
 use Rattle.std.specs.Prelude.{All, Contains, is_some, not}
 use Rattle.std.proofs.lemmas.List.Elements.{All-append, All-cons, All-contains_itself, All-filter, All-map, All-nil, All-push, All-weaker}
 use Rattle.std.proofs.lemmas.List.Folds.{list_any_none}
@@ -31,19 +31,22 @@ use Rattle.scm_rules.specs.Verdicts.{call_of, done_of, told_refused, verdict}
 use Rattle.scm_runs.specs.Leaving.{before_leaving, created, numbers, succeeds}
 use Rattle.scm_runs.proofs.Along.{Gives}
 use Rattle.scm_runs.proofs.Calls.{by_verdict, keeps}
-use Rattle.scm_runs.proofs.Founds.{opened_keeps, started_keeps}
+use Rattle.scm_runs.proofs.Founds.{opened_keeps, started_keeps, notify_keeps, notify_apart}
 use Rattle.scm_runs.proofs.Frames.{finished_keeps, framed, settled_dues}
 use Rattle.scm_runs.proofs.Handles.{gives as gives_handles}
 use Rattle.scm_runs.proofs.Leaving.{gives as gives_leaving}
 use Rattle.scm_runs.proofs.Lists.{any_at, each_number, has_own, is_some-find}
-use Rattle.scm_runs.proofs.Numbers.{numbered_empty}
 use Rattle.scm_runs.proofs.Sound.{Sound}
 use Rattle.scm_history.proofs.Callers.{rising, stays_out}
 use Rattle.scm_history.proofs.Finds.{found_below}
 use Rattle.scm_history.proofs.Numbers.{plan_rises, stays_none}
 use Rattle.scm_history.proofs.Plans.{plan_below}
 use Rattle.scm_history.proofs.Processes.{after_effect, none_effect, process_rises}
-use Rattle.scm_history.specs.Once.{AllAreGivenOnce, HasStood, IsNeverAgain, NoneIsGivenAgain, has_number}
+use Rattle.scm_history.specs.Once.{AllAreGivenOnce, HasStood, IsNeverAgain, NoneIsGivenAgain, has_number, HasWatched}
+use Rattle.scm_history.proofs.Registrations.{Stands, watching_row, made_number, of_step as registrations_of_step}
+use Rattle.scm_model.specs.Notices.{notified, taken_if}
+use Rattle.scm_runs.proofs.Told.{notified_or}
+use Rattle.scm_runs.proofs.Registered.{all_put, taken_or}
 
 -- ## The next numbers
 
@@ -60,6 +63,8 @@ done_rises l f caller (request.OpenService handle name access) =
     opened_keeps (Rises f) f caller name access (no_rise f) (λ row is. record { service = omega arith; registration = omega arith; due = omega arith })
 done_rises l f caller (request.Start handle words) =
     started_keeps (Rises f) f caller handle words (no_rise f) (λ row is. record { service = omega arith; registration = omega arith; due = omega arith })
+done_rises l f caller (request.Notify handle mask) =
+    notify_keeps (Rises f) f caller handle mask (record { service = omega arith; registration = omega arith; due = omega arith }) (λ of is. record { service = omega arith; registration = omega arith; due = omega arith })
 done_rises l f caller asked = record { service = omega arith; registration = omega arith; due = omega arith }
 
 call_rises : (l : Limits) (f : Flat) (caller : ℕ) (asked : Request) (append : Kept) → Rises f (call_of l f caller asked append).flat
@@ -125,6 +130,7 @@ done_dues : (l : Limits) (f : Flat) (caller : ℕ) (asked : Request) → All (Is
 done_dues l f caller (request.OpenService handle name access) = opened_keeps (λ (g : Flat). All (IsOld f) g.dues) f caller name access (old_dues f) (λ row is. old_dues f)
 done_dues l f caller (request.Start handle words) =
     started_keeps (λ (g : Flat). All (IsOld f) g.dues) f caller handle words (old_dues f) (λ row is. All-push (IsOld f) f.dues _ (old_dues f) (inr (omega arith)))
+done_dues l f caller (request.Notify handle mask) = notify_apart (λ (g : Flat). All (IsOld f) g.dues) f caller handle mask (λ rows next. old_dues f)
 done_dues l f caller asked = old_dues f
 
 call_dues : (l : Limits) (f : Flat) (caller : ℕ) (asked : Request) (append : Kept) → All (IsOld f) (call_of l f caller asked append).flat.dues
@@ -145,10 +151,36 @@ dues_once l f moment step =
     finished_keeps (λ (g : Flat). All (IsOld f) g.dues) (λ g plans once. once) (settled l done.flat) done.answer
     (subst (λ (rows : List Due). All (IsOld f) rows) (sym (settled_dues l done.flat)) (All-filter still (IsOld f) done.flat.dues (effect_dues l f moment step)))
 
--- ## Steps
+-- ## Registrations
 
-none_once : {A : Type 0} (P : A → Type 0) (rows : List A) → rows ≡ [] → All P rows
-none_once P rows e = subst (λ rs. All P rs) (sym e) (All-nil P)
+abbrev IsWatching : Flat → Registration → Type 0
+IsWatching f row = HasWatched f row ⊎ (f.next.registration ≤ row.number)
+
+-- a change that leaves the number
+watching_still : (f : Flat) (old new : Registration) → new.number ≡ old.number → IsWatching f old → IsWatching f new
+watching_still f old new same is = subst (λ n. (has_number (λ (row : Registration). row.number) n f.registrations ≡ true) ⊎ (f.next.registration ≤ n)) (sym same) is
+
+registrations_stand : (f : Flat) (step : Step) → Stands (All (IsWatching f)) f step
+registrations_stand f step =
+    let was : All (IsWatching f) f.registrations =
+    All-weaker (HasWatched f) (IsWatching f) (λ row has. inl has) f.registrations (has_own (λ (row : Registration). row.number) f.registrations) in
+    record {
+      tells = λ event rows proper all. All-map (IsWatching f) (notified event) rows
+          (λ k d lt. watching_still f (get_or rows k d) (notified event (get_or rows k d)) (notified_or (λ new. new.number ≡ (get_or rows k d).number) event (get_or rows k d) (λ e. refl) refl) (all k d lt));
+      was = λ quiet. was;
+      comes = λ caller handle mask append of e is. all_put (IsWatching f) (watching_row f caller handle mask of) f.registrations was
+          (inr (let next = made_number f caller handle mask of in omega (arith, next)));
+      taken = λ caller handle number append e is. All-map (IsWatching f) (taken_if number) f.registrations
+          (λ k d lt. watching_still f (get_or f.registrations k d) (taken_if number (get_or f.registrations k d))
+          (taken_or (λ new. new.number ≡ (get_or f.registrations k d).number) number (get_or f.registrations k d) (λ e. refl) refl) (was k d lt));
+      closed = λ caller handle number append e is. All-filter (λ (row : Registration). not (row.number == number)) (IsWatching f) f.registrations was;
+      gone = λ caller e. All-filter (λ (row : Registration). not (row.caller == caller)) (IsWatching f) f.registrations was;
+    }
+
+registrations_once : (l : Limits) (f : Flat) (moment : ℕ) (step : Step) → Sound f → IsTrue (may l f moment step) → All (IsWatching f) (step_of l f moment step).flat.registrations
+registrations_once l f moment step s ok = registrations_of_step l (All (IsWatching f)) f moment step (registrations_stand f step) s ok
+
+-- ## Steps
 
 pub gives : (l : Limits) → Gives Sound AllAreGivenOnce l
 gives l f e s ok =
@@ -158,11 +190,7 @@ gives l f e s ok =
     record {
       services = record { numbered = after.services.numbered; rising = up.service; once = services_once l f e s ok };
       handles = record { numbered = after.handles.handles; rising = handles.rising; once = handles.once };
-      registrations = record {
-        numbered = numbered_empty (λ (row : Registration). row.number) _ _ after.registrations;
-        rising = up.registration;
-        once = none_once (λ (row : Registration). Contains f.registrations row ⊎ (f.next.registration ≤ row.number)) _ after.registrations;
-      };
+      registrations = record { numbered = after.registrations.numbered; rising = up.registration; once = registrations_once l f e.0 e.1 s ok };
       dues = record { numbered = after.dues.numbered; rising = up.due; once = dues_once l f e.0 e.1 };
     }
 
@@ -256,10 +284,9 @@ of_handles l = record {
 of_registrations : (l : Limits) → IsKind l (λ number g. has_number (λ (row : Registration). row.number) number g.registrations) (λ (g : Flat). g.next.registration)
 of_registrations l = record {
   below = λ f n s there. is_below (λ (row : Registration). row.number) n f.next.registration f.registrations
-      (none_once (λ (row : Registration). row.number < f.next.registration) f.registrations s.registrations) there;
+      s.registrations.numbered.below there;
   rising = λ f e s ok. (gives l f e s ok).registrations.rising;
-  away = λ f e n s ok low none. stays_away (λ (row : Registration). row.number) (Contains f.registrations) f.next.registration n f.registrations _
-      (has_contained (λ (row : Registration). row.number) f.registrations) (gives l f e s ok).registrations.once low none;
+  away = λ f e n s ok low none. stays_away (λ (row : Registration). row.number) (HasWatched f) f.next.registration n f.registrations _ (λ row stood. stood) (gives l f e s ok).registrations.once low none;
 }
 
 of_dues : (l : Limits) → IsKind l (λ number g. has_number (λ (row : Due). row.number) number g.dues) (λ (g : Flat). g.next.due)

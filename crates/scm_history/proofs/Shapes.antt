@@ -1,6 +1,6 @@
 -- The shape of each answer.
 use Rattle.std.proofs.Common.{ℕ, ◌≡◌, ◌⊎◌, ◌∙◌, ◌==◌, true, false, cond, List, Option, None, Some, Ok, Err, refl, inl, inr, IsTrue, [], ◌∷◌}
-use Rattle.std.specs.Prelude.{is_some, unwrap_or}
+use Rattle.std.specs.Prelude.{is_some, unwrap_or, option_and_then}
 use Rattle.scm_model.specs.declared.codes.TheConstants.{ERROR_INVALID_DATA}
 use Rattle.scm_model.specs.declared.flat.Flat.{Flat}
 use Rattle.scm_model.specs.declared.flat.Limits.{Limits}
@@ -29,49 +29,33 @@ use Rattle.scm_runs.proofs.Along.{Gives}
 use Rattle.scm_runs.proofs.Calls.{by_verdict}
 use Rattle.scm_runs.proofs.Lists.{is_some-find}
 use Rattle.scm_runs.proofs.Sound.{Sound}
-use Rattle.scm_history.specs.Shapes.{HasShape, IsAnswered, IsReplied, LawOfShapes, has_current, is_reply_to, IsControl}
+use Rattle.scm_history.specs.Shapes.{HasShape, IsAnswered, IsReplied, LawOfShapes, has_current, is_reply_to, IsControl, is_notice, is_page}
 use Rattle.scm_runs.proofs.Founds.{launch_is}
 use Rattle.scm_runs.proofs.Processes.{first_of}
 use Rattle.scm_rules.specs.Launches.{first_wanted}
 use Rattle.std.proofs.lemmas.Bool.{and_parts}
+use Rattle.scm_rules.specs.Notify.{notice_in, notify_of}
+use Rattle.scm_rules.specs.EnumServices.{page_of, services_asked}
+use Rattle.scm_model.specs.declared.flat.Registration.{Registration}
+use Rattle.scm_model.specs.Notices.{registration_of}
+use Rattle.scm_model.specs.Refused.{zero_process_status}
 
 -- ## Replies
 
+-- what a registration was told, or that it was told nothing
+of_notice : (found : Option Registration) → is_notice (notice_in found) ≡ true
+of_notice None = refl
+of_notice (Some row) = elim (row.fired == 0) as (λ b. is_notice (cond b (reply.Notice 0 zero_process_status None 0) (reply.Notice row.fired row.status (Some row.name) 0)) ≡ true) [ true ↦ refl | false ↦ refl ]
+
 of_done : (l : Limits) (f : Flat) (caller : ℕ) (asked : Request) → is_reply_to asked (done_of l f caller asked).reply ≡ true
-of_done l f caller (request.Close handle) = refl
-of_done l f caller (request.Control handle control) = refl
-of_done l f caller (request.Delete handle) = refl
-of_done l f caller (request.Lock handle) = refl
-of_done l f caller (request.QueryStatus handle) = refl
-of_done l f caller (request.SetStatus handle status) = refl
-of_done l f caller (request.Unlock handle) = refl
-of_done l f caller (request.Change change) = refl
-of_done l f caller (request.Create new) = refl
-of_done l f caller (request.OpenManager database access) = refl
-of_done l f caller (request.OpenService handle name access) = refl
-of_done l f caller (request.QueryConfig handle size) = refl
-of_done l f caller (request.QueryLock handle size) = refl
-of_done l f caller (request.Start handle words) = refl
-of_done l f caller (request.DisplayName handle name size) = refl
-of_done l f caller (request.KeyName handle name size) = refl
+of_done l f caller (request.GetNotify handle) = of_notice (option_and_then (registration_of f) (notify_of f caller handle))
+of_done l f caller asked = refl
 
 of_refused : (f : Flat) (caller : ℕ) (asked : Request) (code : ℕ) → is_reply_to asked (told_refused f caller asked code) ≡ true
-of_refused f caller (request.Close handle) code = refl
-of_refused f caller (request.Control handle control) code = refl
-of_refused f caller (request.Delete handle) code = refl
-of_refused f caller (request.Lock handle) code = refl
-of_refused f caller (request.QueryStatus handle) code = refl
-of_refused f caller (request.SetStatus handle status) code = refl
-of_refused f caller (request.Unlock handle) code = refl
-of_refused f caller (request.Change change) code = refl
-of_refused f caller (request.Create new) code = refl
-of_refused f caller (request.OpenManager database access) code = refl
-of_refused f caller (request.OpenService handle name access) code = refl
-of_refused f caller (request.QueryConfig handle size) code = refl
-of_refused f caller (request.QueryLock handle size) code = refl
-of_refused f caller (request.Start handle words) code = refl
-of_refused f caller (request.DisplayName handle name size) code = refl
-of_refused f caller (request.KeyName handle name size) code = refl
+of_refused f caller (request.EnumServices handle kinds states size resume) code =
+    let rows = services_asked f kinds states resume in
+    elim (code == 234) as (λ b. is_page (cond b (page_of size resume rows) (reply.Page size [] 0 0 resume code)) ≡ true) [ true ↦ refl | false ↦ refl ]
+of_refused f caller asked code = refl
 
 pub of_reply : (l : Limits) (f : Flat) (caller : ℕ) (asked : Request) (append : Kept) → is_reply_to asked (call_of l f caller asked append).reply ≡ true
 of_reply l f caller asked append =

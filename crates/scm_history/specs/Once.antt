@@ -13,7 +13,7 @@ use Rattle.scm_model.specs.Rows.{is_caller}
 use Rattle.start_plan.specs.Decided.{plan_of}
 use Rattle.scm_rules.specs.Histories.{state}
 use Rattle.scm_rules.specs.Launches.{process_of}
-use Rattle.scm_rules.specs.Valid.{AreNumbered}
+use Rattle.scm_rules.specs.Valid.{AreNumbered, AreApart}
 
 -- whether a row has this number
 abbrev pub has_number : {A : Type 0} → (A → ℕ) → ℕ → List A → Bool
@@ -45,13 +45,22 @@ pub record AreGivenOnce {A : Type 0} (number_of : A → ℕ) (Stood : A → Type
 abbrev pub HasStood : Flat → Service → Type 0
 HasStood before row = has_service row.number before ≡ true
 
+-- so does a registration, whatever it is told
+abbrev pub HasWatched : Flat → Registration → Type 0
+HasWatched before row = has_registration row.number before ≡ true
+
+-- registrations stand in the order of what they watch: no two have a number in common
+pub record AreRegisteredOnce (before after : Flat) : Type 0 where
+  pub numbered : AreApart (λ (row : Registration). row.number) after.next.registration after.registrations
+  pub rising : before.next.registration ≤ after.next.registration
+  pub once : All (λ row. HasWatched before row ⊎ (before.next.registration ≤ row.number)) after.registrations
+
 pub record AllAreGivenOnce (before : Flat) (e : Entry) (told : Answer) (after : Flat) : Type 0 where
   pub services : AreGivenOnce (λ (row : Service). row.number) (HasStood before)
       before.next.service after.next.service after.services
   pub handles : AreGivenOnce (λ (row : HandleRow). row.number) (Contains before.handles)
       before.next.handle after.next.handle after.handles
-  pub registrations : AreGivenOnce (λ (row : Registration). row.number)
-      (Contains before.registrations) before.next.registration after.next.registration after.registrations
+  pub registrations : AreRegisteredOnce before after
   pub dues : AreGivenOnce (λ (row : Due). row.number) (Contains before.dues)
       before.next.due after.next.due after.dues
 

@@ -49,6 +49,22 @@ abbrev pub is_name : Reply → Bool
 is_name (reply.Name name size code) = true
 is_name told = false
 
+abbrev pub is_listing : Reply → Bool
+is_listing (reply.Listing size bytes needed returned code) = true
+is_listing told = false
+
+abbrev pub is_page : Reply → Bool
+is_page (reply.Page size bytes needed returned resume code) = true
+is_page told = false
+
+abbrev pub are_bytes : Reply → Bool
+are_bytes (reply.Bytes size bytes needed code) = true
+are_bytes told = false
+
+abbrev pub is_notice : Reply → Bool
+is_notice (reply.Notice mask status name code) = true
+is_notice told = false
+
 -- whether a reply has the form of those to a request
 abbrev pub is_reply_to : Request → Reply → Bool
 is_reply_to (request.Close handle) told = is_handle told
@@ -67,6 +83,12 @@ is_reply_to (request.QueryLock handle size) told = is_lock_state told
 is_reply_to (request.Start handle words) told = is_code told
 is_reply_to (request.DisplayName handle name size) told = is_name told
 is_reply_to (request.KeyName handle name size) told = is_name told
+is_reply_to (request.EnumDependents handle states size) told = is_listing told
+is_reply_to (request.EnumServices handle kinds states size resume) told = is_page told
+is_reply_to (request.QueryStatusEx handle level size) told = are_bytes told
+is_reply_to (request.Notify handle mask) told = is_handle told
+is_reply_to (request.GetNotify handle) told = is_notice told
+is_reply_to (request.CloseNotify handle) told = is_handle told
 
 -- ## Answers
 

@@ -1,8 +1,7 @@
 -- What a step that isn't owed makes owed.
-use Rattle.std.proofs.Common.{ℕ, ◌≡◌, ◌≤◌, ◌+◌, ◌*◌, ◌==◌, ◌||◌, ◌&&◌, Bool, true, false, not, cond, List, [], ◌∷◌, Option, None, Some, length, length-append, map, find, eqb, ap, refl, sym, arith, eq-eqb, eqb-true}
+use Rattle.std.proofs.Common.{ℕ, ◌≡◌, ◌≤◌, ◌+◌, ◌*◌, ◌==◌, ◌||◌, ◌&&◌, Bool, true, false, cond, List, [], ◌∷◌, Option, Some, length, length-append, map, find, eqb, ap, refl, sym, arith, eq-eqb, eqb-true}
 use Rattle.std.specs.Prelude.{is_some, unwrap_or, is_none}
 use Rattle.std.proofs.lemmas.List.{length-map}
-use Rattle.scm_model.specs.declared.flat.Due.{Due}
 use Rattle.scm_model.specs.declared.flat.DueKind.{DueKind}
 use Rattle.scm_model.specs.declared.flat.DueKind.TheVariants as dues
 use Rattle.scm_model.specs.declared.flat.Flat.{Flat}
@@ -37,7 +36,7 @@ use Rattle.scm_owed.proofs.Settling.{kept_owes, total_more}
 use Rattle.scm_model.proofs.Found.{found_keeps}
 use Rattle.scm_model.specs.Found.{if_found}
 use Rattle.scm_model.specs.Rows.{held_service}
-use Rattle.scm_runs.proofs.Founds.{opened_keeps}
+use Rattle.scm_runs.proofs.Founds.{opened_keeps, notify_apart}
 use Rattle.scm_runs.proofs.Calls.{start_held}
 use Rattle.scm_rules.proofs.Held.{held_is}
 use Rattle.scm_rules.proofs.Dues.{ticked_keeps}
@@ -103,27 +102,18 @@ of_call : (l : Limits) (f : Flat) (caller : ℕ) (asked : Request) (append : Kep
 of_call l f caller (request.Start handle words) append =
     let code = verdict l f caller (request.Start handle words) append in
     of_answered code (told_refused f caller (request.Start handle words) code) f (done_of l f caller (request.Start handle words)) (3 * length f.services + 2) (omega arith) (λ e. start_owes f caller handle words e)
-of_call l f caller (request.Change change) append = of_answered (verdict l f caller (request.Change change) append) _ f (done_of l f caller (request.Change change)) 1 (omega arith) (λ e. omega arith)
 of_call l f caller (request.Control handle control) append =
     let code = verdict l f caller (request.Control handle control) append in
     let same = found_keeps (λ (rows : List Process). total owed_by_process rows ≡ total owed_by_process f.processes) (λ (row : Service). map (controlled_if l.controls row.process control)) (held_service f caller handle)
     f.processes refl (λ row is. controls_owe (controlled_if l.controls row.process control) (controls_more l.controls row.process control) f.processes) in
     of_answered code (told_refused f caller (request.Control handle control) code) f (done_of l f caller (request.Control handle control)) 1 (omega arith) (λ e. omega (arith, same))
-of_call l f caller (request.Close handle) append = of_answered (verdict l f caller (request.Close handle) append) _ f (done_of l f caller (request.Close handle)) 1 (omega arith) (λ e. omega arith)
-of_call l f caller (request.Delete handle) append = of_answered (verdict l f caller (request.Delete handle) append) _ f (done_of l f caller (request.Delete handle)) 1 (omega arith) (λ e. omega arith)
-of_call l f caller (request.Lock handle) append = of_answered (verdict l f caller (request.Lock handle) append) _ f (done_of l f caller (request.Lock handle)) 1 (omega arith) (λ e. omega arith)
-of_call l f caller (request.QueryStatus handle) append = of_answered (verdict l f caller (request.QueryStatus handle) append) _ f (done_of l f caller (request.QueryStatus handle)) 1 (omega arith) (λ e. omega arith)
-of_call l f caller (request.SetStatus handle status) append = of_answered (verdict l f caller (request.SetStatus handle status) append) _ f (done_of l f caller (request.SetStatus handle status)) 1 (omega arith) (λ e. omega arith)
-of_call l f caller (request.Unlock handle) append = of_answered (verdict l f caller (request.Unlock handle) append) _ f (done_of l f caller (request.Unlock handle)) 1 (omega arith) (λ e. omega arith)
-of_call l f caller (request.Create new) append = of_answered (verdict l f caller (request.Create new) append) _ f (done_of l f caller (request.Create new)) 1 (omega arith) (λ e. omega arith)
-of_call l f caller (request.OpenManager database access) append = of_answered (verdict l f caller (request.OpenManager database access) append) _ f (done_of l f caller (request.OpenManager database access)) 1 (omega arith) (λ e. omega arith)
+of_call l f caller (request.Notify handle mask) append =
+    let same = notify_apart (λ (g : Flat). owed g ≡ owed f) f caller handle mask (λ rows next. refl) in
+    of_answered (verdict l f caller (request.Notify handle mask) append) _ f (done_of l f caller (request.Notify handle mask)) 1 (omega arith) (λ e. omega (arith, same))
 of_call l f caller (request.OpenService handle name access) append =
     let same = opened_keeps (λ (g : Flat). owed g ≡ owed f) f caller name access refl (λ row is. refl) in
     of_answered (verdict l f caller (request.OpenService handle name access) append) _ f (done_of l f caller (request.OpenService handle name access)) 1 (omega arith) (λ e. omega (arith, same))
-of_call l f caller (request.QueryConfig handle size) append = of_answered (verdict l f caller (request.QueryConfig handle size) append) _ f (done_of l f caller (request.QueryConfig handle size)) 1 (omega arith) (λ e. omega arith)
-of_call l f caller (request.QueryLock handle size) append = of_answered (verdict l f caller (request.QueryLock handle size) append) _ f (done_of l f caller (request.QueryLock handle size)) 1 (omega arith) (λ e. omega arith)
-of_call l f caller (request.DisplayName handle name size) append = of_answered (verdict l f caller (request.DisplayName handle name size) append) _ f (done_of l f caller (request.DisplayName handle name size)) 1 (omega arith) (λ e. omega arith)
-of_call l f caller (request.KeyName handle name size) append = of_answered (verdict l f caller (request.KeyName handle name size) append) _ f (done_of l f caller (request.KeyName handle name size)) 1 (omega arith) (λ e. omega arith)
+of_call l f caller asked append = of_answered (verdict l f caller asked append) _ f (done_of l f caller asked) 1 (omega arith) (λ e. omega arith)
 
 -- ## Decisions
 
