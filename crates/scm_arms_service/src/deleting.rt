@@ -98,9 +98,8 @@ pub fn delete(tables: &mut Tables, caller: u64, handle: u64, kept: Kept) -> Repl
     if code != 0 {
         return Reply::Code(code);
     }
-    if let Some(row) = tables.held_service(caller, handle) {
-        let number = row.number;
-        tables.mark(number);
+    if let Some(opened) = tables.opened(caller, handle) {
+        tables.mark(opened.service);
     }
     Reply::Code(0)
 }
