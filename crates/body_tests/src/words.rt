@@ -1,12 +1,14 @@
 //! Requests and replies from words. A `-` is none, and a `.` in a text is left out. Without memory
 //! less is made, which is then another body.
 use scm_model::codes::{
-    R_CHANGE_SERVICE_CONFIG_W, R_CLOSE_SERVICE_HANDLE, R_CONTROL_SERVICE, R_CREATE_SERVICE_W,
-    R_DELETE_SERVICE, R_GET_SERVICE_DISPLAY_NAME_W, R_LOCK_SERVICE_DATABASE, R_OPEN_SC_MANAGER_W,
-    R_OPEN_SERVICE_W, R_QUERY_SERVICE_CONFIG_W, R_QUERY_SERVICE_LOCK_STATUS_W,
-    R_QUERY_SERVICE_STATUS, R_SET_SERVICE_STATUS, R_START_SERVICE_W, R_UNLOCK_SERVICE_DATABASE,
+    R_CHANGE_SERVICE_CONFIG_W, R_CLOSE_NOTIFY_HANDLE, R_CLOSE_SERVICE_HANDLE, R_CONTROL_SERVICE,
+    R_CREATE_SERVICE_W, R_DELETE_SERVICE, R_ENUM_DEPENDENT_SERVICES_W, R_ENUM_SERVICES_STATUS_W,
+    R_GET_NOTIFY_RESULTS, R_GET_SERVICE_DISPLAY_NAME_W, R_LOCK_SERVICE_DATABASE,
+    R_NOTIFY_SERVICE_STATUS_CHANGE, R_OPEN_SC_MANAGER_W, R_OPEN_SERVICE_W,
+    R_QUERY_SERVICE_CONFIG_W, R_QUERY_SERVICE_LOCK_STATUS_W, R_QUERY_SERVICE_STATUS,
+    R_QUERY_SERVICE_STATUS_EX, R_SET_SERVICE_STATUS, R_START_SERVICE_W, R_UNLOCK_SERVICE_DATABASE,
 };
-use scm_model::{ChangeService, NewService, Reply, Request, Shown, Status};
+use scm_model::{ChangeService, NewService, ProcessStatus, Reply, Request, Shown, Status};
 use scm_text::{Items, OutOfMemory, WText};
 use std::alloc::Global;
 
@@ -147,7 +149,38 @@ pub fn request(alloc: Global, opnum: u16, words: Words) -> Request {
             handle,
             size: number(words, 1),
         },
+        R_NOTIFY_SERVICE_STATUS_CHANGE => Request::Notify {
+            handle,
+            mask: number(words, 1),
+        },
+        R_GET_NOTIFY_RESULTS => Request::GetNotify { handle },
+        R_CLOSE_NOTIFY_HANDLE => Request::CloseNotify { handle },
+        R_ENUM_DEPENDENT_SERVICES_W | R_ENUM_SERVICES_STATUS_W | R_QUERY_SERVICE_STATUS_EX => {
+            request_for_services(opnum, words, handle)
+        }
         _ => request_with_texts(alloc, opnum, words, handle),
+    }
+}
+
+fn request_for_services(opnum: u16, words: Words, handle: u64) -> Request {
+    match opnum {
+        R_ENUM_DEPENDENT_SERVICES_W => Request::EnumDependents {
+            handle,
+            states: number(words, 1),
+            size: number(words, 2),
+        },
+        R_ENUM_SERVICES_STATUS_W => Request::EnumServices {
+            handle,
+            kinds: number(words, 1),
+            states: number(words, 2),
+            size: number(words, 3),
+            resume: some_number(words, 4),
+        },
+        _ => Request::QueryStatusEx {
+            handle,
+            level: number(words, 1),
+            size: number(words, 2),
+        },
     }
 }
 
@@ -198,6 +231,58 @@ fn some_shown(alloc: Global, words: Words) -> Option<Shown> {
     })
 }
 
+/// The letters of a word as bytes.
+fn bytes(alloc: Global, words: Words, place: usize) -> Items<u8> {
+    let mut bytes = Items::new(alloc);
+    for byte in word(words, place).as_bytes() {
+        if *byte != b'.' {
+            let _appended = bytes.append(&[*byte]);
+        }
+    }
+    bytes
+}
+
+fn reply_with_bytes(alloc: Global, opnum: u16, words: Words) -> Reply {
+    let (size, bytes) = (number(words, 0), bytes(alloc, words, 1));
+    match opnum {
+        R_ENUM_DEPENDENT_SERVICES_W => Reply::Listing {
+            size,
+            bytes,
+            needed: number(words, 2),
+            returned: number(words, 3),
+            code: number(words, 4),
+        },
+        R_ENUM_SERVICES_STATUS_W => Reply::Page {
+            size,
+            bytes,
+            needed: number(words, 2),
+            returned: number(words, 3),
+            resume: some_number(words, 4),
+            code: number(words, 5),
+        },
+        _ => Reply::Bytes {
+            size,
+            bytes,
+            needed: number(words, 2),
+            code: number(words, 3),
+        },
+    }
+}
+
+fn notice(alloc: Global, words: Words) -> Reply {
+    let status = ProcessStatus {
+        status: status(behind(words)),
+        pid: number(words, 8),
+        flags: number(words, 9),
+    };
+    Reply::Notice {
+        mask: number(words, 0),
+        status,
+        name: some_text(alloc, words, 10),
+        code: number(words, 11),
+    }
+}
+
 /// What a reply of the call tells. A configuration stands behind what it needs and the code.
 pub fn reply(alloc: Global, opnum: u16, words: Words) -> Reply {
     match opnum {
@@ -214,10 +299,11 @@ pub fn reply(alloc: Global, opnum: u16, words: Words) -> Reply {
             handle: u64::from(number(words, 1)),
             code: number(words, 2),
         },
-        R_OPEN_SC_MANAGER_W => Reply::Handle {
-            handle: u64::from(number(words, 0)),
-            code: number(words, 1),
-        },
+        R_OPEN_SC_MANAGER_W | R_NOTIFY_SERVICE_STATUS_CHANGE | R_CLOSE_NOTIFY_HANDLE =>
+            Reply::Handle {
+                handle: u64::from(number(words, 0)),
+                code: number(words, 1),
+            },
         R_QUERY_SERVICE_CONFIG_W => Reply::Shown {
             config: some_shown(alloc, behind(behind(words))),
             needed: number(words, 0),
@@ -235,6 +321,10 @@ pub fn reply(alloc: Global, opnum: u16, words: Words) -> Reply {
             size: number(words, 1),
             code: number(words, 2),
         },
+        R_ENUM_DEPENDENT_SERVICES_W | R_ENUM_SERVICES_STATUS_W | R_QUERY_SERVICE_STATUS_EX => {
+            reply_with_bytes(alloc, opnum, words)
+        }
+        R_GET_NOTIFY_RESULTS => notice(alloc, words),
         _ => Reply::Code(number(words, 0)),
     }
 }

@@ -205,7 +205,10 @@ impl DependencyIndex {
         ensures order { room.new.items ≡ dependents_in self.now.rows service }
         ensures few { length room.new.items ≤ length self.now.rows }
     {
-        dependents::dependents(self.rows.as_slice(), service, room);
+        let listed = Listed {
+            rows: self.rows.as_slice(),
+        };
+        dependents::order_of_dependents(&listed, service, room);
     }
 
     /// How many services name this one and aren't stopped. A state is looked at by `state_of` alone, and of those services alone.

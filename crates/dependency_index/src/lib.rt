@@ -10,7 +10,9 @@ mod rows;
 mod steps;
 mod visit;
 
-pub use dependents::{dependents_follow_their_rule, dependents_need_it_by_name};
+pub use dependents::{
+    dependents_follow_their_rule, dependents_need_it_by_name, order_of_dependents,
+};
 pub use graph::{Graph, NeedRows, NewRow};
 pub use index::DependencyIndex;
 pub use naming::{StateLook, is_named};

@@ -11,7 +11,7 @@ use Rattle.scm_bodies.specs.Requests.{request_bytes}
 use Rattle.scm_calls.specs.declared.calls.Call.TheVariants as plain
 use Rattle.scm_model.specs.declared.calls.Request.{Request}
 use Rattle.scm_model.specs.declared.calls.Request.TheVariants as request
-use Rattle.scm_model.specs.declared.codes.TheConstants.{R_CHANGE_SERVICE_CONFIG_W, R_CLOSE_SERVICE_HANDLE, R_CONTROL_SERVICE, R_CREATE_SERVICE_W, R_DELETE_SERVICE, R_GET_SERVICE_DISPLAY_NAME_W, R_GET_SERVICE_KEY_NAME_W, R_LOCK_SERVICE_DATABASE, R_OPEN_SC_MANAGER_W, R_OPEN_SERVICE_W, R_QUERY_SERVICE_CONFIG_W, R_QUERY_SERVICE_LOCK_STATUS_W, R_QUERY_SERVICE_STATUS, R_SET_SERVICE_STATUS, R_START_SERVICE_W, R_UNLOCK_SERVICE_DATABASE}
+use Rattle.scm_model.specs.declared.codes.TheConstants.{R_CHANGE_SERVICE_CONFIG_W, R_CLOSE_NOTIFY_HANDLE, R_CLOSE_SERVICE_HANDLE, R_ENUM_DEPENDENT_SERVICES_W, R_ENUM_SERVICES_STATUS_W, R_GET_NOTIFY_RESULTS, R_NOTIFY_SERVICE_STATUS_CHANGE, R_QUERY_SERVICE_STATUS_EX, R_CONTROL_SERVICE, R_CREATE_SERVICE_W, R_DELETE_SERVICE, R_GET_SERVICE_DISPLAY_NAME_W, R_GET_SERVICE_KEY_NAME_W, R_LOCK_SERVICE_DATABASE, R_OPEN_SC_MANAGER_W, R_OPEN_SERVICE_W, R_QUERY_SERVICE_CONFIG_W, R_QUERY_SERVICE_LOCK_STATUS_W, R_QUERY_SERVICE_STATUS, R_SET_SERVICE_STATUS, R_START_SERVICE_W, R_UNLOCK_SERVICE_DATABASE}
 use Rattle.scm_model.specs.declared.flat.Action.{Action}
 use Rattle.sc_words.specs.declared.asking.Asked.{Asked}
 use Rattle.sc_words.specs.declared.asking.Asked.TheVariants as asked
@@ -50,6 +50,12 @@ opnum_of_request (request.QueryLock handle size) = R_QUERY_SERVICE_LOCK_STATUS_W
 opnum_of_request (request.Start handle words) = R_START_SERVICE_W
 opnum_of_request (request.DisplayName handle name size) = R_GET_SERVICE_DISPLAY_NAME_W
 opnum_of_request (request.KeyName handle name size) = R_GET_SERVICE_KEY_NAME_W
+opnum_of_request (request.EnumDependents handle states size) = R_ENUM_DEPENDENT_SERVICES_W
+opnum_of_request (request.EnumServices handle kinds states size resume) = R_ENUM_SERVICES_STATUS_W
+opnum_of_request (request.QueryStatusEx handle level size) = R_QUERY_SERVICE_STATUS_EX
+opnum_of_request (request.Notify handle mask) = R_NOTIFY_SERVICE_STATUS_CHANGE
+opnum_of_request (request.GetNotify handle) = R_GET_NOTIFY_RESULTS
+opnum_of_request (request.CloseNotify handle) = R_CLOSE_NOTIFY_HANDLE
 
 abbrev pub opnum_of : Asked → ℕ
 opnum_of (asked.Request r) = opnum_of_request r

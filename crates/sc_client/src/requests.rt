@@ -7,11 +7,12 @@ use rpc_pdu::{Bind, Pdu, RequestPdu, write_pdu};
 use sc_words::{Asked, Config2};
 use scm_bodies::{Call, call_of, write_request};
 use scm_model::codes::{
-    R_CHANGE_SERVICE_CONFIG_W, R_CLOSE_SERVICE_HANDLE, R_CONTROL_SERVICE, R_CREATE_SERVICE_W,
-    R_DELETE_SERVICE, R_GET_SERVICE_DISPLAY_NAME_W, R_GET_SERVICE_KEY_NAME_W,
-    R_LOCK_SERVICE_DATABASE, R_OPEN_SC_MANAGER_W, R_OPEN_SERVICE_W, R_QUERY_SERVICE_CONFIG_W,
-    R_QUERY_SERVICE_LOCK_STATUS_W, R_QUERY_SERVICE_STATUS, R_SET_SERVICE_STATUS, R_START_SERVICE_W,
-    R_UNLOCK_SERVICE_DATABASE,
+    R_CHANGE_SERVICE_CONFIG_W, R_CLOSE_NOTIFY_HANDLE, R_CLOSE_SERVICE_HANDLE, R_CONTROL_SERVICE,
+    R_CREATE_SERVICE_W, R_DELETE_SERVICE, R_ENUM_DEPENDENT_SERVICES_W, R_ENUM_SERVICES_STATUS_W,
+    R_GET_NOTIFY_RESULTS, R_GET_SERVICE_DISPLAY_NAME_W, R_GET_SERVICE_KEY_NAME_W,
+    R_LOCK_SERVICE_DATABASE, R_NOTIFY_SERVICE_STATUS_CHANGE, R_OPEN_SC_MANAGER_W, R_OPEN_SERVICE_W,
+    R_QUERY_SERVICE_CONFIG_W, R_QUERY_SERVICE_LOCK_STATUS_W, R_QUERY_SERVICE_STATUS,
+    R_QUERY_SERVICE_STATUS_EX, R_SET_SERVICE_STATUS, R_START_SERVICE_W, R_UNLOCK_SERVICE_DATABASE,
 };
 use scm_model::{Action, Request};
 use scm_text::{Buffer, Items, OutOfMemory, WText};
@@ -82,6 +83,12 @@ fn opnum_of_request(request: &Request) -> u16
         Request::Start { .. } => R_START_SERVICE_W,
         Request::DisplayName { .. } => R_GET_SERVICE_DISPLAY_NAME_W,
         Request::KeyName { .. } => R_GET_SERVICE_KEY_NAME_W,
+        Request::EnumDependents { .. } => R_ENUM_DEPENDENT_SERVICES_W,
+        Request::EnumServices { .. } => R_ENUM_SERVICES_STATUS_W,
+        Request::QueryStatusEx { .. } => R_QUERY_SERVICE_STATUS_EX,
+        Request::Notify { .. } => R_NOTIFY_SERVICE_STATUS_CHANGE,
+        Request::GetNotify { .. } => R_GET_NOTIFY_RESULTS,
+        Request::CloseNotify { .. } => R_CLOSE_NOTIFY_HANDLE,
     }
 }
 

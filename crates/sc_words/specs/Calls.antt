@@ -54,6 +54,10 @@ code_heard (reply.Tag tag code) = code
 code_heard (reply.Shown config needed code) = code
 code_heard (reply.LockState held owner seconds needed code) = code
 code_heard (reply.Name name size code) = code
+code_heard (reply.Listing size bytes needed returned code) = code
+code_heard (reply.Page size bytes needed returned resume code) = code
+code_heard (reply.Bytes size bytes needed code) = code
+code_heard (reply.Notice mask status name code) = code
 
 -- a call succeeded
 abbrev pub is_good : Heard → Bool

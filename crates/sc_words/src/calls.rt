@@ -140,6 +140,10 @@ pub fn code_heard(reply: &Reply) -> u32
         Reply::Shown { code, .. } => *code,
         Reply::LockState { code, .. } => *code,
         Reply::Name { code, .. } => *code,
+        Reply::Listing { code, .. } => *code,
+        Reply::Page { code, .. } => *code,
+        Reply::Bytes { code, .. } => *code,
+        Reply::Notice { code, .. } => *code,
     }
 }
 

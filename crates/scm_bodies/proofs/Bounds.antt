@@ -4,7 +4,7 @@ use Rattle.std.specs.Prelude.{option_map}
 use Rattle.std.proofs.lemmas.List.{length-replicate}
 use Rattle.std.proofs.lemmas.Bool.{cases_Bool, ltb-false, le-ltb}
 use lib.Dec.{ltb}
-use Rattle.scm_model.specs.Refused.{zero_status}
+use Rattle.scm_model.specs.Refused.{zero_process_status, zero_status}
 use Rattle.scm_model.specs.declared.calls.Shown.{Shown}
 use Rattle.scm_model.specs.declared.calls.Reply.{Reply}
 use Rattle.scm_model.specs.declared.calls.Reply.TheVariants as reply
@@ -60,6 +60,12 @@ fits (reply.Name name n code) size h = omega (arith, h, length_body (reply_value
 fits (reply.Code code) size h = omega (arith, length_body (reply_values (reply.Code code)))
 fits (reply.Handle handle code) size h = omega (arith, length_body (reply_values (reply.Handle handle code)))
 fits (reply.State status code) size h = omega (arith, length_body (reply_values (reply.State status code)))
+fits (reply.Listing n bytes needed returned code) size h = omega (arith, h.is, length_body (reply_values (reply.Listing n bytes needed returned code)))
+fits (reply.Page n bytes needed returned None code) size h = omega (arith, h.is, length_body (reply_values (reply.Page n bytes needed returned None code)))
+fits (reply.Page n bytes needed returned (Some resume) code) size h = omega (arith, h.is, length_body (reply_values (reply.Page n bytes needed returned (Some resume) code)))
+fits (reply.Bytes n bytes needed code) size h = omega (arith, h.is, length_body (reply_values (reply.Bytes n bytes needed code)))
+fits (reply.Notice mask status None code) size h = omega (arith, length_body (reply_values (reply.Notice mask status None code)))
+fits (reply.Notice mask status (Some name) code) size h = omega (arith, h, length_body (reply_values (reply.Notice mask status (Some name) code)))
 
 -- ## Each bound is reached
 
@@ -106,6 +112,11 @@ reached kind.Shown size = shown_reached size
 reached kind.LockState size =
     (reply.LockState 0 (Some name) 0 0 0, refl, omega (arith, length_name), omega (arith, length_name, length_body (reply_values (reply.LockState 0 (Some name) 0 0 0))))
 reached kind.Name size = (reply.Name name 0 0, refl, omega (arith, length_name), omega (arith, length_name, length_body (reply_values (reply.Name name 0 0))))
+reached kind.Listing size = (reply.Listing size [] 0 0 0, refl, record { is = refl; whole = omega arith }, omega (arith, length_body (reply_values (reply.Listing size [] 0 0 0))))
+reached kind.Page size = (reply.Page size [] 0 0 (Some 0) 0, refl, record { is = refl; whole = omega arith }, omega (arith, length_body (reply_values (reply.Page size [] 0 0 (Some 0) 0))))
+reached kind.Bytes size = (reply.Bytes size [] 0 0, refl, record { is = refl; whole = omega arith }, omega (arith, length_body (reply_values (reply.Bytes size [] 0 0))))
+reached kind.Notice size =
+    (reply.Notice 0 zero_process_status (Some name) 0, refl, omega (arith, length_name), omega (arith, length_name, length_body (reply_values (reply.Notice 0 zero_process_status (Some name) 0))))
 
 -- the bound of a call's replies
 pub bound_is : (asked : Option Call) (kind : ReplyKind) (size : ℕ) → option_map reply_kind asked ≡ Some kind → bound_in asked size ≡ longest kind size

@@ -3,7 +3,7 @@ use Rattle.std.proofs.Common.{◌≡◌, ℕ, List, map, length, IsTrue, Option,
 use Rattle.std.specs.Prelude.{IfSome, is_some}
 use Rattle.std.specs.List.{AllByRecursion}
 use Rattle.std.proofs.lemmas.Bool.{le-leb, leb-true}
-use Rattle.scm_model.specs.declared.codes.TheConstants.{MAX_CONFIG_SIZE, MAX_LOCK_STATUS_SIZE, SC_MAX_ARGUMENTS}
+use Rattle.scm_model.specs.declared.codes.TheConstants.{MAX_CONFIG_SIZE, MAX_ENUM_SIZE, MAX_LOCK_STATUS_SIZE, SC_MAX_ARGUMENTS}
 use Rattle.scm_model.specs.declared.calls.Request.{Request}
 use Rattle.scm_model.specs.declared.calls.Request.TheVariants as request
 use Rattle.scm_model.specs.declared.calls.Reply.{Reply}
@@ -23,9 +23,13 @@ use Rattle.scm_calls.specs.Replies.{reply_shape, reply_from, reply_values, kind_
 use Rattle.scm_calls_cfg.specs.declared.calls.Call.{Call as ConfigCall}
 use Rattle.scm_calls_cfg.specs.declared.calls.Call.TheVariants as config
 use Rattle.scm_calls_cfg.specs.Requests.{config_shape, config_from}
+use Rattle.scm_calls_enum.specs.declared.calls.Call.{Call as EnumCall}
+use Rattle.scm_calls_enum.specs.declared.calls.Call.TheVariants as enum
+use Rattle.scm_calls_enum.specs.Requests.{enum_shape, enum_from}
 use Rattle.scm_bodies.specs.declared.call.Call.{Call}
 use Rattle.scm_bodies.specs.declared.call.Call.TheVariants as call
 use Rattle.scm_bodies.specs.Calls.{call_of}
+use Rattle.scm_bodies.specs.Replies.{read_back}
 use Rattle.scm_bodies.specs.Requests.{shape_of, asked_by, values_of, AreCarried}
 
 -- ## Requests
@@ -34,7 +38,7 @@ request_again : (r : Request) → made_in asked_by (call_of r) (values_of r) r �
 request_again (request.Close handle) = refl
 request_again _ = refl
 
-request_same : (r : Request) → map as_read (values_of r) ≡ values_of r
+pub request_same : (r : Request) → map as_read (values_of r) ≡ values_of r
 request_same (request.Close handle) = refl
 request_same _ = refl
 
@@ -46,9 +50,14 @@ config_kept : (c : ConfigCall) (vs : List Value) → values_of (config_from c vs
 config_kept config.Change vs = refl
 config_kept _ vs = refl
 
+enum_kept : (c : EnumCall) (vs : List Value) → values_of (enum_from c vs) ≡ fitted (enum_shape c) vs
+enum_kept enum.EnumDependents vs = refl
+enum_kept _ vs = refl
+
 request_kept : (c : Call) (vs : List Value) → values_of (asked_by c vs) ≡ fitted (shape_of c) vs
 request_kept (call.Plain c) vs = plain_kept c vs
 request_kept (call.Config c) vs = config_kept c vs
+request_kept (call.Enum c) vs = enum_kept c vs
 
 plain_named : (c : PlainCall) (vs : List Value) → call_of (plain_from c vs) ≡ Some (call.Plain c)
 plain_named plain.Close vs = refl
@@ -58,12 +67,17 @@ config_named : (c : ConfigCall) (vs : List Value) → call_of (config_from c vs)
 config_named config.Change vs = refl
 config_named _ vs = refl
 
+enum_named : (c : EnumCall) (vs : List Value) → call_of (enum_from c vs) ≡ Some (call.Enum c)
+enum_named enum.EnumDependents vs = refl
+enum_named _ vs = refl
+
 request_named : (c : Call) (vs : List Value) → call_of (asked_by c vs) ≡ Some c
 request_named (call.Plain c) vs = plain_named c vs
 request_named (call.Config c) vs = config_named c vs
+request_named (call.Enum c) vs = enum_named c vs
 
 pub request_codec : Codec shape_of asked_by call_of values_of
-request_codec = record { again = request_again; same = request_same; kept = request_kept; named = request_named }
+request_codec = record { again = request_again; kept = request_kept; named = request_named }
 
 is_of_a_call : (r : Request) → IsTrue (is_some (call_of r))
 is_of_a_call (request.Close handle) = refl
@@ -82,9 +96,10 @@ reply_again : (r : Reply) → reply_from (kind_of r) (reply_values r) ≡ r
 reply_again (reply.Code code) = refl
 reply_again _ = refl
 
-reply_same : (r : Reply) → map as_read (reply_values r) ≡ reply_values r
-reply_same (reply.Code code) = refl
-reply_same _ = refl
+-- what is made of a reply's values as they are read
+pub reply_back : (r : Reply) → reply_from (kind_of r) (map as_read (reply_values r)) ≡ read_back r
+reply_back (reply.Code code) = refl
+reply_back _ = refl
 
 reply_kept : (k : ReplyKind) (vs : List Value) → reply_values (reply_from k vs) ≡ fitted (reply_shape k) vs
 reply_kept kind.Code vs = refl
@@ -95,7 +110,7 @@ reply_named kind.Code vs = refl
 reply_named _ vs = refl
 
 pub reply_codec : Codec reply_shape reply_from (λ r. Some (kind_of r)) reply_values
-reply_codec = record { again = reply_again; same = reply_same; kept = reply_kept; named = reply_named }
+reply_codec = record { again = reply_again; kept = reply_kept; named = reply_named }
 
 -- ## Ranges
 
@@ -107,6 +122,9 @@ few (Some words) h = le-leb (length words) SC_MAX_ARGUMENTS h.few
 pub held_ranged : (r : Request) → CanHoldAll (shape_in shape_of (call_of r)) (values_of r) → IsTrue (in_range r)
 held_ranged (request.QueryLock handle size) h = le-leb size MAX_LOCK_STATUS_SIZE h.1.0.in_range
 held_ranged (request.QueryConfig handle size) h = le-leb size MAX_CONFIG_SIZE h.1.0.in_range
+held_ranged (request.EnumDependents handle states size) h = le-leb size MAX_ENUM_SIZE h.1.1.0.in_range
+held_ranged (request.EnumServices handle kinds states size resume) h = le-leb size MAX_ENUM_SIZE h.1.1.1.0.in_range
+held_ranged (request.QueryStatusEx handle level size) h = le-leb size MAX_CONFIG_SIZE h.1.1.0.in_range
 held_ranged (request.Start handle words) h = few words h.1.0
 held_ranged _ h = refl
 
@@ -118,6 +136,9 @@ words_held (Some words) range h = record { few = leb-true (length words) SC_MAX_
 pub ranged_held : (r : Request) → IsTrue (in_range r) → AreCarried r → CanHoldAll (shape_in shape_of (call_of r)) (values_of r)
 ranged_held (request.QueryLock handle size) range h = (h.0, (record { in_range = leb-true size MAX_LOCK_STATUS_SIZE range; small = h.1.0 }, tt))
 ranged_held (request.QueryConfig handle size) range h = (h.0, (record { in_range = leb-true size MAX_CONFIG_SIZE range; small = h.1.0 }, tt))
+ranged_held (request.EnumDependents handle states size) range h = (h.0, (h.1.0, (record { in_range = leb-true size MAX_ENUM_SIZE range; small = h.1.1.0 }, tt)))
+ranged_held (request.EnumServices handle kinds states size resume) range h = (h.0, (h.1.0, (h.1.1.0, (record { in_range = leb-true size MAX_ENUM_SIZE range; small = h.1.1.1.0 }, h.1.1.1.1))))
+ranged_held (request.QueryStatusEx handle level size) range h = (h.0, (h.1.0, (record { in_range = leb-true size MAX_CONFIG_SIZE range; small = h.1.1.0 }, tt)))
 ranged_held (request.Start handle words) range h = (h.0, (words_held words range h.1.0, tt))
 ranged_held _ range h = h
 

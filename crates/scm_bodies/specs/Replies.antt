@@ -1,8 +1,10 @@
 -- The bodies of replies, and which replies answer a request.
-use Rattle.std.specs.Prelude.{◌≡◌, ℕ, List, Option, Some, None, Result, option_map}
+use Rattle.std.specs.Prelude.{◌≡◌, ℕ, List, take, Option, Some, None, Result, option_map}
 use Rattle.scm_model.specs.declared.calls.Request.{Request}
 use Rattle.scm_model.specs.declared.calls.Reply.{Reply}
+use Rattle.scm_model.specs.declared.calls.Reply.TheVariants as reply
 use Rattle.ndr_body.specs.declared.fault.BodyFault.{BodyFault}
+use Rattle.ndr_body.specs.Laws.{filled}
 use Rattle.scm_shapes.specs.Shapes.{body_bytes}
 use Rattle.scm_shapes.specs.Calls.{read_as, Spells}
 use Rattle.scm_calls.specs.declared.kinds.ReplyKind.{ReplyKind}
@@ -37,3 +39,10 @@ reply_bound r = bound_in (call_of r) (asked_size r)
 -- the one form that is written
 abbrev pub reply_bytes : Reply → List ℕ
 reply_bytes told = body_bytes (reply_values told)
+
+-- what is read of a reply that is written: bytes come with zeros up to their size, and whatever is beyond it is left out
+abbrev pub read_back : Reply → Reply
+read_back (reply.Listing size bytes needed returned code) = reply.Listing size (filled (take size bytes) size) needed returned code
+read_back (reply.Page size bytes needed returned resume code) = reply.Page size (filled (take size bytes) size) needed returned resume code
+read_back (reply.Bytes size bytes needed code) = reply.Bytes size (filled (take size bytes) size) needed code
+read_back told = told

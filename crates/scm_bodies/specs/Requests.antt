@@ -1,5 +1,5 @@
 -- The bodies of requests.
-use Rattle.std.specs.Prelude.{ℕ, List, Option, Some, None, Result}
+use Rattle.std.specs.Prelude.{ℕ, List, Option, Some, Result}
 use Rattle.std.specs.List.{AllByRecursion}
 use Rattle.scm_model.specs.declared.calls.Request.{Request}
 use Rattle.ndr_body.specs.declared.fault.BodyFault.{BodyFault}
@@ -8,10 +8,9 @@ use Rattle.scm_shapes.specs.declared.item.Value.{Value}
 use Rattle.scm_shapes.specs.Shapes.{body_bytes}
 use Rattle.scm_shapes.specs.Calls.{read_as, Spells}
 use Rattle.scm_shapes.specs.Laws.{IsCarried}
-use Rattle.scm_calls.specs.declared.calls.Call.{Call as PlainCall}
-use Rattle.scm_calls.specs.Calls.{plain_call_of}
 use Rattle.scm_calls.specs.Requests.{plain_shape, plain_from, plain_values}
 use Rattle.scm_calls_cfg.specs.Requests.{config_shape, config_from, config_values}
+use Rattle.scm_calls_enum.specs.Requests.{enum_shape, enum_from, enum_values}
 use Rattle.scm_bodies.specs.declared.call.Call.{Call}
 use Rattle.scm_bodies.specs.declared.call.Call.TheVariants as call
 use Rattle.scm_bodies.specs.Calls.{call_of}
@@ -20,22 +19,25 @@ use Rattle.scm_bodies.specs.Calls.{call_of}
 abbrev pub shape_of : Call → List Item
 shape_of (call.Plain asked) = plain_shape asked
 shape_of (call.Config asked) = config_shape asked
+shape_of (call.Enum asked) = enum_shape asked
 
 abbrev pub asked_by : Call → List Value → Request
 asked_by (call.Plain asked) vs = plain_from asked vs
 asked_by (call.Config asked) vs = config_from asked vs
+asked_by (call.Enum asked) vs = enum_from asked vs
 
 -- what a body of a call asks, or the first fault
 abbrev pub request_at : Call → List ℕ → Result Request BodyFault
 request_at asked body = read_as (shape_of asked) (asked_by asked) body
 
--- the values of a request, by whether it is one of the first crate's
-abbrev pub values_in : Option PlainCall → Request → List Value
-values_in (Some asked) r = plain_values r
-values_in None r = config_values r
+-- the values of a request, by the crate that has its call
+abbrev pub values_in : Option Call → Request → List Value
+values_in (Some (call.Plain asked)) r = plain_values r
+values_in (Some (call.Config asked)) r = config_values r
+values_in _ r = enum_values r
 
 abbrev pub values_of : Request → List Value
-values_of r = values_in (plain_call_of r) r
+values_of r = values_in (call_of r) r
 
 -- bytes are a body of a call that asks this
 abbrev pub IsRequest : Call → List ℕ → Request → Type 0

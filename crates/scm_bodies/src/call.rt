@@ -9,6 +9,7 @@ use scm_model::Request;
 pub enum Call {
     Plain(scm_calls::Call),
     Config(scm_calls_cfg::Call),
+    Enum(scm_calls_enum::Call),
 }
 
 /// The call of an opnum, if it is served.
@@ -18,8 +19,11 @@ pub fn call_at(opnum: u16) -> Option<Call>
     if let Some(call) = scm_calls::call_at(opnum) {
         return Some(Call::Plain(call));
     }
-    let call = scm_calls_cfg::call_at(opnum)?;
-    Some(Call::Config(call))
+    if let Some(call) = scm_calls_cfg::call_at(opnum) {
+        return Some(Call::Config(call));
+    }
+    let call = scm_calls_enum::call_at(opnum)?;
+    Some(Call::Enum(call))
 }
 
 /// The call of a request.
@@ -29,8 +33,11 @@ pub fn call_of(request: &Request) -> Option<Call>
     if let Some(call) = scm_calls::call_of(request) {
         return Some(Call::Plain(call));
     }
-    let call = scm_calls_cfg::call_of(request)?;
-    Some(Call::Config(call))
+    if let Some(call) = scm_calls_cfg::call_of(request) {
+        return Some(Call::Config(call));
+    }
+    let call = scm_calls_enum::call_of(request)?;
+    Some(Call::Enum(call))
 }
 
 /// The kind of a call's replies.
@@ -40,5 +47,6 @@ pub fn reply_kind(call: Call) -> ReplyKind
     match call {
         Call::Plain(call) => scm_calls::reply_kind(call),
         Call::Config(call) => scm_calls_cfg::reply_kind(call),
+        Call::Enum(call) => scm_calls_enum::reply_kind(call),
     }
 }

@@ -9,7 +9,7 @@ ghost use Rattle.scm_model.specs.Ranges.{in_range};
 ghost use Rattle.scm_calls.specs.Replies.{reply_shape, reply_values, kind_of};
 ghost use Rattle.scm_bodies.specs.declared.call.Call.{Call as ACall};
 ghost use Rattle.scm_bodies.specs.Calls.{reply_kind};
-ghost use Rattle.scm_bodies.specs.Replies.{reply_told, reply_at, IsReply, Answers, reply_bound, reply_bytes};
+ghost use Rattle.scm_bodies.specs.Replies.{reply_told, reply_at, IsReply, Answers, read_back, reply_bound, reply_bytes};
 
 use crate::call::{Call, call_of, reply_kind};
 use ndr_body::BodyFault;
@@ -53,8 +53,8 @@ pub fn write_reply(reply: &Reply, out: Buffer<u8>) -> Result<Buffer<u8>, (OutOfM
     ensures bounded { (request : ARequest) → Answers request reply.now → reply_bound request ≤ out.room → IsOk result }
     // What some body tells is read back from the one that is written.
     ensures back { (call : ACall) (bytes : List ℕ) → IsReply call bytes reply.now → reply_at call (reply_bytes reply.now) ≡ Ok reply.now }
-    // So is a reply whose parts can stand in a body.
-    ensures carried { AllByRecursion IsCarried (reply_values reply.now) → reply_told (kind_of reply.now) (reply_bytes reply.now) ≡ Ok reply.now }
+    // So is a reply whose parts can stand in a body, but that bytes come with zeros up to their size.
+    ensures carried { AllByRecursion IsCarried (reply_values reply.now) → reply_told (kind_of reply.now) (reply_bytes reply.now) ≡ Ok (read_back reply.now) }
 {
     put_reply(reply, out)
 }

@@ -7,7 +7,7 @@ ghost use Rattle.scm_model.specs.Ranges.{in_range};
 ghost use Rattle.scm_bodies.specs.declared.call.Call.{Call as ACall};
 ghost use Rattle.scm_bodies.specs.Requests.{shape_of, asked_by, values_of, request_at, IsRequest, request_bytes, AreCarried};
 
-use crate::call::Call;
+use crate::call::{Call, call_of};
 use ndr_body::BodyFault;
 use scm_model::Request;
 use scm_shapes::{Item, Values, read_body};
@@ -20,6 +20,7 @@ fn shape_of(call: Call) -> &'static [Item]
     match call {
         Call::Plain(call) => scm_calls::request_shape(call),
         Call::Config(call) => scm_calls_cfg::request_shape(call),
+        Call::Enum(call) => scm_calls_enum::request_shape(call),
     }
 }
 
@@ -29,6 +30,7 @@ fn asked_by(alloc: Global, call: Call, values: &mut Values) -> Request
     match call {
         Call::Plain(call) => scm_calls::request_of(alloc, call, values),
         Call::Config(call) => scm_calls_cfg::request_of(alloc, call, values),
+        Call::Enum(call) => scm_calls_enum::request_of(call, values),
     }
 }
 
@@ -63,9 +65,10 @@ pub fn read_request(alloc: Global, call: Call, body: &[u8]) -> Result<Request, B
 fn put_request(request: &Request, out: Buffer<u8>) -> Result<Buffer<u8>, (OutOfMemory, Buffer<u8>)>
     ensures { IsWritten (values_of request.now) out result }
 {
-    match scm_calls::call_of(request) {
-        Some(_) => scm_calls::put_request(request, out),
-        None => scm_calls_cfg::put_request(request, out),
+    match call_of(request) {
+        Some(Call::Plain(_)) => scm_calls::put_request(request, out),
+        Some(Call::Config(_)) => scm_calls_cfg::put_request(request, out),
+        Some(Call::Enum(_)) | None => scm_calls_enum::put_request(request, out),
     }
 }
 

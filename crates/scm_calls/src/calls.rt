@@ -68,7 +68,7 @@ pub fn call_of(request: &Request) -> Option<Call>
         Request::Start { .. } => Some(Call::Start),
         Request::DisplayName { .. } => Some(Call::DisplayName),
         Request::KeyName { .. } => Some(Call::KeyName),
-        Request::Change(_) | Request::Create(_) | Request::QueryConfig { .. } => None,
+        _ => None,
     }
 }
 

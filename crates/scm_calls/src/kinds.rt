@@ -9,4 +9,8 @@ pub enum ReplyKind {
     Shown,
     LockState,
     Name,
+    Listing,
+    Page,
+    Bytes,
+    Notice,
 }

@@ -1,13 +1,14 @@
 ghost use Rattle.std.specs.Prelude.{◌≡◌, ◌≤◌, ◌++◌, ◌∷◌, []};
 ghost use Rattle.scm_shapes.specs.declared.item.Value.TheVariants as value;
-ghost use Rattle.scm_shapes.specs.Shapes.{value_of};
 ghost use Rattle.scm_shapes.specs.Written.{IsWritten};
 ghost use Rattle.scm_calls.specs.Requests.{status_values};
-ghost use Rattle.scm_calls.specs.Replies.{reply_shape, reply_from, reply_values, asked_size, longest_shown, longest};
+ghost use Rattle.scm_shapes.specs.Shapes.{after, value_of};
+ghost use Rattle.scm_calls.specs.declared.kinds.ReplyKind.TheVariants as kind;
+ghost use Rattle.scm_calls.specs.Replies.{reply_shape, reply_from, reply_values, process_from, filled_values, process_values, asked_size, longest_shown, filled_width, longest};
 
 use crate::kinds::ReplyKind;
 use crate::requests::status_of;
-use scm_model::{Reply, Request, Status};
+use scm_model::{ProcessStatus, Reply, Request, Status};
 use scm_shapes::{Item, Piece, Values, write_pieces};
 use scm_text::{Buffer, OutOfMemory, WText};
 use std::alloc::Global;
@@ -34,6 +35,91 @@ pub fn reply_shape(kind: ReplyKind) -> &'static [Item]
         ReplyKind::Shown => &[Item::Shown, Item::Number, Item::Number],
         ReplyKind::LockState => &[Item::Lock, Item::Number, Item::Number],
         ReplyKind::Name => &[Item::Text, Item::Number, Item::Number],
+        ReplyKind::Listing => &[Item::Bytes, Item::Number, Item::Number, Item::Number],
+        ReplyKind::Page => &[
+            Item::Bytes,
+            Item::Number,
+            Item::Number,
+            Item::SomeNumber,
+            Item::Number,
+        ],
+        ReplyKind::Bytes => &[Item::Bytes, Item::Number, Item::Number],
+        ReplyKind::Notice => &[
+            Item::Number,
+            Item::Number,
+            Item::Number,
+            Item::Number,
+            Item::Number,
+            Item::Number,
+            Item::Number,
+            Item::Number,
+            Item::Number,
+            Item::Number,
+            Item::SomeText,
+            Item::Number,
+        ],
+    }
+}
+
+/// A status of seven numbers, and its process and flags.
+fn process_of(values: &mut Values) -> ProcessStatus
+    ensures value { result ≡ process_from values.old }
+    ensures rest { values.new ≡ after 9 values.old }
+{
+    ProcessStatus {
+        status: status_of(values),
+        pid: values.number(),
+        flags: values.number(),
+    }
+}
+
+fn listing(alloc: Global, values: &mut Values) -> Reply
+    ensures { result ≡ reply_from kind.Listing values.old }
+{
+    let (size, bytes) = values.bytes(alloc);
+    Reply::Listing {
+        size,
+        bytes,
+        needed: values.number(),
+        returned: values.number(),
+        code: values.number(),
+    }
+}
+
+fn page(alloc: Global, values: &mut Values) -> Reply
+    ensures { result ≡ reply_from kind.Page values.old }
+{
+    let (size, bytes) = values.bytes(alloc);
+    Reply::Page {
+        size,
+        bytes,
+        needed: values.number(),
+        returned: values.number(),
+        resume: values.some_number(),
+        code: values.number(),
+    }
+}
+
+fn bytes_told(alloc: Global, values: &mut Values) -> Reply
+    ensures { result ≡ reply_from kind.Bytes values.old }
+{
+    let (size, bytes) = values.bytes(alloc);
+    Reply::Bytes {
+        size,
+        bytes,
+        needed: values.number(),
+        code: values.number(),
+    }
+}
+
+fn notice(values: &mut Values) -> Reply
+    ensures { result ≡ reply_from kind.Notice values.old }
+{
+    Reply::Notice {
+        mask: values.number(),
+        status: process_of(values),
+        name: values.some_text(),
+        code: values.number(),
     }
 }
 
@@ -80,6 +166,10 @@ pub fn reply_of(alloc: Global, kind: ReplyKind, values: &mut Values) -> Reply
             size: values.number(),
             code: values.number(),
         },
+        ReplyKind::Listing => listing(alloc, values),
+        ReplyKind::Page => page(alloc, values),
+        ReplyKind::Bytes => bytes_told(alloc, values),
+        ReplyKind::Notice => notice(values),
     }
 }
 
@@ -118,6 +208,82 @@ fn put_three(
     write_pieces(&[piece, Piece::Number(number), Piece::Number(code)], out)
 }
 
+/// Writes an event: its bit, the numbers of a status with its process, a name and a code.
+fn put_notice(
+    mask: u32,
+    status: &ProcessStatus,
+    name: &Option<WText>,
+    code: u32,
+    out: Buffer<u8>,
+) -> Result<Buffer<u8>, (OutOfMemory, Buffer<u8>)>
+    ensures { IsWritten (value.Number mask ∷ process_values status.now ++ value.SomeText name.now ∷ value.Number code ∷ []) out result }
+{
+    write_pieces(
+        &[
+            Piece::Number(mask),
+            Piece::Number(status.status.kind),
+            Piece::Number(status.status.state),
+            Piece::Number(status.status.accepted),
+            Piece::Number(status.status.win32),
+            Piece::Number(status.status.specific),
+            Piece::Number(status.status.checkpoint),
+            Piece::Number(status.status.hint),
+            Piece::Number(status.pid),
+            Piece::Number(status.flags),
+            Piece::SomeText(name),
+            Piece::Number(code),
+        ],
+        out,
+    )
+}
+
+/// Writes a reply with bytes, or a notice.
+fn put_filled(reply: &Reply, out: Buffer<u8>) -> Result<Buffer<u8>, (OutOfMemory, Buffer<u8>)>
+    ensures { IsWritten (filled_values reply.now) out result }
+{
+    match reply {
+        Reply::Listing {
+            size,
+            bytes,
+            needed,
+            returned,
+            code,
+        } => {
+            let (bytes, needed) = (Piece::Bytes(*size, bytes), Piece::Number(*needed));
+            let (returned, code) = (Piece::Number(*returned), Piece::Number(*code));
+            write_pieces(&[bytes, needed, returned, code], out)
+        }
+        Reply::Page {
+            size,
+            bytes,
+            needed,
+            returned,
+            resume,
+            code,
+        } => {
+            let (bytes, needed) = (Piece::Bytes(*size, bytes), Piece::Number(*needed));
+            let (returned, resume) = (Piece::Number(*returned), Piece::SomeNumber(*resume));
+            write_pieces(
+                &[bytes, needed, returned, resume, Piece::Number(*code)],
+                out,
+            )
+        }
+        Reply::Bytes {
+            size,
+            bytes,
+            needed,
+            code,
+        } => put_three(Piece::Bytes(*size, bytes), *needed, *code, out),
+        Reply::Notice {
+            mask,
+            status,
+            name,
+            code,
+        } => put_notice(*mask, status, name, *code, out),
+        _ => write_pieces(&[], out),
+    }
+}
+
 /// Writes the body of a reply behind what the buffer holds. Without memory the buffer is given back
 /// as it was.
 pub fn put_reply(reply: &Reply, out: Buffer<u8>) -> Result<Buffer<u8>, (OutOfMemory, Buffer<u8>)>
@@ -149,6 +315,10 @@ pub fn put_reply(reply: &Reply, out: Buffer<u8>) -> Result<Buffer<u8>, (OutOfMem
             code,
         } => put_three(Piece::Lock(*held, owner, *seconds), *needed, *code, out),
         Reply::Name { name, size, code } => put_three(Piece::Text(name), *size, *code, out),
+        Reply::Listing { .. } => put_filled(reply, out),
+        Reply::Page { .. } => put_filled(reply, out),
+        Reply::Bytes { .. } => put_filled(reply, out),
+        Reply::Notice { .. } => put_filled(reply, out),
     }
 }
 
@@ -156,10 +326,12 @@ pub fn put_reply(reply: &Reply, out: Buffer<u8>) -> Result<Buffer<u8>, (OutOfMem
 pub fn asked_size(request: &Request) -> u32
     ensures { result ≡ asked_size request.now }
 {
-    if let Request::QueryConfig { size, .. } = request {
-        *size
-    } else {
-        0
+    match request {
+        Request::QueryConfig { size, .. }
+        | Request::EnumDependents { size, .. }
+        | Request::EnumServices { size, .. }
+        | Request::QueryStatusEx { size, .. } => *size,
+        _ => 0,
     }
 }
 
@@ -176,6 +348,14 @@ fn longest_shown(size: u32) -> u32
     }
 }
 
+/// How many bytes a size takes, with as many bytes and their padding.
+fn filled_width(size: u32) -> u32
+    requires { size ≤ 262144 }
+    ensures { result ≡ filled_width size }
+{
+    (size + 7) / 4 * 4
+}
+
 /// The greatest length of the body of a reply of a kind that fits in a size.
 pub fn longest(kind: ReplyKind, size: u32) -> u32
     // No size in a request is greater.
@@ -190,5 +370,9 @@ pub fn longest(kind: ReplyKind, size: u32) -> u32
         ReplyKind::Shown => longest_shown(size),
         ReplyKind::LockState => 548,
         ReplyKind::Name => 536,
+        ReplyKind::Listing => filled_width(size) + 12,
+        ReplyKind::Page => filled_width(size) + 20,
+        ReplyKind::Bytes => filled_width(size) + 8,
+        ReplyKind::Notice => 576,
     }
 }

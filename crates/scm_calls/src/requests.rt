@@ -228,8 +228,6 @@ pub fn put_request(
         Request::Start { handle, words } => {
             write_pieces(&[Piece::Handle(*handle), Piece::Words(words)], out)
         }
-        Request::Change(_) | Request::Create(_) | Request::QueryConfig { .. } => {
-            write_pieces(&[], out)
-        }
+        _ => write_pieces(&[], out),
     }
 }

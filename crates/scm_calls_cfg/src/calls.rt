@@ -33,19 +33,7 @@ pub fn call_of(request: &Request) -> Option<Call>
         Request::Change(_) => Some(Call::Change),
         Request::Create(_) => Some(Call::Create),
         Request::QueryConfig { .. } => Some(Call::QueryConfig),
-        Request::Close { .. }
-        | Request::Control { .. }
-        | Request::Delete { .. }
-        | Request::Lock { .. }
-        | Request::QueryStatus { .. }
-        | Request::SetStatus { .. }
-        | Request::Unlock { .. }
-        | Request::OpenManager { .. }
-        | Request::OpenService { .. }
-        | Request::QueryLock { .. }
-        | Request::Start { .. }
-        | Request::DisplayName { .. }
-        | Request::KeyName { .. } => None,
+        _ => None,
     }
 }
 

@@ -170,18 +170,6 @@ pub fn put_request(
         Request::QueryConfig { handle, size } => {
             write_pieces(&[Piece::Handle(*handle), Piece::Number(*size)], out)
         }
-        Request::Close { .. }
-        | Request::Control { .. }
-        | Request::Delete { .. }
-        | Request::Lock { .. }
-        | Request::QueryStatus { .. }
-        | Request::SetStatus { .. }
-        | Request::Unlock { .. }
-        | Request::OpenManager { .. }
-        | Request::OpenService { .. }
-        | Request::QueryLock { .. }
-        | Request::Start { .. }
-        | Request::DisplayName { .. }
-        | Request::KeyName { .. } => write_pieces(&[], out),
+        _ => write_pieces(&[], out),
     }
 }

@@ -11,60 +11,74 @@ use scm_arms_start::{end_start, fail_launch, finish, launched, start, take_launc
 use scm_model::{Answer, Kept, Request, Step};
 use scm_tables::Tables;
 use std::alloc::Global;
+use std::mem;
+
+/// What the arm of a creation or of a start takes out of its request.
+fn taken(request: &mut Request) -> Request
+    ensures { result ≡ request.old }
+{
+    mem::replace(request, Request::Close { handle: 0 })
+}
 
 /// Does a call.
 fn call(
     tables: &mut Tables,
     alloc: Global,
     caller: u64,
-    request: Request,
+    request: &mut Request,
     kept: Kept,
     made: &mut Made,
 ) -> Answer
-    requires made { made.old ≡ made_for tables.old.limits tables.old.flat caller request }
-    requires room { HasRoomForCall tables.old caller request }
+    requires made { made.old ≡ made_for tables.old.limits tables.old.flat caller request.old }
+    requires room { HasRoomForCall tables.old caller request.old }
     requires numbers { HasNumbers tables.old.flat }
     requires controls { tables.old.limits.controls ≤ 16 }
-    ensures answer { result ≡ (effect_of tables.old.limits tables.old.flat (Call caller request kept)).answer }
-    ensures flat { tables.new.flat ≡ (effect_of tables.old.limits tables.old.flat (Call caller request kept)).flat }
+    ensures answer { result ≡ (effect_of tables.old.limits tables.old.flat (Call caller request.old kept)).answer }
+    ensures flat { tables.new.flat ≡ (effect_of tables.old.limits tables.old.flat (Call caller request.old kept)).flat }
     ensures limits { tables.new.limits ≡ tables.old.limits }
 {
     let limits = tables.limits();
     let code = made.code;
     match request {
-        Request::Close { handle } => Answer::Reply(close(tables, caller, handle)),
+        Request::Close { handle } => Answer::Reply(close(tables, caller, *handle)),
         Request::Control {
             handle,
             control: code,
-        } => Answer::Reply(control(tables, caller, handle, code)),
-        Request::Delete { handle } => Answer::Reply(delete(tables, caller, handle, kept)),
-        Request::Lock { handle } => Answer::Reply(lock(tables, &limits, caller, handle)),
-        Request::QueryStatus { handle } => Answer::Reply(query(tables, caller, handle)),
+        } => Answer::Reply(control(tables, caller, *handle, *code)),
+        Request::Delete { handle } => Answer::Reply(delete(tables, caller, *handle, kept)),
+        Request::Lock { handle } => Answer::Reply(lock(tables, &limits, caller, *handle)),
+        Request::QueryStatus { handle } => Answer::Reply(query(tables, caller, *handle)),
         Request::SetStatus { handle, status } => {
-            Answer::Reply(set_status(tables, caller, handle, &status))
+            Answer::Reply(set_status(tables, caller, *handle, status))
         }
-        Request::Unlock { handle } => Answer::Reply(unlock(tables, caller, handle)),
+        Request::Unlock { handle } => Answer::Reply(unlock(tables, caller, *handle)),
         Request::Change(asked) => {
             let config = made.config.take();
-            Answer::Reply(change(tables, caller, &asked, code, config, kept))
+            Answer::Reply(change(tables, caller, asked, code, config, kept))
         }
-        Request::Create(new) => {
+        Request::Create(_) => {
+            let Request::Create(new) = taken(request) else {
+                unreachable!()
+            };
             let config = made.config.take();
             Answer::Reply(create(tables, &limits, caller, new, code, config, kept))
         }
         Request::OpenManager { database, access } => {
-            Answer::Reply(open_manager(tables, &limits, caller, &database, access))
+            Answer::Reply(open_manager(tables, &limits, caller, database, *access))
         }
         Request::OpenService {
             handle,
             name,
             access,
-        } => Answer::Reply(open_service(tables, &limits, caller, handle, &name, access)),
+        } => Answer::Reply(open_service(tables, &limits, caller, *handle, name, *access)),
         Request::QueryLock { handle, size } => {
             let owner = made.name.take().unwrap();
-            Answer::Reply(query_lock(tables, caller, handle, size, owner))
+            Answer::Reply(query_lock(tables, caller, *handle, *size, owner))
         }
-        Request::Start { handle, words } => {
+        Request::Start { .. } => {
+            let Request::Start { handle, words } = taken(request) else {
+                unreachable!()
+            };
             start(tables, alloc, caller, handle, words, made.entries.take())
         }
         Request::QueryConfig { .. } | Request::DisplayName { .. } | Request::KeyName { .. } => {
@@ -96,31 +110,31 @@ fn begin(tables: &mut Tables, moment: u64, step: &Step)
 }
 
 /// Does what a step does before the plans are settled and marked services leave.
-fn effect(tables: &mut Tables, alloc: Global, step: Step, made: &mut Made) -> Answer
-    requires made { IsMadeFor tables.old.limits tables.old.flat made.old step }
-    requires room { HasRoomFor tables.old step }
+fn effect(tables: &mut Tables, alloc: Global, step: &mut Step, made: &mut Made) -> Answer
+    requires made { IsMadeFor tables.old.limits tables.old.flat made.old step.old }
+    requires room { HasRoomFor tables.old step.old }
     requires numbers { HasNumbers tables.old.flat }
     requires controls { tables.old.limits.controls ≤ 16 }
-    ensures answer { result ≡ (effect_of tables.old.limits tables.old.flat step).answer }
-    ensures flat { tables.new.flat ≡ (effect_of tables.old.limits tables.old.flat step).flat }
+    ensures answer { result ≡ (effect_of tables.old.limits tables.old.flat step.old).answer }
+    ensures flat { tables.new.flat ≡ (effect_of tables.old.limits tables.old.flat step.old).flat }
     ensures limits { tables.new.limits ≡ tables.old.limits }
 {
     match step {
-        Step::Joined { principal } => join(tables, principal),
+        Step::Joined { principal } => join(tables, *principal),
         Step::Call {
             caller,
             request,
             kept,
-        } => call(tables, alloc, caller, request, kept, made),
-        Step::EndStart { caller: _, plan } => end_start(tables, plan),
+        } => call(tables, alloc, *caller, request, *kept, made),
+        Step::EndStart { caller: _, plan } => end_start(tables, *plan),
         Step::LaunchTaken => take_launch(tables),
-        Step::Launched { process, pid } => launched(tables, process, pid),
-        Step::LaunchFailed { process, code } => fail_launch(tables, process, code),
-        Step::Report { process, status } => report(tables, process, &status),
-        Step::Ended { process } => end(tables, process),
-        Step::ControlTaken { process } => take_control(tables, process),
+        Step::Launched { process, pid } => launched(tables, *process, *pid),
+        Step::LaunchFailed { process, code } => fail_launch(tables, *process, *code),
+        Step::Report { process, status } => report(tables, *process, status),
+        Step::Ended { process } => end(tables, *process),
+        Step::ControlTaken { process } => take_control(tables, *process),
         Step::Tick => tick(tables),
-        Step::Gone { caller } => leave(tables, caller),
+        Step::Gone { caller } => leave(tables, *caller),
         Step::NoMemory { caller: _ } => Answer::Done,
     }
 }
@@ -128,18 +142,24 @@ fn effect(tables: &mut Tables, alloc: Global, step: Step, made: &mut Made) -> An
 #[tactic(auto, using(crate::proofs::Beforehand::is_made_at, crate::proofs::Beforehand::has_room_at, crate::proofs::Numbers::numbers_at, crate::proofs::Numbers::numbers_left))]
 /// Does a step: its effect, then the plans are settled, a start that this decided is answered, and marked services leave. `made` was
 /// made for it beforehand.
-pub fn act(tables: &mut Tables, alloc: Global, moment: u64, step: Step, made: &mut Made) -> Answer
-    requires made { IsMadeFor tables.old.limits tables.old.flat made.old step }
-    requires room { HasRoomFor tables.old step }
+pub fn act(
+    tables: &mut Tables,
+    alloc: Global,
+    moment: u64,
+    step: &mut Step,
+    made: &mut Made,
+) -> Answer
+    requires made { IsMadeFor tables.old.limits tables.old.flat made.old step.old }
+    requires room { HasRoomFor tables.old step.old }
     requires numbers { HasNumbers tables.old.flat }
     requires limit { tables.old.limits.processes < 2 ^ 32 }
     requires controls { tables.old.limits.controls ≤ 16 }
     requires processes { tables.old.flat.next.process ≤ 2 ^ 62 }
-    ensures answer { result ≡ (step_of tables.old.limits tables.old.flat moment step).answer }
-    ensures flat { tables.new.flat ≡ (step_of tables.old.limits tables.old.flat moment step).flat }
+    ensures answer { result ≡ (step_of tables.old.limits tables.old.flat moment step.old).answer }
+    ensures flat { tables.new.flat ≡ (step_of tables.old.limits tables.old.flat moment step.old).flat }
     ensures limits { tables.new.limits ≡ tables.old.limits }
 {
-    begin(tables, moment, &step);
+    begin(tables, moment, step);
     let answer = effect(tables, alloc, step, made);
     tables.settle();
     let answer = finish(tables, answer);

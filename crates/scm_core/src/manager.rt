@@ -215,7 +215,7 @@ impl Manager {
     }
 
     /// Does a step, with the room that was made for it where it needs some. It takes no memory.
-    pub fn step(&mut self, moment: u64, step: Step) -> Answer
+    pub fn step(&mut self, moment: u64, mut step: Step) -> Answer
         requires may { IsTrue (may self.old.limits self.old.flat moment step) }
         requires room { WasMadeFor self.old.room step }
         requires steps { self.old.steps < 2 ^ 50 }
@@ -225,6 +225,22 @@ impl Manager {
         ensures limits { self.new.limits ≡ self.old.limits }
         ensures steps { self.new.steps ≡ self.old.steps + 1 }
         ensures text { self.new.text ≡ self.old.text + text_of step }
+        ensures room { self.new.room ≡ None }
+    {
+        self.step_at(moment, &mut step)
+    }
+
+    /// The same of a step where it lies, which is used up: what it is then plays no part.
+    pub fn step_at(&mut self, moment: u64, step: &mut Step) -> Answer
+        requires may { IsTrue (may self.old.limits self.old.flat moment step.old) }
+        requires room { WasMadeFor self.old.room step.old }
+        requires steps { self.old.steps < 2 ^ 50 }
+        requires text { self.old.text + text_of step.old < 2 ^ 63 }
+        ensures answer { result ≡ (step_of self.old.limits self.old.flat moment step.old).answer }
+        ensures flat { self.new.flat ≡ (step_of self.old.limits self.old.flat moment step.old).flat }
+        ensures limits { self.new.limits ≡ self.old.limits }
+        ensures steps { self.new.steps ≡ self.old.steps + 1 }
+        ensures text { self.new.text ≡ self.old.text + text_of step.old }
         ensures room { self.new.room ≡ None }
     {
         self.steps += 1;

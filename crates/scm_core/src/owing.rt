@@ -72,14 +72,23 @@ impl Manager {
     pub fn room(&self, step: &Step) -> bool
         ensures { result ≡ has_room self.now.limits self.now.flat self.now.steps self.now.text step.now }
     {
-        self.has_steps_for(step) && self.has_text_for(step)
+        self.room_beside(self.owed(), step)
+    }
+
+    /// The same where it was asked before how many steps are owed.
+    pub fn room_beside(&self, owing: u64, step: &Step) -> bool
+        requires { owing ≡ min (owed self.now.flat) (2 ^ 64 - 1) }
+        ensures { result ≡ has_room self.now.limits self.now.flat self.now.steps self.now.text step.now }
+    {
+        self.has_steps_for(owing, step) && self.has_text_for(step)
     }
 
     /// Whether the limit of steps has room.
-    fn has_steps_for(&self, step: &Step) -> bool
+    fn has_steps_for(&self, owing: u64, step: &Step) -> bool
+        requires { owing ≡ min (owed self.now.flat) (2 ^ 64 - 1) }
         ensures { result ≡ nat_le (self.now.steps + owed self.now.flat + need self.now.flat step.now) self.now.limits.steps }
     {
-        let before = self.steps as u128 + self.owed() as u128;
+        let before = self.steps as u128 + owing as u128;
         before.saturating_add(self.need_of(step)) <= self.most_steps() as u128
     }
 

@@ -149,6 +149,19 @@ pub const SERVICE_ERROR_CRITICAL: u32 = 3;
 /// What leaves a number of a configuration as it is.
 pub const SERVICE_NO_CHANGE: u32 = 0xFFFF_FFFF;
 
+// What is done after a failure (`SC_ACTION_TYPE`), and when failures are counted anew.
+
+pub const SC_ACTION_NONE: u32 = 0;
+
+pub const SC_ACTION_RESTART: u32 = 1;
+
+pub const SC_ACTION_REBOOT: u32 = 2;
+
+pub const SC_ACTION_RUN_COMMAND: u32 = 3;
+
+/// The reset period after which failures are never counted anew.
+pub const INFINITE: u32 = 0xFFFF_FFFF;
+
 // Controls, and the bits by which a service accepts them.
 
 pub const SERVICE_CONTROL_STOP: u32 = 1;

@@ -3,6 +3,7 @@ use Rattle.std.proofs.Common.{◌≡◌, ℕ, ◌^◌, ◌<◌, ◌≤◌, List,
 use Rattle.std.specs.Prelude.{IfSome, IfOk}
 use Rattle.std.proofs.lemmas.Bool.{eq-eqb, le-leb}
 use Rattle.std.proofs.lemmas.List.{append-nil, length-take, length-replicate}
+use Rattle.std.proofs.Math.Seq.{take-length}
 use Rattle.ndr_body.specs.declared.fault.BodyFault.{BodyFault}
 use Rattle.ndr_body.specs.Reading.{◌>>=◌, Gives, number_at, handle_at, text_at, some_text_at, some_number_at, some_bytes_at, bytes_at}
 use Rattle.ndr_body.specs.Writing.{Draft, blank, put_number, put_handle, put_text, put_bytes, put_some_text, put_some_number, put_referent}
@@ -150,3 +151,24 @@ body_ranged shape body vs h = values_ranged shape body 0 vs h.behind h.stand
 pub ranged_if : (shape : List Item) (body : List ℕ) (result : Result (List Value) BodyFault) → IsBytes body → Gives (λ v. v) result (body_values shape body) → IfOk result (λ vs. CanHoldAll shape vs)
 ranged_if shape body (Ok vs) fits gives = body_ranged shape body vs (body_found shape body vs fits gives)
 ranged_if shape body (Err e) fits gives = tt
+
+-- ## What a body holds is read back unchanged
+
+filled_same : (held : List ℕ) → filled (take (length held) held) (length held) ≡ held
+filled_same held =
+    let none : length held - length held ≡ 0 = omega arith in
+    rw (take-length held, none) (append-nil held)
+
+item_same : (kind : Item) (body : List ℕ) (place : ℕ) (v : Value) (after : ℕ) → ItemStands kind body place v after → as_read v ≡ v
+item_same item.Bytes body place v after h = rw (h.is, filled_same h.content) refl
+item_same item.Handle body place v after h = rw h.is refl
+item_same _ body place v after h = rw h.is refl
+
+values_same : (shape : List Item) (body : List ℕ) (place : ℕ) (vs : List Value) (after : ℕ) → ValuesStand shape body place vs after → map as_read vs ≡ vs
+values_same [] body place [] after h = refl
+values_same (kind ∷ kinds) body place (v ∷ vs) after h = rw (item_same kind body place v h.0 h.1, values_same kinds body h.0 vs after h.2) refl
+values_same [] body place (v ∷ vs) after h = absurd h
+values_same (kind ∷ kinds) body place [] after h = absurd h
+
+pub body_same : (shape : List Item) (body : List ℕ) (vs : List Value) → IsBody shape body vs → map as_read vs ≡ vs
+body_same shape body vs h = values_same shape body 0 vs h.behind h.stand

@@ -1,16 +1,16 @@
 -- What holds of the calls of every codec.
-use Rattle.std.proofs.Common.{◌≡◌, ℕ, List, Option, None, Some, Result, Ok, Err, refl, subst, ◌∙◌}
-use Rattle.std.specs.Prelude.{IfOk, IfSome}
+use Rattle.std.proofs.Common.{◌≡◌, ℕ, List, map, Option, Some, Result, Ok, Err, refl, subst, ◌∙◌}
+use Rattle.std.specs.Prelude.{IfOk}
 use Rattle.ndr_body.specs.declared.fault.BodyFault.{BodyFault}
 use Rattle.ndr_body.specs.Reading.{Gives}
 use Rattle.ndr_body.proofs.Spelled.{IsBytes, bind_ok, ok_is}
 use Rattle.scm_shapes.specs.declared.item.Item.{Item}
 use Rattle.scm_shapes.specs.declared.item.Value.{Value}
 use Rattle.scm_shapes.specs.Shapes.{body_values, body_bytes}
-use Rattle.scm_shapes.specs.Laws.{CanHoldAll}
+use Rattle.scm_shapes.specs.Laws.{CanHoldAll, as_read}
 use Rattle.scm_shapes.specs.Calls.{read_as, shape_in, made_in, Codec, Spells}
 use Rattle.scm_shapes.proofs.Exact.{body_found, body_read, body_fits}
-use Rattle.scm_shapes.proofs.Back.{body_again, body_ranged}
+use Rattle.scm_shapes.proofs.Back.{body_again, body_ranged, body_same}
 
 module _ {Kind R : Type 0} (shape_of : Kind → List Item) (from : Kind → List Value → R) (kind_of : R → Option Kind) (values_of : R → List Value) (codec : Codec shape_of from kind_of values_of) where
   is_again : (kind : Kind) (r : R) → kind_of r ≡ Some kind → from kind (values_of r) ≡ r
@@ -32,24 +32,20 @@ module _ {Kind R : Type 0} (shape_of : Kind → List Item) (from : Kind → List
       let read : read_as (shape_of kind) (from kind) body ≡ Ok r = rw (body_read (shape_of kind) body (values_of r) fits h.body, is_again kind r h.named) refl in
       subst (λ (s : Result R BodyFault). Gives (λ t. t) result s) read gives
 
-  -- what a body can hold is read back from the one that is written
-  pub held_again : (kind : Kind) (r : R) → kind_of r ≡ Some kind → CanHoldAll (shape_of kind) (values_of r) → read_as (shape_of kind) (from kind) (body_bytes (values_of r)) ≡ Ok r
-  held_again kind r e h = rw (body_again (shape_of kind) (values_of r) h, codec.same r, is_again kind r e) refl
+  -- what a body can hold is read back from the one that is written, as its values are read
+  pub held_again : (kind : Kind) (r : R) → CanHoldAll (shape_of kind) (values_of r) → read_as (shape_of kind) (from kind) (body_bytes (values_of r)) ≡ Ok (from kind (map as_read (values_of r)))
+  held_again kind r h = rw (body_again (shape_of kind) (values_of r) h) refl
 
-  by_kind : (kind : Option Kind) (r : R) → kind_of r ≡ kind → CanHoldAll (shape_in shape_of kind) (values_of r)
-      → IfSome kind (λ kind. read_as (shape_of kind) (from kind) (body_bytes (values_of r)) ≡ Ok r)
-  by_kind None r e h = tt
-  by_kind (Some kind) r e h = held_again kind r e h
-
-  pub again_if : (r : R) → CanHoldAll (shape_in shape_of (kind_of r)) (values_of r) → IfSome (kind_of r) (λ kind. read_as (shape_of kind) (from kind) (body_bytes (values_of r)) ≡ Ok r)
-  again_if r h = by_kind (kind_of r) r refl h
+  -- and unchanged where its values are
+  pub held_same : (kind : Kind) (r : R) → kind_of r ≡ Some kind → map as_read (values_of r) ≡ values_of r → CanHoldAll (shape_of kind) (values_of r) → read_as (shape_of kind) (from kind) (body_bytes (values_of r)) ≡ Ok r
+  held_same kind r e same h = rw (body_again (shape_of kind) (values_of r) h, same, is_again kind r e) refl
 
   -- so is what some body spells
   pub spelled_held : (kind : Kind) (bytes : List ℕ) (r : R) → Spells shape_of kind_of values_of kind bytes r → CanHoldAll (shape_of kind) (values_of r)
   spelled_held kind bytes r h = body_ranged (shape_of kind) bytes (values_of r) h.body
 
   pub spelled_again : (kind : Kind) (bytes : List ℕ) (r : R) → Spells shape_of kind_of values_of kind bytes r → read_as (shape_of kind) (from kind) (body_bytes (values_of r)) ≡ Ok r
-  spelled_again kind bytes r h = held_again kind r h.named (spelled_held kind bytes r h)
+  spelled_again kind bytes r h = held_same kind r h.named (body_same (shape_of kind) bytes (values_of r) h.body) (spelled_held kind bytes r h)
 
   -- what holds of all that a shape can hold holds of what is read
   pub calls_ranged : (P : R → Type 0) (kind : Kind) (body : List ℕ) (result : Result R BodyFault) → ((r : R) → kind_of r ≡ Some kind → CanHoldAll (shape_in shape_of (kind_of r)) (values_of r) → P r)

@@ -1,12 +1,11 @@
 -- Calls as bodies: what a body asks or tells is made of the values of its shape.
-use Rattle.std.specs.Prelude.{◌≡◌, ℕ, List, [], map, Option, None, Some, Result, Ok}
+use Rattle.std.specs.Prelude.{◌≡◌, ℕ, List, [], Option, None, Some, Result, Ok}
 use Rattle.ndr_body.specs.declared.fault.BodyFault.{BodyFault}
 use Rattle.ndr_body.specs.Reading.{◌>>=◌}
 use Rattle.scm_shapes.specs.declared.item.Item.{Item}
 use Rattle.scm_shapes.specs.declared.item.Value.{Value}
 use Rattle.scm_shapes.specs.Shapes.{body_values, fitted}
 use Rattle.scm_shapes.specs.Bodies.{IsBody}
-use Rattle.scm_shapes.specs.Laws.{as_read}
 
 -- what a body of a shape is read as, or the first fault
 abbrev pub read_as : {R : Type 0} → List Item → (List Value → R) → List ℕ → Result R BodyFault
@@ -26,9 +25,8 @@ abbrev pub made_in : {Kind R : Type 0} → (Kind → List Value → R) → Optio
 made_in from None vs r = r
 made_in from (Some kind) vs r = from kind vs
 
--- Kinds of bodies, what is made of their values, and which values that has: both ways nothing is lost, also where it is written and read.
+-- Kinds of bodies, what is made of their values, and which values that has: both ways nothing is lost.
 pub record Codec {Kind R : Type 0} (shape_of : Kind → List Item) (from : Kind → List Value → R) (kind_of : R → Option Kind) (values_of : R → List Value) : Type 0 where
   pub again : (r : R) → made_in from (kind_of r) (values_of r) r ≡ r
-  pub same : (r : R) → map as_read (values_of r) ≡ values_of r
   pub kept : (kind : Kind) (vs : List Value) → values_of (from kind vs) ≡ fitted (shape_of kind) vs
   pub named : (kind : Kind) (vs : List Value) → kind_of (from kind vs) ≡ Some kind

@@ -1,5 +1,5 @@
--- What the changes keep of paths and of the numbers of plans.
-use Rattle.std.proofs.Common.{ℕ, ◌≡◌, ◌≤◌, ◌+◌, ◌==◌, ◌&&◌, Bool, true, false, cond, List, [], ◌∷◌, ◌++◌, filter, map, get_or, length, sym, refl, subst, arith, ◌∙◌}
+-- What the changes keep of texts and of the numbers of plans.
+use Rattle.std.proofs.Common.{ℕ, ◌≡◌, ◌+◌, ◌==◌, ◌&&◌, Bool, true, false, cond, List, [], ◌∷◌, ◌++◌, filter, map, get_or, sym, refl, subst, arith, ◌∙◌}
 use Rattle.std.specs.Prelude.{All, vec_capacity}
 use Rattle.std.specs.List.{AllByRecursion}
 use Rattle.std.proofs.lemmas.List.Elements.{All-map}
@@ -25,23 +25,24 @@ use Rattle.scm_rules.specs.Due.{expired}
 use Rattle.scm_model.specs.declared.flat.Due.{Due}
 use Rattle.scm_model.specs.declared.flat.DueKind.{DueKind}
 use Rattle.scm_model.specs.declared.flat.DueKind.TheVariants as dues
-use Rattle.scm_tables.specs.Inside.{HasShortPath, IsBelow, IsKept}
+use Rattle.scm_tables.specs.Inside.{IsBelow, IsKept}
+use Rattle.scm_tables.specs.Tabled.{HasShort, HasShortTexts}
 use Rattle.scm_tables.specs.declared.tables.Tables.TheInside.{Inside}
 
--- ## Paths
+-- ## Texts
 
--- a change that keeps each path
-pub paths_map : (change : Service → Service) → ((row : Service) → (change row).config.path ≡ row.config.path) → (rows : List Service) → All HasShortPath rows → All HasShortPath (map change rows)
-paths_map change same rows old = All-map HasShortPath change rows (λ k d lt. subst (λ (path : List ℕ). length path ≤ 2048) (sym (same (get_or rows k d))) (old k d lt))
+-- a change that keeps each configuration
+pub texts_map : (change : Service → Service) → ((row : Service) → (change row).config ≡ row.config) → (rows : List Service) → All HasShort rows → All HasShort (map change rows)
+texts_map change same rows old = All-map HasShort change rows (λ k d lt. subst HasShortTexts (sym (same (get_or rows k d))) (old k d lt))
 
-pub started_path : (number process : ℕ) (row : Service) → (started_if number process row).config.path ≡ row.config.path
-started_path number process row =
-    elim (row.number == number && row.status.state == 1) as (λ b. (cond b (record row { status = record { kind = row.status.kind; state = 2; accepted = 0; win32 = 0; specific = 0; checkpoint = 0; hint = 0 }; process = process }) row).config.path ≡ row.config.path)
+pub started_config : (number process : ℕ) (row : Service) → (started_if number process row).config ≡ row.config
+started_config number process row =
+    elim (row.number == number && row.status.state == 1) as (λ b. (cond b (record row { status = record { kind = row.status.kind; state = 2; accepted = 0; win32 = 0; specific = 0; checkpoint = 0; hint = 0 }; process = process }) row).config ≡ row.config)
     [ true ↦ refl | false ↦ refl ]
 
-pub fallen_path : (process code : ℕ) (row : Service) → (fallen_if process code row).config.path ≡ row.config.path
-fallen_path process code row =
-    elim (row.process == process) as (λ b. (cond b (record row { status = record { kind = row.status.kind; state = 1; accepted = 0; win32 = code; specific = 0; checkpoint = 0; hint = 0 }; process = 0 }) row).config.path ≡ row.config.path)
+pub fallen_config : (process code : ℕ) (row : Service) → (fallen_if process code row).config ≡ row.config
+fallen_config process code row =
+    elim (row.process == process) as (λ b. (cond b (record row { status = record { kind = row.status.kind; state = 1; accepted = 0; win32 = code; specific = 0; checkpoint = 0; hint = 0 }; process = 0 }) row).config ≡ row.config)
     [ true ↦ refl | false ↦ refl ]
 
 pub started_number : (number process : ℕ) (row : Service) → (started_if number process row).number ≡ row.number
@@ -54,18 +55,18 @@ fallen_number process code row =
     elim (row.process == process) as (λ b. (cond b (record row { status = record { kind = row.status.kind; state = 1; accepted = 0; win32 = code; specific = 0; checkpoint = 0; hint = 0 }; process = 0 }) row).number ≡ row.number)
     [ true ↦ refl | false ↦ refl ]
 
-moved_path : (row : Service) (told : Result Status ℕ) → (moved_by row told).config.path ≡ row.config.path
-moved_path row (Ok status) = refl
-moved_path row (Err code) = refl
+moved_config : (row : Service) (told : Result Status ℕ) → (moved_by row told).config ≡ row.config
+moved_config row (Ok status) = refl
+moved_config row (Err code) = refl
 
 moved_number : (row : Service) (told : Result Status ℕ) → (moved_by row told).number ≡ row.number
 moved_number row (Ok status) = refl
 moved_number row (Err code) = refl
 
-pub reported_path : (process : ℕ) (report : Status) (row : Service) → (reported_if process report row).config.path ≡ row.config.path
-reported_path process report row =
-    elim (row.process == process) as (λ b. (cond b (moved_by row (take_report row.status report)) row).config.path ≡ row.config.path)
-    [ true ↦ moved_path row (take_report row.status report) | false ↦ refl ]
+pub reported_config : (process : ℕ) (report : Status) (row : Service) → (reported_if process report row).config ≡ row.config
+reported_config process report row =
+    elim (row.process == process) as (λ b. (cond b (moved_by row (take_report row.status report)) row).config ≡ row.config)
+    [ true ↦ moved_config row (take_report row.status report) | false ↦ refl ]
 
 pub reported_number : (process : ℕ) (report : Status) (row : Service) → (reported_if process report row).number ≡ row.number
 reported_number process report row =
@@ -95,11 +96,11 @@ reported_needs process report row =
 
 -- ## Another configuration
 
--- another configuration has a short path too
-pub paths_configured : (number : ℕ) (config : Config) (rows : List Service) → length config.path ≤ 2048 → All HasShortPath rows → All HasShortPath (map (configured_if number config) rows)
-paths_configured number config rows short old =
-    All-map HasShortPath (configured_if number config) rows (λ k d lt.
-    elim ((get_or rows k d).number == number) as (λ b. length (cond b (record (get_or rows k d) { config = config; status = record (get_or rows k d).status { kind = config.kind } }) (get_or rows k d)).config.path ≤ 2048)
+-- another configuration has short texts too
+pub texts_configured : (number : ℕ) (config : Config) (rows : List Service) → HasShortTexts config → All HasShort rows → All HasShort (map (configured_if number config) rows)
+texts_configured number config rows short old =
+    All-map HasShort (configured_if number config) rows (λ k d lt.
+    elim ((get_or rows k d).number == number) as (λ b. HasShort (cond b (record (get_or rows k d) { config = config; status = record (get_or rows k d).status { kind = config.kind } }) (get_or rows k d)))
     [ true ↦ short | false ↦ old k d lt ])
 
 -- ## Plans
@@ -142,7 +143,7 @@ pub other_plans : {t u : Inside} → IsKept t → u.next.service ≡ t.next.serv
     → AllByRecursion (IsBelow u.next.plan) u.plans.plans → IsKept u
 other_plans kept next rows acyclic limit capacity tried plans = record {
   rising = rw next (rw rows kept.rising);
-  paths = rw rows kept.paths;
+  texts = rw rows kept.texts;
   needs = rw acyclic (rw rows kept.needs);
   room = rw limit (rw capacity kept.room);
   plans = plans;

@@ -8,7 +8,7 @@ use Rattle.scm_model.specs.declared.flat.NeedRow.{NeedRow}
 use Rattle.scm_model.specs.Needs.{has, needs_of, numbers_of}
 use Rattle.scm_model.specs.Order.{is_cyclic}
 use Rattle.scm_model.specs.Walks.{IsAcyclic}
-use Rattle.dependency_index.proofs.Cycles.{ends_acyclic}
+use Rattle.dependency_index.proofs.Cycles.{acyclic_ends, ends_acyclic}
 use Rattle.scm_rules.specs.Needs.{need_row, need_rows}
 
 -- the row at a place is that of the service there
@@ -32,3 +32,7 @@ has_row (row ∷ rows) n there =
 pub found_free : (cyclic : Bool) (rows : List NeedRow) → cyclic ≡ is_cyclic rows → IsTrue (not cyclic) → IsAcyclic (needs_of rows)
 found_free true rows is free = absurd cc
 found_free false rows is free = ends_acyclic rows (sym is)
+
+-- needs that are known to have no cycle
+pub cyclic_not : (rows : List NeedRow) → IsAcyclic (needs_of rows) → true ≡ not (is_cyclic rows)
+cyclic_not rows none = ap not (sym (acyclic_ends rows none))

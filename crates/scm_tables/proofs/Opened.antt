@@ -7,8 +7,7 @@ use Rattle.scm_model.specs.declared.flat.Service.{Service}
 use Rattle.scm_model.specs.Changes.{new_service}
 use Rattle.scm_rules.specs.Create.{new_status}
 use Rattle.scm_rules.specs.Opening.{services_from}
-use Rattle.scm_tables.specs.Tabled.{AreRising}
-use Rattle.scm_tables.specs.Inside.{HasShortPath}
+use Rattle.scm_tables.specs.Tabled.{AreRising, HasShort, HasShortTexts}
 
 -- a fact of the first row and each later one, and of each two of the later ones
 pairs_cons : {A : Type 0} (R : A → A → Type 0) (x : A) (xs : List A) → All (R x) xs → AllPairs R xs → (i j : ℕ) (d : A) → i < j → j < length (x ∷ xs) → R (get_or (x ∷ xs) i d) (get_or (x ∷ xs) j d)
@@ -45,8 +44,8 @@ opened_rising configs = record {
   rising = rising_from 1 configs;
 }
 
-pub opened_paths : (first : ℕ) (configs : List Config) → All (λ (config : Config). length config.path ≤ 2048) configs → All HasShortPath (services_from first configs)
-opened_paths first [] short = All-nil HasShortPath
-opened_paths first (config ∷ configs) short =
-    All-cons HasShortPath (new_service first config (new_status config.kind)) (services_from (first + 1) configs) (All-head (λ (c : Config). length c.path ≤ 2048) config configs short)
-    (opened_paths (first + 1) configs (All-tail (λ (c : Config). length c.path ≤ 2048) config configs short))
+pub opened_texts : (first : ℕ) (configs : List Config) → All HasShortTexts configs → All HasShort (services_from first configs)
+opened_texts first [] short = All-nil HasShort
+opened_texts first (config ∷ configs) short =
+    All-cons HasShort (new_service first config (new_status config.kind)) (services_from (first + 1) configs) (All-head HasShortTexts config configs short)
+    (opened_texts (first + 1) configs (All-tail HasShortTexts config configs short))

@@ -7,13 +7,14 @@ use Rattle.std.proofs.lemmas.Bool.Decides.{nat_tests}
 use Rattle.std.proofs.lemmas.List.Quantifiers.{position-Some}
 use Rattle.std.proofs.lemmas.List.Sums.{fails_before_first}
 use Rattle.scm_model.specs.declared.flat.Flat.{Flat}
+use Rattle.scm_model.specs.declared.flat.Opened.{Opened}
 use Rattle.scm_model.specs.declared.flat.Service.{Service}
 use Rattle.scm_model.specs.Rows.{service_of}
 use Rattle.scm_rules.specs.Launches.{first_wanted, path_in, service_of_process}
 use Rattle.scm_tables.specs.Lines.{first_line}
 use Rattle.scm_tables.specs.declared.process_rows.ProcessRow.{ProcessRow}
 use Rattle.scm_tables.specs.Listed.{is_wanted_row, process_shown, processes_in, wanted_in, wanted_of, without_words, words_in}
-use Rattle.scm_tables.specs.Inside.{HasShortPath}
+use Rattle.scm_tables.specs.Tabled.{HasShort}
 
 -- a row without its words
 abbrev pub emptied : ProcessRow → ProcessRow
@@ -71,15 +72,15 @@ pub none_wanted : (rows : List ProcessRow) → position is_wanted_row rows ≡ N
 none_wanted rows e = none_of rows (λ k d lt. fails_before_first is_wanted_row rows k d (let p = past rows e in omega (arith, lt, p)))
 
 -- a row that is found has what all have
-found_has : (P : Service → Type 0) (p : Service → Bool) (rows : List Service) → All P rows → IfSome (find p rows) P
+pub found_has : (P : Service → Type 0) (p : Service → Bool) (rows : List Service) → All P rows → IfSome (find p rows) P
 found_has P p [] all = tt
 found_has P p (row ∷ rows) all =
     elim (p row) as (λ b. IfSome (cond b (Some row) (find p rows)) P)
     [ true ↦ all zero row (omega arith) | false ↦ found_has P p rows (λ k d lt. all (suc k) d (omega (arith, lt))) ]
 
-pub short_with : (f : Flat) (service : Option ℕ) → All HasShortPath f.services → IfSome (option_and_then (service_of f) service) HasShortPath
+pub short_with : (f : Flat) (service : Option ℕ) → All HasShort f.services → IfSome (option_and_then (service_of f) service) HasShort
 short_with f None all = tt
-short_with f (Some number) all = found_has HasShortPath (λ (row : Service). row.number == number) f.services all
+short_with f (Some number) all = found_has HasShort (λ (row : Service). row.number == number) f.services all
 
 -- ## Lines
 
@@ -107,3 +108,8 @@ words_of_lines f (x ∷ xs) = refl
 
 pub first_words : (f : Flat) (rows : List ProcessRow) → words_in (wanted_in rows) ≡ (first_line f (wanted_in rows)).1
 first_words f rows = words_of_lines f (filter is_wanted_row rows)
+
+-- and the service that a handle is of
+pub held_has : (P : Service → Type 0) (rows : List Service) (handle : Option Opened) → All P rows → IfSome (option_and_then (λ (of : Opened). find (λ (row : Service). row.number == of.service) rows) handle) P
+held_has P rows None all = tt
+held_has P rows (Some of) all = found_has P (λ (row : Service). row.number == of.service) rows all

@@ -1,13 +1,12 @@
 -- What contracts see of the lists' fields, and what is always true of them.
-use Rattle.std.specs.Prelude.{ℕ, IsTrue, ◌≡◌, ◌≤◌, ◌<◌, ◌-◌, [], All, length, vec_capacity, vec_len}
+use Rattle.std.specs.Prelude.{ℕ, IsTrue, ◌≡◌, ◌≤◌, ◌<◌, ◌-◌, [], All, vec_capacity, vec_len}
 use Rattle.std.specs.List.{AllByRecursion}
 use Rattle.scm_model.specs.declared.flat.Plan.{Plan}
-use Rattle.scm_model.specs.declared.flat.Service.{Service}
 use Rattle.scm_model.specs.Needs.{needs_of}
 use Rattle.scm_model.specs.Walks.{IsAcyclic}
 use Rattle.scm_rules.specs.Needs.{need_rows}
 use Rattle.scm_tables.specs.Listed.{processes_in, wanted_in}
-use Rattle.scm_tables.specs.Tabled.{AreRising, Tabled}
+use Rattle.scm_tables.specs.Tabled.{AreRising, HasShort, Tabled}
 use Rattle.scm_tables.specs.declared.tables.Tables.TheInside.{Inside}
 
 abbrev pub tabled : Inside → Tabled
@@ -18,7 +17,7 @@ tabled t = record {
     processes = processes_in t.processes.items;
     wanted = wanted_in t.processes.items;
     plans = t.plans.plans;
-    registrations = t.registrations.items;
+    registrations = t.registrations.rows;
     dues = t.dues.items;
     callers = t.callers.items;
     lock = t.lock;
@@ -31,24 +30,21 @@ tabled t = record {
     services = vec_capacity t.services - vec_len t.services;
     handles = vec_capacity t.handles - vec_len t.handles;
     callers = vec_capacity t.callers - vec_len t.callers;
+    registrations = t.registrations.spare;
     plans = t.plans.spare;
     dues = vec_capacity t.dues - vec_len t.dues;
     tried = vec_capacity t.tried - vec_len t.tried;
   };
 }
 
--- a path that can be launched
-abbrev pub HasShortPath : Service → Type 0
-HasShortPath row = length row.config.path ≤ 2048
-
 abbrev pub IsBelow : ℕ → Plan → Type 0
 IsBelow next plan = plan.number < next
 
--- services stand in order of number, and their paths are short; where it is said so, their needs have no cycle; as many processes as may be listed find room; plans have numbers below
+-- services stand in order of number, and their paths and names are short; where it is said so, their needs have no cycle; as many processes as may be listed find room; plans have numbers below
 -- the next one
 pub record IsKept (t : Inside) : Type 0 where
   pub rising : AreRising t.next.service t.services.items
-  pub paths : All HasShortPath t.services.items
+  pub texts : All HasShort t.services.items
   pub needs : IsTrue t.acyclic → IsAcyclic (needs_of (need_rows t.services.items))
   pub room : t.limits.processes ≤ vec_capacity t.processes
   pub plans : AllByRecursion (IsBelow t.next.plan) t.plans.plans

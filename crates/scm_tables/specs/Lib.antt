@@ -3,3 +3,4 @@ pub mod Listed
 pub mod Lines
 pub mod Inside
 pub mod Tags
+pub mod Noticed

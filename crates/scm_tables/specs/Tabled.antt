@@ -1,5 +1,6 @@
 -- The manager's lists, and for how many rows more there is room in them.
-use Rattle.std.specs.Prelude.{ℕ, ◌<◌, List, All, AllPairs}
+use Rattle.std.specs.Prelude.{ℕ, ◌<◌, ◌≤◌, List, All, AllPairs, length}
+use Rattle.scm_model.specs.declared.flat.Config.{Config}
 use Rattle.scm_model.specs.declared.flat.Flat.{Flat}
 use Rattle.scm_model.specs.declared.flat.Limits.{Limits}
 use Rattle.scm_model.specs.declared.flat.Service.{Service}
@@ -9,6 +10,7 @@ pub record Spare : Type 0 where
   pub services : ℕ
   pub handles : ℕ
   pub callers : ℕ
+  pub registrations : ℕ
   pub plans : ℕ
   pub dues : ℕ
   pub tried : ℕ  -- for how many services that the next plan will have tried
@@ -22,3 +24,11 @@ pub record Tabled : Type 0 where
 pub record AreRising (next : ℕ) (rows : List Service) : Type 0 where
   pub below : All (λ (row : Service). row.number < next) rows
   pub rising : AllPairs (λ (a b : Service). a.number < b.number) rows
+
+-- a path that can be launched, and a name that registrations can be told
+pub record HasShortTexts (config : Config) : Type 0 where
+  pub path : length config.path ≤ 2048
+  pub name : length config.name ≤ 256
+
+abbrev pub HasShort : Service → Type 0
+HasShort row = HasShortTexts row.config

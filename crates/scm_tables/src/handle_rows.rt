@@ -2,7 +2,7 @@ ghost use Rattle.std.specs.Prelude.{◌≡◌, ◌==◌, ◌&&◌, not, find, fi
 ghost use Rattle.std.specs.List.{list_any};
 ghost use Rattle.scm_model.specs.Rows.{holds_lock, is_of_service, owner_at};
 
-use scm_model::{Caller, HandleKind, HandleRow, LockRow, Registration};
+use scm_model::{Caller, HandleKind, HandleRow, LockRow};
 
 /// The row of a caller's handle.
 pub fn row_of(rows: &[HandleRow], caller: u64, number: u64) -> Option<HandleRow>
@@ -28,13 +28,6 @@ pub fn drop_number(rows: &mut Vec<HandleRow>, number: u64)
 pub fn drop_caller(rows: &mut Vec<HandleRow>, caller: u64)
     ensures rows { rows.new.items ≡ filter (λ row. not (row.caller == caller)) rows.old.items }
     ensures capacity { vec_capacity rows.new ≡ vec_capacity rows.old }
-{
-    rows.retain(|row| !(row.caller == caller));
-}
-
-/// Keeps the registrations of other callers.
-pub fn drop_registrations(rows: &mut Vec<Registration>, caller: u64)
-    ensures rows { rows.new.items ≡ filter (λ row. not (row.caller == caller)) rows.old.items }
 {
     rows.retain(|row| !(row.caller == caller));
 }

@@ -1,13 +1,16 @@
 //! The lists of the service manager: the one set of reads and writes through which its calls reach them.
 #![tactic(auto)]
 
+mod depending;
 mod due_rows;
 mod handle_rows;
 mod indexing;
 mod needing;
+mod noticing;
 mod opening;
 mod planning;
 mod process_rows;
+mod registering;
 mod running;
 mod service_rows;
 mod settling;
@@ -16,6 +19,7 @@ mod tables;
 ghost use Rattle.std.specs.Prelude.{◌≡◌};
 ghost use Rattle.scm_rules.specs.Rights.{mask_lacks};
 
+pub use noticing::with_pid;
 pub use opening::new_status;
 pub use running::status_in;
 pub use tables::Tables;

@@ -11,11 +11,12 @@ ghost use Rattle.scm_tables.specs.Lines.{first_line};
 ghost use Rattle.scm_tables.specs.Listed.{without_words};
 
 use super::due_rows::{drop_due, fire, first_due, is_any_due};
+use super::noticing::note_fall;
 use super::process_rows::{
     drop_process, first_wanted, is_any_wanted, is_taken_in, launch_in, owed_in, service_of,
     take_in, take_words,
 };
-use super::service_rows::fall_in;
+use super::service_rows::{current_in, fall_in};
 use super::tables::Tables;
 use scm_model::{Due, DueKind, Plan, Service};
 use scm_text::{Items, OutOfMemory, TextRoom, WText};
@@ -119,11 +120,17 @@ impl Tables {
         drop_process(&mut self.processes, process);
     }
 
-    /// The service falls whose current process this is.
+    /// The service falls whose current process this is; its registrations are told.
     pub fn fall(&mut self, process: u64, code: u32)
         ensures flat { self.new.flat ≡ with_fallen self.old.flat process code }
         ensures limits { self.new.limits ≡ self.old.limits }
     {
+        note_fall(
+            &mut self.registrations,
+            current_in(self.services.as_slice(), process),
+            process,
+            code,
+        );
         fall_in(&mut self.services, process, code);
     }
 

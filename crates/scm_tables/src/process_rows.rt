@@ -1,5 +1,6 @@
 ghost use Rattle.std.specs.Prelude.{◌≡◌, ◌==◌, ◌≤◌, ◌-◌, ◌^◌, [], length, min, nat_le, not, position, map, filter, find, option_copied, option_map, vec_capacity};
 ghost use Rattle.scm_model.specs.declared.flat.Process.{Process};
+ghost use Rattle.scm_model.specs.Notices.{pid_in};
 ghost use Rattle.scm_rules.specs.Controls.{controlled_if, controls_in, first_control, relieved_if};
 ghost use Rattle.scm_rules.specs.Launches.{first_wanted, is_launched, is_taken, launched_if, taken_if};
 ghost use Rattle.scm_rules.specs.Owed.{owed_by_process, owed_in_phase};
@@ -84,6 +85,18 @@ pub fn service_of(rows: &[ProcessRow], number: u64) -> Option<u64>
         }
     }
     None
+}
+
+/// The system's number of a process, or 0 where it isn't listed.
+pub fn pid_of_row(rows: &[ProcessRow], number: u64) -> u32
+    ensures { result ≡ pid_in (find (λ row. row.number == number) (processes_in rows.now)) }
+{
+    for row in rows {
+        if row.number == number {
+            return row.pid;
+        }
+    }
+    0
 }
 
 /// Whether a process is listed and its launch is taken in hand.

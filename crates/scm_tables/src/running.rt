@@ -1,11 +1,13 @@
 ghost use Rattle.std.specs.Prelude.{◌≡◌, ◌≤◌, option_copied};
 ghost use Rattle.scm_rules.specs.Controls.{active_among, controls_of, first_control, waiting, with_control, with_control_taken};
-ghost use Rattle.scm_rules.specs.Launches.{is_launched, process_of};
 ghost use Rattle.scm_rules.specs.Query.{status_in};
-ghost use Rattle.scm_rules.specs.Reports.{current_of, with_report};
+ghost use Rattle.scm_rules.specs.Launches.{current_of, is_launched, process_of};
+ghost use Rattle.scm_rules.specs.Reports.{with_report};
+ghost use Rattle.scm_tables.specs.Noticed.{with_report_of};
 
+use super::noticing::note_report;
 use super::process_rows::{control_in, first_control_in, is_running_in, relieve_in, waiting_in};
-use super::service_rows::{active_in, current_in, report_in};
+use super::service_rows::{active_in, current_in, report_in, row_with};
 use super::tables::Tables;
 use scm_model::{Service, Status, zero_status};
 
@@ -34,11 +36,35 @@ impl Tables {
         current_in(self.services.as_slice(), process)
     }
 
-    /// The service takes a report whose current process this is.
+    /// The service takes a report whose current process this is; its registrations are told of another state.
     pub fn report(&mut self, process: u64, report: &Status)
         ensures flat { self.new.flat ≡ with_report self.old.flat process report.now }
         ensures limits { self.new.limits ≡ self.old.limits }
     {
+        note_report(
+            &mut self.registrations,
+            current_in(self.services.as_slice(), process),
+            report,
+            self.processes.as_slice(),
+        );
+        report_in(&mut self.services, process, report);
+    }
+
+    /// A service takes a report as if its current process had made it, if it is there; its registrations are told of another state.
+    pub fn report_of(&mut self, service: u64, report: &Status)
+        ensures flat { self.new.flat ≡ with_report_of self.old.flat service report.now }
+        ensures limits { self.new.limits ≡ self.old.limits }
+    {
+        let Some(row) = row_with(self.services.as_slice(), service) else {
+            return;
+        };
+        let process = row.process;
+        note_report(
+            &mut self.registrations,
+            Some(row),
+            report,
+            self.processes.as_slice(),
+        );
         report_in(&mut self.services, process, report);
     }
 

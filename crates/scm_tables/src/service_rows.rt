@@ -1,4 +1,4 @@
-ghost use Rattle.std.specs.Prelude.{◌≡◌, ◌≢◌, ◌<◌, ◌+◌, ◌-◌, ◌^◌, ◌==◌, ◌&&◌, ◌||◌, min, not, find, filter, length, map, option_copied, vec_capacity, if◌then◌else◌, slice_get, All, AllPairs, IfSome, IfNone};
+ghost use Rattle.std.specs.Prelude.{◌≡◌, ◌≢◌, ◌<◌, ◌+◌, ◌-◌, ◌^◌, ◌==◌, ◌&&◌, ◌||◌, min, not, find, filter, length, map, option_and_then, option_copied, vec_capacity, if◌then◌else◌, slice_get, All, AllPairs, IfSome, IfNone};
 ghost use Rattle.std.specs.List.{list_any};
 ghost use Rattle.dependency_index.specs.Naming.{is_named};
 ghost use Rattle.scm_text.specs.Fold.{same_text};
@@ -15,7 +15,7 @@ ghost use Rattle.scm_tables.specs.Tags.{tag_in};
 use super::handle_rows::is_open_in;
 use dependency_index::is_named;
 use scm_model::codes::{SERVICE_RUNNING, SERVICE_START_PENDING, SERVICE_STOPPED};
-use scm_model::{Config, HandleRow, Need, Service, Status};
+use scm_model::{Config, HandleRow, Need, Opened, Service, Status};
 use scm_text::{WText, same};
 use status_machine::{take_end, take_report};
 
@@ -29,6 +29,16 @@ pub fn row_with(rows: &[Service], number: u64) -> Option<&Service>
         }
     }
     None
+}
+
+/// The service that a handle is of.
+pub fn row_in(rows: &[Service], opened: Option<Opened>) -> Option<&Service>
+    ensures { option_copied result ≡ option_and_then (λ of. find (λ row. row.number == of.service) rows.now) opened }
+{
+    match opened {
+        Some(opened) => row_with(rows, opened.service),
+        None => None,
+    }
 }
 
 /// The service with the same name.
@@ -151,7 +161,7 @@ pub fn configure_in(rows: &mut Vec<Service>, number: u64, config: Config)
 }
 
 /// Whether a service is marked, stopped and named by no handle.
-fn leaves(handles: &[HandleRow], row: &Service) -> bool
+pub fn leaves(handles: &[HandleRow], row: &Service) -> bool
     ensures { result ≡ leaves handles.now row.now }
 {
     row.marked && row.status.state == SERVICE_STOPPED && !is_open_in(handles, row.number)
@@ -175,7 +185,7 @@ pub fn has_running(rows: &[Service], group: &WText) -> bool
 }
 
 /// A status with nothing but a type, a state and an exit code.
-fn bare_status(kind: u32, state: u32, win32: u32) -> Status
+pub fn bare_status(kind: u32, state: u32, win32: u32) -> Status
     ensures { result ≡ record { kind = kind; state = state; accepted = 0; win32 = win32; specific = 0; checkpoint = 0; hint = 0 } }
 {
     Status {

@@ -7,8 +7,9 @@ ghost use Rattle.scm_model.specs.Ready.{is_fulfilled, is_ready, is_running, is_u
 ghost use Rattle.start_plan.specs.Settle.{settled};
 
 use super::due_rows::keep_due;
+use super::noticing::note_start;
 use super::process_rows::{ProcessRow, is_full};
-use super::service_rows::{has_running, start_in};
+use super::service_rows::{has_running, row_with, start_in};
 use super::tables::Tables;
 use control_dispatch::Controls;
 use dependency_index::StateOf;
@@ -130,6 +131,11 @@ impl Field for Tables {
 
     fn enter(&mut self, service: u64, words: Items<WText>) {
         let number = self.next.process;
+        note_start(
+            &mut self.registrations,
+            row_with(self.services.as_slice(), service),
+            service,
+        );
         start_in(&mut self.services, service, number);
         self.processes.push_reserved(ProcessRow {
             number,

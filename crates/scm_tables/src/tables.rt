@@ -1,17 +1,20 @@
 ghost use Rattle.std.specs.Prelude.{◌≡◌, ◌+◌, ◌^◌, ◌<◌, ◌≤◌, ◌==◌, filter, IfOk, OnOk, length, option_copied, All, []};
-ghost use Rattle.scm_model.specs.Changes.{with_handle, without_handle, without_handles_of, without_registrations_of, with_caller, without_caller, with_config, with_moment, with_service, with_mark, without_lock_of};
+ghost use Rattle.scm_model.specs.Changes.{with_handle, without_handle, without_handles_of, with_caller, without_caller, with_config, with_moment, without_lock_of};
 ghost use Rattle.scm_model.specs.Purge.{purged};
 ghost use Rattle.scm_model.specs.Rows.{caller_of, displayed, handle_of, held_by, held_service, is_caller, is_shown, is_shown_by_another, manager_mask, named, opened, owner_at, principal_of, service_of};
-ghost use Rattle.scm_rules.specs.Create.{next_tag};
+ghost use Rattle.scm_rules.specs.Create.{next_tag, with_creation};
+ghost use Rattle.scm_model.specs.Changes.{with_service};
 ghost use Rattle.scm_rules.specs.Locks.{with_lock, without_lock};
 ghost use Rattle.scm_rules.specs.Opening.{empty_at, opening};
 ghost use Rattle.scm_model.specs.declared.codes.TheConstants.{SERVICE_RUNNING};
+ghost use Rattle.scm_tables.specs.Noticed.{with_marked};
+ghost use Rattle.scm_tables.specs.Tabled.{HasShortTexts};
 
 use super::handle_rows::{
-    caller_in, count_of, drop_caller, drop_caller_row, drop_number, drop_registrations, is_held_by,
-    owner_at, row_of,
+    caller_in, count_of, drop_caller, drop_caller_row, drop_number, is_held_by, owner_at, row_of,
 };
 use super::needing::{is_acyclic, reserve_search, stays_acyclic};
+use super::noticing::{note_all_leaving, note_mark, with_pid};
 use super::opening::services_of;
 use super::process_rows::ProcessRow;
 use super::service_rows::{
@@ -19,9 +22,11 @@ use super::service_rows::{
     named_in, purge_in, row_with, running_in,
 };
 use database_lock::DatabaseLock;
+use notify_queue::NotifyQueue;
+use scm_model::codes::SERVICE_NOTIFY_CREATED;
 use scm_model::{
-    Caller, Config, Due, HandleKind, HandleRow, Limits, LockRow, Next, Opened, Principal,
-    Registration, Service, Status,
+    Caller, Config, Due, HandleKind, HandleRow, Limits, LockRow, Next, Opened, Principal, Service,
+    Status,
 };
 use scm_text::{Buffer, Items, OutOfMemory, WText};
 use start_plan::Plans;
@@ -41,7 +46,7 @@ pub struct Tables {
     pub(crate) plans: Plans,
     /// For what the next plan will have tried.
     pub(crate) tried: Vec<u64>,
-    registrations: Vec<Registration>,
+    pub(crate) registrations: NotifyQueue,
     pub(crate) dues: Vec<Due>,
     callers: Vec<Caller>,
     pub(crate) lock: DatabaseLock,
@@ -87,7 +92,7 @@ impl Tables {
         configs: Items<Config>,
         moment: u64,
     ) -> Result<Self, OutOfMemory>
-        requires paths { All (λ config. length config.path ≤ 2048) configs }
+        requires { All HasShortTexts configs }
         ensures flat { IfOk result (λ tables. tables.flat ≡ opening limits [] configs moment) }
         ensures limits { IfOk result (λ tables. tables.limits ≡ limits) }
     {
@@ -106,7 +111,7 @@ impl Tables {
             processes,
             plans: Plans::none(alloc),
             tried: Vec::new(alloc),
-            registrations: Vec::new(alloc),
+            registrations: NotifyQueue::new(alloc),
             dues: Vec::new(alloc),
             callers: Vec::new(alloc),
             lock: DatabaseLock::new(),
@@ -231,14 +236,6 @@ impl Tables {
         ensures limits { self.new.limits ≡ self.old.limits }
     {
         drop_caller(&mut self.handles, caller);
-    }
-
-    /// Takes all registrations of a caller away.
-    pub fn remove_registrations_of(&mut self, caller: u64)
-        ensures flat { self.new.flat ≡ without_registrations_of self.old.flat caller }
-        ensures limits { self.new.limits ≡ self.old.limits }
-    {
-        drop_registrations(&mut self.registrations, caller);
     }
 
     /// Who holds the lock of the database, and since when.
@@ -442,11 +439,25 @@ impl Tables {
         reserve_search(&mut self.searched, self.services.len())
     }
 
-    /// Adds a service, and answers its number. It takes no memory.
+    /// Adds a service, and answers its number; the manager's registrations are told. It takes no memory.
     pub fn add_service(&mut self, config: Config, status: Status) -> u64
         requires room { 1 ≤ self.old.spare.services }
         requires next { self.old.flat.next.service < 2 ^ 63 }
-        requires path { length config.path ≤ 2048 }
+        requires texts { HasShortTexts config }
+        ensures number { result ≡ self.old.flat.next.service }
+        ensures flat { self.new.flat ≡ with_creation self.old.flat config status }
+        ensures others { self.new.spare.handles ≡ self.old.spare.handles }
+        ensures limits { self.new.limits ≡ self.old.limits }
+    {
+        self.registrations.note(0, SERVICE_NOTIFY_CREATED, with_pid(status, 0), &config.name);
+        self.put_service(config, status)
+    }
+
+    /// Adds a service, of which nobody is told, and answers its number.
+    fn put_service(&mut self, config: Config, status: Status) -> u64
+        requires room { 1 ≤ self.old.spare.services }
+        requires next { self.old.flat.next.service < 2 ^ 63 }
+        requires texts { HasShortTexts config }
         ensures number { result ≡ self.old.flat.next.service }
         ensures flat { self.new.flat ≡ with_service self.old.flat config status }
         ensures others { self.new.spare.handles ≡ self.old.spare.handles }
@@ -475,7 +486,7 @@ impl Tables {
 
     /// Gives a service another configuration. It takes no memory.
     pub fn configure(&mut self, number: u64, config: Config)
-        requires { length config.path ≤ 2048 }
+        requires { HasShortTexts config }
         ensures flat { self.new.flat ≡ with_config self.old.flat number config }
         ensures limits { self.new.limits ≡ self.old.limits }
     {
@@ -489,19 +500,33 @@ impl Tables {
         configure_in(&mut self.services, number, config);
     }
 
-    /// Marks a service.
-    pub fn mark(&mut self, number: u64)
-        ensures flat { self.new.flat ≡ with_mark self.old.flat number }
+    /// Marks a service, if it is there; its registrations are told.
+    pub fn mark(&mut self, service: u64)
+        ensures flat { self.new.flat ≡ with_marked self.old.flat service }
         ensures limits { self.new.limits ≡ self.old.limits }
     {
+        let Some(row) = row_with(self.services.as_slice(), service) else {
+            return;
+        };
+        let number = row.number;
+        note_mark(
+            &mut self.registrations,
+            Some(row),
+            self.processes.as_slice(),
+        );
         mark_in(&mut self.services, number);
     }
 
-    /// Lets each service go that is marked, STOPPED and named by no handle.
+    /// Lets each service go that is marked, STOPPED and named by no handle; the manager's registrations are told.
     pub fn purge(&mut self)
         ensures flat { self.new.flat ≡ purged self.old.flat }
         ensures limits { self.new.limits ≡ self.old.limits }
     {
+        note_all_leaving(
+            &mut self.registrations,
+            self.services.as_slice(),
+            self.handles.as_slice(),
+        );
         purge_in(&mut self.services, self.handles.as_slice());
     }
 }

@@ -18,6 +18,9 @@ request_by asks.QueryStatus number handle = requests.QueryStatus handle
 request_by asks.Unlock number handle = requests.Unlock handle
 request_by asks.QueryConfig number handle = requests.QueryConfig handle number
 request_by asks.QueryLock number handle = requests.QueryLock handle number
+request_by asks.Notify number handle = requests.Notify handle number
+request_by asks.GetNotify number handle = requests.GetNotify handle
+request_by asks.CloseNotify number handle = requests.CloseNotify handle
 
 abbrev pub step_by : Written → Step
 step_by (writes.Joined principal) = steps.Joined principal

@@ -21,6 +21,9 @@ pub enum Asked {
     Unlock,
     QueryConfig,
     QueryLock,
+    Notify,
+    GetNotify,
+    CloseNotify,
 }
 
 /// A call that has a handle, and a number beside it at most, which is 0 where there is none.
@@ -31,7 +34,7 @@ pub struct ByHandle {
     pub handle: u64,
 }
 
-/// A step. A report, and a call with texts, doesn't lie in place.
+/// A step. A report, and a call with texts or with more than a number, doesn't lie in place.
 #[derive(Drop)]
 pub enum Written {
     Joined(Principal),
@@ -72,8 +75,8 @@ pub enum Written {
     Whole(Box<Step>),
 }
 
-/// A step as a trail keeps it. It has 24 bytes, where a step has 240; a report, and a call with
-/// texts, has memory of its own beside them. Contracts see the step.
+/// A step as a trail keeps it. It has 24 bytes, where a step has 240; a report, and a call with texts
+/// or with more than a number, has memory of its own beside them. Contracts see the step.
 #[derive(Drop)]
 pub struct Note {
     written: Written,
@@ -125,6 +128,13 @@ fn call_of(request: &Request) -> Option<ByHandle>
             number: *size,
             handle: *handle,
         }),
+        Request::Notify { handle, mask } => Some(ByHandle {
+            asked: Asked::Notify,
+            number: *mask,
+            handle: *handle,
+        }),
+        Request::GetNotify { handle } => by_handle(Asked::GetNotify, *handle),
+        Request::CloseNotify { handle } => by_handle(Asked::CloseNotify, *handle),
         _ => None,
     }
 }
@@ -151,6 +161,12 @@ fn request_of(asked: Asked, number: u32, handle: u64) -> Request
             handle,
             size: number,
         },
+        Asked::Notify => Request::Notify {
+            handle,
+            mask: number,
+        },
+        Asked::GetNotify => Request::GetNotify { handle },
+        Asked::CloseNotify => Request::CloseNotify { handle },
     }
 }
 

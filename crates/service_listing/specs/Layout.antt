@@ -24,35 +24,32 @@ listing_size (row ∷ rows) = size_of row + listing_size rows
 
 -- ## Bytes
 
-unfoldable pub number_bytes : ℕ → List ℕ
-number_bytes n = to_le_bytes w32 n
+-- numbers of four bytes each, the low one first
+unfoldable pub numbers_bytes : List ℕ → List ℕ
+numbers_bytes numbers = flat_map (to_le_bytes w32) numbers
 
-unfoldable pub unit_bytes : ℕ → List ℕ
-unit_bytes u = to_le_bytes w16 u
-
--- the units, and a zero
+-- units of two bytes each, the low one first, and a zero
 unfoldable pub text_bytes : List ℕ → List ℕ
-text_bytes text = flat_map unit_bytes text ++ unit_bytes 0
+text_bytes text = flat_map (to_le_bytes w16) text ++ to_le_bytes w16 0
 
-unfoldable pub status_bytes : Status → List ℕ
-status_bytes s =
-    number_bytes s.kind ++ number_bytes s.state ++ number_bytes s.accepted ++ number_bytes s.win32
-    ++ number_bytes s.specific ++ number_bytes s.checkpoint ++ number_bytes s.hint
+-- as they follow each other in SERVICE_STATUS
+abbrev pub status_numbers : Status → List ℕ
+status_numbers s = s.kind ∷ s.state ∷ s.accepted ∷ s.win32 ∷ s.specific ∷ s.checkpoint ∷ s.hint ∷ []
 
 -- 36 bytes
-unfoldable pub process_status_bytes : ProcessStatus → List ℕ
-process_status_bytes s = status_bytes s.status ++ number_bytes s.pid ++ number_bytes s.flags
+abbrev pub process_status_bytes : ProcessStatus → List ℕ
+process_status_bytes s = numbers_bytes (status_numbers s.status ++ s.pid ∷ s.flags ∷ [])
 
 -- where the name stands, where the display name does behind it, and the status
-unfoldable pub record_bytes : ℕ → Service → List ℕ
-record_bytes place row = number_bytes place ++ number_bytes (place + text_size row.config.name) ++ status_bytes row.status
+abbrev pub record_bytes : ℕ → Service → List ℕ
+record_bytes place row = numbers_bytes (place ∷ (place + text_size row.config.name) ∷ status_numbers row.status)
 
 -- the records of services whose names stand one behind the other from a place on
 abbrev pub records_bytes : ℕ → List Service → List ℕ
 records_bytes place [] = []
 records_bytes place (row ∷ rows) = record_bytes place row ++ records_bytes (place + names_size row) rows
 
-unfoldable pub names_bytes : Service → List ℕ
+abbrev pub names_bytes : Service → List ℕ
 names_bytes row = text_bytes row.config.name ++ text_bytes row.config.display
 
 -- the records, and the names in the same order

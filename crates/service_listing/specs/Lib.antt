@@ -1,2 +1,4 @@
 pub mod Layout
 pub mod Pages
+pub mod Sizes
+pub mod Fitting

@@ -1,15 +1,32 @@
-use Rattle.start_plan.specs.Entered.{started_if}
+use Rattle.std.proofs.Common.{◌==◌, ◌∙◌, ap, find, Option}
+use Rattle.std.proofs.lemmas.List.{map-append}
+use Rattle.std.proofs.lemmas.List.Elements.{filter-append}
+use Rattle.scm_model.specs.declared.flat.Service.{Service}
+use Rattle.scm_tables.specs.Tabled.{HasShort}
+use Rattle.scm_tables.proofs.Wording.{found_has}
+use Rattle.start_plan.specs.Entered.{started_if, told_of_start}
 use Rattle.scm_rules.proofs.Needed.{same_graph}
-use Rattle.scm_tables.proofs.Keeping.{paths_map, started_needs, started_number, started_path}
+use Rattle.scm_tables.proofs.Keeping.{texts_map, started_needs, started_number, started_config}
 use Rattle.scm_tables.proofs.Rising.{rising_map}
 use Rattle.scm_tables.proofs.settling.TablesField.enter.Goals as goal
+
+pub note_start-requires : goal.note_start-requires
+note_start-requires c =
+    rw (c.row_with.ensures, c.as_slice.ensures.value) (found_has HasShort (λ (row : Service). row.number == c.args.service) c.self.inside.services.items c.self.invariant.texts)
+
+pub returns-clause-flat : goal.returns-clause-flat
+returns-clause-flat c =
+    let process = c.self.inside.next.process in
+    let found = c.row_with.ensures ∙ ap (find (λ (row : Service). row.number == c.args.service)) c.as_slice.ensures.value in
+    let told = c.note_start.ensures.rows process ∙ ap (λ (o : Option Service). told_of_start c.args.service process o c.self.inside.registrations.rows) found in
+    rw (← c.self.view_is, c.start_in.ensures, c.push_reserved.ensures.items, c.new.ensures, told) (simp (map-append, filter-append))
 
 pub invariant_of-self : goal.invariant_of-self
 invariant_of-self c =
     let kept = c.self.invariant in
     record {
       rising = rw c.start_in.ensures (rising_map _ (started_if c.args.service c.self.inside.next.process) (started_number c.args.service c.self.inside.next.process) _ kept.rising);
-      paths = rw c.start_in.ensures (paths_map (started_if c.args.service c.self.inside.next.process) (started_path c.args.service c.self.inside.next.process) _ kept.paths);
+      texts = rw c.start_in.ensures (texts_map (started_if c.args.service c.self.inside.next.process) (started_config c.args.service c.self.inside.next.process) _ kept.texts);
       needs = λ t. rw c.start_in.ensures (same_graph (started_if c.args.service c.self.inside.next.process) (started_needs c.args.service c.self.inside.next.process) _ (kept.needs t));
       room = rw c.push_reserved.ensures.capacity kept.room;
       plans = kept.plans;

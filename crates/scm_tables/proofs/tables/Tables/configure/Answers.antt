@@ -1,6 +1,6 @@
 use Rattle.scm_model.specs.Changes.{configured_if}
 use Rattle.scm_rules.proofs.Needed.{still_free}
-use Rattle.scm_tables.proofs.Keeping.{paths_configured}
+use Rattle.scm_tables.proofs.Keeping.{texts_configured}
 use Rattle.scm_tables.proofs.Rising.{rising_map, configured_number}
 use Rattle.scm_tables.proofs.tables.Tables.configure.Goals as goal
 
@@ -10,7 +10,7 @@ invariant_of-self c =
     record {
       rising = rw c.configure_in.ensures.rows
           (rising_map _ (configured_if c.args.number c.args.config) (configured_number c.args.number c.args.config) _ kept.rising);
-      paths = rw c.configure_in.ensures.rows (paths_configured c.args.number c.args.config _ c.requires kept.paths);
+      texts = rw c.configure_in.ensures.rows (texts_configured c.args.number c.args.config _ c.requires kept.texts);
       needs = λ t. rw c.configure_in.ensures.rows (still_free c.args.number c.args.config _ (kept.needs (c.stays_acyclic-self-inside.ensures.before t)) (rw c.as_slice.ensures.value at (c.stays_acyclic-self-inside.ensures.after t)));
       room = kept.room;
       plans = kept.plans;

@@ -1,17 +1,27 @@
-use Rattle.std.proofs.Common.{refl}
+use Rattle.std.proofs.Common.{◌==◌, ◌∙◌, ap, find, refl, subst, sym}
+use Rattle.std.specs.Prelude.{Option, IfSome}
+use Rattle.scm_model.specs.declared.flat.Service.{Service}
 use Rattle.scm_model.specs.Changes.{marked_if}
 use Rattle.scm_rules.proofs.Needed.{same_graph}
-use Rattle.scm_tables.proofs.Keeping.{paths_map}
+use Rattle.scm_tables.specs.Tabled.{HasShort}
+use Rattle.scm_tables.proofs.Keeping.{texts_map}
 use Rattle.scm_tables.proofs.Rising.{rising_map}
+use Rattle.scm_tables.proofs.Wording.{found_has}
 use Rattle.scm_tables.proofs.tables.Tables.mark.Goals as goal
+
+pub note_mark-requires : goal.note_mark-requires
+note_mark-requires c =
+    let found = c.in-Some.ensures ∙ ap (find (λ (row : Service). row.number == c.args.service)) c.as_slice.ensures.value in
+    subst (λ (o : Option Service). IfSome o HasShort) (sym found) (found_has HasShort (λ (row : Service). row.number == c.args.service) c.self.inside.services.items c.self.invariant.texts)
 
 pub invariant_of-self : goal.invariant_of-self
 invariant_of-self c =
     let kept = c.self.invariant in
+    let number = c.in-Some.row.now.number in
     record {
-      rising = rw c.mark_in.ensures.rows (rising_map _ (marked_if c.args.number) (λ row. refl) _ kept.rising);
-      paths = rw c.mark_in.ensures.rows (paths_map (marked_if c.args.number) (λ row. refl) _ kept.paths);
-      needs = λ t. rw c.mark_in.ensures.rows (same_graph (marked_if c.args.number) (λ row. refl) _ (kept.needs t));
+      rising = rw c.mark_in.ensures.rows (rising_map _ (marked_if number) (λ row. refl) _ kept.rising);
+      texts = rw c.mark_in.ensures.rows (texts_map (marked_if number) (λ row. refl) _ kept.texts);
+      needs = λ t. rw c.mark_in.ensures.rows (same_graph (marked_if number) (λ row. refl) _ (kept.needs t));
       room = kept.room;
       plans = kept.plans;
       untried = kept.untried;

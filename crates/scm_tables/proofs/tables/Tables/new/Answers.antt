@@ -1,9 +1,9 @@
 use Rattle.std.proofs.Common.{ℕ, rules, ◌≡◌, ◌+◌, sym, subst, length, All}
 use Rattle.scm_model.specs.declared.flat.Next.{Next}
 use Rattle.scm_rules.specs.Opening.{services_from}
-use Rattle.scm_tables.specs.Inside.{HasShortPath}
+use Rattle.scm_tables.specs.Tabled.{HasShort}
 use Rattle.scm_tables.specs.Tabled.{AreRising}
-use Rattle.scm_tables.proofs.Opened.{opened_paths, opened_rising}
+use Rattle.scm_tables.proofs.Opened.{opened_texts, opened_rising}
 use Rattle.scm_tables.proofs.tables.Tables.new.Goals as goal
 
 pub invariant_of-result : goal.invariant_of-result
@@ -14,7 +14,7 @@ invariant_of-result c =
       rising = subst (λ (n : Next). AreRising n.service c.in_ok-services.services.items) (sym c.first_numbers.ensures)
           (subst (λ (n : ℕ). AreRising (n + 1) c.in_ok-services.services.items) (sym count)
           (subst (AreRising (length c.args.configs + 1)) (sym is) (opened_rising c.args.configs)));
-      paths = subst (All HasShortPath) (sym is) (opened_paths 1 c.args.configs c.requires.paths);
+      texts = subst (All HasShort) (sym is) (opened_texts 1 c.args.configs c.requires);
       needs = λ t. rw c.as_slice.ensures.value at (c.is_acyclic-acyclic.ensures t);
       room = search rules;
       plans = search rules;

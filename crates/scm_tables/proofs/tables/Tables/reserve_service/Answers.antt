@@ -5,7 +5,7 @@ invariant_of-self c =
     let kept = c.self.invariant in
     record {
       rising = rw c.reserve.ensures.items kept.rising;
-      paths = rw c.reserve.ensures.items kept.paths;
+      texts = rw c.reserve.ensures.items kept.texts;
       needs = λ t. rw c.reserve.ensures.items (kept.needs t);
       room = kept.room;
       plans = kept.plans;
@@ -17,7 +17,7 @@ invariant_of-self-2 c =
     let kept = c.self.invariant in
     record {
       rising = rw c.reserve.ensures.items kept.rising;
-      paths = rw c.reserve.ensures.items kept.paths;
+      texts = rw c.reserve.ensures.items kept.texts;
       needs = λ t. rw c.reserve.ensures.items (kept.needs t);
       room = kept.room;
       plans = kept.plans;

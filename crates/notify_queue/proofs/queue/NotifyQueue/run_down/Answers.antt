@@ -1,0 +1,12 @@
+use Rattle.std.proofs.Common.{arith}
+use Rattle.std.proofs.lemmas.List.Kept.{IsNonDecreasingBy-filter}
+use Rattle.scm_model.specs.declared.flat.Registration.{Registration}
+use Rattle.notify_queue.proofs.queue.NotifyQueue.run_down.Goals as goal
+
+pub invariant_of-self : goal.invariant_of-self
+invariant_of-self c =
+    record {
+      sorted = rw c.drop_caller.ensures.rows (IsNonDecreasingBy-filter (λ (row : Registration). row.service) _ _ c.self.invariant.sorted);
+      name = c.self.invariant.name;
+      room = λ some. let was = c.self.invariant.room some in omega (arith, was, c.drop_caller.ensures.len, c.drop_caller.ensures.capacity);
+    }

@@ -1,0 +1,109 @@
+ghost use Rattle.std.specs.Prelude.{◌≡◌};
+ghost use Rattle.scm_shapes.specs.Written.{IsWritten};
+ghost use Rattle.scm_calls_enum.specs.Requests.{enum_from, enum_shape, enum_values};
+
+use crate::calls::Call;
+use scm_model::Request;
+use scm_model::codes::{MAX_CONFIG_SIZE, MAX_ENUM_SIZE};
+use scm_shapes::{Item, Piece, Values, write_pieces};
+use scm_text::{Buffer, OutOfMemory};
+
+/// The kinds of items in the body of a request.
+pub fn request_shape(call: Call) -> &'static [Item]
+    ensures { result.now ≡ enum_shape call }
+{
+    match call {
+        Call::EnumDependents => &[Item::Handle, Item::Number, Item::NumberTo(MAX_ENUM_SIZE)],
+        Call::EnumServices => &[
+            Item::Handle,
+            Item::Number,
+            Item::Number,
+            Item::NumberTo(MAX_ENUM_SIZE),
+            Item::SomeNumber,
+        ],
+        Call::QueryStatusEx => &[Item::Handle, Item::Number, Item::NumberTo(MAX_CONFIG_SIZE)],
+        Call::Notify => &[Item::Handle, Item::Number],
+        Call::GetNotify | Call::CloseNotify => &[Item::Handle],
+    }
+}
+
+/// What is asked by the values of a body.
+pub fn request_of(call: Call, values: &mut Values) -> Request
+    ensures { result ≡ enum_from call values.old }
+{
+    match call {
+        Call::EnumDependents => Request::EnumDependents {
+            handle: values.handle(),
+            states: values.number(),
+            size: values.number(),
+        },
+        Call::EnumServices => Request::EnumServices {
+            handle: values.handle(),
+            kinds: values.number(),
+            states: values.number(),
+            size: values.number(),
+            resume: values.some_number(),
+        },
+        Call::QueryStatusEx => Request::QueryStatusEx {
+            handle: values.handle(),
+            level: values.number(),
+            size: values.number(),
+        },
+        Call::Notify => Request::Notify {
+            handle: values.handle(),
+            mask: values.number(),
+        },
+        Call::GetNotify => Request::GetNotify {
+            handle: values.handle(),
+        },
+        Call::CloseNotify => Request::CloseNotify {
+            handle: values.handle(),
+        },
+    }
+}
+
+/// Writes the body of a request behind what the buffer holds, where its line is here. Without memory
+/// the buffer is given back as it was.
+pub fn put_request(
+    request: &Request,
+    out: Buffer<u8>,
+) -> Result<Buffer<u8>, (OutOfMemory, Buffer<u8>)>
+    ensures { IsWritten (enum_values request.now) out result }
+{
+    match request {
+        Request::EnumDependents {
+            handle,
+            states: number,
+            size,
+        }
+        | Request::QueryStatusEx {
+            handle,
+            level: number,
+            size,
+        } => {
+            let (handle, number) = (Piece::Handle(*handle), Piece::Number(*number));
+            write_pieces(&[handle, number, Piece::Number(*size)], out)
+        }
+        Request::EnumServices {
+            handle,
+            kinds,
+            states,
+            size,
+            resume,
+        } => {
+            let (handle, kinds) = (Piece::Handle(*handle), Piece::Number(*kinds));
+            let (states, size) = (Piece::Number(*states), Piece::Number(*size));
+            write_pieces(
+                &[handle, kinds, states, size, Piece::SomeNumber(*resume)],
+                out,
+            )
+        }
+        Request::Notify { handle, mask } => {
+            write_pieces(&[Piece::Handle(*handle), Piece::Number(*mask)], out)
+        }
+        Request::GetNotify { handle } | Request::CloseNotify { handle } => {
+            write_pieces(&[Piece::Handle(*handle)], out)
+        }
+        _ => write_pieces(&[], out),
+    }
+}

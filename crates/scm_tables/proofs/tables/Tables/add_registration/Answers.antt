@@ -1,0 +1,12 @@
+use Rattle.std.proofs.Common.{refl}
+use Rattle.scm_tables.specs.Tabled.{HasShort}
+use Rattle.scm_tables.proofs.Wording.{held_has}
+use Rattle.scm_tables.proofs.tables.Tables.add_registration.Goals as goal
+
+pub register_in-requires-clause-short : goal.register_in-requires-clause-short
+register_in-requires-clause-short c =
+    rw (c.row_in.ensures, c.as_slice.ensures.value) (held_has HasShort c.self.inside.services.items c.opened-opened.result c.self.invariant.texts)
+
+pub returns-clause-flat : goal.returns-clause-flat
+returns-clause-flat c =
+    rw (c.register_in.ensures, c.row_in.ensures, c.as_slice.ensures.value, c.as_slice-2.ensures.value, c.opened-opened.ensures, ← c.self.view_is) refl

@@ -1,0 +1,3 @@
+pub mod Triggers
+pub mod Order
+pub mod Stable
