@@ -1,4 +1,4 @@
-use Rattle.std.proofs.Common.{◌≤◌, ◌∙◌, ap, length, subst, sym}
+use Rattle.std.proofs.Common.{◌∙◌, ap, subst, sym}
 use Rattle.scm_tables.specs.Tabled.{HasShortTexts}
 use Rattle.scm_model.specs.Outcomes.{Done}
 use Rattle.scm_rules.specs.Create.{created_config}
