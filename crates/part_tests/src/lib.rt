@@ -18,3 +18,5 @@ mod records;
 mod starts;
 #[cfg(test)]
 mod texts;
+#[cfg(test)]
+mod unasked;

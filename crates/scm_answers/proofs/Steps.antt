@@ -1,5 +1,6 @@
 -- What each step is told answers its request.
 use Rattle.std.proofs.Common.{ℕ, ◌≡◌, ◌==◌, Bool, true, false, cond, IsTrue, List, Option, None, Some, Result, Ok, Err, refl}
+use Rattle.std.specs.Prelude.{All}
 use Rattle.scm_model.specs.declared.flat.Flat.{Flat}
 use Rattle.scm_model.specs.declared.flat.Limits.{Limits}
 use Rattle.scm_model.specs.declared.flat.Service.{Service}
@@ -26,6 +27,7 @@ use Rattle.scm_rules.specs.Launches.{first_wanted, launch_taken, launch_told}
 use Rattle.scm_rules.specs.Ends.{end_told, process_ended}
 use Rattle.scm_rules.specs.Reports.{current_of, report_answer, report_told, reported}
 use Rattle.scm_rules.specs.Start.{start_done, start_verdict}
+use Rattle.scm_rules.specs.Valid.{HasShortName}
 use Rattle.scm_rules.specs.Steps.{call_answer, answered_by, finished, may, step_of}
 use Rattle.scm_rules.specs.Verdicts.{call_of}
 use Rattle.scm_runs.proofs.Along.{Gives}
@@ -54,13 +56,13 @@ of_start handle words f false plan told h = h
 
 -- ## Steps
 
-answers_call : (l : Limits) (f : Flat) (moment caller : ℕ) (asked : Request) (append : Kept) → AllShort f → IsTrue (in_range asked) → RepliesTo asked (step_of l f moment (Call caller asked append)).answer
-answers_call l f moment caller (request.Start handle words) append short range =
+answers_call : (l : Limits) (f : Flat) (moment caller : ℕ) (asked : Request) (append : Kept) → AllShort f → All HasShortName f.registrations → IsTrue (in_range asked) → RepliesTo asked (step_of l f moment (Call caller asked append)).answer
+answers_call l f moment caller (request.Start handle words) append short told range =
     let g = with_moment f moment in
     let code = start_verdict g caller handle words in
     let done = call_of l g caller (request.Start handle words) append in
     of_start handle words (settled l done.flat) (code == 0) g.next.plan done.reply (start_code code g (start_done g caller handle words) (refl, tt))
-answers_call l f moment caller asked append short range = of_call l (with_moment f moment) caller asked append short range
+answers_call l f moment caller asked append short told range = of_call l (with_moment f moment) caller asked append short told range
 
 -- a report and an end have no reply
 report_answered : (g : Flat) (taken : Result Status ℕ) → HasNoReply (finished g (report_answer taken)).answer
@@ -85,7 +87,7 @@ control_untold g None = tt
 control_untold g (Some code) = tt
 
 answers_step : (l : Limits) (f : Flat) (moment : ℕ) (step : Step) → Sound f → IsTrue (may l f moment step) → RepliesRightly step (step_of l f moment step).answer
-answers_step l f moment (Call caller asked append) s ok = answers_call l f moment caller asked append (all_short f s) (and_parts _ _ (and_parts _ _ ok).0).1
+answers_step l f moment (Call caller asked append) s ok = answers_call l f moment caller asked append (all_short f s) s.registrations.told (and_parts _ _ (and_parts _ _ ok).0).1
 answers_step l f moment (EndStart caller plan) s ok = λ handle words. (refl, tt)
 answers_step l f moment LaunchTaken s ok = launch_untold (settled l (launch_taken (with_moment f moment)).flat) (first_wanted f.wanted)
 answers_step l f moment (ControlTaken process) s ok = control_untold (settled l (control_taken (with_moment f moment) process).flat) (first_control (controls_of f process))

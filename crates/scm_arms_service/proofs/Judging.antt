@@ -1,6 +1,7 @@
 -- The codes of creations and changes: what keeping adds to them, and what follows where they are 0.
 use Rattle.std.proofs.Common.{ℕ, ◌≡◌, ◌≤◌, ◌==◌, ◌&&◌, ◌||◌, ◌∙◌, Bool, true, false, not, cond, List, [], ◌∷◌, ◌++◌, Option, None, Some, length, take, drop, refl, ap, sym, subst, inl, inr}
 use Rattle.std.specs.Prelude.{option_map}
+use Rattle.std.specs.List.{list_any}
 use Rattle.std.proofs.lemmas.Bool.{cases_Bool, false≢true, ltb-false, ne_eqb}
 use Rattle.scm_model.specs.declared.calls.ChangeService.{ChangeService}
 use Rattle.scm_model.specs.declared.calls.NewService.{NewService}
@@ -25,7 +26,6 @@ use Rattle.scm_rules.specs.Needs.{are_unreadable}
 use Rattle.scm_arms_service.specs.Judged.{code_once_kept}
 use Rattle.scm_model.specs.Rows.{held_service}
 use Rattle.scm_tables.specs.Tabled.{HasShortTexts}
-use Rattle.std.specs.List.{list_any}
 
 -- ## Refusals
 
@@ -108,24 +108,24 @@ short_path config account names texts =
       | inr short ↦ ltb-false 2048 (length config.path) short
     ]
 
--- a name that is too long is refused
-long_name_refused : (empty long slashed display : Bool) (rest : ℕ) → long ≡ true → (cond (((empty || long) || slashed) || display) 123 rest == 123) ≡ false → ⊥
-long_name_refused true long slashed display rest is p = false≢true (sym p)
-long_name_refused false true slashed display rest is p = false≢true (sym p)
-long_name_refused false false slashed display rest is p = false≢true is
+-- where it isn't refused for its names, these aren't bad
+good_names : (bad : Bool) (rest : ℕ) → (cond bad 123 rest == 123) ≡ false → bad ≡ false
+good_names true rest e = e
+good_names false rest e = refl
 
--- a configuration that passes has a name that isn't too long
+not_longer : (empty longer signs shown : Bool) → ((empty || longer || signs) || shown) ≡ false → longer ≡ false
+not_longer true longer signs shown e = absurd (false≢true (sym e))
+not_longer false true signs shown e = e
+not_longer false false signs shown e = refl
+
+-- its name isn't too long either
 short_name : (config : Config) (account : Option (List ℕ)) → (check_new config account == 123) ≡ false → length config.name ≤ 256
 unfolding check_new
 short_name config account names =
-    elim (cases_Bool (is_longer 256 config.name)) [
-      | inl long ↦ absurd
-          (long_name_refused (length config.name == 0) (is_longer 256 config.name) (list_any (λ u. u == 47 || u == 92) config.name) (is_longer 256 config.display)
-          (first_refusal ((has_bad_numbers config || has_bad_texts config || has_bad_lists config, 87) ∷ (is_bad_account account, 1057) ∷ [])) long names)
-      | inr short ↦ ltb-false 256 (length config.name) short
-    ]
+    ltb-false 256 (length config.name)
+    (not_longer (length config.name == 0) (is_longer 256 config.name) (list_any (λ u. u == 47 || u == 92) config.name) (is_longer 256 config.display)
+    (good_names (has_bad_names config) (first_refusal ((has_bad_numbers config || has_bad_texts config || has_bad_lists config, 87) ∷ (is_bad_account account, 1057) ∷ [])) names))
 
--- and so its texts are short
 pub short_texts : (config : Config) (account : Option (List ℕ)) → (check_new config account == 123) ≡ false → (check_new config account == 87) ≡ false → HasShortTexts config
 short_texts config account names texts = record { path = short_path config account names texts; name = short_name config account names }
 
@@ -141,7 +141,7 @@ created_once_kept : (l : Limits) (f : Flat) (caller : ℕ) (new : NewService) (a
 created_once_kept l f caller new append =
     last_refusal (take 10 (create_refusals l f caller new append)) (refl, (refl, (refl, (refl, (refl, (refl, (refl, (refl, (refl, (refl, tt)))))))))) (is_failed append)
 
--- a creation that isn't refused has short texts
+-- a creation that isn't refused has texts that aren't too long
 created_texts : (l : Limits) (f : Flat) (caller : ℕ) (new : NewService) (append : Kept) → create_verdict l f caller new append ≡ 0 → HasShortTexts (created_config f new)
 created_texts l f caller new append e =
     let all : ArePassed (create_refusals l f caller new append) = passed (create_refusals l f caller new append) (refl, (refl, (refl, (refl, (refl, (refl, (refl, (refl, (refl, (refl, (refl, tt))))))))))) e in
@@ -207,7 +207,7 @@ pub create_allowed : (l : Limits) (f : Flat) (caller : ℕ) (new : NewService) (
 create_allowed l f caller new append code result is made zero =
     sym (done_outcome (create_verdict l f caller new append) result (request.Create new) f (create_done f caller new) (create_code l f caller new append code result is made) zero)
 
--- a creation that is done has short texts
+-- a creation that is done has a path that isn't too long
 pub create_fits : (l : Limits) (f : Flat) (caller : ℕ) (new : NewService) (append : Kept) (code result : ℕ) → code ≡ create_verdict l f caller new appended.Kept → result ≡ code_once_kept code append
     → result ≡ 0 → HasShortTexts (created_config f new)
 create_fits l f caller new append code result is made zero = created_texts l f caller new append (create_code l f caller new append code result is made ∙ zero)
@@ -243,7 +243,7 @@ changed_once_kept : (f : Flat) (caller : ℕ) (change : ChangeService) (append :
 changed_once_kept f caller change append =
     last_refusal (take 8 (change_refusals f caller change append)) (refl, (refl, (refl, (refl, (refl, (refl, (refl, (refl, tt)))))))) (is_failed append)
 
--- a change that isn't refused leaves short texts
+-- a change that isn't refused leaves texts that aren't too long
 changed_texts : (f : Flat) (caller : ℕ) (change : ChangeService) (append : Kept) (config : Config) → change_verdict f caller change append ≡ 0 → asked_config f caller change ≡ Some config → HasShortTexts config
 changed_texts f caller change append config e asked =
     let all : ArePassed (change_refusals f caller change append) = passed (change_refusals f caller change append) (refl, (refl, (refl, (refl, (refl, (refl, (refl, (refl, (refl, tt))))))))) e in
@@ -266,7 +266,7 @@ pub change_refused : (f : Flat) (caller : ℕ) (change : ChangeService) (append 
 change_refused f caller change append code result is made other =
     sym (refused_outcome (change_verdict f caller change append) result (request.Change change) f (change_done f caller change) (change_code f caller change append code result is made) other)
 
--- a change that is done leaves short texts
+-- a change that is done leaves a path that isn't too long
 pub change_fits : (f : Flat) (caller : ℕ) (change : ChangeService) (append : Kept) (code result : ℕ) (config : Config) → code ≡ change_verdict f caller change appended.Kept → result ≡ code_once_kept code append
     → result ≡ 0 → asked_config f caller change ≡ Some config → HasShortTexts config
 change_fits f caller change append code result config is made zero asked =

@@ -26,12 +26,12 @@ use Rattle.scm_history.proofs.Beginnings.{gives as begins}
 use Rattle.book_rule.specs.declared.view.Opening.{Opening}
 use Rattle.book_rule.specs.Seats.{Identity}
 use Rattle.scm_book.specs.declared.answers.CallEnd.{CallEnd}
+use Rattle.scm_book.specs.declared.answers.CallEnd.TheVariants as calls
 use Rattle.scm_book.specs.declared.answers.StartEnd.{StartEnd}
 use Rattle.scm_book.specs.declared.answers.StartEnd.TheVariants as starts
-use Rattle.scm_book.specs.declared.calling.Asked.{Asked}
 use Rattle.scm_book.specs.declared.fault.MakeFault.{MakeFault}
 use Rattle.scm_book.specs.declared.fault.MakeFault.TheVariants as makes
-use Rattle.scm_book.specs.Called.{Asks, CallTold, Calls, IfTold, IsBegun, IsReply, StartTold, Starts, WantsMemory, called, is_start}
+use Rattle.scm_book.specs.Called.{CallTold, Calls, IfTold, IsBegun, IsReply, StartTold, Starts, WantsMemory, called, is_start, refusal_of}
 use Rattle.scm_book.specs.Holds.{Opens}
 use Rattle.scm_book.specs.Passes.{Known, MadeSo, room_behind}
 use Rattle.scm_book.specs.Turns.{CallEnds}
@@ -113,18 +113,42 @@ module _ (o : Opening) (opens : Opens o) (k k' : Known) (moment : ℕ) (asked : 
 
 -- ## As a book makes it, whose turn and pass lie within what contracts see
 
-pub asks_so : (b b' : Identity) (from k k' : Known) → b ≡ b' → (same : from ≡ k) → (moment caller : ℕ) (asked : Request) → caller ≡ from.caller → (step : Step) → step ≡ Call caller asked appended.NotAsked → (r : Result (Option Answer) MakeFault)
-    → CallEnds b.opening from moment caller step r k' → CallEnds b'.opening k moment k.caller (called k asked) r k'
-asks_so b b' from k k' book same moment caller asked whose step is r ends =
+pub asks_so : (b b' : Identity) (from k k' : Known) → b ≡ b' → (same : from ≡ k) → (moment caller : ℕ) → caller ≡ from.caller → (step : Step) (r : Result (Option Answer) MakeFault)
+    → CallEnds b.opening from moment caller step r k' → CallEnds b'.opening k moment k.caller step r k'
+asks_so b b' from k k' book same moment caller whose step r ends =
     let mine : caller ≡ k.caller = whose ∙ ap (λ (x : Known). x.caller) same in
-    seen_outside (λ (x : Identity) (y : Known). CallEnds x.opening y moment k.caller (called k asked) r k') b b' from k book same
-    (subst (λ (c : ℕ). CallEnds b.opening from moment c (Call c asked appended.NotAsked) r k') mine
-    (subst (λ (s : Step). CallEnds b.opening from moment caller s r k') is ends))
+    seen_outside (λ (x : Identity) (y : Known). CallEnds x.opening y moment k.caller step r k') b b' from k book same
+    (subst (λ (c : ℕ). CallEnds b.opening from moment c step r k') mine ends)
 
-pub call_comes : (o : Opening) → Opens o → (k k' : Known) (moment : ℕ) (asked : Request) (a : Asked) (end : CallEnd) → Asks o k moment asked k' a → CallTold a.ended a.refusal end → Calls o k moment asked k' end
-call_comes o opens k k' moment asked a end asks told = calls_so o opens k k' moment asked a.ended end asks.ends (subst (λ (x : Reply). CallTold a.ended x end) asks.refusal told)
+-- the step is the pass's call, whose caller its token tells
+pub call_is : (from k : Known) → from ≡ k → (caller : ℕ) → caller ≡ from.caller → (asked : Request) (step : Step) → step ≡ Call caller asked appended.NotAsked → step ≡ called k asked
+call_is from k same caller whose asked step is = is ∙ ap (λ (n : ℕ). Call n asked appended.NotAsked) (whose ∙ ap (λ (x : Known). x.caller) same)
 
-pub start_comes : (o : Opening) → Opens o → (k k' : Known) (moment : ℕ) (asked : Request) (a : Asked) (end : StartEnd) → Asks o k moment asked k' a → k.caller ≢ 0 → is_start asked ≡ true → StartTold a.ended a.refusal end
-    → Starts o k moment asked k' end
-start_comes o opens k k' moment asked a end asks some start told =
-    starts_so o opens k k' moment asked some start a.ended end asks.ends (subst (λ (x : Reply). StartTold a.ended x end) asks.refusal told)
+-- ## A refusal is read off the step behind the call, which is as it was where there was no memory
+
+refusal_late : (asked : Request) (k : Known) (step step' : Step) → step ≡ called k asked → step' ≡ step → refusal_of step' ≡ refused asked ERROR_NOT_ENOUGH_MEMORY
+refusal_late asked k step step' is same = ap (λ (s : Step). refusal_of s) (same ∙ is)
+
+told_late : (asked : Request) (k : Known) (step step' : Step) → step ≡ called k asked → (r : Result (Option Answer) MakeFault) → (r ≡ Ok None → step' ≡ step) → (end : CallEnd)
+    → CallTold r (refusal_of step') end → CallTold r (refused asked ERROR_NOT_ENOUGH_MEMORY) end
+told_late asked k step step' is (Ok (Some told)) same end said = said
+told_late asked k step step' is (Ok None) same end said = said ∙ ap (λ (reply : Reply). calls.Answered reply) (refusal_late asked k step step' is (same refl))
+told_late asked k step step' is (Err makes.Full) same end said = said
+told_late asked k step step' is (Err makes.OutOfMemory) same end said = said
+
+begun_late : (asked : Request) (k : Known) (step step' : Step) → step ≡ called k asked → (r : Result (Option Answer) MakeFault) → (r ≡ Ok None → step' ≡ step) → (end : StartEnd)
+    → StartTold r (refusal_of step') end → StartTold r (refused asked ERROR_NOT_ENOUGH_MEMORY) end
+begun_late asked k step step' is (Ok (Some told)) same end said = said
+begun_late asked k step step' is (Ok None) same end said = said ∙ ap (λ (reply : Reply). starts.Answered reply) (refusal_late asked k step step' is (same refl))
+begun_late asked k step step' is (Err makes.Full) same end said = said
+begun_late asked k step step' is (Err makes.OutOfMemory) same end said = said
+
+pub call_comes : (o : Opening) → Opens o → (k k' : Known) (moment : ℕ) (asked : Request) (step step' : Step) → step ≡ called k asked → (r : Result (Option Answer) MakeFault) → (r ≡ Ok None → step' ≡ step) → (end : CallEnd)
+    → CallEnds o k moment k.caller step r k' → CallTold r (refusal_of step') end → Calls o k moment asked k' end
+call_comes o opens k k' moment asked step step' is r same end ends told =
+    calls_so o opens k k' moment asked r end (subst (λ (s : Step). CallEnds o k moment k.caller s r k') is ends) (told_late asked k step step' is r same end told)
+
+pub start_comes : (o : Opening) → Opens o → (k k' : Known) (moment : ℕ) (asked : Request) (step step' : Step) → step ≡ called k asked → (r : Result (Option Answer) MakeFault) → (r ≡ Ok None → step' ≡ step) → (end : StartEnd)
+    → CallEnds o k moment k.caller step r k' → k.caller ≢ 0 → is_start asked ≡ true → StartTold r (refusal_of step') end → Starts o k moment asked k' end
+start_comes o opens k k' moment asked step step' is r same end ends some start told =
+    starts_so o opens k k' moment asked some start r end (subst (λ (s : Step). CallEnds o k moment k.caller s r k') is ends) (begun_late asked k step step' is r same end told)

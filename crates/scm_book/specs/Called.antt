@@ -1,7 +1,8 @@
 -- What a caller's calls come to.
-use Rattle.std.specs.Prelude.{ℕ, ◌≡◌, ◌⊎◌, Bool, true, false, Option, None, Some, Result, Ok, Err}
+use Rattle.std.specs.Prelude.{ℕ, ◌≡◌, ◌⊎◌, Bool, true, false, IsTrue, Option, None, Some, Result, Ok, Err}
 use Rattle.scm_model.specs.declared.codes.TheConstants.{ERROR_NOT_ENOUGH_MEMORY}
 use Rattle.scm_model.specs.declared.calls.Reply.{Reply}
+use Rattle.scm_model.specs.declared.calls.Reply.TheVariants as replies
 use Rattle.scm_model.specs.declared.calls.Request.{Request}
 use Rattle.scm_model.specs.declared.calls.Request.TheVariants as request
 use Rattle.scm_model.specs.declared.steps.Answer.{Answer}
@@ -9,17 +10,16 @@ use Rattle.scm_model.specs.declared.steps.Answer.TheVariants as answers
 use Rattle.scm_model.specs.declared.steps.Kept.TheVariants as appended
 use Rattle.scm_model.specs.declared.steps.Step.{Step}
 use Rattle.scm_model.specs.declared.steps.Step.TheVariants.{Call, NoMemory}
+use Rattle.scm_model.specs.Ranges.{in_range}
 use Rattle.scm_model.specs.Refused.{refused}
 use Rattle.book_rule.specs.declared.view.Opening.{Opening}
 use Rattle.scm_book.specs.declared.answers.CallEnd.{CallEnd}
 use Rattle.scm_book.specs.declared.answers.CallEnd.TheVariants as calls
 use Rattle.scm_book.specs.declared.answers.StartEnd.{StartEnd}
 use Rattle.scm_book.specs.declared.answers.StartEnd.TheVariants as starts
-use Rattle.scm_book.specs.declared.calling.Asked.{Asked}
 use Rattle.scm_book.specs.declared.fault.MakeFault.{MakeFault}
 use Rattle.scm_book.specs.declared.fault.MakeFault.TheVariants as makes
 use Rattle.scm_book.specs.Passes.{FindsNoMemory, FindsNoRoom, HasPlan, Known, MadeSo, room_behind}
-use Rattle.scm_book.specs.Turns.{CallEnds}
 
 -- a pass's call, as it is asked for
 abbrev pub called : Known → Request → Step
@@ -41,10 +41,14 @@ pub record WantsMemory (o : Opening) (k : Known) (moment : ℕ) (asked : Request
 abbrev pub AnsweredSo : Opening → Known → ℕ → Request → Reply → Known → Type 0
 AnsweredSo o k moment asked reply k' = MadeSo o k moment (called k asked) (answers.Reply reply) k' ⊎ WantsMemory o k moment asked reply k'
 
--- what a caller's call comes to, and its refusal with 8
-pub record Asks (o : Opening) (k : Known) (moment : ℕ) (asked : Request) (k' : Known) (a : Asked) : Type 0 where
-  pub ends : CallEnds o k moment k.caller (called k asked) a.ended k'
-  pub refusal : a.refusal ≡ refused asked ERROR_NOT_ENOUGH_MEMORY
+-- the step is a call of this pass
+abbrev pub IsCallOf : Known → Step → Type 0
+IsCallOf k step = (asked : Request) × (step ≡ called k asked) × IsTrue (in_range asked)
+
+-- the refusal of a call with 8
+abbrev pub refusal_of : Step → Reply
+refusal_of (Call caller asked append) = refused asked ERROR_NOT_ENOUGH_MEMORY
+refusal_of step = replies.Code ERROR_NOT_ENOUGH_MEMORY
 
 -- ## call
 

@@ -1,24 +1,24 @@
 // The book, and its calls.
-ghost use Rattle.std.specs.Prelude.{◌≡◌, ◌≢◌, false, true, IfErr, IfOk, IsTrue};
-ghost use Rattle.scm_model.specs.declared.steps.Kept.TheVariants as appended;
-ghost use Rattle.scm_model.specs.declared.steps.Step.TheVariants as steps;
+ghost use Rattle.std.specs.Prelude.{◌≡◌, ◌≢◌, false, true, IfErr, IfOk, IsTrue, None, Ok};
 ghost use Rattle.scm_model.specs.Ranges.{in_range};
 ghost use Rattle.scm_rules.specs.Opening.{IsOpening};
 ghost use Rattle.scm_core.specs.Managed.{AreSmall};
 ghost use Rattle.record_journal.specs.Bearing.{Bears};
-ghost use Rattle.scm_book.specs.Called.{Asks, Calls, Starts, is_start};
+ghost use Rattle.scm_book.specs.Called.{Calls, IsCallOf, Starts, is_start};
 ghost use Rattle.scm_book.specs.Calls.{BeginsWith, Closes, Goes};
 ghost use Rattle.scm_book.specs.Holds.{Opens};
 ghost use Rattle.scm_book.specs.Joins.{BecomesCaller, JoinCause, Joins, TakesIn, Watches};
 ghost use Rattle.scm_book.specs.Joins.{accompanied, fresh};
 ghost use Rattle.scm_book.specs.Passes.{HasPlan, IsOf, KeepsAll, Learnt};
 ghost use Rattle.scm_book.specs.Starts.{EndKeeps, EndLooks};
+ghost use Rattle.scm_book.specs.Turns.{CallEnds};
 
 use crate::answers::{CallEnd, EndLook, JoinFault, NotJoined, StartEnd};
 use crate::bell::Bell;
-use crate::calling::{Asked, call_end, start_end};
+use crate::calling::{call_end, start_end};
 use crate::doubled::Doubled;
 use crate::ending::end_look;
+use crate::fault::MakeFault;
 use crate::held::Held;
 use crate::owed::Owed;
 use crate::pass::{Pass, Spent};
@@ -26,8 +26,7 @@ use crate::shared::Shared;
 use book_rule::{Begun, Turn};
 use record_journal::{Journal, Keeper};
 use scm_core::Manager;
-use scm_model::codes::ERROR_NOT_ENOUGH_MEMORY;
-use scm_model::{Kept, Principal, Request, Step, refused};
+use scm_model::{Answer, Kept, Principal, Request, Step};
 use scm_trail::Trail;
 use std::alloc::Global;
 use std::marker::Model;
@@ -203,22 +202,26 @@ impl<K: Keeper> Book<K> {
         self.shared.take_in(&mut by.badge, badge);
     }
 
-    /// Makes a caller's call.
-    fn ask<R: Wait>(&self, rt: &R, pass: &mut Pass, moment: u64, request: Request) -> Asked
+    /// Makes a caller's call. Where there was no memory for it, the step is as it was.
+    #[inline(always)]
+    fn ask<R: Wait>(
+        &self,
+        rt: &R,
+        pass: &mut Pass,
+        moment: u64,
+        call: &mut Doubled,
+    ) -> Result<Option<Answer>, MakeFault>
         requires book { IsOf self.now pass.old }
         requires caller { pass.old.caller ≢ 0 }
-        requires ranged { IsTrue (in_range request) }
+        requires call { IsCallOf pass.old call.old.step }
         ensures book { IsOf self.now pass.new }
         ensures opens { Opens self.now.opening }
-        ensures asks { Asks self.now.opening pass.old moment request pass.new result }
+        ensures asks { CallEnds self.now.opening pass.old moment pass.old.caller call.old.step result pass.new }
+        ensures same { result ≡ Ok None → call.new ≡ call.old }
     {
-        let refusal = refused(self.shared.alloc, &request, ERROR_NOT_ENOUGH_MEMORY);
         let caller = pass.caller;
-        let mut call = called(self.shared.alloc, caller, request);
-        let ended = self
-            .shared
-            .call_by(rt, moment, &mut call, caller, &mut pass.badge);
-        Asked { ended, refusal }
+        self.shared
+            .call_by(rt, moment, call, caller, &mut pass.badge)
     }
 
     /// Makes a call that is no start. What it is told is the answer of its entry, which stands at
@@ -232,7 +235,17 @@ impl<K: Keeper> Book<K> {
         ensures calls { Calls self.now.opening pass.old moment request pass.new result }
         ensures keeps { KeepsAll self.now.opening pass.old pass.new }
     {
-        call_end(self.ask(rt, pass, moment, request))
+        let mut call = Doubled {
+            step: Step::Call {
+                caller: pass.caller,
+                request,
+                kept: Kept::NotAsked,
+            },
+            note: None,
+        };
+        call.write(self.shared.alloc);
+        let ended = self.ask(rt, pass, moment, &mut call);
+        call_end(self.shared.alloc, &call.step, ended)
     }
 
     /// Begins a start. What it is told is the answer of its entry, as with `call`.
@@ -251,7 +264,17 @@ impl<K: Keeper> Book<K> {
         ensures starts { Starts self.now.opening pass.old moment request pass.new result }
         ensures keeps { KeepsAll self.now.opening pass.old pass.new }
     {
-        start_end(self.ask(rt, pass, moment, request))
+        let mut call = Doubled {
+            step: Step::Call {
+                caller: pass.caller,
+                request,
+                kept: Kept::NotAsked,
+            },
+            note: None,
+        };
+        call.write(self.shared.alloc);
+        let ended = self.ask(rt, pass, moment, &mut call);
+        start_end(self.shared.alloc, &call.step, ended)
     }
 
     /// Looks whether a start that waits is decided, and answers it if so. It takes no memory.
@@ -283,17 +306,4 @@ impl<K: Keeper> Book<K> {
         let _done = self.shared.owe_by(rt, moment, gone, &mut badge);
         Spent { badge }
     }
-}
-
-/// A caller's call, with its note.
-#[inline(always)]
-fn called(alloc: Global, caller: u64, request: Request) -> Doubled
-    ensures { result.step ≡ steps.Call caller request appended.NotAsked }
-{
-    let step = Step::Call {
-        caller,
-        request,
-        kept: Kept::NotAsked,
-    };
-    Doubled::new(alloc, step)
 }

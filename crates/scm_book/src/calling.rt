@@ -1,9 +1,9 @@
 // A caller's calls.
-ghost use Rattle.std.specs.Prelude.{◌≡◌};
+ghost use Rattle.std.specs.Prelude.{◌≡◌, None, Ok};
 ghost use Rattle.scm_model.specs.declared.steps.Answer.TheVariants as answers;
 ghost use Rattle.scm_model.specs.declared.steps.Step.TheVariants as steps;
 ghost use Rattle.book_rule.specs.Seats.{Waits};
-ghost use Rattle.scm_book.specs.Called.{Begun, CallTold, IfTold, IsBegun, IsReply, StartTold};
+ghost use Rattle.scm_book.specs.Called.{Begun, CallTold, IfTold, IsBegun, IsReply, StartTold, refusal_of};
 ghost use Rattle.scm_book.specs.Turns.{AlwaysMay, CallEndsBy, DidCall, DidNone, HasTurn, IsSeated};
 ghost use Rattle.scm_book.specs.Turns.{MayMakeBy, of_badge};
 
@@ -15,7 +15,9 @@ use crate::shared::Shared;
 use atomic_table::Badge;
 use book_rule::{TurnSeat, View};
 use record_journal::Keeper;
-use scm_model::{Answer, Reply, Step};
+use scm_model::codes::ERROR_NOT_ENOUGH_MEMORY;
+use scm_model::{Answer, Reply, Step, refused};
+use std::alloc::Global;
 use std::sync::Wait;
 
 impl<K: Keeper> Shared<K> {
@@ -56,6 +58,7 @@ impl<K: Keeper> Shared<K> {
         requires none { MayMakeBy self.now.turn.opening seat.old.me.0 moment (steps.NoMemory by) }
         ensures did { DidCall K.held K.faults self.now.turn seat.old seat.new moment by call.old.step result }
         ensures waits { Waits self.now.turn seat.new }
+        ensures same { result ≡ Ok None → call.new ≡ call.old }
     {
         match held.make_doubled(moment, call) {
             Ok(told) => {
@@ -86,6 +89,7 @@ impl<K: Keeper> Shared<K> {
         requires none { AlwaysMay self.now.turn.opening (of_badge badge.old) moment (steps.NoMemory caller) }
         ensures badge { IsSeated self.now.turn badge.new }
         ensures ends { CallEndsBy self.now.turn.opening badge.old moment caller call.old.step badge.new result }
+        ensures same { result ≡ Ok None → call.new ≡ call.old }
     {
         let mut seat = self.sit(badge);
         let held = self.turn.enter(rt, &mut seat);
@@ -95,11 +99,14 @@ impl<K: Keeper> Shared<K> {
     }
 }
 
-/// What a caller's call comes to, and its refusal with 8, for where there was no memory for it.
-#[derive(Drop)]
-pub struct Asked {
-    pub ended: Result<Option<Answer>, MakeFault>,
-    pub refusal: Reply,
+/// The refusal of a call with 8, for where there was no memory for it.
+fn refusal_of(alloc: Global, step: &Step) -> Reply
+    ensures { result ≡ refusal_of step.now }
+{
+    match step {
+        Step::Call { request, .. } => refused(alloc, request, ERROR_NOT_ENOUGH_MEMORY),
+        _ => Reply::Code(ERROR_NOT_ENOUGH_MEMORY),
+    }
 }
 
 /// The reply in an answer that is one.
@@ -126,28 +133,27 @@ fn begun_of(told: Answer) -> StartEnd
 }
 
 /// What a call that is no start comes to. Where there was no memory for it, it is refused.
-pub fn call_end(asked: Asked) -> CallEnd
-    requires { IfTold IsReply asked.ended }
-    ensures { CallTold asked.ended asked.refusal result }
+#[inline(always)]
+pub fn call_end(alloc: Global, call: &Step, ended: Result<Option<Answer>, MakeFault>) -> CallEnd
+    requires { IfTold IsReply ended }
+    ensures { CallTold ended (refusal_of call.now) result }
 {
-    let Asked { ended, refusal } = asked;
     match ended {
         Ok(Some(told)) => CallEnd::Answered(reply_of(told)),
-        Ok(None) => CallEnd::Answered(refusal),
+        Ok(None) => CallEnd::Answered(refusal_of(alloc, call)),
         Err(MakeFault::Full) => CallEnd::Full,
         Err(MakeFault::OutOfMemory) => CallEnd::OutOfMemory,
     }
 }
 
 /// What a start comes to. Where there was no memory for it, it is refused.
-pub fn start_end(asked: Asked) -> StartEnd
-    requires { IfTold IsBegun asked.ended }
-    ensures { StartTold asked.ended asked.refusal result }
+pub fn start_end(alloc: Global, call: &Step, ended: Result<Option<Answer>, MakeFault>) -> StartEnd
+    requires { IfTold IsBegun ended }
+    ensures { StartTold ended (refusal_of call.now) result }
 {
-    let Asked { ended, refusal } = asked;
     match ended {
         Ok(Some(told)) => begun_of(told),
-        Ok(None) => StartEnd::Answered(refusal),
+        Ok(None) => StartEnd::Answered(refusal_of(alloc, call)),
         Err(MakeFault::Full) => StartEnd::Full,
         Err(MakeFault::OutOfMemory) => StartEnd::OutOfMemory,
     }

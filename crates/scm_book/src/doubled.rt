@@ -34,4 +34,12 @@ impl Doubled {
         let note = note_of(alloc, &step);
         Doubled { step, note }
     }
+
+    /// Makes the note of a step that has none, where the step lies.
+    #[inline(always)]
+    pub fn write(&mut self, alloc: Global)
+        ensures { self.new.step ≡ self.old.step }
+    {
+        self.note = note_of(alloc, &self.step);
+    }
 }

@@ -3,6 +3,7 @@ ghost use Rattle.std.specs.Prelude.{◌≡◌, ◌≤◌, ◌<◌, ◌+◌, ◌^
 ghost use Rattle.std.specs.Prelude.{IfErr, IfOk, OnErr, OnOk};
 ghost use Rattle.scm_model.specs.Entries.{with_kept};
 ghost use Rattle.scm_model.specs.Texts.{text_of};
+ghost use Rattle.scm_rules.specs.Owed.{owed};
 ghost use Rattle.scm_rules.specs.Room.{debt, need};
 ghost use Rattle.scm_core.specs.Managed.{AreSmall, WasMadeFor};
 ghost use Rattle.scm_book.specs.Steps.{Adds, Grows, HasMemory, IsAsItWas, IsPrepared, KeepsAs};
@@ -19,7 +20,6 @@ use scm_model::{Answer, Kept, Step};
 use scm_text::OutOfMemory;
 use scm_trail::{Note, Trail};
 use std::alloc::Global;
-use std::mem;
 
 /// What the holder of the turn has: the manager, the trail of the steps that it made, and the
 /// journal of the changes that were kept, with its keeper.
@@ -95,7 +95,9 @@ impl<K: Keeper> Held<K> {
     }
 
     /// Makes all memory that a step and the entries which come to be owed can use.
-    fn reserve_for(&mut self, step: &Step) -> Result<(), OutOfMemory>
+    #[inline(always)]
+    fn reserve_for(&mut self, owing: u64, step: &Step) -> Result<(), OutOfMemory>
+        requires owing { owing ≡ owed self.old.manager.flat }
         requires room { has_room_in self.old step.now ≡ true }
         requires small { AreSmall self.old.manager.limits }
         ensures same { IsAsItWas self.old self.new }
@@ -104,7 +106,7 @@ impl<K: Keeper> Held<K> {
         ensures one { OnOk result (1 ≤ self.new.trail.room) }
         ensures text { OnOk result (text_of step.now ≤ self.new.trail.text_room) }
     {
-        let entries = self.manager.owed() + self.debt(step);
+        let entries = owing + self.debt(step);
         self.trail.reserve(entries, step.text() as u64)?;
         self.manager.reserve_for(step)
     }
@@ -131,20 +133,20 @@ impl<K: Keeper> Held<K> {
 
     /// Does a step for which there is all memory. The trail keeps its note.
     #[inline(always)]
-    fn grow(&mut self, moment: u64, step: Step, note: Note) -> Answer
-        requires note { note ≡ step }
-        requires may { IsTrue (may_in self.old moment step) }
-        requires made { WasMadeFor self.old.manager.room step }
+    fn grow(&mut self, moment: u64, step: &mut Step, note: Note) -> Answer
+        requires note { note ≡ step.old }
+        requires may { IsTrue (may_in self.old moment step.old) }
+        requires made { WasMadeFor self.old.manager.room step.old }
         requires steps { self.old.manager.steps < 2 ^ 50 }
-        requires text { self.old.manager.text + text_of step < 2 ^ 63 }
+        requires text { self.old.manager.text + text_of step.old < 2 ^ 63 }
         requires room { 1 ≤ self.old.trail.room }
-        requires text_room { text_of step ≤ self.old.trail.text_room }
-        ensures grows { Grows self.old self.new moment step result }
+        requires text_room { text_of step.old ≤ self.old.trail.text_room }
+        ensures grows { Grows self.old self.new moment step.old result }
         ensures journal { self.new.journal ≡ self.old.journal }
         ensures keeper { self.new.keeper ≡ self.old.keeper }
         ensures room { self.old.trail.room ≤ self.new.trail.room + 1 }
     {
-        let answer = self.manager.step(moment, step);
+        let answer = self.manager.step_at(moment, step);
         self.trail.push(moment, note);
         answer
     }
@@ -159,13 +161,14 @@ impl<K: Keeper> Held<K> {
         ensures err { OnErr result (IsAsItWas self.old self.new) }
         ensures why { IfErr result (λ fault. Why self.old doubled.now.step fault) }
     {
-        if !self.manager.room(&doubled.step) {
+        let owing = self.manager.owed();
+        if !self.manager.room_beside(owing, &doubled.step) {
             return Err(MakeFault::Full);
         }
         if doubled.note.is_none() {
             return Err(MakeFault::OutOfMemory);
         }
-        let Ok(()) = self.reserve_for(&doubled.step) else {
+        let Ok(()) = self.reserve_for(owing, &doubled.step) else {
             return Err(MakeFault::OutOfMemory);
         };
         match self.keep(&doubled.step) {
@@ -209,8 +212,7 @@ impl<K: Keeper> Held<K> {
         };
         note.tell(kept);
         tell(&mut doubled.step, kept);
-        let step = mem::replace(&mut doubled.step, Step::Tick);
-        self.grow(moment, step, note)
+        self.grow(moment, &mut doubled.step, note)
     }
 
     /// Makes a step that isn't owed, as `make_doubled` does, and notes it itself.
@@ -233,6 +235,6 @@ impl<K: Keeper> Held<K> {
         requires room { 1 ≤ self.old.trail.room }
         ensures { Adds self.old self.new moment (owed_step owed) result }
     {
-        self.grow(moment, owed.step(), owed.note())
+        self.grow(moment, &mut owed.step(), owed.note())
     }
 }

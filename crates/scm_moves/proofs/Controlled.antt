@@ -142,7 +142,7 @@ controlled_call l f moment caller handle control append v known =
       answers = refl;
       taken = λ same. one_more l f moment caller handle control (held_service f caller handle) v known refl e;
       refused = λ other. absurd cc;
-      services = stays_put l f (controlled_in l control (held_service f caller handle) f.processes) f.wanted (max f.moment moment) v
+      services = stays_put l f (controlled_in l control (held_service f caller handle) f.processes) f.wanted f.registrations (max f.moment moment) v
           (let long = as_many l control (held_service f caller handle) f.processes in omega (arith, long));
       needed = (λ h. absurd cc, λ is. sym e ∙ needed_still l f caller handle control is);
     })
@@ -152,7 +152,7 @@ controlled_call l f moment caller handle control append v known =
       answers = ap answer.Reply (shown_zero f caller handle code e);
       taken = λ zero. absurd (let yes = eq-eqb code 0 zero in cc);
       refused = λ other number. waiting_settled l g number;
-      services = stays_put l f f.processes f.wanted (max f.moment moment) v (omega arith);
+      services = stays_put l f f.processes f.wanted f.registrations (max f.moment moment) v (omega arith);
       needed = (still_needed l f caller handle control, needed_still l f caller handle control);
     })
 

@@ -1,6 +1,6 @@
 -- No two services have a process in common, and each handle of a service is of one that is there; each step keeps that.
 use Rattle.std.proofs.Common.{ℕ, ◌≡◌, ◌⊎◌, ◌∙◌, ◌<◌, ◌+◌, ◌==◌, ◌&&◌, ◌||◌, Bool, true, false, not, cond, List, [], ◌∷◌, ◌++◌, Option, None, Some, Result, Ok, Err, filter, find, map, get_or, ap, sym, refl, subst, arith, inl, inr, eq-eqb, eqb-true}
-use Rattle.std.specs.Prelude.{All, AllPairs, is_none, is_some}
+use Rattle.std.specs.Prelude.{All, AllPairs, is_some}
 use Rattle.std.specs.List.{list_any}
 use Rattle.std.proofs.lemmas.List.Elements.{All-filter, All-head, All-map, All-push, All-tail, All-weaker}
 use Rattle.std.proofs.lemmas.List.Kept.{AllPairs-filter}
@@ -32,19 +32,18 @@ use Rattle.start_plan.proofs.Keeps.{Keeps, keeps_all}
 use Rattle.start_plan.proofs.Rows.{same_number, started_or}
 use Rattle.status_machine.specs.Moves.{take_end, take_report}
 use Rattle.scm_rules.specs.Launches.{fallen_if}
-use Rattle.scm_rules.specs.OpenService.{open_service_refusals}
 use Rattle.scm_rules.specs.Reports.{moved_by, reported_if}
 use Rattle.scm_rules.specs.Steps.{at_moment, effect_of, finished, finished_step, left_by, step_of}
 use Rattle.scm_rules.specs.Valid.{HasListed, IsValid, has_process}
 use Rattle.scm_rules.specs.Verdicts.{call_of, done_of, told_refused, verdict}
-use Rattle.scm_runs.proofs.Calls.{all_pass, by_verdict}
+use Rattle.scm_runs.proofs.Calls.{by_verdict}
 use Rattle.scm_runs.proofs.Lists.{any_at, find_filter, pairs_map, find_new}
 use Rattle.scm_moves.proofs.Found.{found_mapped, found_more, found_too}
 use Rattle.scm_moves.proofs.Own.{AreRising, fallen_number, reported_number}
 use Rattle.std.proofs.lemmas.Bool.{and_parts}
 use Rattle.scm_runs.proofs.Configured.{number_kept}
 use Rattle.scm_model.proofs.Found.{found_keeps}
-use Rattle.scm_runs.proofs.Founds.{opened_keeps, started_keeps}
+use Rattle.scm_runs.proofs.Founds.{opened_keeps, started_keeps, notify_apart}
 use Rattle.scm_rules.specs.Change.{new_config}
 use Rattle.scm_rules.proofs.Dues.{ticked_apart}
 
@@ -209,21 +208,26 @@ holds_done l f caller (request.Create new) append below h e = record {
   opened = opened_added f.services f.handles _ _ refl h.opened;
 }
 holds_done l f caller (request.Delete handle) append below h e =
-    found_keeps (λ (rows : List Service). Holds (record f { services = rows })) (λ (one : Service). map (marked_if one.number)) (held_service f caller handle) f.services h
+    let found = found_keeps (λ (rows : List Service). Holds (record f { services = rows })) (λ (one : Service). map (marked_if one.number)) (held_service f caller handle) f.services h
     (λ one is. record {
       own = own_mapped f.next.process (marked_if one.number) f.services (record { number = λ row. refl; process = λ row. inl refl }) h.own;
       opened = opened_mapped (marked_if one.number) f.services f.handles (λ row. refl) h.opened;
-    })
+    }) in
+    record { own = found.own; opened = found.opened }
 holds_done l f caller (request.SetStatus handle report) append below h e =
-    found_keeps (λ (rows : List Service). Holds (record f { services = rows })) (λ (one : Service). map (reported_if one.process report)) (held_service f caller handle) f.services h
+    let found = found_keeps (λ (rows : List Service). Holds (record f { services = rows })) (λ (one : Service). map (reported_if one.process report)) (held_service f caller handle) f.services h
     (λ one is. record {
       own = own_mapped f.next.process (reported_if one.process report) f.services (reports_plainly one.process report) h.own;
       opened = opened_mapped (reported_if one.process report) f.services f.handles (reported_number one.process report) h.opened;
-    })
+    }) in
+    record { own = found.own; opened = found.opened }
 holds_done l f caller (request.Change change) append below h e =
     found_keeps (λ (rows : List Service). Holds (record f { services = rows })) (λ (one : Service). map (configured_if one.number (new_config f change one))) (held_service f caller change.handle) f.services h
     (λ one is. holds_change f one.number (new_config f change one) h)
 holds_done l f caller (request.Start handle words) append below h e = started_keeps Holds f caller handle words h (λ row is. record { own = h.own; opened = h.opened })
+holds_done l f caller (request.Notify handle mask) append below h e =
+    notify_apart Holds f caller handle mask (λ rows next. record { own = h.own; opened = All-push (λ (row : HandleRow). IsOfOne f.services row.kind) f.handles _ h.opened tt })
+holds_done l f caller (request.CloseNotify handle) append below h e = record { own = h.own; opened = All-filter _ (λ (row : HandleRow). IsOfOne f.services row.kind) f.handles h.opened }
 holds_done l f caller asked append below h e = record { own = h.own; opened = h.opened }
 
 holds_call : (l : Limits) (f : Flat) (caller : ℕ) (asked : Request) (append : Kept) → All (λ (row : Service). row.number < f.next.service) f.services → Holds f → Holds (call_of l f caller asked append).flat

@@ -1,8 +1,8 @@
 -- How services move before plans are settled.
-use Rattle.std.proofs.Common.{ℕ, suc, ◌≡◌, ◌∙◌, ◌<◌, ◌≤◌, ◌==◌, true, false, cond, IsTrue, Result, Ok, Err, List, [], ◌∷◌, Option, None, Some, map, get_or, ap, sym, refl, subst, arith, inl, inr, eq-eqb, eqb-true}
+use Rattle.std.proofs.Common.{ℕ, ◌≡◌, ◌∙◌, ◌<◌, ◌≤◌, ◌==◌, true, false, cond, IsTrue, Result, Ok, Err, List, Option, None, Some, map, get_or, ap, sym, refl, subst, arith, inl, inr, eq-eqb, eqb-true}
 use Rattle.std.specs.Prelude.{All, AllPairs}
 use Rattle.std.proofs.lemmas.List.{map-id}
-use Rattle.std.proofs.lemmas.List.Elements.{All-cons, All-map, All-nil, All-push, All-weaker}
+use Rattle.std.proofs.lemmas.List.Elements.{All-map, All-push, All-weaker}
 use Rattle.scm_model.specs.declared.flat.Config.{Config}
 use Rattle.scm_model.specs.declared.flat.Flat.{Flat}
 use Rattle.scm_model.specs.declared.flat.Limits.{Limits}
@@ -17,18 +17,18 @@ use Rattle.scm_model.specs.declared.steps.Step.TheVariants.{Call, LaunchFailed, 
 use Rattle.scm_model.specs.Changes.{configured_if, marked_if, with_moment}
 use Rattle.status_machine.specs.Moves.{take_end, take_report, takes}
 use Rattle.scm_rules.specs.Launches.{fallen_if, is_launched, is_taken, process_of}
-use Rattle.scm_rules.specs.Reports.{moved_by, reported_if, set_status_refusals, set_status_verdict}
+use Rattle.scm_rules.specs.Reports.{moved_by, reported_if, set_status_verdict}
 use Rattle.scm_rules.specs.Steps.{at_moment, effect_of, may}
 use Rattle.scm_rules.specs.Valid.{IsValid}
 use Rattle.scm_rules.specs.Verdicts.{call_of, done_of, told_refused, verdict}
 use Rattle.scm_runs.specs.Leaving.{reports, is_process_of}
-use Rattle.scm_runs.proofs.Calls.{all_pass, by_verdict, set_status_runs}
+use Rattle.scm_runs.proofs.Calls.{by_verdict, set_status_runs}
 use Rattle.scm_runs.proofs.Lists.{found_has, found_passes, alone}
 use Rattle.scm_moves.specs.Moves.{MovesItself, code_of_end, report_in}
-use Rattle.std.proofs.lemmas.Bool.{not-false, and_parts}
+use Rattle.std.proofs.lemmas.Bool.{and_parts}
 use Rattle.scm_runs.proofs.Configured.{number_kept}
 use Rattle.scm_model.proofs.Found.{found_keeps}
-use Rattle.scm_runs.proofs.Founds.{opened_keeps, started_keeps}
+use Rattle.scm_runs.proofs.Founds.{opened_keeps, started_keeps, notify_apart}
 use Rattle.scm_model.specs.Rows.{held_service}
 use Rattle.scm_rules.specs.Change.{new_config}
 use Rattle.scm_rules.proofs.Dues.{ticked_apart}
@@ -156,6 +156,9 @@ own_done l f moment caller (request.Start handle words) append v e =
     started_keeps (λ (g : Flat). All (HasOwn f step) g.services) (with_moment f moment) caller handle words (own_same f step v.services.rising) (λ row is. own_same f step v.services.rising)
 own_done l f moment caller (request.Create new) append v e =
     All-push (HasOwn f _) f.services _ (own_same f _ v.services.rising) (λ k d lt same. absurd (let below = v.services.below k d lt in omega arith))
+own_done l f moment caller (request.Notify handle mask) append v e =
+    let step = Call caller (request.Notify handle mask) append in
+    notify_apart (λ (g : Flat). All (HasOwn f step) g.services) (with_moment f moment) caller handle mask (λ rows next. own_same f step v.services.rising)
 own_done l f moment caller asked append v e = own_same f _ v.services.rising
 
 own_call : (l : Limits) (f : Flat) (moment caller : ℕ) (asked : Request) (append : Kept) → IsValid l f

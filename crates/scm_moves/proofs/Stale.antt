@@ -20,8 +20,8 @@ use Rattle.scm_model.specs.Purge.{purged}
 use Rattle.start_plan.specs.Decided.{code_of}
 use Rattle.start_plan.specs.Settle.{settled}
 use Rattle.status_machine.specs.Moves.{take_report, takes}
-use Rattle.scm_rules.specs.Launches.{fallen_if, process_of, wanted_of_others, with_fallen, without_process, first_wanted, launch_told}
-use Rattle.scm_rules.specs.Reports.{current_of, moved_by, report_answer, report_told, reported_if, set_status_done, set_status_verdict, with_report}
+use Rattle.scm_rules.specs.Launches.{fallen_if, process_of, wanted_of_others, with_fallen, without_process, first_wanted, launch_told, told_of_fall, current_of}
+use Rattle.scm_rules.specs.Reports.{current_of, moved_by, report_answer, report_told, reported_if, set_status_done, set_status_verdict, with_report, told_of_report}
 use Rattle.scm_rules.specs.Ends.{end_told}
 use Rattle.scm_rules.specs.Steps.{call_answer, answered_by, at_moment, effect_of, finished, may, step_of, tells_plan}
 use Rattle.scm_rules.specs.Valid.{IsValid}
@@ -73,8 +73,9 @@ not_taken process report row none =
 put_by_report : (l : Limits) (f : Flat) (moment process : ℕ) (report : Status) → IsValid l f → map (reported_if process report) f.services ≡ f.services
     → (purged (settled l (with_report (with_moment f moment) process report))).services ≡ f.services
 put_by_report l f moment process report v same =
-    ap (λ (services : List Service). (purged (settled l (record f { services = services; moment = max f.moment moment }))).services) same
-    ∙ stays_put l f f.processes f.wanted (max f.moment moment) v (omega arith)
+    let told = told_of_report f.processes report (current_of f process) f.registrations in
+    ap (λ (services : List Service). (purged (settled l (record f { services = services; registrations = told; moment = max f.moment moment }))).services) same
+    ∙ stays_put l f f.processes f.wanted told (max f.moment moment) v (omega arith)
 
 stale_report : (l : Limits) (f : Flat) (moment process : ℕ) (report : Status) (found : Option Service) → IsValid l f → current_of f process ≡ found
     → (finished (settled l (with_report (with_moment f moment) process report)) (report_told found report)).answer ≡ answer.Stale
@@ -125,11 +126,12 @@ stale_end : (l : Limits) (f : Flat) (moment process : ℕ) (found : Option Servi
     → (purged (finished (settled l (without_process (with_fallen (with_moment f moment) process 1067) process)) (end_told found)).flat).services ≡ f.services
 stale_end l f moment process None v e told =
     let others = filter (λ (row : Process). not (row.number == process)) f.processes in
-    ap (λ (services : List Service). (purged (settled l (record f { services = services; processes = others; wanted = wanted_of_others process f.wanted; moment = max f.moment moment }))).services)
+    let told = told_of_fall process 1067 (current_of f process) f.registrations in
+    ap (λ (services : List Service). (purged (settled l (record f { services = services; processes = others; wanted = wanted_of_others process f.wanted; registrations = told; moment = max f.moment moment }))).services)
     (map_still (fallen_if process 1067) f.services
     (All-weaker (λ (row : Service). (row.process == process) ≡ false) (λ (row : Service). fallen_if process 1067 row ≡ row) (not_fallen process 1067) f.services
     (none_found (λ (row : Service). row.process == process) f.services (ap (λ (o : Option Service). is_some o) e))))
-    ∙ stays_put l f others (wanted_of_others process f.wanted) (max f.moment moment) v (filter_short (λ (row : Process). not (row.number == process)) f.processes)
+    ∙ stays_put l f others (wanted_of_others process f.wanted) told (max f.moment moment) v (filter_short (λ (row : Process). not (row.number == process)) f.processes)
 stale_end l f moment process (Some row) v e told = absurd cc
 
 -- ## Other steps
@@ -211,7 +213,7 @@ unheard_by l f moment caller handle report append code v =
     let refusal = set_status_verdict g caller handle report in
     by_verdict (λ r. answer.Reply r.reply ≡ answer.Reply (reply.Code code) → (code == 0) ≡ false → (purged (settled l r.flat)).services ≡ f.services) refusal (reply.Code refusal) g (set_status_done g caller handle report)
     (λ e told some. absurd (let none : code ≡ 0 = cc in let yes = eq-eqb code 0 none in not_off (code == 0) yes some))
-    (λ e told some. stays_put l f f.processes f.wanted (max f.moment moment) v (omega arith))
+    (λ e told some. stays_put l f f.processes f.wanted f.registrations (max f.moment moment) v (omega arith))
 
 pub unheard : (l : Limits) (f : Flat) (moment : ℕ) (step : Step) (code : ℕ) → IsValid l f → is_called_report step ≡ true → (step_of l f moment step).answer ≡ answer.Reply (reply.Code code) → (code == 0) ≡ false
     → (step_of l f moment step).flat.services ≡ f.services

@@ -18,10 +18,11 @@ use Rattle.start_plan.specs.declared.settling.Move.{Move}
 use Rattle.start_plan.specs.declared.settling.Move.TheVariants as moves
 use Rattle.scm_rules.specs.Valid.{IsValid}
 use Rattle.scm_runs.proofs.Rests.{Rests, settled_rest, RestsAt, all_still}
+use Rattle.scm_model.specs.declared.flat.Registration.{Registration}
 
--- the state with other processes and other wanted launches, at another moment
-abbrev pub with_others : Flat → List Process → List Wanted → ℕ → Flat
-with_others f processes wanted moment = record f { processes = processes; wanted = wanted; moment = moment }
+-- the state with other processes, other wanted launches and other registrations, at another moment
+abbrev pub with_others : Flat → List Process → List Wanted → List Registration → ℕ → Flat
+with_others f processes wanted registrations moment = record f { processes = processes; wanted = wanted; registrations = registrations; moment = moment }
 
 -- a move by what is in the way
 abbrev MoveBy : Bool → Bool → Bool → Bool → Bool → Bool → Bool → Move
@@ -48,39 +49,39 @@ MoveAt l f tried x found =
     cond (state_in found == 4) moves.Passes
     (cond (is_pending (state_in found)) moves.Waits (move_by (entering_at (cause_at l f (has tried x) found) (is_some f.lock))))
 
-waits_at : (l : Limits) (f : Flat) (processes : List Process) (wanted : List Wanted) (moment : ℕ) (tried : List ℕ) (x : ℕ) (found : Option Service) → length processes ≤ length f.processes
-    → MoveAt l f tried x found ≡ moves.Waits → MoveAt l (with_others f processes wanted moment) tried x found ≡ moves.Waits
-waits_at l f processes wanted moment tried x None few h = h
-waits_at l f processes wanted moment tried x (Some row) few h =
+waits_at : (l : Limits) (f : Flat) (processes : List Process) (wanted : List Wanted) (registrations : List Registration) (moment : ℕ) (tried : List ℕ) (x : ℕ) (found : Option Service) → length processes ≤ length f.processes
+    → MoveAt l f tried x found ≡ moves.Waits → MoveAt l (with_others f processes wanted registrations moment) tried x found ≡ moves.Waits
+waits_at l f processes wanted registrations moment tried x None few h = h
+waits_at l f processes wanted registrations moment tried x (Some row) few h =
     still_waits (row.status.state == 4) (is_pending row.status.state) row.marked (row.config.start == 4) (not (is_ready f row) || not (row.status.state == 1) || has tried x)
-    (is_full l f) (is_full l (with_others f processes wanted moment)) (is_some f.lock) (not_full l.processes (length f.processes) (length processes) few) h
+    (is_full l f) (is_full l (with_others f processes wanted registrations moment)) (is_some f.lock) (not_full l.processes (length f.processes) (length processes) few) h
 
-rests_at : (l : Limits) (f : Flat) (processes : List Process) (wanted : List Wanted) (moment : ℕ) (plan : Plan) (entries : List ℕ) → length processes ≤ length f.processes
-    → RestsAt l f plan entries → RestsAt l (with_others f processes wanted moment) plan entries
-rests_at l f processes wanted moment plan [] few rests = tt
-rests_at l f processes wanted moment plan (x ∷ xs) few rests = waits_at l f processes wanted moment plan.tried x (service_of f x) few rests
+rests_at : (l : Limits) (f : Flat) (processes : List Process) (wanted : List Wanted) (registrations : List Registration) (moment : ℕ) (plan : Plan) (entries : List ℕ) → length processes ≤ length f.processes
+    → RestsAt l f plan entries → RestsAt l (with_others f processes wanted registrations moment) plan entries
+rests_at l f processes wanted registrations moment plan [] few rests = tt
+rests_at l f processes wanted registrations moment plan (x ∷ xs) few rests = waits_at l f processes wanted registrations moment plan.tried x (service_of f x) few rests
 
-one_rests : (l : Limits) (f : Flat) (processes : List Process) (wanted : List Wanted) (moment : ℕ) (plan : Plan) → length processes ≤ length f.processes → Rests l f plan → Rests l (with_others f processes wanted moment) plan
-one_rests l f processes wanted moment plan few (inl decided) = inl decided
-one_rests l f processes wanted moment plan few (inr rests) = inr (rests_at l f processes wanted moment plan plan.entries few rests)
+one_rests : (l : Limits) (f : Flat) (processes : List Process) (wanted : List Wanted) (registrations : List Registration) (moment : ℕ) (plan : Plan) → length processes ≤ length f.processes → Rests l f plan → Rests l (with_others f processes wanted registrations moment) plan
+one_rests l f processes wanted registrations moment plan few (inl decided) = inl decided
+one_rests l f processes wanted registrations moment plan few (inr rests) = inr (rests_at l f processes wanted registrations moment plan plan.entries few rests)
 
-all_rest : (l : Limits) (f : Flat) (processes : List Process) (wanted : List Wanted) (moment : ℕ) (plans : List Plan) → length processes ≤ length f.processes → AllByRecursion (Rests l f) plans
-    → AllByRecursion (Rests l (with_others f processes wanted moment)) plans
-all_rest l f processes wanted moment [] few rests = tt
-all_rest l f processes wanted moment (plan ∷ plans) few rests = (one_rests l f processes wanted moment plan few rests.0, all_rest l f processes wanted moment plans few rests.1)
+all_rest : (l : Limits) (f : Flat) (processes : List Process) (wanted : List Wanted) (registrations : List Registration) (moment : ℕ) (plans : List Plan) → length processes ≤ length f.processes → AllByRecursion (Rests l f) plans
+    → AllByRecursion (Rests l (with_others f processes wanted registrations moment)) plans
+all_rest l f processes wanted registrations moment [] few rests = tt
+all_rest l f processes wanted registrations moment (plan ∷ plans) few rests = (one_rests l f processes wanted registrations moment plan few rests.0, all_rest l f processes wanted registrations moment plans few rests.1)
 
 -- ## What rests is settled
 
 -- ## States
 
 -- nothing is left for settling to do but to tidy
-pub still : (l : Limits) (f : Flat) (processes : List Process) (wanted : List Wanted) (moment : ℕ) → IsValid l f → length processes ≤ length f.processes
-    → settled l (with_others f processes wanted moment) ≡ tidied (with_others f processes wanted moment) f.plans
-still l f processes wanted moment v few =
+pub still : (l : Limits) (f : Flat) (processes : List Process) (wanted : List Wanted) (registrations : List Registration) (moment : ℕ) → IsValid l f → length processes ≤ length f.processes
+    → settled l (with_others f processes wanted registrations moment) ≡ tidied (with_others f processes wanted registrations moment) f.plans
+still l f processes wanted registrations moment v few =
     let rests : AllByRecursion (Rests l f) f.plans = subst (λ (g : Flat). AllByRecursion (Rests l g) g.plans) v.settled (settled_rest l f) in
-    ap (λ (r : Flat × List Plan). tidied r.0 r.1) (all_still l (with_others f processes wanted moment) f.plans (all_rest l f processes wanted moment f.plans few rests))
+    ap (λ (r : Flat × List Plan). tidied r.0 r.1) (all_still l (with_others f processes wanted registrations moment) f.plans (all_rest l f processes wanted registrations moment f.plans few rests))
 
 -- and no service leaves
-pub stays_put : (l : Limits) (f : Flat) (processes : List Process) (wanted : List Wanted) (moment : ℕ) → IsValid l f → length processes ≤ length f.processes
-    → (purged (settled l (with_others f processes wanted moment))).services ≡ f.services
-stays_put l f processes wanted moment v few = ap (λ (g : Flat). (purged g).services) (still l f processes wanted moment v few) ∙ ap (λ (g : Flat). g.services) v.purged
+pub stays_put : (l : Limits) (f : Flat) (processes : List Process) (wanted : List Wanted) (registrations : List Registration) (moment : ℕ) → IsValid l f → length processes ≤ length f.processes
+    → (purged (settled l (with_others f processes wanted registrations moment))).services ≡ f.services
+stays_put l f processes wanted registrations moment v few = ap (λ (g : Flat). (purged g).services) (still l f processes wanted registrations moment v few) ∙ ap (λ (g : Flat). g.services) v.purged

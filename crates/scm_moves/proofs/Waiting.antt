@@ -1,7 +1,6 @@
 -- Which controls wait after a step.
 use Rattle.std.proofs.Common.{ℕ, ◌≡◌, ◌∙◌, ◌==◌, ◌&&◌, Bool, true, false, not, cond, List, [], ◌∷◌, ◌++◌, Option, None, Some, drop, filter, find, length, map, ap, sym, refl, subst, eq-eqb, eqb-true, ne_eqb}
 use Rattle.std.specs.Prelude.{is_some, nat_lt}
-use Rattle.scm_model.specs.declared.flat.Config.{Config}
 use Rattle.scm_model.specs.declared.flat.Flat.{Flat}
 use Rattle.scm_model.specs.declared.flat.Limits.{Limits}
 use Rattle.scm_model.specs.declared.flat.Phase.TheVariants as phases
@@ -27,7 +26,7 @@ use Rattle.scm_runs.proofs.Calls.{by_verdict}
 use Rattle.scm_runs.proofs.Lists.{find_filter}
 use Rattle.scm_moves.specs.Controls.{changes_controls, ends_process}
 use Rattle.scm_model.proofs.Found.{found_keeps}
-use Rattle.scm_runs.proofs.Founds.{opened_keeps, started_keeps}
+use Rattle.scm_runs.proofs.Founds.{opened_keeps, started_keeps, notify_apart}
 use Rattle.scm_model.specs.Rows.{held_service}
 use Rattle.scm_runs.specs.Leaving.{is_process_of}
 use Rattle.scm_model.specs.declared.flat.Service.{Service}
@@ -131,6 +130,7 @@ waiting_done l f caller (request.Control handle control) append number other =
     (λ row is. controlled_others l.controls row.process control number f.processes (other_process row.process number (ap (λ one. is_process_of one number) (sym is) ∙ other)))
 waiting_done l f caller (request.OpenService handle name access) append number other = opened_keeps (λ (g : Flat). controls_of g number ≡ controls_of f number) f caller name access refl (λ row is. refl)
 waiting_done l f caller (request.Start handle words) append number other = started_keeps (λ (g : Flat). controls_of g number ≡ controls_of f number) f caller handle words refl (λ row is. refl)
+waiting_done l f caller (request.Notify handle mask) append number other = notify_apart (λ (g : Flat). controls_of g number ≡ controls_of f number) f caller handle mask (λ rows next. refl)
 waiting_done l f caller asked append number other = refl
 
 waiting_call : (l : Limits) (f : Flat) (moment caller : ℕ) (asked : Request) (append : Kept) (number : ℕ) → changes_controls f (Call caller asked append) number ≡ false

@@ -15,7 +15,7 @@ use Rattle.scm_runs.proofs.Rests.{same_length}
 
 -- what settling reads and changes of one state, and all else of another
 abbrev pub over : Flat → Flat → Flat
-over f g = record g { services = f.services; processes = f.processes; wanted = f.wanted; lock = f.lock; next = record g.next { process = f.next.process } }
+over f g = record g { services = f.services; processes = f.processes; wanted = f.wanted; registrations = f.registrations; lock = f.lock; next = record g.next { process = f.next.process } }
 
 entries_over : (l : Limits) (f g : Flat) (plan : Plan) (entries : List ℕ)
     → settle_entries l (over f g) plan entries ≡ (over (settle_entries l f plan entries).0 g, (settle_entries l f plan entries).1)

@@ -1,5 +1,5 @@
 -- Verdicts don't read the moment, and replies tell them.
-use Rattle.std.proofs.Common.{ℕ, ◌≡◌, ◌==◌, false, refl}
+use Rattle.std.proofs.Common.{ℕ, ◌≡◌, ◌==◌, false, refl, cond, List, [], Option, None, Some, eqb-true, sym, true}
 use Rattle.scm_model.specs.declared.calls.Reply.{Reply}
 use Rattle.scm_model.specs.declared.calls.Request.{Request}
 use Rattle.scm_model.specs.declared.calls.Request.TheVariants as request
@@ -9,69 +9,42 @@ use Rattle.scm_model.specs.declared.steps.Answer.{Answer}
 use Rattle.scm_model.specs.declared.steps.Answer.TheVariants as answer
 use Rattle.scm_model.specs.declared.steps.Kept.{Kept}
 use Rattle.scm_model.specs.Changes.{with_moment}
-use Rattle.scm_model.specs.Refused.{answered}
+use Rattle.scm_model.specs.Refused.{answered, zero_process_status}
 use Rattle.scm_model.specs.Outcomes.{Done, Told}
 use Rattle.scm_rules.specs.Steps.{call_answer, tells_plan}
 use Rattle.scm_rules.specs.Verdicts.{done_of, told_refused, verdict}
 use Rattle.scm_replies.specs.Replies.{reply_code}
+use Rattle.scm_rules.specs.EnumServices.{page_of, services_asked}
+use Rattle.scm_rules.specs.Notify.{notice_in, notify_of}
+use Rattle.scm_model.specs.Notices.{registration_of}
+use Rattle.scm_model.specs.declared.flat.Registration.{Registration}
+use Rattle.scm_model.specs.declared.calls.Reply.TheVariants as reply
+use Rattle.scm_model.specs.declared.flat.Service.{Service}
+use Rattle.std.specs.Prelude.{option_and_then}
 
 -- a verdict is the same at every moment
 pub verdict_moved : (l : Limits) (f : Flat) (moment caller : ℕ) (asked : Request) (append : Kept)
     → verdict l (with_moment f moment) caller asked append ≡ verdict l f caller asked append
-verdict_moved l f moment caller (request.Close handle) append = refl
-verdict_moved l f moment caller (request.Control handle control) append = refl
-verdict_moved l f moment caller (request.Delete handle) append = refl
-verdict_moved l f moment caller (request.Lock handle) append = refl
-verdict_moved l f moment caller (request.QueryStatus handle) append = refl
-verdict_moved l f moment caller (request.SetStatus handle status) append = refl
-verdict_moved l f moment caller (request.Unlock handle) append = refl
-verdict_moved l f moment caller (request.Change change) append = refl
-verdict_moved l f moment caller (request.Create new) append = refl
-verdict_moved l f moment caller (request.OpenManager database access) append = refl
-verdict_moved l f moment caller (request.OpenService handle name access) append = refl
-verdict_moved l f moment caller (request.QueryConfig handle size) append = refl
-verdict_moved l f moment caller (request.QueryLock handle size) append = refl
-verdict_moved l f moment caller (request.Start handle words) append = refl
-verdict_moved l f moment caller (request.DisplayName handle name size) append = refl
-verdict_moved l f moment caller (request.KeyName handle name size) append = refl
+verdict_moved l f moment caller asked append = refl
+
+-- a page that isn't whole ends with 234
+page_code : (size code : ℕ) (resume : Option ℕ) (rows : List Service) → reply_code (cond (code == 234) (page_of size resume rows) (reply.Page size [] 0 0 resume code)) ≡ code
+page_code size code resume rows =
+    elim (code == 234) as (λ b. (code == 234) ≡ b → reply_code (cond b (page_of size resume rows) (reply.Page size [] 0 0 resume code)) ≡ code) [ true ↦ λ e. sym (eqb-true code 234 e) | false ↦ λ e. refl ] refl
 
 -- what a refused call is told ends with its code
 pub refused_code : (f : Flat) (caller : ℕ) (asked : Request) (code : ℕ) → reply_code (told_refused f caller asked code) ≡ code
-refused_code f caller (request.Close handle) code = refl
-refused_code f caller (request.Control handle control) code = refl
-refused_code f caller (request.Delete handle) code = refl
-refused_code f caller (request.Lock handle) code = refl
-refused_code f caller (request.QueryStatus handle) code = refl
-refused_code f caller (request.SetStatus handle status) code = refl
-refused_code f caller (request.Unlock handle) code = refl
-refused_code f caller (request.Change change) code = refl
-refused_code f caller (request.Create new) code = refl
-refused_code f caller (request.OpenManager database access) code = refl
-refused_code f caller (request.OpenService handle name access) code = refl
-refused_code f caller (request.QueryConfig handle size) code = refl
-refused_code f caller (request.QueryLock handle size) code = refl
-refused_code f caller (request.Start handle words) code = refl
-refused_code f caller (request.DisplayName handle name size) code = refl
-refused_code f caller (request.KeyName handle name size) code = refl
+refused_code f caller (request.EnumServices handle kinds states size resume) code = page_code size code resume (services_asked f kinds states resume)
+refused_code f caller asked code = refl
+
+notice_code : (found : Option Registration) → reply_code (notice_in found) ≡ 0
+notice_code None = refl
+notice_code (Some row) = elim (row.fired == 0) as (λ b. reply_code (cond b (reply.Notice 0 zero_process_status None 0) (reply.Notice row.fired row.status (Some row.name) 0)) ≡ 0) [ true ↦ refl | false ↦ refl ]
 
 -- what is told of a call's effect ends with 0
 pub done_code : (l : Limits) (f : Flat) (caller : ℕ) (asked : Request) → reply_code (done_of l f caller asked).reply ≡ 0
-done_code l f caller (request.Close handle) = refl
-done_code l f caller (request.Control handle control) = refl
-done_code l f caller (request.Delete handle) = refl
-done_code l f caller (request.Lock handle) = refl
-done_code l f caller (request.QueryStatus handle) = refl
-done_code l f caller (request.SetStatus handle status) = refl
-done_code l f caller (request.Unlock handle) = refl
-done_code l f caller (request.Change change) = refl
-done_code l f caller (request.Create new) = refl
-done_code l f caller (request.OpenManager database access) = refl
-done_code l f caller (request.OpenService handle name access) = refl
-done_code l f caller (request.QueryConfig handle size) = refl
-done_code l f caller (request.QueryLock handle size) = refl
-done_code l f caller (request.Start handle words) = refl
-done_code l f caller (request.DisplayName handle name size) = refl
-done_code l f caller (request.KeyName handle name size) = refl
+done_code l f caller (request.GetNotify handle) = notice_code (option_and_then (registration_of f) (notify_of f caller handle))
+done_code l f caller asked = refl
 
 -- no plan is told of a call that is refused
 no_plan : (asked : Request) (code : ℕ) → (code == 0) ≡ false → tells_plan asked code ≡ false

@@ -31,6 +31,10 @@ reply_code (reply.Tag tag code) = code
 reply_code (reply.Shown config needed code) = code
 reply_code (reply.LockState held owner seconds needed code) = code
 reply_code (reply.Name name size code) = code
+reply_code (reply.Listing size bytes needed returned code) = code
+reply_code (reply.Page size bytes needed returned resume code) = code
+reply_code (reply.Bytes size bytes needed code) = code
+reply_code (reply.Notice mask status name code) = code
 
 -- the code that a caller is told: no answer but a reply has one
 abbrev pub code_told : Answer → Option ℕ

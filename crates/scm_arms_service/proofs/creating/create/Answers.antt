@@ -1,7 +1,7 @@
 use Rattle.std.proofs.Common.{◌∙◌, ap, subst, sym}
-use Rattle.scm_tables.specs.Tabled.{HasShortTexts}
 use Rattle.scm_model.specs.Outcomes.{Done}
 use Rattle.scm_rules.specs.Create.{created_config}
+use Rattle.scm_tables.specs.Tabled.{HasShortTexts}
 use Rattle.scm_arms_service.proofs.Judging.{create_allowed, create_fits, create_refused, some_of}
 use Rattle.scm_arms_service.proofs.creating.create.Goals as goal
 

@@ -4,5 +4,5 @@ use Rattle.scm_book.proofs.held.Held.grow.Goals as goal
 
 pub returns-clause-grows : goal.returns-clause-grows
 returns-clause-grows g c =
-    grown c.args.self.now _ c.args.moment c.args.step c.args.step c.args.note c.step-answer.result refl c.requires.note c.requires.may c.push.ensures.entries
-    c.step-answer.ensures.answer c.step-answer.ensures.flat c.step-answer.ensures.limits c.step-answer.ensures.steps c.step-answer.ensures.text
+    grown c.args.self.now _ c.args.moment c.args.step.now c.args.step.now c.args.note c.step_at-answer.result refl c.requires.note c.requires.may c.push.ensures.entries
+    c.step_at-answer.ensures.answer c.step_at-answer.ensures.flat c.step_at-answer.ensures.limits c.step_at-answer.ensures.steps c.step_at-answer.ensures.text
