@@ -110,9 +110,8 @@ pub fn set_status(tables: &mut Tables, caller: u64, handle: u64, report: &Status
     if code != 0 {
         return Reply::Code(code);
     }
-    if let Some(row) = tables.held_service(caller, handle) {
-        let process = row.process;
-        tables.report(process, report);
+    if let Some(opened) = tables.opened(caller, handle) {
+        tables.report_of(opened.service, report);
     }
     Reply::Code(0)
 }

@@ -1,6 +1,7 @@
 -- The codes of creations and changes: what keeping adds to them, and what follows where they are 0.
 use Rattle.std.proofs.Common.{ℕ, ◌≡◌, ◌≤◌, ◌==◌, ◌&&◌, ◌||◌, ◌∙◌, Bool, true, false, not, cond, List, [], ◌∷◌, ◌++◌, Option, None, Some, length, take, drop, refl, ap, sym, subst, inl, inr}
 use Rattle.std.specs.Prelude.{option_map}
+use Rattle.std.specs.List.{list_any}
 use Rattle.std.proofs.lemmas.Bool.{cases_Bool, false≢true, ltb-false, ne_eqb}
 use Rattle.scm_model.specs.declared.calls.ChangeService.{ChangeService}
 use Rattle.scm_model.specs.declared.calls.NewService.{NewService}
@@ -15,7 +16,7 @@ use Rattle.scm_model.specs.declared.calls.Request.{Request}
 use Rattle.scm_model.specs.declared.calls.Request.TheVariants as request
 use Rattle.scm_model.specs.Refused.{Refusals, first_refusal, outcome, refused}
 use Rattle.scm_model.specs.Outcomes.{Done}
-use Rattle.service_record.specs.Checks.{check_new, has_bad_lists, has_bad_names, has_bad_numbers, is_bad_account, is_bad_line, is_longer}
+use Rattle.service_record.specs.Checks.{check_new, has_bad_lists, has_bad_names, has_bad_numbers, has_bad_texts, is_bad_account, is_bad_line, is_longer}
 use Rattle.service_record.specs.Words.{has_word}
 use Rattle.std.specs.Char.Utf16.{has_unpaired_surrogate}
 use Rattle.scm_rules.specs.Change.{asked_refusals, clash_refusals, row_refusals, asked_config, change_done, change_refusals, change_verdict, checked, new_config, tags_no_group}
@@ -24,6 +25,7 @@ use Rattle.scm_rules.specs.Delete.{is_failed}
 use Rattle.scm_rules.specs.Needs.{are_unreadable}
 use Rattle.scm_arms_service.specs.Judged.{code_once_kept}
 use Rattle.scm_model.specs.Rows.{held_service}
+use Rattle.scm_tables.specs.Tabled.{HasShortTexts}
 
 -- ## Refusals
 
@@ -95,7 +97,7 @@ long_refused false false false true broken group description command lists accou
 long_refused false false false false broken group description command lists account is p q = false≢true is
 
 -- a configuration that passes has a path that isn't too long
-pub short_path : (config : Config) (account : Option (List ℕ)) → (check_new config account == 123) ≡ false → (check_new config account == 87) ≡ false → length config.path ≤ 2048
+short_path : (config : Config) (account : Option (List ℕ)) → (check_new config account == 123) ≡ false → (check_new config account == 87) ≡ false → length config.path ≤ 2048
 unfolding check_new
 short_path config account names texts =
     elim (cases_Bool (is_longer 2048 config.path)) [
@@ -105,6 +107,27 @@ short_path config account names texts =
           (is_bad_account account) long names texts)
       | inr short ↦ ltb-false 2048 (length config.path) short
     ]
+
+-- where it isn't refused for its names, these aren't bad
+good_names : (bad : Bool) (rest : ℕ) → (cond bad 123 rest == 123) ≡ false → bad ≡ false
+good_names true rest e = e
+good_names false rest e = refl
+
+not_longer : (empty longer signs shown : Bool) → ((empty || longer || signs) || shown) ≡ false → longer ≡ false
+not_longer true longer signs shown e = absurd (false≢true (sym e))
+not_longer false true signs shown e = e
+not_longer false false signs shown e = refl
+
+-- its name isn't too long either
+short_name : (config : Config) (account : Option (List ℕ)) → (check_new config account == 123) ≡ false → length config.name ≤ 256
+unfolding check_new
+short_name config account names =
+    ltb-false 256 (length config.name)
+    (not_longer (length config.name == 0) (is_longer 256 config.name) (list_any (λ u. u == 47 || u == 92) config.name) (is_longer 256 config.display)
+    (good_names (has_bad_names config) (first_refusal ((has_bad_numbers config || has_bad_texts config || has_bad_lists config, 87) ∷ (is_bad_account account, 1057) ∷ [])) names))
+
+pub short_texts : (config : Config) (account : Option (List ℕ)) → (check_new config account == 123) ≡ false → (check_new config account == 87) ≡ false → HasShortTexts config
+short_texts config account names texts = record { path = short_path config account names texts; name = short_name config account names }
 
 -- of three tests that fail the first fails
 first_false : (a b c : Bool) → (a || b || c) ≡ false → a ≡ false
@@ -118,11 +141,11 @@ created_once_kept : (l : Limits) (f : Flat) (caller : ℕ) (new : NewService) (a
 created_once_kept l f caller new append =
     last_refusal (take 10 (create_refusals l f caller new append)) (refl, (refl, (refl, (refl, (refl, (refl, (refl, (refl, (refl, (refl, tt)))))))))) (is_failed append)
 
--- a creation that isn't refused has a path that isn't too long
-created_path : (l : Limits) (f : Flat) (caller : ℕ) (new : NewService) (append : Kept) → create_verdict l f caller new append ≡ 0 → length (created_config f new).path ≤ 2048
-created_path l f caller new append e =
+-- a creation that isn't refused has texts that aren't too long
+created_texts : (l : Limits) (f : Flat) (caller : ℕ) (new : NewService) (append : Kept) → create_verdict l f caller new append ≡ 0 → HasShortTexts (created_config f new)
+created_texts l f caller new append e =
     let all : ArePassed (create_refusals l f caller new append) = passed (create_refusals l f caller new append) (refl, (refl, (refl, (refl, (refl, (refl, (refl, (refl, (refl, (refl, (refl, tt))))))))))) e in
-    short_path (created_config f new) new.account all.1.1.0 (first_false (check_new (created_config f new) new.account == 87) (tags_nothing new) (are_unreadable new.needs) all.1.1.1.0)
+    short_texts (created_config f new) new.account all.1.1.0 (first_false (check_new (created_config f new) new.account == 87) (tags_nothing new) (are_unreadable new.needs) all.1.1.1.0)
 
 -- what the rights deny is a creation's code
 pub create_denied : (l : Limits) (f : Flat) (caller : ℕ) (new : NewService) (denied : ℕ) → denied ≡ first_refusal (right_refusals f caller new) → (denied ≡ 0 → ⊥)
@@ -186,8 +209,8 @@ create_allowed l f caller new append code result is made zero =
 
 -- a creation that is done has a path that isn't too long
 pub create_fits : (l : Limits) (f : Flat) (caller : ℕ) (new : NewService) (append : Kept) (code result : ℕ) → code ≡ create_verdict l f caller new appended.Kept → result ≡ code_once_kept code append
-    → result ≡ 0 → length (created_config f new).path ≤ 2048
-create_fits l f caller new append code result is made zero = created_path l f caller new append (create_code l f caller new append code result is made ∙ zero)
+    → result ≡ 0 → HasShortTexts (created_config f new)
+create_fits l f caller new append code result is made zero = created_texts l f caller new append (create_code l f caller new append code result is made ∙ zero)
 
 -- ## Changes
 
@@ -220,14 +243,14 @@ changed_once_kept : (f : Flat) (caller : ℕ) (change : ChangeService) (append :
 changed_once_kept f caller change append =
     last_refusal (take 8 (change_refusals f caller change append)) (refl, (refl, (refl, (refl, (refl, (refl, (refl, (refl, tt)))))))) (is_failed append)
 
--- a change that isn't refused leaves a path that isn't too long
-changed_path : (f : Flat) (caller : ℕ) (change : ChangeService) (append : Kept) (config : Config) → change_verdict f caller change append ≡ 0 → asked_config f caller change ≡ Some config → length config.path ≤ 2048
-changed_path f caller change append config e asked =
+-- a change that isn't refused leaves texts that aren't too long
+changed_texts : (f : Flat) (caller : ℕ) (change : ChangeService) (append : Kept) (config : Config) → change_verdict f caller change append ≡ 0 → asked_config f caller change ≡ Some config → HasShortTexts config
+changed_texts f caller change append config e asked =
     let all : ArePassed (change_refusals f caller change append) = passed (change_refusals f caller change append) (refl, (refl, (refl, (refl, (refl, (refl, (refl, (refl, (refl, tt))))))))) e in
     elim (held_service f caller change.handle) as (λ service. (checked f change service == 123) ≡ false → (checked f change service == 87) ≡ false
-    → option_map (new_config f change) service ≡ Some config → length config.path ≤ 2048) [
+    → option_map (new_config f change) service ≡ Some config → HasShortTexts config) [
       | None ↦ λ names texts is. absurd cc
-      | Some row ↦ λ names texts is. subst (λ (new : Config). length new.path ≤ 2048) (some_of (new_config f change row) config is) (short_path (new_config f change row) change.account names texts)
+      | Some row ↦ λ names texts is. subst HasShortTexts (some_of (new_config f change row) config is) (short_texts (new_config f change row) change.account names texts)
     ] all.1.1.1.0 (first_false (checked f change (held_service f caller change.handle) == 87) (tags_no_group change (held_service f caller change.handle)) (are_unreadable change.needs) all.1.1.1.1.0) asked
 
 -- the code of a change once it is kept
@@ -245,6 +268,6 @@ change_refused f caller change append code result is made other =
 
 -- a change that is done leaves a path that isn't too long
 pub change_fits : (f : Flat) (caller : ℕ) (change : ChangeService) (append : Kept) (code result : ℕ) (config : Config) → code ≡ change_verdict f caller change appended.Kept → result ≡ code_once_kept code append
-    → result ≡ 0 → asked_config f caller change ≡ Some config → length config.path ≤ 2048
+    → result ≡ 0 → asked_config f caller change ≡ Some config → HasShortTexts config
 change_fits f caller change append code result config is made zero asked =
-    changed_path f caller change append config (change_code f caller change append code result is made ∙ zero) asked
+    changed_texts f caller change append config (change_code f caller change append code result is made ∙ zero) asked

@@ -1,13 +1,14 @@
 ghost use Rattle.std.specs.Prelude.{◌≡◌, ◌<◌, ◌≤◌, ◌^◌, ◌||◌, Some, nat_le, length, IfOk, is_some};
 ghost use Rattle.scm_model.specs.Refused.{first_refusal, outcome};
-ghost use Rattle.scm_model.specs.Changes.{with_handle, with_service};
+ghost use Rattle.scm_model.specs.Changes.{with_handle};
 ghost use Rattle.scm_model.specs.Rows.{held_by};
 ghost use Rattle.scm_model.specs.declared.calls.Request.TheVariants as request;
 ghost use Rattle.scm_model.specs.declared.flat.HandleKind.TheVariants as kinds;
 ghost use Rattle.scm_model.specs.declared.steps.Kept.TheVariants as appended;
-ghost use Rattle.scm_rules.specs.Create.{config_refusals, new_status, place_refusals, right_refusals, created_config, create_change, create_done, create_verdict, tags_nothing, create_outcome};
+ghost use Rattle.scm_rules.specs.Create.{config_refusals, new_status, place_refusals, right_refusals, created_config, create_change, create_done, create_verdict, tags_nothing, create_outcome, with_creation};
 ghost use Rattle.scm_rules.specs.OpenService.{service_granted};
 ghost use Rattle.scm_rules.specs.Verdicts.{unless_refused};
+ghost use Rattle.scm_tables.specs.Tabled.{HasShortTexts};
 
 use super::deleting::{code_once_kept, is_marked};
 use super::making::{config_of, told_tag};
@@ -159,13 +160,13 @@ pub fn created(
 
 /// Adds a service that has this configuration, and opens a handle of it with these rights, whose number it answers.
 fn add_opened(tables: &mut Tables, caller: u64, config: Config, kind: u32, rights: u32) -> u64
-    requires path { length config.path ≤ 2048 }
+    requires texts { HasShortTexts config }
     requires services { 1 ≤ tables.old.spare.services }
     requires handles { 1 ≤ tables.old.spare.handles }
     requires next_service { tables.old.flat.next.service < 2 ^ 63 }
     requires next_handle { tables.old.flat.next.handle < 2 ^ 63 }
     ensures number { result ≡ tables.old.flat.next.handle }
-    ensures flat { tables.new.flat ≡ with_handle (with_service tables.old.flat config (new_status kind)) caller (kinds.Service tables.old.flat.next.service) rights }
+    ensures flat { tables.new.flat ≡ with_handle (with_creation tables.old.flat config (new_status kind)) caller (kinds.Service tables.old.flat.next.service) rights }
     ensures limits { tables.new.limits ≡ tables.old.limits }
 {
     let service = tables.add_service(config, new_status(kind));
@@ -175,7 +176,7 @@ fn add_opened(tables: &mut Tables, caller: u64, config: Config, kind: u32, right
 /// Creates a service that has the configuration that was made for it, and opens a handle of it.
 fn create_done(tables: &mut Tables, caller: u64, new: &NewService, config: Config) -> Reply
     requires made { config ≡ created_config tables.old.flat new.now }
-    requires path { length config.path ≤ 2048 }
+    requires texts { HasShortTexts config }
     requires services { 1 ≤ tables.old.spare.services }
     requires handles { 1 ≤ tables.old.spare.handles }
     requires next_service { tables.old.flat.next.service < 2 ^ 63 }

@@ -88,7 +88,7 @@ pub fn removed(
     removal(tables.held_service(caller, handle), alloc)
 }
 
-/// Marks a service. It leaves once it is STOPPED and no handle names it.
+/// Marks a service, of which its registrations are told. It leaves once it is STOPPED and no handle names it.
 pub fn delete(tables: &mut Tables, caller: u64, handle: u64, kept: Kept) -> Reply
     ensures reply { result ≡ (delete_outcome tables.old.flat caller handle kept).reply }
     ensures flat { tables.new.flat ≡ (delete_outcome tables.old.flat caller handle kept).flat }
@@ -98,9 +98,8 @@ pub fn delete(tables: &mut Tables, caller: u64, handle: u64, kept: Kept) -> Repl
     if code != 0 {
         return Reply::Code(code);
     }
-    if let Some(row) = tables.held_service(caller, handle) {
-        let number = row.number;
-        tables.mark(number);
+    if let Some(opened) = tables.opened(caller, handle) {
+        tables.mark(opened.service);
     }
     Reply::Code(0)
 }

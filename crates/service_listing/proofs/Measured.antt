@@ -17,9 +17,19 @@ size_is (row ∷ rows) =
 abbrev pub behind : List (Bor Service) → List Service
 behind services = map (λ (s : Bor Service). s.now) services
 
-length_behind : (services : List (Bor Service)) → length (behind services) ≡ length services
+pub length_behind : (services : List (Bor Service)) → length (behind services) ≡ length services
 length_behind [] = refl
 length_behind (s ∷ services) = ap suc (length_behind services)
+
+pub behind_take : (n : ℕ) (services : List (Bor Service)) → behind (take n services) ≡ take n (behind services)
+behind_take zero services = refl
+behind_take (suc n) [] = refl
+behind_take (suc n) (s ∷ services) = ap (λ (rows : List Service). s.now ∷ rows) (behind_take n services)
+
+pub behind_drop : (n : ℕ) (services : List (Bor Service)) → behind (drop n services) ≡ drop n (behind services)
+behind_drop zero services = refl
+behind_drop (suc n) [] = refl
+behind_drop (suc n) (s ∷ services) = behind_drop n services
 
 -- the same of services behind references
 pub size_behind : (services : List (Bor Service)) → listing_size (behind services) ≡ length services * 36 + names_sizes (behind services)

@@ -6,5 +6,5 @@ mod sizes;
 mod writing;
 
 pub use laws::{bytes_have_their_sizes, pages_are_longest};
-pub use sizes::{fitting, listing_size};
+pub use sizes::{count, fitting, listing_size};
 pub use writing::{listing, process_status};

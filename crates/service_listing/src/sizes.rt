@@ -33,7 +33,7 @@ pub fn listing_size(services: &[&Service]) -> u64
 }
 
 /// How many services fit in a listing of some size, from the first one on.
-pub fn fitting(services: &[&Service], size: u32) -> usize
+fn fitting_of(services: &[&Service], size: u32) -> usize
     ensures page { take result (map (λ s. s.now) services.now) ≡ page_in size (map (λ s. s.now) services.now) }
     ensures left { drop result (map (λ s. s.now) services.now) ≡ left_of size (map (λ s. s.now) services.now) }
     ensures few { result ≤ length services.now }
@@ -47,4 +47,21 @@ pub fn fitting(services: &[&Service], size: u32) -> usize
         room -= size;
     }
     services.len()
+}
+
+/// How many services fit in a listing of some size, from the first one on.
+pub fn fitting(services: &[&Service], size: u32) -> usize
+    ensures page { map (λ s. s.now) (take result services.now) ≡ page_in size (map (λ s. s.now) services.now) }
+    ensures left { map (λ s. s.now) (drop result services.now) ≡ left_of size (map (λ s. s.now) services.now) }
+    ensures few { result ≤ length services.now }
+{
+    fitting_of(services, size)
+}
+
+/// How many services there are.
+pub fn count(services: &[&Service]) -> u32
+    requires { listing_size (map (λ s. s.now) services.now) < 2 ^ 32 }
+    ensures { result ≡ length (map (λ s. s.now) services.now) }
+{
+    services.len() as u32
 }

@@ -1,7 +1,7 @@
-use Rattle.std.proofs.Common.{◌≤◌, ◌∙◌, ap, length, subst, sym}
-use Rattle.scm_model.specs.declared.flat.Config.{Config}
+use Rattle.std.proofs.Common.{◌∙◌, ap, subst, sym}
 use Rattle.scm_model.specs.Outcomes.{Done}
 use Rattle.scm_rules.specs.Create.{created_config}
+use Rattle.scm_tables.specs.Tabled.{HasShortTexts}
 use Rattle.scm_arms_service.proofs.Judging.{create_allowed, create_fits, create_refused, some_of}
 use Rattle.scm_arms_service.proofs.creating.create.Goals as goal
 
@@ -18,9 +18,9 @@ returns-then-code-ne0-clause-flat c =
 pub create_done-requires-clause-made : goal.create_done-requires-clause-made
 create_done-requires-clause-made c = sym (some_of (created_config c.args.tables.now.flat c.args.new) c.unwrap.result (sym c.requires.made ∙ c.unwrap.ensures))
 
-pub create_done-requires-clause-path : goal.create_done-requires-clause-path
-create_done-requires-clause-path c =
-    subst (λ (config : Config). length config.path ≤ 2048) (some_of (created_config c.args.tables.now.flat c.args.new) c.unwrap.result (sym c.requires.made ∙ c.unwrap.ensures))
+pub create_done-requires-clause-texts : goal.create_done-requires-clause-texts
+create_done-requires-clause-texts c =
+    subst HasShortTexts (some_of (created_config c.args.tables.now.flat c.args.new) c.unwrap.result (sym c.requires.made ∙ c.unwrap.ensures))
     (create_fits c.args.limits.now c.args.tables.now.flat c.args.caller c.args.new c.args.kept c.args.code c.code_once_kept-code.result c.requires.verdict c.code_once_kept-code.ensures c.if-code-ne0.false)
 
 pub returns-clause-reply : goal.returns-clause-reply

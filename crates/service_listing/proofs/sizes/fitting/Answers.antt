@@ -1,22 +1,9 @@
-use Rattle.std.proofs.Common.{arith}
-use Rattle.service_listing.proofs.Measured.{behind, ends_left, ends_page, goes_left, goes_page, next}
+use Rattle.std.proofs.Common.{◌∙◌}
+use Rattle.service_listing.proofs.Measured.{behind_drop, behind_take}
 use Rattle.service_listing.proofs.sizes.fitting.Goals as goal
 
-pub returns-then-room-size-clause-page : goal.returns-then-room-size-clause-page
-returns-then-room-size-clause-page c =
-    let at = next c.args.services.now c.loop-i.i c.index-services-i.result (omega arith) c.index-services-i.is in
-    ends_page c.args.size c.loop-i.room c.loop-i.i (behind c.args.services.now) c.index-services-i.result.now c.loop-i.invariant.page at (omega arith)
+pub returns-clause-page : goal.returns-clause-page
+returns-clause-page c = behind_take c.fitting_of.result c.args.services.now ∙ c.fitting_of.ensures.page
 
-pub returns-then-room-size-clause-left : goal.returns-then-room-size-clause-left
-returns-then-room-size-clause-left c =
-    let at = next c.args.services.now c.loop-i.i c.index-services-i.result (omega arith) c.index-services-i.is in
-    ends_left c.args.size c.loop-i.room c.loop-i.i (behind c.args.services.now) c.index-services-i.result.now c.loop-i.invariant.left at (omega arith)
-
-pub loop-i-preserved : goal.loop-i-preserved
-loop-i-preserved c =
-    let rows = behind c.args.services.now in
-    let at = next c.args.services.now c.loop-i.i c.index-services-i.result (omega arith) c.index-services-i.is in
-    record {
-      page = rw c.size_of-size.ensures.size (goes_page c.args.size c.loop-i.room c.loop-i.i rows c.index-services-i.result.now c.loop-i.invariant.page at (omega arith));
-      left = rw c.size_of-size.ensures.size (goes_left c.args.size c.loop-i.room c.loop-i.i rows c.index-services-i.result.now c.loop-i.invariant.left at (omega arith));
-    }
+pub returns-clause-left : goal.returns-clause-left
+returns-clause-left c = behind_drop c.fitting_of.result c.args.services.now ∙ c.fitting_of.ensures.left

@@ -1,6 +1,6 @@
 use Rattle.std.proofs.Common.{◌≡◌, ◌++◌, drop, map, take}
 use Rattle.service_listing.specs.Pages.{left_of, page_in}
-use Rattle.service_listing.proofs.sizes.fitting.Given as goal
+use Rattle.service_listing.proofs.sizes.fitting_of.Given as goal
 
 -- those before fit, and those that are left have the rest of the room
 abbrev pub invariant-loop-i : goal.invariant-loop-i
