@@ -2,6 +2,7 @@
 #![tactic(auto)]
 
 ghost use Rattle.std.specs.Prelude.{All};
+ghost use Rattle.scm_notices.specs.Events.{LawOfEvents};
 ghost use Rattle.scm_notices.specs.Notices.{IsInOrder, LawOfNotices};
 ghost use Rattle.scm_rules.specs.Histories.{state};
 ghost use Rattle.scm_rules.specs.Opening.{IsOpening};
@@ -26,4 +27,13 @@ pub fn law_of_notices(limits: &Limits, steps: &Items<(u64, Step)>, opening: &Fla
     requires begins { IsOpening limits.now opening.now }
     requires legal { IsLegal limits.now opening.now steps.now }
     ensures { EachStep (LawOfNotices limits.now) limits.now opening.now steps.now }
+{}
+
+/// The law of events: no registration is passed over. Where a step brings a service to another
+/// state, or marks it, none of its registrations waits for that any more, and where one comes or
+/// leaves, none of the manager's does.
+pub fn law_of_events(limits: &Limits, steps: &Items<(u64, Step)>, opening: &Flat)
+    requires begins { IsOpening limits.now opening.now }
+    requires legal { IsLegal limits.now opening.now steps.now }
+    ensures { EachStep (LawOfEvents limits.now) limits.now opening.now steps.now }
 {}
