@@ -1,4 +1,4 @@
-ghost use Rattle.std.specs.Prelude.{◌≡◌, ◌≤◌, ◌+◌, ◌<◌, ◌^◌, [], drop, length, IfErr, OnOk};
+ghost use Rattle.std.specs.Prelude.{ℕ, ◌≡◌, ◌≤◌, ◌+◌, ◌<◌, ◌^◌, [], drop, length, IfErr, OnOk};
 ghost use Rattle.sc_client.specs.Along.{ReadsMore};
 ghost use Rattle.sc_client.specs.Runs.{IsCaused};
 
@@ -42,7 +42,9 @@ impl Held {
     pub fn read_more<S: Source>(&mut self, source: &mut S) -> Result<(), ClientFault>
         ensures read { ReadsMore (S.left source.old) (S.left source.new) self.old self.new result }
         ensures grows { S.faults source.old ≤ S.faults source.new }
-        ensures cause { IfErr result (λ fault. IsCaused fault (S.faults source.old) (S.faults source.new) 0 1) }
+        ensures cause { IfErr result (λ fault. (sink : ℕ)
+            → IsCaused fault (S.faults source.old) (S.faults source.new) sink sink) }
+        ensures kept { OnOk result (S.faults source.new ≡ S.faults source.old) }
     {
         let mut piece = [0u8; 4096];
         let Ok(count) = source.read(&mut piece) else {

@@ -1,4 +1,5 @@
-ghost use Rattle.std.specs.Prelude.{◌≡◌, ◌≤◌, ◌<◌, ◌^◌, false, IfErr};
+ghost use Rattle.std.specs.Prelude.{◌≡◌, ◌≤◌, ◌<◌, ◌^◌, false, IfErr, OnOk};
+ghost use Rattle.outside.specs.Causes.{NeitherFailed};
 ghost use Rattle.sc_client.specs.Along.{Turn, read_so_far};
 ghost use Rattle.sc_client.specs.Runs.{IsCaused, IsRun};
 ghost use Rattle.sc_client.specs.Talks.{is_over};
@@ -33,6 +34,8 @@ fn turn<S: Source, T: Sink>(
     ensures sink { T.faults sink.old ≤ T.faults sink.new }
     ensures cause { IfErr result (λ fault. IsCaused fault
         (S.faults source.old) (S.faults source.new) (T.faults sink.old) (T.faults sink.new)) }
+    ensures kept { OnOk result (NeitherFailed
+        (S.faults source.old) (S.faults source.new) (T.faults sink.old) (T.faults sink.new)) }
 {
     if !take_pdu(alloc, command, talk, held)? {
         held.read_more(source)?;
@@ -56,6 +59,8 @@ pub fn run_command<S: Source, T: Sink>(
     ensures source { S.faults source.old ≤ S.faults source.new }
     ensures sink { T.faults sink.old ≤ T.faults sink.new }
     ensures cause { IfErr result (λ fault. IsCaused fault
+        (S.faults source.old) (S.faults source.new) (T.faults sink.old) (T.faults sink.new)) }
+    ensures kept { OnOk result (NeitherFailed
         (S.faults source.old) (S.faults source.new) (T.faults sink.old) (T.faults sink.new)) }
 {
     let mut talk = Talk::new(alloc);
