@@ -30,7 +30,8 @@ impl Held {
     pub fn pass(&mut self, alloc: Global, count: usize) -> Result<(), OutOfMemory>
         requires within { count ≤ length self.old.bytes }
         requires small { self.old.place + length self.old.bytes < 2 ^ 63 }
-        ensures { OnOk result (self.new ≡ record { bytes = drop count self.old.bytes; place = self.old.place + count }) }
+        ensures { OnOk result (self.new
+            ≡ record { bytes = drop count self.old.bytes; place = self.old.place + count }) }
     {
         let (_, rest) = self.bytes.as_slice().split_at(count);
         self.bytes = Items::from_slice(alloc, rest)?;
