@@ -8,7 +8,7 @@ use std::sync::{Mutex, Wait};
 use std::thread::{self, Threads};
 
 /// What a step is answered, with the lock held for it.
-fn step<R: Wait>(rt: &R, manager: &Mutex<Manager>, step: Step) -> Option<Answer> {
+fn step<R: Wait>(rt: &R, manager: &Mutex<Manager>, step: &mut Step) -> Option<Answer> {
     let mut manager = manager.lock(rt);
     make(&mut *manager, 0, step)
 }
@@ -25,12 +25,12 @@ fn number<R: Wait>(
     let Ok(request) = request_of(alloc, asked) else {
         return None;
     };
-    let called = Step::Call {
+    let mut called = Step::Call {
         caller,
         request,
         kept,
     };
-    match step(rt, manager, called) {
+    match step(rt, manager, &mut called) {
         Some(Answer::Reply(reply)) => match told_by(&reply) {
             Told { code: 0, number } => Some(number),
             _ => None,
@@ -42,7 +42,7 @@ fn number<R: Wait>(
 /// The number of a caller who joins.
 fn join<R: Wait>(rt: &R, manager: &Mutex<Manager>) -> Option<u64> {
     let principal = Principal::Admin;
-    match step(rt, manager, Step::Joined { principal }) {
+    match step(rt, manager, &mut Step::Joined { principal }) {
         Some(Answer::Caller(caller)) => Some(caller),
         _ => None,
     }
@@ -64,7 +64,7 @@ fn create<R: Wait>(rt: &R, alloc: Global, manager: &Mutex<Manager>, services: u1
             return false;
         }
     }
-    is_open && step(rt, manager, Step::Gone { caller }).is_some()
+    is_open && step(rt, manager, &mut Step::Gone { caller }).is_some()
 }
 
 /// Whether so many queries of a service are answered.
@@ -96,7 +96,7 @@ fn visit<R: Wait>(rt: &R, alloc: Global, manager: &Mutex<Manager>, mark: u64, wo
         return false;
     };
     let done = query(rt, alloc, manager, caller, work.queries, work.name_of(mark));
-    done.is_some() && step(rt, manager, Step::Gone { caller }).is_some()
+    done.is_some() && step(rt, manager, &mut Step::Gone { caller }).is_some()
 }
 
 /// Whether the services are made, and each caller's queries are answered.

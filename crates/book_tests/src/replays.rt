@@ -107,7 +107,7 @@ impl Visit {
 /// What a step is told by a manager that only it has, if it may be made.
 fn again(alloc: Global, manager: &mut Manager, moment: u64, step: &Step) -> Option<Told> {
     match step.copy(alloc) {
-        Ok(copy) => match make(manager, moment, copy) {
+        Ok(mut copy) => match make(manager, moment, &mut copy) {
             Some(answer) => Some(heard(&answer)),
             None => None,
         },

@@ -1,5 +1,5 @@
 -- The bodies of requests: their shapes, what is made of their values, and the values of a request.
-use Rattle.std.specs.Prelude.{ℕ, List, [], ◌∷◌}
+use Rattle.std.specs.Prelude.{List, [], ◌∷◌}
 use Rattle.scm_model.specs.declared.flat.Status.{Status}
 use Rattle.scm_model.specs.declared.calls.Request.{Request}
 use Rattle.scm_model.specs.declared.calls.Request.TheVariants as request

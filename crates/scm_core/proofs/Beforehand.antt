@@ -14,6 +14,9 @@ use Rattle.scm_model.specs.Refused.{answered}
 use Rattle.scm_model.specs.Entries.{unkept}
 use Rattle.scm_model.specs.Outcomes.{Done}
 use Rattle.scm_rules.specs.OtherName.{display_by_name, name_by_display, other_name_done, other_name_reply, other_name_told, other_name_verdict}
+use Rattle.scm_rules.specs.EnumDependents.{enum_dependents_done, enum_dependents_told, enum_dependents_verdict}
+use Rattle.scm_rules.specs.EnumServices.{enum_services_done, enum_services_told, enum_services_verdict}
+use Rattle.scm_rules.specs.QueryStatusEx.{query_ex_done, query_ex_told, query_ex_verdict}
 use Rattle.scm_rules.specs.QueryConfig.{query_config_done, query_config_told, query_config_verdict}
 use Rattle.scm_rules.specs.Steps.{at_moment, keeps_right}
 use Rattle.scm_rules.specs.Verdicts.{change_of, change_of_call, tells_right}
@@ -58,6 +61,18 @@ made_at l f moment caller (request.Create new) = refl
 made_at l f moment caller (request.OpenManager database access) = refl
 made_at l f moment caller (request.OpenService handle name access) = refl
 made_at l f moment caller (request.Start handle words) = refl
+made_at l f moment caller (request.EnumDependents handle states size) =
+    let code = enum_dependents_verdict f caller handle states size in
+    ap replying (told_at code (enum_dependents_told f caller handle states size code) (enum_dependents_done f caller handle states size).reply (with_moment f moment) f)
+made_at l f moment caller (request.EnumServices handle kinds states size resume) =
+    let code = enum_services_verdict f caller handle kinds states size resume in
+    ap replying (told_at code (enum_services_told f kinds states size resume code) (enum_services_done f kinds states size resume).reply (with_moment f moment) f)
+made_at l f moment caller (request.QueryStatusEx handle level size) =
+    let code = query_ex_verdict f caller handle level size in
+    ap replying (told_at code (query_ex_told size code) (query_ex_done f caller handle size).reply (with_moment f moment) f)
+made_at l f moment caller (request.Notify handle mask) = refl
+made_at l f moment caller (request.GetNotify handle) = refl
+made_at l f moment caller (request.CloseNotify handle) = refl
 
 pub is_made_at : (l : Limits) (f : Flat) (moment : ℕ) (made : Made) (step : Step) → IsMadeFor l f made step → IsMadeFor l (at_moment f moment step) made step
 is_made_at l f moment made (Call caller asked append) is = rw (made_at l f moment caller asked) is
@@ -90,6 +105,12 @@ room_at t moment caller (request.Create new) append has = has
 room_at t moment caller (request.OpenManager database access) append has = has
 room_at t moment caller (request.OpenService handle name access) append has = has
 room_at t moment caller (request.Start handle words) append has = has
+room_at t moment caller (request.EnumDependents handle states size) append has = has
+room_at t moment caller (request.EnumServices handle kinds states size resume) append has = has
+room_at t moment caller (request.QueryStatusEx handle level size) append has = has
+room_at t moment caller (request.Notify handle mask) append has = has
+room_at t moment caller (request.GetNotify handle) append has = has
+room_at t moment caller (request.CloseNotify handle) append has = has
 
 -- the room of lists that moved on to the step's moment
 pub has_room_at : (t u : Tabled) (moment : ℕ) (step : Step) → u.flat ≡ at_moment t.flat moment step → u.limits ≡ t.limits → u.spare ≡ t.spare → HasRoomFor t step → HasRoomFor u step

@@ -25,6 +25,9 @@ use Rattle.scm_rules.specs.Verdicts.{call_of, done_of, told_refused, verdict}
 use Rattle.scm_core.specs.Room.{HasNumbers}
 use Rattle.scm_model.proofs.Found.{found_keeps}
 use Rattle.scm_model.specs.Rows.{held_service, named}
+use Rattle.scm_model.specs.declared.flat.HandleKind.TheVariants as kinds
+use Rattle.scm_model.specs.Changes.{with_handle}
+use Rattle.scm_rules.specs.Notify.{registered, watched}
 use Rattle.scm_rules.specs.OpenService.{service_granted, with_opened}
 use Rattle.scm_rules.specs.Start.{with_start}
 use Rattle.std.specs.Prelude.{unwrap_or}
@@ -37,11 +40,12 @@ pub record NumbersRise (old new : Flat) : Type 0 where
   pub service : new.next.service ≤ old.next.service + 1
   pub plan : new.next.plan ≤ old.next.plan + 1
   pub due : new.next.due ≤ old.next.due + 1
+  pub registration : new.next.registration ≤ old.next.registration + 1
   pub process : new.next.process ≡ old.next.process
 
 -- no number is given
 same : (old new : Flat) → new.next ≡ old.next → NumbersRise old new
-same old new e = subst (λ n. NumbersRise old (record new { next = n })) (sym e) (record { handle = omega arith; caller = omega arith; service = omega arith; plan = omega arith; due = omega arith; process = refl })
+same old new e = subst (λ n. NumbersRise old (record new { next = n })) (sym e) (record { handle = omega arith; caller = omega arith; service = omega arith; plan = omega arith; due = omega arith; registration = omega arith; process = refl })
 
 -- ## Calls
 
@@ -52,23 +56,33 @@ of_done : (l : Limits) (f : Flat) (caller : ℕ) (asked : Request) → NumbersRi
 of_done l f caller (request.Close handle) = same f (done_of l f caller (request.Close handle)).flat refl
 of_done l f caller (request.Control handle control) = same f (done_of l f caller (request.Control handle control)).flat refl
 of_done l f caller (request.Delete handle) = same f (done_of l f caller (request.Delete handle)).flat refl
-of_done l f caller (request.Lock handle) = record { handle = omega arith; caller = omega arith; service = omega arith; plan = omega arith; due = omega arith; process = refl }
+of_done l f caller (request.Lock handle) = record { handle = omega arith; caller = omega arith; service = omega arith; plan = omega arith; due = omega arith; registration = omega arith; process = refl }
 of_done l f caller (request.SetStatus handle status) = same f (done_of l f caller (request.SetStatus handle status)).flat refl
 of_done l f caller (request.Unlock handle) = same f (done_of l f caller (request.Unlock handle)).flat refl
 of_done l f caller (request.QueryStatus handle) = same f f refl
 of_done l f caller (request.Change change) = same f (done_of l f caller (request.Change change)).flat refl
-of_done l f caller (request.Create new) = record { handle = omega arith; caller = omega arith; service = omega arith; plan = omega arith; due = omega arith; process = refl }
-of_done l f caller (request.OpenManager database access) = record { handle = omega arith; caller = omega arith; service = omega arith; plan = omega arith; due = omega arith; process = refl }
+of_done l f caller (request.Create new) = record { handle = omega arith; caller = omega arith; service = omega arith; plan = omega arith; due = omega arith; registration = omega arith; process = refl }
+of_done l f caller (request.OpenManager database access) = record { handle = omega arith; caller = omega arith; service = omega arith; plan = omega arith; due = omega arith; registration = omega arith; process = refl }
 of_done l f caller (request.OpenService handle name access) =
     found_keeps (NumbersRise f) (with_opened caller (unwrap_or (service_granted f caller access) 0)) (named f name) f (same f f refl)
-    (λ row is. record { handle = omega arith; caller = omega arith; service = omega arith; plan = omega arith; due = omega arith; process = refl })
+    (λ row is. record { handle = omega arith; caller = omega arith; service = omega arith; plan = omega arith; due = omega arith; registration = omega arith; process = refl })
 of_done l f caller (request.QueryConfig handle size) = same f f refl
 of_done l f caller (request.QueryLock handle size) = same f f refl
 of_done l f caller (request.Start handle words) =
     found_keeps (NumbersRise f) (with_start caller (unwrap_or words [])) (held_service f caller handle) f (same f f refl)
-    (λ row is. record { handle = omega arith; caller = omega arith; service = omega arith; plan = omega arith; due = omega arith; process = refl })
+    (λ row is. record { handle = omega arith; caller = omega arith; service = omega arith; plan = omega arith; due = omega arith; registration = omega arith; process = refl })
 of_done l f caller (request.DisplayName handle name size) = same f f refl
 of_done l f caller (request.KeyName handle name size) = same f f refl
+of_done l f caller (request.EnumDependents handle states size) = same f f refl
+of_done l f caller (request.EnumServices handle kinds states size resume) = same f f refl
+of_done l f caller (request.QueryStatusEx handle level size) = same f f refl
+of_done l f caller (request.Notify handle mask) =
+    elim (watched f caller handle) as (λ of. NumbersRise f (with_handle (registered f caller handle mask of) caller (kinds.Notify f.next.registration) 0)) [
+      | None ↦ record { handle = omega arith; caller = omega arith; service = omega arith; plan = omega arith; due = omega arith; registration = omega arith; process = refl }
+      | Some of ↦ record { handle = omega arith; caller = omega arith; service = omega arith; plan = omega arith; due = omega arith; registration = omega arith; process = refl }
+    ]
+of_done l f caller (request.GetNotify handle) = same f (done_of l f caller (request.GetNotify handle)).flat refl
+of_done l f caller (request.CloseNotify handle) = same f (done_of l f caller (request.CloseNotify handle)).flat refl
 
 of_call : (l : Limits) (f : Flat) (caller : ℕ) (asked : Request) (append : Kept) → NumbersRise f (call_of l f caller asked append).flat
 of_call l f caller asked append = of_answered (verdict l f caller asked append) (told_refused f caller asked (verdict l f caller asked append)) f (done_of l f caller asked) (of_done l f caller asked)
@@ -76,7 +90,7 @@ of_call l f caller asked append = of_answered (verdict l f caller asked append) 
 -- ## Steps
 
 of_effect : (l : Limits) (f : Flat) (step : Step) → NumbersRise f (effect_of l f step).flat
-of_effect l f (Joined principal) = record { handle = omega arith; caller = omega arith; service = omega arith; plan = omega arith; due = omega arith; process = refl }
+of_effect l f (Joined principal) = record { handle = omega arith; caller = omega arith; service = omega arith; plan = omega arith; due = omega arith; registration = omega arith; process = refl }
 of_effect l f (Call caller asked append) = of_call l f caller asked append
 of_effect l f (EndStart caller plan) = same f (effect_of l f (EndStart caller plan)).flat refl
 of_effect l f LaunchTaken = same f (effect_of l f LaunchTaken).flat refl
@@ -108,7 +122,7 @@ pub numbers_at : (f g : Flat) (moment : ℕ) (step : Step) → g ≡ at_moment f
 numbers_at f g moment step e has =
     let next = ap (λ (x : Flat). x.next) e in
     let same_next = at_next f moment step in
-    rw e (subst (λ n. HasNumbers (record (at_moment f moment step) { next = n })) (sym same_next) (record { handle = has.handle; caller = has.caller; service = has.service; plan = has.plan; due = has.due }))
+    rw e (subst (λ n. HasNumbers (record (at_moment f moment step) { next = n })) (sym same_next) (record { handle = has.handle; caller = has.caller; service = has.service; plan = has.plan; due = has.due; registration = has.registration }))
 
 -- ## Settling
 
@@ -121,6 +135,7 @@ record Rises (l : Limits) (f g : Flat) : Type 0 where
   service : g.next.service ≡ f.next.service
   plan : g.next.plan ≡ f.next.plan
   due : g.next.due ≡ f.next.due
+  registration : g.next.registration ≡ f.next.registration
 
 few_listed : (l : Limits) (f : Flat) → is_full l f ≡ false → length f.processes < l.processes
 few_listed l f e = grind (arith, nat_tests)
@@ -135,6 +150,7 @@ rises l f = record {
     service = r.service;
     plan = r.plan;
     due = r.due;
+    registration = r.registration;
   };
   tries = λ g plan n entry q. tt;
   drops = λ plan n rest code q. tt;
@@ -143,8 +159,8 @@ rises l f = record {
 of_settled : (l : Limits) (f : Flat) → Rises l f (settled l f)
 of_settled l f =
     let r = (keeps_all l (Rises l f) (λ plan. Unit {0}) (rises l f) f f.plans
-    (record { alike = refl; bounded = omega arith; handle = refl; caller = refl; service = refl; plan = refl; due = refl }) (all_units f.plans)).flat in
-    record { alike = r.alike; bounded = r.bounded; handle = r.handle; caller = r.caller; service = r.service; plan = r.plan; due = r.due }
+    (record { alike = refl; bounded = omega arith; handle = refl; caller = refl; service = refl; plan = refl; due = refl; registration = refl }) (all_units f.plans)).flat in
+    record { alike = r.alike; bounded = r.bounded; handle = r.handle; caller = r.caller; service = r.service; plan = r.plan; due = r.due; registration = r.registration }
 
 left_next : (f : Flat) (plan : ℕ) (code : Option ℕ) → (left_by f plan code).next ≡ f.next
 left_next f plan None = refl
@@ -174,6 +190,7 @@ pub record StepRises (l : Limits) (old new : Flat) : Type 0 where
   pub service : new.next.service ≤ old.next.service + 1
   pub plan : new.next.plan ≤ old.next.plan + 1
   pub due : new.next.due ≤ old.next.due + 1
+  pub registration : new.next.registration ≤ old.next.registration + 1
   pub process : new.next.process ≤ old.next.process + l.processes
 
 -- a step gives at most one number of each kind, and of processes as many as may be listed
@@ -190,5 +207,6 @@ of_step l f moment step =
       service = omega (arith, ap (λ (n : Next). n.service) first, e.service, s.service, ap (λ (n : Next). n.service) ends);
       plan = omega (arith, ap (λ (n : Next). n.plan) first, e.plan, s.plan, ap (λ (n : Next). n.plan) ends);
       due = omega (arith, ap (λ (n : Next). n.due) first, e.due, s.due, ap (λ (n : Next). n.due) ends);
+      registration = omega (arith, ap (λ (n : Next). n.registration) first, e.registration, s.registration, ap (λ (n : Next). n.registration) ends);
       process = omega (arith, ap (λ (n : Next). n.process) first, e.process, s.bounded, ap (λ (n : Next). n.process) ends);
     }

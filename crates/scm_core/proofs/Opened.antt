@@ -1,5 +1,5 @@
 -- Configurations that a manager can begin with.
-use Rattle.std.proofs.Common.{ℕ, ◌≡◌, ◌≤◌, ◌==◌, List, [], ◌∷◌, None, length, ap, arith, refl}
+use Rattle.std.proofs.Common.{ℕ, ◌≡◌, ◌==◌, List, [], ◌∷◌, None, ap, arith, refl}
 use Rattle.std.specs.Prelude.{All}
 use Rattle.std.proofs.lemmas.List.Elements.{All-weaker}
 use Rattle.std.proofs.lemmas.Bool.{false≢true}
@@ -10,14 +10,15 @@ use Rattle.scm_model.specs.Walks.{IsWalk}
 use Rattle.scm_rules.specs.Needs.{need_rows}
 use Rattle.scm_rules.specs.Opening.{CanOpen, IsOpening, opening, services_from}
 use Rattle.service_record.specs.Checks.{check_new}
-use Rattle.scm_arms_service.proofs.Judging.{short_path}
+use Rattle.scm_tables.specs.Tabled.{HasShortTexts}
+use Rattle.scm_arms_service.proofs.Judging.{short_texts}
 
-path_short : (config : Config) → check_new config None ≡ 0 → length config.path ≤ 2048
-path_short config e = short_path config None (ap (λ (n : ℕ). n == 123) e) (ap (λ (n : ℕ). n == 87) e)
+text_short : (config : Config) → check_new config None ≡ 0 → HasShortTexts config
+text_short config e = short_texts config None (ap (λ (n : ℕ). n == 123) e) (ap (λ (n : ℕ). n == 87) e)
 
--- their paths are short
-pub paths_short : (configs : List Config) → All (λ (config : Config). check_new config None ≡ 0) configs → All (λ (config : Config). length config.path ≤ 2048) configs
-paths_short configs checked = All-weaker (λ (config : Config). check_new config None ≡ 0) (λ (config : Config). length config.path ≤ 2048) path_short configs checked
+-- their paths and names are short
+pub texts_short : (configs : List Config) → All (λ (config : Config). check_new config None ≡ 0) configs → All HasShortTexts configs
+texts_short configs checked = All-weaker (λ (config : Config). check_new config None ≡ 0) HasShortTexts text_short configs checked
 
 -- ## Without configurations
 

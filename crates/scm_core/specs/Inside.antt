@@ -35,6 +35,7 @@ pub record IsSound (a : Inside) : Type 0 where
   pub services : a.tables.flat.next.service ≤ a.steps + 2 ^ 10
   pub plans : a.tables.flat.next.plan ≤ a.steps + 1
   pub dues : a.tables.flat.next.due ≤ a.steps + 1
+  pub registrations : a.tables.flat.next.registration ≤ a.steps + 1
   pub processes : a.tables.flat.next.process ≤ a.steps * 2 ^ 12 + 1
   pub limit : a.tables.limits.processes ≤ 2 ^ 12
   pub controls : a.tables.limits.controls ≤ 16

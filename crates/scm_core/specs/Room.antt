@@ -9,7 +9,10 @@ use Rattle.scm_model.specs.declared.flat.Limits.{Limits}
 use Rattle.scm_model.specs.declared.steps.Kept.TheVariants as appended
 use Rattle.scm_rules.specs.Change.{asked_config, change_verdict}
 use Rattle.scm_rules.specs.Create.{created_config, create_verdict}
+use Rattle.scm_rules.specs.EnumDependents.{enum_dependents_reply}
+use Rattle.scm_rules.specs.EnumServices.{enum_services_reply}
 use Rattle.scm_rules.specs.QueryConfig.{query_config_reply}
+use Rattle.scm_rules.specs.QueryStatusEx.{query_ex_reply}
 use Rattle.scm_rules.specs.Locks.{lock_owner}
 use Rattle.scm_rules.specs.Verdicts.{change_of_call}
 use Rattle.scm_rules.specs.OtherName.{display_by_name, name_by_display, other_name_reply}
@@ -25,6 +28,7 @@ HasRoomForCall t caller (request.OpenManager database access) = 1 ≤ t.spare.ha
 HasRoomForCall t caller (request.OpenService handle name access) = 1 ≤ t.spare.handles
 HasRoomForCall t caller (request.Start handle words) =
     (1 ≤ t.spare.plans) × (1 ≤ t.spare.dues) × (length (start_entries t.flat caller handle words) ≤ t.spare.tried)
+HasRoomForCall t caller (request.Notify handle mask) = (1 ≤ t.spare.handles) × (1 ≤ t.spare.registrations)
 HasRoomForCall t caller asked = Unit {0}
 
 abbrev pub HasRoomFor : Tabled → Step → Type 0
@@ -38,7 +42,8 @@ abbrev pub nothing_made : Made
 nothing_made = record { name = None; config = None; code = 0; change = None; entries = None; reply = None }
 
 -- for a creation and a change the new configuration, and what they are refused with if they are kept; for what may change the
--- configurations the change; for a start the services that it goes by; for a query of the lock the owner's name; for another call that has texts in its reply the reply
+-- configurations the change; for a start the services that it goes by; for a query of the lock the owner's name; for another call that only
+-- reads, and has texts or bytes in its reply, the reply
 abbrev pub made_for : Limits → Flat → ℕ → Request → Made
 made_for l f caller (request.Change change) = record nothing_made { config = asked_config f caller change; code = change_verdict f caller change appended.Kept; change = change_of_call l f caller (request.Change change) }
 made_for l f caller (request.Create new) = record nothing_made { config = Some (created_config f new); code = create_verdict l f caller new appended.Kept; change = change_of_call l f caller (request.Create new) }
@@ -48,6 +53,9 @@ made_for l f caller (request.QueryLock handle size) = record nothing_made { name
 made_for l f caller (request.Start handle words) = record nothing_made { entries = Some (start_entries f caller handle words) }
 made_for l f caller (request.DisplayName handle name size) = record nothing_made { reply = Some (other_name_reply f caller handle size (display_by_name f name)) }
 made_for l f caller (request.KeyName handle name size) = record nothing_made { reply = Some (other_name_reply f caller handle size (name_by_display f name)) }
+made_for l f caller (request.EnumDependents handle states size) = record nothing_made { reply = Some (enum_dependents_reply f caller handle states size) }
+made_for l f caller (request.EnumServices handle kinds states size resume) = record nothing_made { reply = Some (enum_services_reply f caller handle kinds states size resume) }
+made_for l f caller (request.QueryStatusEx handle level size) = record nothing_made { reply = Some (query_ex_reply f caller handle level size) }
 made_for l f caller asked = nothing_made
 
 abbrev pub IsMadeFor : Limits → Flat → Made → Step → Type 0
@@ -61,3 +69,4 @@ pub record HasNumbers (f : Flat) : Type 0 where
   pub service : f.next.service < 2 ^ 63
   pub plan : f.next.plan < 2 ^ 63
   pub due : f.next.due < 2 ^ 63
+  pub registration : f.next.registration < 2 ^ 63

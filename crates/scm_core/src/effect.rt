@@ -5,6 +5,7 @@ ghost use Rattle.scm_core.specs.Room.{HasNumbers, HasRoomFor, HasRoomForCall, Is
 
 use super::made::Made;
 use scm_arms_handle::{close, join, leave, lock, open_manager, open_service, query_lock, unlock};
+use scm_arms_notify::{close_notify, get_notify, notify};
 use scm_arms_process::{control, end, report, set_status, take_control};
 use scm_arms_service::{change, create, delete, query};
 use scm_arms_start::{end_start, fail_launch, finish, launched, start, take_launch, tick};
@@ -81,9 +82,17 @@ fn call(
             };
             start(tables, alloc, caller, handle, words, made.entries.take())
         }
-        Request::QueryConfig { .. } | Request::DisplayName { .. } | Request::KeyName { .. } => {
-            Answer::Reply(made.reply.take().unwrap())
+        Request::Notify { handle, mask } => {
+            Answer::Reply(notify(tables, &limits, caller, *handle, *mask))
         }
+        Request::GetNotify { handle } => Answer::Reply(get_notify(tables, caller, *handle)),
+        Request::CloseNotify { handle } => Answer::Reply(close_notify(tables, caller, *handle)),
+        Request::QueryConfig { .. }
+        | Request::DisplayName { .. }
+        | Request::KeyName { .. }
+        | Request::EnumDependents { .. }
+        | Request::EnumServices { .. }
+        | Request::QueryStatusEx { .. } => Answer::Reply(made.reply.take().unwrap()),
     }
 }
 

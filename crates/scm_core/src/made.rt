@@ -4,6 +4,7 @@ ghost use Rattle.scm_model.specs.declared.steps.Change.TheVariants.{Created};
 ghost use Rattle.scm_rules.specs.Verdicts.{unless_refused};
 ghost use Rattle.scm_core.specs.Room.{IsMadeFor, made_for, nothing_made};
 
+use scm_arms_enum::{enum_dependents, enum_services, query_status_ex};
 use scm_arms_handle::lock_owner;
 use scm_arms_service::{
     asked_config, change_verdict, config_of, create_verdict, display_name, judged, key_name,
@@ -153,6 +154,25 @@ fn make_for_call(
         Request::Start { handle, words } => Ok(made_of_entries(start_entries(
             tables, caller, *handle, words, alloc,
         )?)),
+        Request::EnumDependents {
+            handle,
+            states,
+            size,
+        } => Ok(made_of_reply(enum_dependents(tables, caller, *handle, *states, *size, alloc)?)),
+        Request::EnumServices {
+            handle,
+            kinds,
+            states,
+            size,
+            resume,
+        } => Ok(made_of_reply(enum_services(
+            tables, caller, *handle, *kinds, *states, *size, *resume, alloc,
+        )?)),
+        Request::QueryStatusEx {
+            handle,
+            level,
+            size,
+        } => Ok(made_of_reply(query_status_ex(tables, caller, *handle, *level, *size, alloc)?)),
         Request::DisplayName { handle, name, size } => Ok(made_of_reply(display_name(
             tables, caller, *handle, name, *size, alloc,
         )?)),

@@ -40,6 +40,10 @@ fn reserve_call(
             tables.reserve_service()?;
             tables.reserve_handle()
         }
+        Request::Notify { .. } => {
+            tables.reserve_handle()?;
+            tables.reserve_registration()
+        }
         Request::Start { .. } => reserve_plan(tables, &made.entries),
         _ => Ok(()),
     }

@@ -30,6 +30,10 @@ pub record ServedIn (tells : ℕ → Type 0) (o : Opening) (log : List Entry) (a
   pub handled_user : is_short ≡ false → Each (IsHandled tells o log User) users
   pub apart : is_short ≡ false → Pairwise Apart (admins ++ users)
 
+-- so it is in each legal history that goes on from what was seen
+abbrev pub ServedFrom : (tells : ℕ → Type 0) → Opening → (seen : List Entry) → (a a' u u' : Told) → (is_short : Bool) → Type 0
+ServedFrom tells o seen a a' u u' is_short = (log : List Entry) → IsPrefix seen log → Legal o.limits o.first log → ServedIn tells o log a a' u u' is_short
+
 -- how serving ended, of how it ended with each
 abbrev pub of_both : (admin user : ServeEnd) → ServeEnd
 of_both OutOfMemory user = OutOfMemory

@@ -26,6 +26,11 @@ pub record Told : Type 0 where
 abbrev pub told : Option (List (List ℕ)) → ℕ → Option (List PastConnection) → Option (List Listening) → ℕ → Told
 told left accepted noted listened faults = record { left = left; accepted = accepted; noted = noted; listened = listened; faults = faults }
 
+-- what a listener tells
+abbrev pub told_by : {N : Type 0} → (left : N → Option (List (List ℕ))) → (accepted : N → ℕ) → (noted : N → Option (List PastConnection)) → (listened : N → Option (List Listening))
+    → (faults : N → ℕ) → N → Told
+told_by left accepted noted listened faults l = told (left l) (accepted l) (noted l) (listened l) (faults l)
+
 -- ## What was handed out
 
 -- the first ones of what was left were handed out, so many

@@ -7,8 +7,8 @@ ghost use Rattle.scm_launcher.specs.Past.{SeesOn};
 ghost use Rattle.scm_launcher.specs.Ticks.{TicksOn};
 ghost use Rattle.scm_model.specs.Entries.{Entry};
 ghost use Rattle.scm_rules.specs.Histories.{Legal};
-ghost use Rattle.scm_server.specs.All.{EndsAll, GoesFor, ServedIn, TakesAll};
-ghost use Rattle.scm_server.specs.Ports.{GoesFar, told, was_short};
+ghost use Rattle.scm_server.specs.All.{EndsAll, GoesFor, ServedFrom, ServedIn, TakesAll};
+ghost use Rattle.scm_server.specs.Ports.{GoesFar, told, told_by, was_short};
 
 use crate::both::{Both, serve_both};
 use crate::ending::ServeEnd;
@@ -111,27 +111,12 @@ where
                 × IsOf book.now serves × (serves.caller ≡ 0) }
             ensures book { IsOf book.entry.now result.pass }
             ensures goes { GoesFar book.entry.now.opening serves result.pass }
-            ensures serves { (log : List Entry) → IsPrefix result.pass.seen log
-                → Legal book.entry.now.opening.limits book.entry.now.opening.first log
-                → ServedIn (C.tells clock.entry.now) book.entry.now.opening log
-                (told (N.left admin) (N.accepted admin) (N.noted admin)
-                (N.listened admin) (N.faults admin))
-                (told (N.left result.admin) (N.accepted result.admin) (N.noted result.admin)
-                (N.listened result.admin) (N.faults result.admin))
-                (told (N.left user) (N.accepted user) (N.noted user)
-                (N.listened user) (N.faults user))
-                (told (N.left result.user) (N.accepted result.user) (N.noted result.user)
-                (N.listened result.user) (N.faults result.user))
+            ensures serves { let tell = told_by N.left N.accepted N.noted N.listened N.faults in
+                ServedFrom (C.tells clock.entry.now) book.entry.now.opening result.pass.seen
+                (tell admin) (tell result.admin) (tell user) (tell result.user)
                 (was_short result.end) }
-            ensures ends { EndsAll result.end
-                (told (N.left admin) (N.accepted admin) (N.noted admin)
-                (N.listened admin) (N.faults admin))
-                (told (N.left result.admin) (N.accepted result.admin) (N.noted result.admin)
-                (N.listened result.admin) (N.faults result.admin))
-                (told (N.left user) (N.accepted user) (N.noted user)
-                (N.listened user) (N.faults user))
-                (told (N.left result.user) (N.accepted result.user) (N.noted result.user)
-                (N.listened result.user) (N.faults result.user)) }
+            ensures ends { let tell = told_by N.left N.accepted N.noted N.listened N.faults in
+                EndsAll result.end (tell admin) (tell result.admin) (tell user) (tell result.user) }
         { serve_both(rt, alloc, book, serves, admin, user, clock) },
     );
     Served { launched, both }
@@ -244,31 +229,11 @@ where
             ensures sees { SeesOn book.entry.now.opening launches result.launched.spent }
             ensures book { IsOf book.entry.now result.both.pass }
             ensures goes { GoesFar book.entry.now.opening serves result.both.pass }
-            ensures serves { (log : List Entry) → IsPrefix result.both.pass.seen log
-                → Legal book.entry.now.opening.limits book.entry.now.opening.first log
-                → ServedIn (C.tells clock.entry.now) book.entry.now.opening log
-                (told (N.left admin) (N.accepted admin) (N.noted admin)
-                (N.listened admin) (N.faults admin))
-                (told (N.left result.both.admin) (N.accepted result.both.admin)
-                (N.noted result.both.admin)
-                (N.listened result.both.admin) (N.faults result.both.admin))
-                (told (N.left user) (N.accepted user) (N.noted user)
-                (N.listened user) (N.faults user))
-                (told (N.left result.both.user) (N.accepted result.both.user)
-                (N.noted result.both.user)
-                (N.listened result.both.user) (N.faults result.both.user))
-                (was_short result.both.end) }
-            ensures ends { EndsAll result.both.end
-                (told (N.left admin) (N.accepted admin) (N.noted admin)
-                (N.listened admin) (N.faults admin))
-                (told (N.left result.both.admin) (N.accepted result.both.admin)
-                (N.noted result.both.admin)
-                (N.listened result.both.admin) (N.faults result.both.admin))
-                (told (N.left user) (N.accepted user) (N.noted user)
-                (N.listened user) (N.faults user))
-                (told (N.left result.both.user) (N.accepted result.both.user)
-                (N.noted result.both.user)
-                (N.listened result.both.user) (N.faults result.both.user)) }
+            ensures both { let tell = told_by N.left N.accepted N.noted N.listened N.faults in
+                ServedFrom (C.tells clock.entry.now) book.entry.now.opening result.both.pass.seen
+                (tell admin) (tell result.both.admin) (tell user) (tell result.both.user)
+                (was_short result.both.end) × EndsAll result.both.end
+                (tell admin) (tell result.both.admin) (tell user) (tell result.both.user) }
         {
             serve_launching(
                 rt, alloc, book, launches, serves, admin, user, spawner, clock,

@@ -8,7 +8,7 @@ ghost use Rattle.scm_model.specs.declared.flat.Principal.TheVariants as principa
 ghost use Rattle.scm_model.specs.Entries.{Entry};
 ghost use Rattle.scm_rules.specs.Histories.{Legal};
 ghost use Rattle.scm_server.specs.All.{EndsAll, ServedIn, of_both};
-ghost use Rattle.scm_server.specs.Ports.{EndsFor, GoesFar, ServesPort, told, was_short};
+ghost use Rattle.scm_server.specs.Ports.{EndsFor, GoesFar, ServesPort, told, told_by, was_short};
 
 use crate::ending::ServeEnd;
 use crate::ports::{Port, serve_port};
@@ -129,40 +129,22 @@ where
                 × IsSend N.row × IsSync C.row × IsOf book.now one }
             ensures book { IsOf book.entry.now result.pass }
             ensures goes { GoesFar book.entry.now.opening one result.pass }
-            ensures serves { ServesPort (C.tells clock.entry.now) book.entry.now.opening
-                principals.Admin result.pass.seen
-                (told (N.left admin) (N.accepted admin) (N.noted admin)
-                (N.listened admin) (N.faults admin))
-                (told (N.left result.listener) (N.accepted result.listener)
-                (N.noted result.listener)
-                (N.listened result.listener) (N.faults result.listener))
-                (was_short result.end) }
-            ensures ends { EndsFor result.end
-                (told (N.left admin) (N.accepted admin) (N.noted admin)
-                (N.listened admin) (N.faults admin))
-                (told (N.left result.listener) (N.accepted result.listener)
-                (N.noted result.listener)
-                (N.listened result.listener) (N.faults result.listener)) }
+            ensures serves { let tell = told_by N.left N.accepted N.noted N.listened N.faults in
+                ServesPort (C.tells clock.entry.now) book.entry.now.opening principals.Admin
+                result.pass.seen (tell admin) (tell result.listener) (was_short result.end) }
+            ensures ends { let tell = told_by N.left N.accepted N.noted N.listened N.faults in
+                EndsFor result.end (tell admin) (tell result.listener) }
         { serve_port(rt, alloc, book, one, admin, Principal::Admin, clock) },
         move || -> Port<N>
             requires { IsSync R.row × IsSend K.row × IsSend I.row × IsSend O.row × IsSend P.row
                 × IsSend N.row × IsSync C.row × IsOf book.now pass }
             ensures book { IsOf book.entry.now result.pass }
             ensures goes { GoesFar book.entry.now.opening pass result.pass }
-            ensures serves { ServesPort (C.tells clock.entry.now) book.entry.now.opening
-                principals.User result.pass.seen
-                (told (N.left user) (N.accepted user) (N.noted user)
-                (N.listened user) (N.faults user))
-                (told (N.left result.listener) (N.accepted result.listener)
-                (N.noted result.listener)
-                (N.listened result.listener) (N.faults result.listener))
-                (was_short result.end) }
-            ensures ends { EndsFor result.end
-                (told (N.left user) (N.accepted user) (N.noted user)
-                (N.listened user) (N.faults user))
-                (told (N.left result.listener) (N.accepted result.listener)
-                (N.noted result.listener)
-                (N.listened result.listener) (N.faults result.listener)) }
+            ensures serves { let tell = told_by N.left N.accepted N.noted N.listened N.faults in
+                ServesPort (C.tells clock.entry.now) book.entry.now.opening principals.User
+                result.pass.seen (tell user) (tell result.listener) (was_short result.end) }
+            ensures ends { let tell = told_by N.left N.accepted N.noted N.listened N.faults in
+                EndsFor result.end (tell user) (tell result.listener) }
         { serve_port(rt, alloc, book, pass, user, Principal::User, clock) },
     );
     book.bell().shut(rt);

@@ -52,18 +52,19 @@ pub fn pipe_main<R: Wait, I: Source, O: Sink, K: Keeper, N: Listener, P: Spawner
     ensures complete { IsComplete (has_path path.entry) principal
         (sides_of I.left I.faults O.held O.faults K.held K.faults world result.1) result.0 }
 {
-    let World {
-        mut input,
-        mut output,
-        mut keeper,
-        admin,
-        user,
-        spawner,
-        clock,
-    } = world;
-    let moment = clock.now();
-    match open_at(alloc, &mut keeper, path, moment) {
+    let mut world = world;
+    let moment = world.clock.now();
+    match open_at(alloc, &mut world.keeper, path, moment) {
         Ok(Opened { manager, journal }) => {
+            let World {
+                mut input,
+                mut output,
+                keeper,
+                admin,
+                user,
+                spawner,
+                clock,
+            } = world;
             let Piped { how, keeper } = serve_alone(
                 rt,
                 alloc,
@@ -86,17 +87,6 @@ pub fn pipe_main<R: Wait, I: Source, O: Sink, K: Keeper, N: Listener, P: Spawner
             };
             (status_of(how), world)
         }
-        Err(fault) => {
-            let world = World {
-                input,
-                output,
-                keeper,
-                admin,
-                user,
-                spawner,
-                clock,
-            };
-            (status_of_fault(fault), world)
-        }
+        Err(fault) => (status_of_fault(fault), world),
     }
 }

@@ -12,7 +12,7 @@ use process_runner::Spawner;
 use record_journal::Keeper;
 use scm_listener::{Listener, Listening};
 use scm_restored::Opened;
-use scm_serving::{BookEnd, BookServed, listen_both, serve_book};
+use scm_serving::{BookEnd, listen_both, serve_book};
 use std::alloc::Global;
 use std::sync::Wait;
 use std::thread::Threads;
@@ -70,63 +70,38 @@ where
         (sides_of I.left I.faults O.held O.faults K.held K.faults world result.1)
         (ports_of N.left N.accepted N.noted N.listened N.faults world result.1) result.0 }
 {
-    let World {
-        input,
-        mut output,
-        mut keeper,
-        mut admin,
-        mut user,
-        spawner,
-        clock,
-    } = world;
-    let moment = clock.now();
-    match open_at(alloc, &mut keeper, path, moment) {
+    let mut world = world;
+    let moment = world.clock.now();
+    match open_at(alloc, &mut world.keeper, path, moment) {
         Ok(Opened { manager, journal }) => {
-            let Ok(()) = listen_both(&mut admin, admin_at, &mut user, user_at) else {
+            let Ok(()) = listen_both(&mut world.admin, admin_at, &mut world.user, user_at) else {
                 manager.close();
-                let world = World {
-                    input,
-                    output,
-                    keeper,
-                    admin,
-                    user,
-                    spawner,
-                    clock,
-                };
                 return (10, world);
             };
-            let BookServed {
-                end,
+            let World {
+                input,
+                mut output,
                 keeper,
                 admin,
                 user,
                 spawner,
-            } = serve_book(
+                clock,
+            } = world;
+            let served = serve_book(
                 rt, alloc, manager, journal, keeper, admin, user, spawner, &clock,
             );
-            let status = written(end, &mut output);
+            let status = written(served.end, &mut output);
             let world = World {
                 input,
                 output,
-                keeper,
-                admin,
-                user,
-                spawner,
+                keeper: served.keeper,
+                admin: served.admin,
+                user: served.user,
+                spawner: served.spawner,
                 clock,
             };
             (status, world)
         }
-        Err(fault) => {
-            let world = World {
-                input,
-                output,
-                keeper,
-                admin,
-                user,
-                spawner,
-                clock,
-            };
-            (status_of_fault(fault), world)
-        }
+        Err(fault) => (status_of_fault(fault), world),
     }
 }

@@ -13,5 +13,5 @@ returns-in_default-clause-run g c =
 pub returns-in-Ok-listen_both-clause-run : goal.returns-in-Ok-listen_both-clause-run
 returns-in-Ok-listen_both-clause-run g c =
     has_listened g.K.Keeper.held g.K.Keeper.faults (g.C.Clock.tells c.args.world.clock) (has_path c.args.path) c.args.admin_at c.args.user_at _ _ _ c.written-status.result c.now-moment.result _
-    c.args.world.keeper c.open_at.new.keeper c.serve_book-end.result.keeper _ _ c.serve_book-end.result.end
-    c.now-moment.ensures c.in-Ok.ensures c.in-Ok-listen_both.ensures.0 c.in-Ok-listen_both.ensures.1 c.serve_book-end.ensures c.written-status.ensures.written
+    c.args.world.keeper c.open_at.new.keeper c.serve_book-served.result.keeper _ _ c.serve_book-served.result.end
+    c.now-moment.ensures c.in-Ok.ensures c.in-Ok-listen_both.ensures.0 c.in-Ok-listen_both.ensures.1 c.serve_book-served.ensures c.written-status.ensures.written

@@ -18,6 +18,7 @@ invariant_of-self-2 c =
       services = rw c.reserve.ensures.flat sound.services;
       plans = rw c.reserve.ensures.flat sound.plans;
       dues = rw c.reserve.ensures.flat sound.dues;
+      registrations = rw c.reserve.ensures.flat sound.registrations;
       processes = rw c.reserve.ensures.flat sound.processes;
       limit = rw c.reserve.ensures.limits sound.limit;
       controls = rw c.reserve.ensures.limits sound.controls;
