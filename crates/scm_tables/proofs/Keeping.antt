@@ -138,13 +138,14 @@ settles l f g plans ended rows plans_are flat_is rows_are =
     rw (rows_are, flat_is, plans_are) (sym (settles_beside l f plans))
 
 -- lists that differ in plans, due rows and what no list tells are kept where their plans are
-pub other_plans : {t u : Inside} → IsKept t → u.next.service ≡ t.next.service → u.services.items ≡ t.services.items → u.acyclic ≡ t.acyclic
+pub other_plans : {t u : Inside} → IsKept t → u.next.service ≡ t.next.service → u.services.items ≡ t.services.items → u.acyclic ≡ t.acyclic → u.has_marked ≡ t.has_marked
     → u.limits.processes ≡ t.limits.processes → vec_capacity u.processes ≡ vec_capacity t.processes → u.tried.items ≡ t.tried.items
     → AllByRecursion (IsBelow u.next.plan) u.plans.plans → IsKept u
-other_plans kept next rows acyclic limit capacity tried plans = record {
+other_plans kept next rows acyclic marked limit capacity tried plans = record {
   rising = rw next (rw rows kept.rising);
   texts = rw rows kept.texts;
   needs = rw acyclic (rw rows kept.needs);
+  unmarked = rw marked (rw rows kept.unmarked);
   room = rw limit (rw capacity kept.room);
   plans = plans;
   untried = tried ∙ kept.untried;

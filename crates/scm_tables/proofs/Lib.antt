@@ -5,3 +5,4 @@ pub mod Listing
 pub mod Wording
 pub mod NeedRows
 pub mod Opened
+pub mod Unmarked

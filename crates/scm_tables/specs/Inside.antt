@@ -1,7 +1,8 @@
 -- What contracts see of the lists' fields, and what is always true of them.
-use Rattle.std.specs.Prelude.{ℕ, IsTrue, ◌≡◌, ◌≤◌, ◌<◌, ◌-◌, [], All, vec_capacity, vec_len}
+use Rattle.std.specs.Prelude.{ℕ, IsTrue, false, ◌≡◌, ◌≤◌, ◌<◌, ◌-◌, [], All, vec_capacity, vec_len}
 use Rattle.std.specs.List.{AllByRecursion}
 use Rattle.scm_model.specs.declared.flat.Plan.{Plan}
+use Rattle.scm_model.specs.declared.flat.Service.{Service}
 use Rattle.scm_model.specs.Needs.{needs_of}
 use Rattle.scm_model.specs.Walks.{IsAcyclic}
 use Rattle.scm_rules.specs.Needs.{need_rows}
@@ -37,15 +38,19 @@ tabled t = record {
   };
 }
 
+abbrev pub IsUnmarked : Service → Type 0
+IsUnmarked row = row.marked ≡ false
+
 abbrev pub IsBelow : ℕ → Plan → Type 0
 IsBelow next plan = plan.number < next
 
--- services stand in order of number, and their paths and names are short; where it is said so, their needs have no cycle; as many processes as may be listed find room; plans have numbers below
+-- services stand in order of number, and their paths and names are short; where it is said so, their needs have no cycle, and where it isn't, none is marked; as many processes as may be listed find room; plans have numbers below
 -- the next one
 pub record IsKept (t : Inside) : Type 0 where
   pub rising : AreRising t.next.service t.services.items
   pub texts : All HasShort t.services.items
   pub needs : IsTrue t.acyclic → IsAcyclic (needs_of (need_rows t.services.items))
+  pub unmarked : t.has_marked ≡ false → All IsUnmarked t.services.items
   pub room : t.limits.processes ≤ vec_capacity t.processes
   pub plans : AllByRecursion (IsBelow t.next.plan) t.plans.plans
   pub untried : t.tried.items ≡ []

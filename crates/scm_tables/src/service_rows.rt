@@ -160,6 +160,13 @@ pub fn configure_in(rows: &mut Vec<Service>, number: u64, config: Config)
     }
 }
 
+/// Whether a service is marked.
+pub fn is_any_marked(rows: &[Service]) -> bool
+    ensures { result ≡ list_any (λ row. row.marked) rows.now }
+{
+    rows.iter().any(|row| row.marked)
+}
+
 /// Whether a service is marked, stopped and named by no handle.
 pub fn leaves(handles: &[HandleRow], row: &Service) -> bool
     ensures { result ≡ leaves handles.now row.now }

@@ -18,8 +18,8 @@ use super::noticing::{note_all_leaving, note_mark, with_pid};
 use super::opening::services_of;
 use super::process_rows::ProcessRow;
 use super::service_rows::{
-    configure_in, displayed_in, greatest_tag_in, is_shown_by_another_in, is_shown_in, mark_in,
-    named_in, purge_in, row_with, running_in,
+    configure_in, displayed_in, greatest_tag_in, is_any_marked, is_shown_by_another_in,
+    is_shown_in, mark_in, named_in, purge_in, row_with, running_in,
 };
 use database_lock::DatabaseLock;
 use notify_queue::NotifyQueue;
@@ -39,6 +39,8 @@ pub struct Tables {
     pub(crate) services: Vec<Service>,
     /// Whether the services' needs are known to have no cycle.
     pub(crate) acyclic: bool,
+    /// Whether a service may be marked.
+    has_marked: bool,
     /// For the services that a search through the needs comes by.
     searched: Buffer<u64>,
     handles: Vec<HandleRow>,
@@ -106,6 +108,7 @@ impl Tables {
         Ok(Tables {
             services,
             acyclic,
+            has_marked: false,
             searched,
             handles: Vec::new(alloc),
             processes,
@@ -514,19 +517,25 @@ impl Tables {
             Some(row),
             self.processes.as_slice(),
         );
+        self.has_marked = true;
         mark_in(&mut self.services, number);
     }
 
-    /// Lets each service go that is marked, STOPPED and named by no handle; the manager's registrations are told.
+    /// Lets each service go that is marked, STOPPED and named by no handle; the manager's registrations are told. Where none is marked
+    /// it looks at no service.
     pub fn purge(&mut self)
         ensures flat { self.new.flat ≡ purged self.old.flat }
         ensures limits { self.new.limits ≡ self.old.limits }
     {
+        if !self.has_marked {
+            return;
+        }
         note_all_leaving(
             &mut self.registrations,
             self.services.as_slice(),
             self.handles.as_slice(),
         );
         purge_in(&mut self.services, self.handles.as_slice());
+        self.has_marked = is_any_marked(self.services.as_slice());
     }
 }

@@ -1,3 +1,4 @@
+use Rattle.scm_tables.proofs.Unmarked.{started_mark, unmarked_map}
 use Rattle.std.proofs.Common.{◌==◌, ◌∙◌, ap, find, Option}
 use Rattle.std.proofs.lemmas.List.{map-append}
 use Rattle.std.proofs.lemmas.List.Elements.{filter-append}
@@ -28,6 +29,7 @@ invariant_of-self c =
       rising = rw c.start_in.ensures (rising_map _ (started_if c.args.service c.self.inside.next.process) (started_number c.args.service c.self.inside.next.process) _ kept.rising);
       texts = rw c.start_in.ensures (texts_map (started_if c.args.service c.self.inside.next.process) (started_config c.args.service c.self.inside.next.process) _ kept.texts);
       needs = λ t. rw c.start_in.ensures (same_graph (started_if c.args.service c.self.inside.next.process) (started_needs c.args.service c.self.inside.next.process) _ (kept.needs t));
+      unmarked = λ no. rw c.start_in.ensures (unmarked_map (started_if c.args.service c.self.inside.next.process) (started_mark c.args.service c.self.inside.next.process) _ (kept.unmarked no));
       room = rw c.push_reserved.ensures.capacity kept.room;
       plans = kept.plans;
       untried = kept.untried;

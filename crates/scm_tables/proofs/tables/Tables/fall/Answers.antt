@@ -1,3 +1,4 @@
+use Rattle.scm_tables.proofs.Unmarked.{fallen_mark, unmarked_map}
 use Rattle.std.proofs.Common.{◌==◌}
 use Rattle.scm_model.specs.declared.flat.Service.{Service}
 use Rattle.scm_rules.specs.Launches.{fallen_if}
@@ -19,6 +20,7 @@ invariant_of-self c =
       rising = rw c.fall_in.ensures (rising_map _ (fallen_if c.args.process c.args.code) (fallen_number c.args.process c.args.code) _ kept.rising);
       texts = rw c.fall_in.ensures (texts_map (fallen_if c.args.process c.args.code) (fallen_config c.args.process c.args.code) _ kept.texts);
       needs = λ t. rw c.fall_in.ensures (same_graph (fallen_if c.args.process c.args.code) (fallen_needs c.args.process c.args.code) _ (kept.needs t));
+      unmarked = λ no. rw c.fall_in.ensures (unmarked_map (fallen_if c.args.process c.args.code) (fallen_mark c.args.process c.args.code) _ (kept.unmarked no));
       room = kept.room;
       plans = kept.plans;
       untried = kept.untried;

@@ -22,6 +22,7 @@ invariant_of-self c =
       rising = rw c.mark_in.ensures.rows (rising_map _ (marked_if number) (λ row. refl) _ kept.rising);
       texts = rw c.mark_in.ensures.rows (texts_map (marked_if number) (λ row. refl) _ kept.texts);
       needs = λ t. rw c.mark_in.ensures.rows (same_graph (marked_if number) (λ row. refl) _ (kept.needs t));
+      unmarked = λ no. absurd (cc);
       room = kept.room;
       plans = kept.plans;
       untried = kept.untried;

@@ -1,3 +1,5 @@
+use Rattle.scm_tables.proofs.Unmarked.{opened_unmarked}
+use Rattle.scm_tables.specs.Inside.{IsUnmarked}
 use Rattle.std.proofs.Common.{ℕ, rules, ◌≡◌, ◌+◌, sym, subst, length, All}
 use Rattle.scm_model.specs.declared.flat.Next.{Next}
 use Rattle.scm_rules.specs.Opening.{services_from}
@@ -16,6 +18,7 @@ invariant_of-result c =
           (subst (AreRising (length c.args.configs + 1)) (sym is) (opened_rising c.args.configs)));
       texts = subst (All HasShort) (sym is) (opened_texts 1 c.args.configs c.requires);
       needs = λ t. rw c.as_slice.ensures.value at (c.is_acyclic-acyclic.ensures t);
+      unmarked = λ no. subst (All IsUnmarked) (sym is) (opened_unmarked 1 c.args.configs);
       room = search rules;
       plans = search rules;
       untried = search rules;

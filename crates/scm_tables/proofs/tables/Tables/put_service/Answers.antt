@@ -1,3 +1,4 @@
+use Rattle.scm_tables.specs.Inside.{IsUnmarked}
 use Rattle.std.proofs.Common.{refl, subst, sym}
 use Rattle.scm_model.specs.Needs.{needs_of}
 use Rattle.scm_model.specs.Walks.{IsAcyclic}
@@ -14,6 +15,7 @@ invariant_of-self c =
       rising = rw c.push_reserved.ensures.items (rising_push _ _ _ kept.rising refl);
       texts = rw c.push_reserved.ensures.items (All-push HasShort _ _ kept.texts c.requires.texts);
       needs = λ t. rw c.push_reserved.ensures.items (subst (λ g. IsAcyclic (needs_of g)) (sym (rows_added _ _ kept.rising.below)) (rw c.as_slice.ensures.value at (c.stays_acyclic-self-inside.ensures.after t)));
+      unmarked = λ no. rw c.push_reserved.ensures.items (All-push IsUnmarked _ _ (kept.unmarked no) refl);
       room = kept.room;
       plans = kept.plans;
       untried = kept.untried;

@@ -1,3 +1,4 @@
+use Rattle.scm_tables.proofs.Unmarked.{reported_mark, unmarked_map}
 use Rattle.std.proofs.Common.{◌==◌, ◌∙◌, ap, find, refl, subst, sym}
 use Rattle.std.specs.Prelude.{Option, IfSome}
 use Rattle.scm_model.specs.declared.flat.Service.{Service}
@@ -22,6 +23,7 @@ invariant_of-self c =
       rising = rw c.report_in.ensures (rising_map _ (reported_if process c.args.report.now) (reported_number process c.args.report.now) _ kept.rising);
       texts = rw c.report_in.ensures (texts_map (reported_if process c.args.report.now) (reported_config process c.args.report.now) _ kept.texts);
       needs = λ t. rw c.report_in.ensures (same_graph (reported_if process c.args.report.now) (reported_needs process c.args.report.now) _ (kept.needs t));
+      unmarked = λ no. rw c.report_in.ensures (unmarked_map (reported_if process c.args.report.now) (reported_mark process c.args.report.now) _ (kept.unmarked no));
       room = kept.room;
       plans = kept.plans;
       untried = kept.untried;
