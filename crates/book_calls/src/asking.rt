@@ -104,10 +104,14 @@ pub fn told_by(reply: &Reply) -> Told {
         Reply::Handle { handle, code } => (*code, *handle),
         Reply::State { status, code } => (*code, u64::from(status.state)),
         Reply::Made { handle, code, .. } => (*code, *handle),
-        Reply::Tag { code, .. } => (*code, 0),
-        Reply::Shown { code, .. } => (*code, 0),
-        Reply::LockState { code, .. } => (*code, 0),
-        Reply::Name { code, .. } => (*code, 0),
+        Reply::Tag { code, .. }
+        | Reply::Shown { code, .. }
+        | Reply::LockState { code, .. }
+        | Reply::Name { code, .. }
+        | Reply::Listing { code, .. }
+        | Reply::Page { code, .. }
+        | Reply::Bytes { code, .. }
+        | Reply::Notice { code, .. } => (*code, 0),
     };
     Told { code, number }
 }

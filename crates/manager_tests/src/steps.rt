@@ -181,7 +181,11 @@ fn code_of(reply: &Reply) -> u32 {
         | Reply::Tag { code, .. }
         | Reply::Shown { code, .. }
         | Reply::LockState { code, .. }
-        | Reply::Name { code, .. } => *code,
+        | Reply::Name { code, .. }
+        | Reply::Listing { code, .. }
+        | Reply::Page { code, .. }
+        | Reply::Bytes { code, .. }
+        | Reply::Notice { code, .. } => *code,
     }
 }
 

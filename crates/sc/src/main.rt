@@ -25,7 +25,8 @@ fn arguments<R: Env + AllocGlobal>(rt: &R) -> Result<Items<Text>, ScFault> {
     Ok(words)
 }
 
-/// The whole program. Its bounds give it no leave to write to standard error, nor to any place that it isn't handed.
+/// The whole program. Its bounds give it no leave to write to standard error, nor to any place that
+/// it isn't handed.
 fn program<R: Env + AllocGlobal, D: Dialer, O: Sink>(rt: &R, dialer: &mut D, output: &mut O) -> u8 {
     match arguments(rt) {
         Ok(words) => sc_main(rt.alloc(), &words, dialer, output),

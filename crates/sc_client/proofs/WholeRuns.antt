@@ -4,6 +4,7 @@ use Rattle.std.specs.Prelude.{Option, None, Some, Result, Ok, Err, is_err}
 use Rattle.std.proofs.lemmas.Bool.{true≢false}
 use Rattle.std.specs.Io.KnownBytes.{Appends, Consumes}
 use Rattle.std.proofs.KnownBytes.{Appends-nil, Appends-trans, Consumes-nil, Consumes-trans}
+use Rattle.outside.specs.Causes.{HasCause}
 use Rattle.outside.specs.Written.{AppendsFront, Begins, Writes}
 use Rattle.sc_words.specs.declared.calls.Heard.{Heard}
 use Rattle.sc_words.specs.declared.command.Command.{Command}
@@ -157,6 +158,10 @@ wrote old new (Err x) bytes all e w is = absurd (true≢false is)
 pub wrote_front : {E : Type 0} (old new : Option (List ℕ)) (r : Result (Unit {0}) E) (bytes all : List ℕ) → bytes ≡ all → Writes old new r bytes → is_err r ≡ true → AppendsFront old new all
 wrote_front old new (Ok x) bytes all e w is = absurd (true≢false (sym is))
 wrote_front old new (Err x) bytes all e w is = subst (AppendsFront old new) e w
+
+pub unfailed : {E : Type 0} (before now : ℕ) (r : Result (Unit {0}) E) → HasCause before now r → is_err r ≡ false → now ≡ before
+unfailed before now (Ok x) h is = h.kept
+unfailed before now (Err x) h is = absurd (true≢false is)
 
 pub not_over_yet : (c : Command) (t : Talk) → t ≡ not_bound → is_over c t ≡ false
 unfolding is_over

@@ -1,7 +1,7 @@
 -- One command over a connection: what was read, what was written, and what it came to.
 use Rattle.std.specs.Prelude.{ℕ, ◌≡◌, ◌++◌, List, [], Option, Result, Ok, Err}
 use Rattle.std.specs.Io.KnownBytes.{Appends, Consumes, IsAtEnd}
-use Rattle.outside.specs.Causes.{Rose}
+use Rattle.outside.specs.Causes.{NeitherFailed, ReadFailed, WriteFailed}
 use Rattle.outside.specs.Written.{Begins}
 use Rattle.sc_words.specs.declared.calls.Heard.{Heard}
 use Rattle.sc_words.specs.declared.command.Command.{Command}
@@ -41,10 +41,10 @@ pub record IsRun (c : Command) (left left_now held held_now : Option (List ℕ))
   pub written : Appends held held_now text
   pub reached : HasComeTo c result read left_now text
 
--- a fault of the source or the sink comes only where its count rose
+-- a fault of the source or of the sink comes only where that one's count rose, and no other count rises; at another fault none rose
 abbrev pub IsCaused : ClientFault → (source source_now sink sink_now : ℕ) → Type 0
-IsCaused faults.ReadFault source source_now sink sink_now = Rose source source_now
-IsCaused faults.WriteFault source source_now sink sink_now = Rose sink sink_now
-IsCaused (faults.BadReply place) source source_now sink sink_now = Unit {0}
-IsCaused faults.Truncated source source_now sink sink_now = Unit {0}
-IsCaused faults.OutOfMemory source source_now sink sink_now = Unit {0}
+IsCaused faults.ReadFault source source_now sink sink_now = ReadFailed source source_now sink sink_now
+IsCaused faults.WriteFault source source_now sink sink_now = WriteFailed source source_now sink sink_now
+IsCaused (faults.BadReply place) source source_now sink sink_now = NeitherFailed source source_now sink sink_now
+IsCaused faults.Truncated source source_now sink sink_now = NeitherFailed source source_now sink sink_now
+IsCaused faults.OutOfMemory source source_now sink sink_now = NeitherFailed source source_now sink sink_now

@@ -11,7 +11,8 @@ pub enum ClientFault {
     ReadFault,
     #[error("the peer can't be written to")]
     WriteFault,
-    /// The PDU that begins at this place of the peer's bytes isn't in the formats, or no answer to what was asked.
+    /// The PDU that begins at this place of the peer's bytes isn't in the formats, or no answer to
+    /// what was asked.
     #[error("bad reply at {0}")]
     BadReply(u64),
     /// The peer's bytes end before the last answer.

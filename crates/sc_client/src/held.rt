@@ -1,4 +1,4 @@
-ghost use Rattle.std.specs.Prelude.{◌≡◌, ◌≤◌, ◌+◌, ◌<◌, ◌^◌, [], drop, length, IfErr, OnOk};
+ghost use Rattle.std.specs.Prelude.{ℕ, ◌≡◌, ◌≤◌, ◌+◌, ◌<◌, ◌^◌, [], drop, length, IfErr, OnOk};
 ghost use Rattle.sc_client.specs.Along.{ReadsMore};
 ghost use Rattle.sc_client.specs.Runs.{IsCaused};
 
@@ -30,7 +30,8 @@ impl Held {
     pub fn pass(&mut self, alloc: Global, count: usize) -> Result<(), OutOfMemory>
         requires within { count ≤ length self.old.bytes }
         requires small { self.old.place + length self.old.bytes < 2 ^ 63 }
-        ensures { OnOk result (self.new ≡ record { bytes = drop count self.old.bytes; place = self.old.place + count }) }
+        ensures { OnOk result (self.new
+            ≡ record { bytes = drop count self.old.bytes; place = self.old.place + count }) }
     {
         let (_, rest) = self.bytes.as_slice().split_at(count);
         self.bytes = Items::from_slice(alloc, rest)?;
@@ -42,7 +43,9 @@ impl Held {
     pub fn read_more<S: Source>(&mut self, source: &mut S) -> Result<(), ClientFault>
         ensures read { ReadsMore (S.left source.old) (S.left source.new) self.old self.new result }
         ensures grows { S.faults source.old ≤ S.faults source.new }
-        ensures cause { IfErr result (λ fault. IsCaused fault (S.faults source.old) (S.faults source.new) 0 1) }
+        ensures cause { IfErr result (λ fault. (sink : ℕ)
+            → IsCaused fault (S.faults source.old) (S.faults source.new) sink sink) }
+        ensures kept { OnOk result (S.faults source.new ≡ S.faults source.old) }
     {
         let mut piece = [0u8; 4096];
         let Ok(count) = source.read(&mut piece) else {

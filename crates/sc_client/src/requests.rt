@@ -1,6 +1,10 @@
 ghost use Rattle.std.specs.Prelude.{◌≡◌, ◌≤◌, ◌<◌, ◌^◌, ◌++◌, IfOk, OnOk, drop, length, take};
 ghost use Rattle.ndr_body.specs.Writing.{blank};
-ghost use Rattle.sc_client.specs.Requests.{bind_text, stub_of, call_for, config2_draft, count_of, request_fragment, request_fragments, opnum_of, opnum_of_request, put_action_rows, put_failure_front, put_late_actions, put_late_text, put_level, put_pointer, request_text, fragmented};
+ghost use Rattle.sc_client.specs.Requests.{bind_text, stub_of, call_for, config2_draft, count_of};
+ghost use Rattle.sc_client.specs.Requests.{request_fragment, request_fragments, opnum_of};
+ghost use Rattle.sc_client.specs.Requests.{opnum_of_request, put_action_rows, put_failure_front};
+ghost use Rattle.sc_client.specs.Requests.{put_late_actions, put_late_text, put_level, put_pointer};
+ghost use Rattle.sc_client.specs.Requests.{request_text, fragmented};
 
 use ndr_body::NdrWriter;
 use rpc_pdu::{Bind, Pdu, RequestPdu, write_pdu};
@@ -185,7 +189,8 @@ fn put_failure_front(
     actions: &Option<Items<Action>>,
 ) -> Result<(), OutOfMemory>
     ensures front { w.new.front ≡ w.old.front }
-    ensures ok { OnOk result (w.new.draft ≡ put_failure_front reset command.now actions.now w.old.draft) }
+    ensures ok { OnOk result (w.new.draft
+        ≡ put_failure_front reset command.now actions.now w.old.draft) }
 {
     w.number(reset)?;
     w.number(0)?;
@@ -304,7 +309,8 @@ fn fragmented(alloc: Global, call: u32, opnum: u16, body: &[u8]) -> Result<Items
     Ok(text)
 }
 
-/// The bytes of a request under a call id. Memory is told to be wanting for a body of 2^32 bytes or more, whose length no hint can say.
+/// The bytes of a request under a call id. Memory is told to be wanting for a body of 2^32 bytes or
+/// more, whose length no hint can say.
 #[tactic(auto, unfolding(crate::specs::Requests::request_text))]
 pub fn request_text(alloc: Global, call: u32, asked: &Asked) -> Result<Items<u8>, OutOfMemory>
     ensures { IfOk result (λ text. text ≡ request_text call asked.now) }

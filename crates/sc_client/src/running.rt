@@ -1,4 +1,5 @@
-ghost use Rattle.std.specs.Prelude.{◌≡◌, ◌≤◌, ◌<◌, ◌^◌, false, IfErr};
+ghost use Rattle.std.specs.Prelude.{◌≡◌, ◌≤◌, ◌<◌, ◌^◌, false, IfErr, OnOk};
+ghost use Rattle.outside.specs.Causes.{NeitherFailed};
 ghost use Rattle.sc_client.specs.Along.{Turn, read_so_far};
 ghost use Rattle.sc_client.specs.Runs.{IsCaused, IsRun};
 ghost use Rattle.sc_client.specs.Talks.{is_over};
@@ -13,10 +14,12 @@ use sc_words::{Command, Heard};
 use scm_text::Items;
 use std::alloc::Global;
 
-/// How many turns a command takes at most. Each turn reads a piece or takes a PDU; a peer that sends more has no whole answer in them.
+/// How many turns a command takes at most. Each turn reads a piece or takes a PDU; a peer that
+/// sends more has no whole answer in them.
 const TURNS: u64 = 1 << 40;
 
-/// One turn: takes the PDU that stands first, and writes the request that is then due; or reads more. It answers whether to go on.
+/// One turn: takes the PDU that stands first, and writes the request that is then due; or reads
+/// more. It answers whether to go on.
 fn turn<S: Source, T: Sink>(
     alloc: Global,
     command: &Command,
@@ -33,6 +36,8 @@ fn turn<S: Source, T: Sink>(
     ensures sink { T.faults sink.old ≤ T.faults sink.new }
     ensures cause { IfErr result (λ fault. IsCaused fault
         (S.faults source.old) (S.faults source.new) (T.faults sink.old) (T.faults sink.new)) }
+    ensures kept { OnOk result (NeitherFailed
+        (S.faults source.old) (S.faults source.new) (T.faults sink.old) (T.faults sink.new)) }
 {
     if !take_pdu(alloc, command, talk, held)? {
         held.read_more(source)?;
@@ -44,18 +49,22 @@ fn turn<S: Source, T: Sink>(
     ask_next(alloc, command, talk, sink)
 }
 
-/// Makes the calls of a command over a connection to a manager, and gives the answers to them. The bind is written first, and then
-/// each request once the answers before it were read. What the peer sends behind the last answer isn't looked at.
+/// Makes the calls of a command over a connection to a manager, and gives the answers to them. The
+/// bind is written first, and then each request once the answers before it were read. What the peer
+/// sends behind the last answer isn't looked at.
 pub fn run_command<S: Source, T: Sink>(
     alloc: Global,
     command: &Command,
     source: &mut S,
     sink: &mut T,
 ) -> Result<Items<Heard>, ClientFault>
-    ensures run { IsRun command.now (S.left source.old) (S.left source.new) (T.held sink.old) (T.held sink.new) result }
+    ensures run { IsRun command.now (S.left source.old) (S.left source.new) (T.held sink.old)
+        (T.held sink.new) result }
     ensures source { S.faults source.old ≤ S.faults source.new }
     ensures sink { T.faults sink.old ≤ T.faults sink.new }
     ensures cause { IfErr result (λ fault. IsCaused fault
+        (S.faults source.old) (S.faults source.new) (T.faults sink.old) (T.faults sink.new)) }
+    ensures kept { OnOk result (NeitherFailed
         (S.faults source.old) (S.faults source.new) (T.faults sink.old) (T.faults sink.new)) }
 {
     let mut talk = Talk::new(alloc);

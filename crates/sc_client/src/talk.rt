@@ -5,7 +5,9 @@ ghost use Rattle.ndr_body.specs.Reading.{Gives};
 ghost use Rattle.rpc_pdu.specs.Pdu.{seen_ack, seen_pdu, seen_response};
 ghost use Rattle.scm_model.specs.declared.calls.Reply.{Reply as AReply};
 ghost use Rattle.sc_client.specs.Along.{Takes};
-ghost use Rattle.sc_client.specs.Talks.{acceptance, ack_move, answers, expected, fault_move, is_next_fragment, hearing, is_whole, pdu_move, response_move, told_by, not_bound, with_stub};
+ghost use Rattle.sc_client.specs.Talks.{acceptance, ack_move, answers, expected, fault_move};
+ghost use Rattle.sc_client.specs.Talks.{is_next_fragment, hearing, is_whole, pdu_move};
+ghost use Rattle.sc_client.specs.Talks.{response_move, told_by, not_bound, with_stub};
 
 use super::requests::call_for;
 use ndr_body::BodyFault;
@@ -49,7 +51,8 @@ fn expected(alloc: Global, command: &Command, heard: &[Heard]) -> Result<Option<
 
 /// What a body that was read tells, or nothing of one that can't be.
 fn or_none(read: Result<Reply, BodyFault>) -> Result<Option<Reply>, OutOfMemory>
-    ensures { (at : Result AReply ABodyFault) → Gives (λ r. r) read at → IfOk result (λ told. told ≡ result_ok at) }
+    ensures { (at : Result AReply ABodyFault) → Gives (λ r. r) read at
+        → IfOk result (λ told. told ≡ result_ok at) }
 {
     match read {
         Ok(reply) => Ok(Some(reply)),
@@ -166,7 +169,8 @@ impl Talk {
         last: bool,
         stub: &[u8],
     ) -> Result<bool, OutOfMemory>
-        ensures { Takes (with_stub command.now self.old last (self.old.part ++ stub.now)) self.new result }
+        ensures { Takes (with_stub command.now self.old last
+            (self.old.part ++ stub.now)) self.new result }
     {
         self.part.append(stub)?;
         if self.part.len() > LIMIT {

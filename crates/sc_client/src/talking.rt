@@ -1,4 +1,4 @@
-ghost use Rattle.std.specs.Prelude.{◌≡◌, ◌≤◌, ◌<◌, ◌^◌, false, IfErr};
+ghost use Rattle.std.specs.Prelude.{ℕ, ◌≡◌, ◌≤◌, ◌<◌, ◌^◌, false, IfErr, OnOk};
 ghost use Rattle.sc_client.specs.Along.{AsksNext, TakesPdu, read_so_far};
 ghost use Rattle.sc_client.specs.Runs.{IsCaused};
 ghost use Rattle.sc_client.specs.Talks.{is_over};
@@ -47,7 +47,9 @@ pub fn ask_next<T: Sink>(
 ) -> Result<bool, ClientFault>
     ensures asked { AsksNext command.now talk.now (T.held sink.old) (T.held sink.new) result }
     ensures grows { T.faults sink.old ≤ T.faults sink.new }
-    ensures cause { IfErr result (λ fault. IsCaused fault 0 1 (T.faults sink.old) (T.faults sink.new)) }
+    ensures cause { IfErr result (λ fault. (source : ℕ)
+        → IsCaused fault source source (T.faults sink.old) (T.faults sink.new)) }
+    ensures kept { OnOk result (T.faults sink.new ≡ T.faults sink.old) }
 {
     let heard = talk.heard.as_slice();
     let Some(asked) = next_request(alloc, command, heard)? else {

@@ -3,7 +3,8 @@ use sc_dial::{Connection, Dialer, TcpDialer};
 use std::net::{Net, TcpListener, TcpStream};
 use std::test::*;
 
-/// Whether a byte that is sent over a connection to itself comes back from the peer, and then the end.
+/// Whether a byte that is sent over a connection to itself comes back from the peer, and then the
+/// end.
 fn echoes<R: Net<Stream = TcpStream>>(
     dialer: &mut TcpDialer<R>,
     listener: &TcpListener,

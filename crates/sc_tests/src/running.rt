@@ -52,7 +52,8 @@ fn queries(alloc: Global, piece: usize) -> Result<bool, Fail> {
     )
 }
 
-/// What a query comes to where the peer sends just these bytes, and whether no more was asked than they answer.
+/// What a query comes to where the peer sends just these bytes, and whether no more was asked than
+/// they answer.
 fn fails(alloc: Global, peer: &str, asked: &str) -> Result<(ClientFault, bool), Fail> {
     let command = command_of(alloc, "127.0.0.1:4000|query|Db")?;
     let mut source = MemorySource::new(bytes_of(alloc, &[peer])?, Vec::new(alloc));

@@ -17,7 +17,8 @@ fn run<D: Dialer, O: Sink>(
     dialer: &mut D,
     output: &mut O,
 ) -> Result<bool, ScFault>
-    ensures run { HasRun command.now (outside_of (D.next dialer.old) (D.past dialer.old) (D.past dialer.new)
+    ensures run { HasRun command.now (outside_of (D.next dialer.old) (D.past dialer.old)
+        (D.past dialer.new)
         (D.faults dialer.old) (D.faults dialer.new) (O.held output.old) (O.held output.new)
         (O.faults output.old) (O.faults output.new)) result }
     ensures dialer { D.faults dialer.old ≤ D.faults dialer.new }
@@ -37,10 +38,12 @@ fn run_to_status<D: Dialer, O: Sink>(
     dialer: &mut D,
     output: &mut O,
 ) -> u8
-    ensures run { EndsWith command.now (outside_of (D.next dialer.old) (D.past dialer.old) (D.past dialer.new)
+    ensures run { EndsWith command.now (outside_of (D.next dialer.old) (D.past dialer.old)
+        (D.past dialer.new)
         (D.faults dialer.old) (D.faults dialer.new) (O.held output.old) (O.held output.new)
         (O.faults output.old) (O.faults output.new)) result }
-    ensures complete { IsComplete command.now (outside_of (D.next dialer.old) (D.past dialer.old) (D.past dialer.new)
+    ensures complete { IsComplete command.now (outside_of (D.next dialer.old) (D.past dialer.old)
+        (D.past dialer.new)
         (D.faults dialer.old) (D.faults dialer.new) (O.held output.old) (O.held output.new)
         (O.faults output.old) (O.faults output.new)) result }
     ensures dialer { D.faults dialer.old ≤ D.faults dialer.new }
@@ -49,9 +52,10 @@ fn run_to_status<D: Dialer, O: Sink>(
     status_of(run(alloc, command, dialer, output))
 }
 
-/// Does what the words ask for, and answers the status of the program: 0 all calls succeeded, 1 a call was refused or met a fault,
-/// 2 words that are no command, 3 the manager can't be reached, read or written to, or the output failed, 4 the peer's bytes aren't
-/// in the formats or end early, 8 want of memory.
+/// Does what the words ask for, and answers the status of the program: 0 all calls succeeded, 1 a
+/// call was refused or met a fault, 2 words that are no command, 3 the manager can't be reached,
+/// read or written to, or the output failed, 4 the peer's bytes aren't in the formats or end early,
+/// 8 want of memory.
 pub fn sc_main<D: Dialer, O: Sink>(
     alloc: Global,
     words: &Items<Text>,
@@ -66,11 +70,13 @@ pub fn sc_main<D: Dialer, O: Sink>(
     ensures dialer { D.faults dialer.old ≤ D.faults dialer.new }
     ensures output { O.faults output.old ≤ O.faults output.new }
     // What was dialled, read, written and printed, and why the run ended.
-    ensures run { IfOk (command_of words.now) (λ c. EndsWith c (outside_of (D.next dialer.old) (D.past dialer.old) (D.past dialer.new)
+    ensures run { IfOk (command_of words.now) (λ c. EndsWith c (outside_of (D.next dialer.old)
+        (D.past dialer.old) (D.past dialer.new)
         (D.faults dialer.old) (D.faults dialer.new) (O.held output.old) (O.held output.new)
         (O.faults output.old) (O.faults output.new)) result) }
     // Nothing else ends a run without faults.
-    ensures complete { IfOk (command_of words.now) (λ c. IsComplete c (outside_of (D.next dialer.old) (D.past dialer.old) (D.past dialer.new)
+    ensures complete { IfOk (command_of words.now) (λ c. IsComplete c (outside_of
+        (D.next dialer.old) (D.past dialer.old) (D.past dialer.new)
         (D.faults dialer.old) (D.faults dialer.new) (O.held output.old) (O.held output.new)
         (O.faults output.old) (O.faults output.new)) result) }
 {

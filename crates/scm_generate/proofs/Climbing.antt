@@ -15,7 +15,8 @@ use Rattle.scm_generate.proofs.Goes.{Goes, all_stay, goes_both, goes_on, goes_on
 use Rattle.scm_generate.proofs.Graph.{Climbs}
 use Rattle.scm_generate.proofs.Launching.{Climbing, IsRun, goes_up, launched_found, length_ran, ran, reports_all, takes, taking, told_report, up_last}
 use Rattle.scm_generate.proofs.Settling.{HasUp, IsAtRest, at_one, decided, enters_next, pending, runs, under_way}
-use Rattle.scm_generate.proofs.Shape.{Live}
+use Rattle.scm_generate.proofs.Shape.{Live, rows}
+use Rattle.scm_generate.proofs.Untold.{report_alone}
 
 -- of what was tried, nothing lies above the service that is being launched
 abbrev pub Untried : List ℕ → ℕ → Type 0
@@ -66,11 +67,11 @@ module _ (l : Limits) (n : ℕ) (look : ℕ → Live) (plan target s t : ℕ) (r
       (stepped l launched (Report p (told 4 1))
       (record { answer = report_told (current_of launched p) (told 4 1); flat = under_way n looked (ran first (s ∷ done)) [] plan target (s ∷ t ∷ rest) tried (p + 1) due })
       (next_wanting (p + 1)) (next_wanting (p + 1))
-      (ap (λ all. record { answer = report_told (current_of launched p) (told 4 1); flat = record launched { services = all } })
-      (reports_all l n look plan target s (t ∷ rest) tried done first due low some lt climbing))
+      (ap (λ f. record { answer = report_told (current_of launched p) (told 4 1); flat = f })
+      (report_alone launched p (told 4 1) (rows looked n) refl (reports_all l n look plan target s (t ∷ rest) tried done first due low some lt climbing)))
       (enters_next l n looked (ran first (s ∷ done)) plan target s t rest tried (p + 1) due small some lt running_here passed
       (let a = above in omega (arith, a)) within still up_for (untried t above) (let e = length_ran first (s ∷ done) in omega (arith, e, space)))
-      (told_report (next_wanting (p + 1)) (current_of launched p) (told 4 1)) (all_stay (next_wanting (p + 1)) (next_looked (p + 1)) n refl))
+      (told_report (next_wanting (p + 1)) (current_of launched p) (told 4 1)) (all_stay (next_wanting (p + 1)) (next_looked (p + 1)) n refl refl))
 
   abbrev wanting : Flat
   wanting = under_way n look (ran first done ++ wanted_process p s ∷ []) (wanted_row p [] ∷ []) plan target (s ∷ t ∷ rest) tried (p + 1) due

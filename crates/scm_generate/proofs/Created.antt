@@ -177,7 +177,7 @@ module _ (l : Limits) (n : ℕ) (wide : IsWide l (suc n)) where
       refl
       (stepped l (created n) (Call 1 new appended.Kept) (record { answer = answer.Reply told; flat = created (suc n) }) (created (suc n)) (created (suc n))
       (called_well l (created n) new appended.Kept verdict_is ∙ ap (λ g. record { answer = answer.Reply told; flat = g }) made_is)
-      refl refl (all_stay (created (suc n)) fresh (suc n) refl))
+      refl refl (all_stay (created (suc n)) fresh (suc n) refl refl))
 
 narrower : (l : Limits) (n : ℕ) → IsWide l (suc n) → IsWide l n
 narrower l n wide = record {
@@ -213,7 +213,7 @@ opens_verdict l wide = all_pass (open_manager_refusals l joined 1 None 0x0200000
 opens_manager : (l : Limits) → IsWide l 0 → Goes l joined (called opens_it appended.NotAsked ∷ []) (created 0)
 opens_manager l wide = goes_one l joined (created 0) (Call 1 opens_it appended.NotAsked) refl refl
     (stepped l joined (Call 1 opens_it appended.NotAsked) (record { answer = answer.Reply (reply.Handle 1 0); flat = created 0 }) (created 0) (created 0)
-    (called_well l joined opens_it appended.NotAsked (opens_verdict l wide)) refl refl (all_stay (created 0) fresh 0 refl))
+    (called_well l joined opens_it appended.NotAsked (opens_verdict l wide)) refl refl (all_stay (created 0) fresh 0 refl refl))
 
 pub begins : (l : Limits) → IsWide l 0 → Goes l (opening l [] [] 0) opening_calls (created 0)
 begins l wide = goes_on l (opening l [] [] 0) joined (created 0) (Joined Admin) (called opens_it appended.NotAsked ∷ []) (joins l wide) (opens_manager l wide)

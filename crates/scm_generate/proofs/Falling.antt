@@ -17,7 +17,7 @@ use Rattle.scm_model.specs.Entries.{Entry}
 use Rattle.start_plan.specs.Decided.{code_of}
 use Rattle.status_machine.specs.Moves.{take_end, take_report}
 use Rattle.scm_rules.specs.Ends.{end_told}
-use Rattle.scm_rules.specs.Launches.{fallen_if, is_launched}
+use Rattle.scm_rules.specs.Launches.{fallen_if, is_launched, without_process}
 use Rattle.scm_rules.specs.Reports.{current_of, moved_by, report_told, reported_if}
 use Rattle.scm_rules.specs.Start.{is_caller_of}
 use Rattle.scm_rules.specs.Steps.{finished}
@@ -26,7 +26,8 @@ use Rattle.scm_generate.proofs.Built.{Each, map_built}
 use Rattle.scm_generate.proofs.Goes.{Goes, all_stay, goes_both, goes_none, goes_on, goes_one, stepped}
 use Rattle.scm_generate.proofs.Launching.{IsRun, last_found, ran, running_process, told_report}
 use Rattle.scm_generate.proofs.Settling.{IsAtRest, decided, plan_with}
-use Rattle.scm_generate.proofs.Shape.{Live, resting, row_at, standing}
+use Rattle.scm_generate.proofs.Shape.{Live, resting, row_at, rows, standing}
+use Rattle.scm_generate.proofs.Untold.{fall_alone, report_alone}
 
 -- the start is answered, and its processes still run
 abbrev pub falling : (n : ℕ) (look : ℕ → Live) (first : ℕ) (done : List ℕ) (process plan due : ℕ) → Flat
@@ -44,7 +45,7 @@ answers l n look first plan target done entries tried process due =
     refl
     (stepped l f (EndStart 1 plan) (record { answer = answer.Reply (reply.Code (unwrap_or (code_of f.plans plan) 0)); flat = g }) g g
     (ap (λ b. record { answer = answer.Reply (reply.Code (unwrap_or (code_of f.plans plan) 0)); flat = record g { plans = cond (not b) (p ∷ []) [] } }) same)
-    refl refl (all_stay g look n refl))
+    refl refl (all_stay g look n refl refl))
 
 told_end : (f : Flat) (found : Option Service) → (finished f (end_told found)).flat ≡ f
 told_end f None = refl
@@ -95,9 +96,9 @@ module _ (l : Limits) (n : ℕ) (look : ℕ → Live) (first s : ℕ) (done : Li
   stops : Goes l before (at_once (Report p (told 1 0)) ∷ []) reported
   stops = goes_one l before reported (Report p (told 1 0)) (ap (λ o. is_launched o && true) found) refl
       (stepped l before (Report p (told 1 0)) (record { answer = report_told (current_of before p) (told 1 0); flat = reported }) reported reported
-      (ap (λ all. record { answer = report_told (current_of before p) (told 1 0); flat = record before { services = all } })
-      (map_built (reported_if p (told 1 0)) [] (λ k. row_at k (look k)) [] (λ k. row_at k (looked k)) n refl stops_row))
-      refl (told_report reported (current_of before p) (told 1 0)) (all_stay reported looked n refl))
+      (ap (λ f. record { answer = report_told (current_of before p) (told 1 0); flat = f })
+      (report_alone before p (told 1 0) (rows looked n) refl (map_built (reported_if p (told 1 0)) [] (λ k. row_at k (look k)) [] (λ k. row_at k (looked k)) n refl stops_row)))
+      refl (told_report reported (current_of before p) (told 1 0)) (all_stay reported looked n refl refl))
 
   has_other : (k : ℕ) → ((looked k).process == p) ≡ false
   has_other k =
@@ -119,10 +120,10 @@ module _ (l : Limits) (n : ℕ) (look : ℕ → Live) (first s : ℕ) (done : Li
   ends : Goes l reported (at_once (Ended p) ∷ []) after
   ends = goes_one l reported after (Ended p) (ap (λ o. is_launched o && true) found) refl
       (stepped l reported (Ended p) (record { answer = end_told (current_of reported p); flat = after }) after after
-      (ap (λ all. record { answer = end_told (current_of reported p); flat = record reported { services = all; processes = filter (λ (row : Process). not (row.number == p)) (ran first (s ∷ done)) } })
-      (map_built (fallen_if p 1067) [] (λ k. row_at k (looked k)) [] (λ k. row_at k (looked k)) n refl falls_row)
+      (ap (λ f. record { answer = end_told (current_of reported p); flat = without_process f p })
+      (fall_alone reported p 1067 (rows looked n) refl (map_built (fallen_if p 1067) [] (λ k. row_at k (looked k)) [] (λ k. row_at k (looked k)) n refl falls_row))
       ∙ ap (λ ps. record { answer = end_told (current_of reported p); flat = record reported { processes = ps } }) leaves)
-      refl (told_end after (current_of reported p)) (all_stay after looked n refl))
+      refl (told_end after (current_of reported p)) (all_stay after looked n refl refl))
 
   pub goes_down : Goes l before (down p) after
   goes_down = goes_on l before reported after (Report p (told 1 0)) (at_once (Ended p) ∷ []) stops ends

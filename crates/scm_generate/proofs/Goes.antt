@@ -1,15 +1,17 @@
 -- Runs from one state to another.
-use Rattle.std.proofs.Common.{ℕ, ◌≡◌, ◌∙◌, true, not, List, [], ◌∷◌, ◌++◌, filter, ap, sym, refl, subst}
+use Rattle.std.proofs.Common.{ℕ, ◌≡◌, ◌∙◌, true, not, List, [], ◌∷◌, ◌++◌, filter, map, ap, sym, refl, subst}
 use Rattle.scm_model.specs.declared.flat.Flat.{Flat}
 use Rattle.scm_model.specs.declared.flat.Limits.{Limits}
+use Rattle.scm_model.specs.declared.flat.Registration.{Registration}
 use Rattle.scm_model.specs.declared.flat.Service.{Service}
 use Rattle.scm_model.specs.declared.calls.Request.{Request}
 use Rattle.scm_model.specs.declared.steps.Kept.{Kept}
 use Rattle.scm_model.specs.declared.steps.Step.{Step}
 use Rattle.scm_model.specs.declared.steps.Step.TheVariants.{Call}
 use Rattle.scm_model.specs.Entries.{Entry}
+use Rattle.scm_model.specs.Notices.{all_noted, event_of_leaving}
 use Rattle.scm_model.specs.Outcomes.{Told}
-use Rattle.scm_model.specs.Purge.{leaves, purged}
+use Rattle.scm_model.specs.Purge.{leaves, leaving, purged}
 use Rattle.scm_model.specs.Refused.{answered}
 use Rattle.start_plan.specs.Settle.{settled}
 use Rattle.scm_rules.specs.Runs.{EachStep, IsLegal, run_state}
@@ -19,6 +21,7 @@ use Rattle.scm_generate.specs.Listed.{at_once}
 use Rattle.scm_generate.specs.Progress.{IsQuietStep, is_quiet}
 use Rattle.scm_generate.proofs.Built.{filter_built}
 use Rattle.scm_generate.proofs.Shape.{Live, rows, row_at}
+use Rattle.scm_generate.proofs.Untold.{events_untold}
 
 -- the entries can be made from the one state on, and lead to the other
 pub record Goes (l : Limits) (f : Flat) (es : List Entry) (g : Flat) : Type 0 where
@@ -71,10 +74,13 @@ pub called_well : (l : Limits) (f : Flat) (asked : Request) (append : Kept) → 
 called_well l f asked append e =
     ap (λ code. record { answer = call_answer (tells_plan asked code) f.next.plan (answered code (told_refused f 1 asked code) f (done_of l f 1 asked)).reply; flat = (answered code (told_refused f 1 asked code) f (done_of l f 1 asked)).flat }) e
 
--- nobody is marked
-pub all_stay : (f : Flat) (look : ℕ → Live) (n : ℕ) → f.services ≡ rows look n → purged f ≡ f
-all_stay f look n is =
+-- nobody is marked, and nobody is told
+pub all_stay : (f : Flat) (look : ℕ → Live) (n : ℕ) → f.services ≡ rows look n → f.registrations ≡ [] → purged f ≡ f
+all_stay f look n is none =
     let same : filter (λ (row : Service). not (leaves f.handles row)) f.services ≡ f.services =
     subst (λ all. filter (λ (row : Service). not (leaves f.handles row)) all ≡ all) (sym is)
     (filter_built (λ (row : Service). not (leaves f.handles row)) [] (λ k. row_at k (look k)) n refl (λ k some lt. refl)) in
-    ap (λ all. record f { services = all }) same
+    let untold : all_noted (map event_of_leaving (leaving f)) f.registrations ≡ f.registrations =
+    subst (λ (told : List Registration). all_noted (map event_of_leaving (leaving f)) told ≡ told) (sym none) (events_untold (map event_of_leaving (leaving f))) in
+    ap (λ all. record f { services = all; registrations = all_noted (map event_of_leaving (leaving f)) f.registrations }) same
+    ∙ ap (λ told. record f { registrations = told }) untold

@@ -23,6 +23,7 @@ use Rattle.scm_generate.proofs.Built.{Each, find_right, map_built}
 use Rattle.scm_generate.proofs.Goes.{Goes, all_stay, goes_on, goes_one, stepped}
 use Rattle.scm_generate.proofs.Settling.{IsAtRest, at_one, decided, decides, pending, plan_with, runs, under_way, waits}
 use Rattle.scm_generate.proofs.Shape.{Live, row_at, rows}
+use Rattle.scm_generate.proofs.Untold.{report_alone}
 
 -- ## The processes
 
@@ -110,7 +111,7 @@ module _ (l : Limits) (n : ℕ) (look : ℕ → Live) (plan target s : ℕ) (res
       (ap (λ ps. record { answer = answer.Launch p; flat = record wanting { processes = ps; wanted = wanted_of_others p (wanted_row p [] ∷ []) } }) taken_last
       ∙ ap (λ b. record { answer = answer.Launch p; flat = record taking { wanted = cond (not b) (wanted_row p [] ∷ []) [] } }) (eq-eqb p p refl))
       (waits l n look (ran first done ++ taken_process p s ∷ []) [] plan target s rest tried (p + 1) due some lt starting)
-      refl (all_stay taking look n refl))
+      refl (all_stay taking look n refl refl))
 
   found : process_of taking p ≡ Some (taken_process p s)
   found = last_found first p done (taken_process p s) (omega arith) refl
@@ -139,7 +140,7 @@ module _ (l : Limits) (n : ℕ) (look : ℕ → Live) (plan target s : ℕ) (res
       (stepped l taking (Launched p p) (record { answer = answer.Done; flat = launching }) launching launching
       (ap (λ f. record { answer = answer.Done; flat = f }) (launches false other))
       (waits l n look (ran first (s ∷ done)) [] plan target s rest tried (p + 1) due some lt starting)
-      refl (all_stay launching look n refl))
+      refl (all_stay launching look n refl refl))
 
   abbrev succeeded : Flat
   succeeded = decided n look (ran first (s ∷ done)) plan target (s ∷ rest) tried (p + 1) due
@@ -149,7 +150,7 @@ module _ (l : Limits) (n : ℕ) (look : ℕ → Live) (plan target s : ℕ) (res
       (stepped l taking (Launched p p) (record { answer = answer.Done; flat = launched_with true }) succeeded succeeded
       (ap (λ f. record { answer = answer.Done; flat = f }) (launches true this))
       (decides l n look (ran first (s ∷ done)) plan target s rest tried (p + 1) due)
-      refl (all_stay succeeded look n refl))
+      refl (all_stay succeeded look n refl refl))
 
   -- ## It runs
 
@@ -183,8 +184,8 @@ module _ (l : Limits) (n : ℕ) (look : ℕ → Live) (plan target s : ℕ) (res
   runs_last : Goes l succeeded (at_once (Report p (told 4 1)) ∷ []) finished_all
   runs_last = goes_one l succeeded finished_all (Report p (told 4 1)) (ap (λ o. is_launched o && true) launched_found) refl
       (stepped l succeeded (Report p (told 4 1)) (record { answer = report_told (current_of succeeded p) (told 4 1); flat = finished_all }) finished_all finished_all
-      (ap (λ all. record { answer = report_told (current_of succeeded p) (told 4 1); flat = record succeeded { services = all } }) reports_all)
-      refl (told_report finished_all (current_of succeeded p) (told 4 1)) (all_stay finished_all running n refl))
+      (ap (λ f. record { answer = report_told (current_of succeeded p) (told 4 1); flat = f }) (report_alone succeeded p (told 4 1) (rows running n) refl reports_all))
+      refl (told_report finished_all (current_of succeeded p) (told 4 1)) (all_stay finished_all running n refl refl))
 
   pub up_last : (target == s) ≡ true → Goes l wanting (up p) finished_all
   up_last this = goes_on l wanting taking finished_all LaunchTaken (at_once (Launched p p) ∷ at_once (Report p (told 4 1)) ∷ []) takes

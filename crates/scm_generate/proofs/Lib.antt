@@ -5,6 +5,7 @@ mod Counts
 mod Built
 mod Names
 mod Shape
+mod Untold
 mod Graph
 mod Goes
 mod Created

@@ -1,5 +1,5 @@
 -- What becomes of the plan of a start that is under way.
-use Rattle.std.proofs.Common.{ℕ, ◌≡◌, ◌∙◌, ◌+◌, ◌/◌, ◌<◌, ◌≤◌, ◌^◌, ◌==◌, ◌||◌, ◌&&◌, Bool, true, false, not, cond, List, [], ◌∷◌, ◌++◌, Option, None, Some, find, length, ap, sym, refl, subst, arith, eq-eqb, eqb-true}
+use Rattle.std.proofs.Common.{ℕ, ◌≡◌, ◌∙◌, ◌+◌, ◌/◌, ◌<◌, ◌≤◌, ◌^◌, ◌==◌, ◌||◌, ◌&&◌, Bool, true, false, not, cond, List, [], ◌∷◌, ◌++◌, Option, None, Some, find, length, map, ap, sym, refl, subst, arith, eq-eqb, eqb-true}
 use Rattle.std.specs.Prelude.{is_some}
 use Rattle.std.specs.List.{list_all}
 use Rattle.std.proofs.lemmas.Bool.{lt-leb, and_right, eqb-false}
@@ -15,6 +15,7 @@ use Rattle.scm_model.specs.declared.flat.Service.{Service}
 use Rattle.scm_model.specs.declared.flat.Wanted.{Wanted}
 use Rattle.scm_model.specs.Ready.{is_ready, is_fulfilled, is_up, state_in, state_of}
 use Rattle.scm_model.specs.Refused.{first_refusal}
+use Rattle.scm_model.specs.Rows.{service_of}
 use Rattle.start_plan.specs.declared.settling.Move.TheVariants as moves
 use Rattle.start_plan.specs.Entered.{started_if, starting_in, wanted_process, wanted_row, with_entered}
 use Rattle.start_plan.specs.Moves.{cause_at, cause_of, entering_at, has, is_full, is_pending, move_by, move_of}
@@ -24,6 +25,7 @@ use Rattle.scm_generate.proofs.Built.{Each, find_built, map_built}
 use Rattle.scm_generate.proofs.Graph.{half_within, positive}
 use Rattle.scm_generate.proofs.Names.{other_names, same_name}
 use Rattle.scm_generate.proofs.Shape.{Live, row_at, rows, standing}
+use Rattle.scm_generate.proofs.Untold.{start_untold}
 
 -- ## Look-ups
 
@@ -165,7 +167,8 @@ module _ (l : Limits) (n : ℕ) (look : ℕ → Live) (processes : List Process)
 
   entered : with_entered before t (words_for at_front t) ≡ after
   entered =
-      ap (λ all. record after { services = all; wanted = wanted_row process (cond (target == t) [] []) ∷ [] })
+      ap (λ heard. record after { services = map (started_if t process) (rows look n); registrations = heard; wanted = wanted_row process (cond (target == t) [] []) ∷ [] }) (start_untold t process (service_of before t))
+      ∙ ap (λ all. record after { services = all; wanted = wanted_row process (cond (target == t) [] []) ∷ [] })
       (map_built (started_if t process) [] (λ k. row_at k (look k)) [] (λ k. row_at k (at_one look t (pending process) k)) n refl starts_row)
       ∙ ap (λ words. record after { wanted = wanted_row process words ∷ [] }) (no_words (target == t))
 

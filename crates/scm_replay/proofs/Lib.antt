@@ -4,3 +4,4 @@ mod Bad
 pub mod Ends
 mod Whole
 mod Admitted
+mod Standings

@@ -1,5 +1,5 @@
 -- A whole input, of the pieces that were eaten.
-use Rattle.std.proofs.Common.{ℕ, ◌≡◌, ◌+◌, ◌<◌, ◌≤◌, ◌==◌, ◌^◌, Bool, true, false, List, [], ◌∷◌, ◌++◌, length, Option, Err, refl, sym, ap, ◌∙◌, subst, append_assoc, append-nil, arith}
+use Rattle.std.proofs.Common.{ℕ, ◌≡◌, ◌≤◌, ◌==◌, ◌^◌, Bool, true, false, List, [], ◌∷◌, ◌++◌, length, Option, Err, refl, sym, ap, ◌∙◌, subst, append_assoc, append-nil, arith}
 use Rattle.feed_loop.specs.declared.fed.Fed.{Fed}
 use Rattle.feed_loop.specs.declared.fed.Fed.TheVariants as fed
 use Rattle.feed_loop.specs.Feeding.{AllEaten, At, Chain, Feeds, IsFedFor, bytes_of}

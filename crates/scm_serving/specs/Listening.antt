@@ -1,14 +1,10 @@
 -- Two listeners that are to listen.
-use Rattle.std.specs.Prelude.{ℕ, ◌≡◌, ◌⊎◌, List, Option, Result, Ok, Err}
+use Rattle.std.specs.Prelude.{◌≡◌, ◌⊎◌, Result, Ok, Err}
 use Rattle.outside.specs.Causes.{Rose}
-use Rattle.scm_listener.specs.Connections.{PastConnection, and_last}
+use Rattle.scm_listener.specs.Connections.{and_last}
 use Rattle.scm_listener.specs.declared.listener.Listening.{Listening}
-use Rattle.scm_server.specs.Ports.{Told, told}
-
--- what a listener tells
-abbrev pub told_by : {N : Type 0} → (left : N → Option (List (List ℕ))) → (accepted : N → ℕ) → (noted : N → Option (List PastConnection)) → (listened : N → Option (List Listening))
-    → (faults : N → ℕ) → N → Told
-told_by left accepted noted listened faults l = told (left l) (accepted l) (noted l) (listened l) (faults l)
+use Rattle.scm_server.specs.Ports.{Told}
+pub use Rattle.scm_server.specs.Ports.{told_by}
 
 -- it listened there once, and is else as it was
 abbrev pub listening_at : Told → Listening → Told

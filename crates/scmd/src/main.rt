@@ -1,7 +1,7 @@
 //! `scmd`: the service control manager. `scmd pipe` serves one connection of svcctl from its input
 //! to its output, `scmd replay` makes the steps that stand in the lines of its input and answers
-//! them, `scmd generate N` prints the summary of a stated list of steps, and `scmd serve` serves the
-//! connections of two ports of the loopback.
+//! them, `scmd generate N` prints the summary of a stated list of steps, and `scmd serve` serves
+//! the connections of two ports of the loopback.
 #![tactic(auto)]
 
 use child_link::{Feed, Link};

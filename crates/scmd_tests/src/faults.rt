@@ -1,4 +1,5 @@
-//! What stands before a run and what fails outside, how the run then ends, and what it wrote and kept.
+//! What stands before a run and what fails outside, how the run then ends, and what it wrote and
+//! kept.
 use crate::asking::{Side, side_of, whole};
 use crate::bodies::put_hex;
 use crate::running::{Outside, nobody, run};
@@ -9,9 +10,9 @@ use std::test::*;
 use std::thread::Threads;
 use std::time;
 
-/// A connection where something stands or fails: the words; what stands in hex; what it asks; what becomes of its reads, of its writes and
-/// of the calls of its keeper, the next one last; the status; the rows whose whole text is written
-/// at the least; and the bytes that are kept, in hex.
+/// A connection where something stands or fails: the words; what stands in hex; what it asks; what
+/// becomes of its reads, of its writes and of the calls of its keeper, the next one last; the
+/// status; the rows whose whole text is written at the least; and the bytes that are kept, in hex.
 struct Row {
     words: &'static str,
     stands: &'static str,

@@ -34,8 +34,8 @@ fn written<O: Sink>(end: BookEnd, output: &mut O) -> u8
 }
 
 /// Serves the connections of two ports, writes the summary of their history once both listeners are
-/// closed, and gives the status of the program. Without a path the journal begins empty, and is kept
-/// in memory.
+/// closed, and gives the status of the program. Without a path the journal begins empty, and is
+/// kept in memory.
 pub fn serve_main<R, I, O, K, N, NI, NO, A, P, L, F, C>(
     rt: &R,
     alloc: Global,

@@ -65,10 +65,10 @@ where
 }
 
 /// Does what the words ask for, and answers the status of the program: 0 done, 1 the input failed,
-/// 2 the output failed, 3 the keeper failed when the journal was opened, 4 that is damaged, 5 words that are no job,
-/// 6 an input that ends within a PDU, a request or a line, 7 a bad PDU or a request that is too
-/// long, 8 want of memory, 9 no room for a request by the limits, 10 a listener failed, 11 a bad
-/// line, 12 as many bytes of input as are read at most, 2^40.
+/// 2 the output failed, 3 the keeper failed when the journal was opened, 4 that is damaged, 5 words
+/// that are no job, 6 an input that ends within a PDU, a request or a line, 7 a bad PDU or a
+/// request that is too long, 8 want of memory, 9 no room for a request by the limits, 10 a listener
+/// failed, 11 a bad line, 12 as many bytes of input as are read at most, 2^40.
 pub fn scmd_main<R, I, O, K, N, NI, NO, A, P, L, F, C>(
     rt: &R,
     alloc: Global,

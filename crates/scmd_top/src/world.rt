@@ -1,5 +1,5 @@
-/// What a run of the program meets outside: a source, a sink, a keeper, two listeners, a spawner and
-/// a clock.
+/// What a run of the program meets outside: a source, a sink, a keeper, two listeners, a spawner
+/// and a clock.
 #[derive(Drop)]
 pub struct World<I, O, K, N, P, C> {
     pub input: I,

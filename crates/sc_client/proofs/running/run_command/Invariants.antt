@@ -9,6 +9,6 @@ invariant-loop g l = record {
   so_far : SoFar l.fn.command l.talk l.held (g.S.Source.left l.fn.source) (g.S.Source.left l.source) (g.T.Sink.held l.fn.sink) (g.T.Sink.held l.sink);
   goes : is_over l.fn.command l.talk ≡ false;
   small : read_so_far l.held ≤ 4096 * l.counter;
-  source : g.S.Source.faults l.fn.source ≤ g.S.Source.faults l.source;
-  sink : g.T.Sink.faults l.fn.sink ≤ g.T.Sink.faults l.sink;
+  source : g.S.Source.faults l.source ≡ g.S.Source.faults l.fn.source;
+  sink : g.T.Sink.faults l.sink ≡ g.T.Sink.faults l.fn.sink;
 }

@@ -1,6 +1,10 @@
-use Rattle.std.proofs.Common.{◌∙◌, ap, arith, sym}
+use Rattle.std.proofs.Common.{◌+◌, ◌∙◌, ap, arith, sym}
 use Rattle.scm_model.specs.Texts.{text_of}
+use Rattle.scm_rules.specs.Steps.{step_of}
 use Rattle.scm_replay.proofs.Admitted.{may_at, same_text}
+use Rattle.scm_replay.proofs.Standings.{made_there, stands_behind, told_over}
+use Rattle.scm_replay.specs.Outcomes.{standing, step_in}
+use Rattle.scm_replay.specs.declared.outcome.Outcome.TheVariants.{Answered}
 use Rattle.scm_replay.proofs.making.made_in.Goals as goal
 
 pub step-answer-requires-clause-may : goal.step-answer-requires-clause-may
@@ -8,6 +12,29 @@ step-answer-requires-clause-may c =
     rw (c.with_kept.ensures, c.kept_as-kept.ensures, c.makes_change.ensures)
     (may_at c.args.manager.now.limits c.makes_room.new.manager.limits c.args.manager.now.flat c.makes_room.new.manager.flat c.args.line.moment c.args.line.step c.args.line.fails
     c.makes_room.ensures.limits c.makes_room.ensures.flat (sym c.may.ensures ∙ c.if-not-may.false))
+
+pub returns-clause-outcome : goal.returns-clause-outcome
+returns-clause-outcome c =
+    let old = c.args.manager.now in
+    let line = c.args.line in
+    let made = made_there old.limits (standing old) line (sym c.may.ensures ∙ c.if-not-may.false) (sym c.finds_room.ensures ∙ c.if-not-finds_room.false) in
+    let told = told_over old.limits c.makes_room.new.manager.limits old.flat c.makes_room.new.manager.flat line c.makes_change.result c.kept_as-kept.result c.with_kept.result
+    c.makes_room.ensures.limits c.makes_room.ensures.flat c.makes_change.ensures c.kept_as-kept.ensures c.with_kept.ensures in
+    ap Answered (c.step-answer.ensures.answer ∙ ap (λ t. t.answer) told) ∙ sym (ap (λ o. o.0) made)
+
+pub returns-clause-standing : goal.returns-clause-standing
+returns-clause-standing c =
+    let old = c.args.manager.now in
+    let line = c.args.line in
+    let made = made_there old.limits (standing old) line (sym c.may.ensures ∙ c.if-not-may.false) (sym c.finds_room.ensures ∙ c.if-not-finds_room.false) in
+    let told = told_over old.limits c.makes_room.new.manager.limits old.flat c.makes_room.new.manager.flat line c.makes_change.result c.kept_as-kept.result c.with_kept.result
+    c.makes_room.ensures.limits c.makes_room.ensures.flat c.makes_change.ensures c.kept_as-kept.ensures c.with_kept.ensures in
+    let same = ap text_of c.with_kept.ensures ∙ same_text line.step c.kept_as-kept.result in
+    stands_behind (standing old) (standing c.step-answer.new.self) line.step (step_of old.limits old.flat line.moment (step_in old.limits old.flat line))
+    (c.step-answer.ensures.flat ∙ ap (λ t. t.flat) told)
+    (c.step-answer.ensures.steps ∙ ap (λ n. n + 1) c.makes_room.ensures.steps)
+    (c.step-answer.ensures.text ∙ ap (λ n. n + text_of c.with_kept.result) c.makes_room.ensures.text ∙ ap (λ n. old.text + n) same)
+    ∙ sym (ap (λ o. o.1) made)
 
 pub returns-clause-keeps : goal.returns-clause-keeps
 returns-clause-keeps c =

@@ -1,0 +1,48 @@
+-- Where nobody is registered, nobody is told.
+use Rattle.std.proofs.Common.{ℕ, ◌≡◌, ◌∙◌, ◌==◌, Bool, true, false, cond, List, [], ◌∷◌, Option, None, Some, map, ap, sym, refl, subst}
+use Rattle.scm_model.specs.Notices.{Event, all_noted, event_of_state, noted, pid_of, told_of_move}
+use Rattle.scm_model.specs.declared.flat.Flat.{Flat}
+use Rattle.scm_model.specs.declared.flat.Process.{Process}
+use Rattle.scm_model.specs.declared.flat.Registration.{Registration}
+use Rattle.scm_model.specs.declared.flat.Service.{Service}
+use Rattle.scm_model.specs.declared.flat.Status.{Status}
+use Rattle.start_plan.specs.Entered.{started_if, told_of_start}
+use Rattle.scm_rules.specs.Launches.{current_of, fallen_if, told_of_fall, with_fallen}
+use Rattle.scm_rules.specs.Reports.{reported_if, told_of_report, with_report}
+
+pub events_untold : (events : List Event) → all_noted events [] ≡ []
+events_untold [] = refl
+events_untold (event ∷ events) = events_untold events
+
+move_untold : (pid : ℕ) (old new : Service) → told_of_move pid old new [] ≡ []
+move_untold pid old new =
+    elim (old.status.state == new.status.state) as (λ (b : Bool). cond b [] (noted (event_of_state pid new) []) ≡ []) [ true ↦ refl | false ↦ refl ]
+
+pub start_untold : (number process : ℕ) (found : Option Service) → told_of_start number process found [] ≡ []
+start_untold number process None = refl
+start_untold number process (Some row) = move_untold 0 row (started_if number process row)
+
+fall_untold : (process code : ℕ) (found : Option Service) → told_of_fall process code found [] ≡ []
+fall_untold process code None = refl
+fall_untold process code (Some row) = move_untold 0 row (fallen_if process code row)
+
+report_untold : (processes : List Process) (report : Status) (found : Option Service) → told_of_report processes report found [] ≡ []
+report_untold processes report None = refl
+report_untold processes report (Some row) = move_untold (pid_of processes (reported_if row.process report row)) row (reported_if row.process report row)
+
+-- a report changes the services alone
+pub report_alone : (f : Flat) (process : ℕ) (report : Status) (services : List Service) → f.registrations ≡ [] → map (reported_if process report) f.services ≡ services
+    → with_report f process report ≡ record f { services = services }
+report_alone f process report services none changes =
+    let same : told_of_report f.processes report (current_of f process) f.registrations ≡ f.registrations =
+    subst (λ (rows : List Registration). told_of_report f.processes report (current_of f process) rows ≡ rows) (sym none) (report_untold f.processes report (current_of f process)) in
+    ap (λ (rows : List Registration). record f { services = map (reported_if process report) f.services; registrations = rows }) same
+    ∙ ap (λ (all : List Service). record f { services = all }) changes
+
+-- so does a fall
+pub fall_alone : (f : Flat) (process code : ℕ) (services : List Service) → f.registrations ≡ [] → map (fallen_if process code) f.services ≡ services → with_fallen f process code ≡ record f { services = services }
+fall_alone f process code services none changes =
+    let same : told_of_fall process code (current_of f process) f.registrations ≡ f.registrations =
+    subst (λ (rows : List Registration). told_of_fall process code (current_of f process) rows ≡ rows) (sym none) (fall_untold process code (current_of f process)) in
+    ap (λ (rows : List Registration). record f { services = map (fallen_if process code) f.services; registrations = rows }) same
+    ∙ ap (λ (all : List Service). record f { services = all }) changes
