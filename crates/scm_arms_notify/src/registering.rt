@@ -63,13 +63,7 @@ fn is_full(tables: &Tables, limits: &Limits, caller: u64) -> bool
 
 /// What `RNotifyServiceStatusChange` is refused with, or 0: `ERROR_INVALID_HANDLE` (6), `ERROR_ACCESS_DENIED` (5),
 /// `ERROR_INVALID_PARAMETER` (87), `ERROR_SERVICE_MARKED_FOR_DELETE` (1072) or `ERROR_NOT_ENOUGH_QUOTA` (1816).
-pub fn notify_verdict(
-    tables: &Tables,
-    limits: &Limits,
-    caller: u64,
-    handle: u64,
-    mask: u32,
-) -> u32
+pub fn notify_verdict(tables: &Tables, limits: &Limits, caller: u64, handle: u64, mask: u32) -> u32
     ensures { result ≡ notify_verdict limits.now tables.now.flat caller handle mask }
 {
     let Some(watched) = watched(tables, caller, handle) else {
@@ -91,13 +85,7 @@ pub fn notify_verdict(
 }
 
 /// Registers a caller for events of what its handle is of, with a handle of the registration. It takes no memory.
-pub fn notify(
-    tables: &mut Tables,
-    limits: &Limits,
-    caller: u64,
-    handle: u64,
-    mask: u32,
-) -> Reply
+pub fn notify(tables: &mut Tables, limits: &Limits, caller: u64, handle: u64, mask: u32) -> Reply
     requires registrations { 1 ≤ tables.old.spare.registrations }
     requires handles { 1 ≤ tables.old.spare.handles }
     requires next_registration { tables.old.flat.next.registration < 2 ^ 63 }
