@@ -1,0 +1,4 @@
+pub mod Counted
+pub mod Handled
+pub mod Kept
+pub mod Listed
