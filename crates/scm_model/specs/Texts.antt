@@ -1,8 +1,12 @@
--- How much text a step has: twice the units of its texts, and the length of its lists of bytes.
+-- How much text a step has: twice the units of its texts, the length of its lists of bytes, 8 for each word and each action, and 32 for each
+-- trigger.
 use Rattle.std.specs.Prelude.{ℕ, ◌+◌, ◌*◌, List, [], ◌∷◌, length, Option, None, Some}
 use Rattle.scm_model.specs.declared.calls.Request.{Request}
 use Rattle.scm_model.specs.declared.calls.Request.TheVariants as request
+use Rattle.scm_model.specs.declared.calls.Info.{Info}
+use Rattle.scm_model.specs.declared.calls.Info.TheVariants as info
 use Rattle.scm_model.specs.declared.calls.NewService.{NewService}
+use Rattle.scm_model.specs.declared.flat.Action.{Action}
 use Rattle.scm_model.specs.declared.calls.ChangeService.{ChangeService}
 use Rattle.scm_model.specs.declared.steps.Step.{Step}
 use Rattle.scm_model.specs.declared.steps.Step.TheVariants.{Call}
@@ -34,9 +38,23 @@ text_of_change change =
     some_text change.path + some_text change.group + some_bytes change.needs + some_text change.account
     + some_text change.display
 
+abbrev pub some_actions : Option (List Action) → ℕ
+some_actions None = 0
+some_actions (Some actions) = 8 * length actions
+
+abbrev pub text_of_info : Info → ℕ
+text_of_info (info.Description text) = some_text text
+text_of_info (info.Failure reset command actions) = some_text command + some_actions actions
+text_of_info (info.Triggers list) = 32 * length list
+text_of_info (info.Delayed on) = 0
+text_of_info (info.OnExit on) = 0
+text_of_info (info.Other level) = 0
+text_of_info (info.Nothing level) = 0
+
 abbrev pub text_of_call : Request → ℕ
 text_of_call (request.Change change) = text_of_change change
 text_of_call (request.Create new) = text_of_new new
+text_of_call (request.Change2 handle asked) = text_of_info asked
 text_of_call (request.OpenManager database access) = some_text database
 text_of_call (request.OpenService handle name access) = 2 * length name
 text_of_call (request.Start handle words) = some_words words

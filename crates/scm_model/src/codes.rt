@@ -251,7 +251,25 @@ pub const GENERIC_WRITE: u32 = 0x4000_0000;
 
 pub const GENERIC_READ: u32 = 0x8000_0000;
 
+// What is done when a trigger is raised (`SERVICE_TRIGGER_ACTION_..`), and its type.
+
+pub const SERVICE_TRIGGER_ACTION_SERVICE_START: u32 = 1;
+
+pub const SERVICE_TRIGGER_ACTION_SERVICE_STOP: u32 = 2;
+
+pub const SERVICE_TRIGGER_TYPE_CUSTOM: u32 = 20;
+
 // Levels of what is asked.
+
+pub const SERVICE_CONFIG_DESCRIPTION: u32 = 1;
+
+pub const SERVICE_CONFIG_FAILURE_ACTIONS: u32 = 2;
+
+pub const SERVICE_CONFIG_DELAYED_AUTO_START_INFO: u32 = 3;
+
+pub const SERVICE_CONFIG_FAILURE_ACTIONS_FLAG: u32 = 4;
+
+pub const SERVICE_CONFIG_TRIGGER_INFO: u32 = 8;
 
 /// The one level of `RQueryServiceStatusEx`.
 pub const SC_STATUS_PROCESS_INFO: u32 = 0;
@@ -261,12 +279,16 @@ pub const SC_STATUS_PROCESS_INFO: u32 = 0;
 /// The greatest `cbBufSize` of `REnumDependentServicesW` and `REnumServicesStatusW`, in bytes.
 pub const MAX_ENUM_SIZE: u32 = 262144;
 
-/// The greatest `cbBufSize` of `RQueryServiceConfigW` and `RQueryServiceStatusEx`, in bytes.
+/// The greatest `cbBufSize` of `RQueryServiceConfigW`, `RQueryServiceConfig2W` and `RQueryServiceStatusEx`, in bytes.
 pub const MAX_CONFIG_SIZE: u32 = 8192;
 /// The greatest `cbBufSize` of `RQueryServiceLockStatusW`, in bytes.
 pub const MAX_LOCK_STATUS_SIZE: u32 = 4096;
 /// The most words of a start.
 pub const SC_MAX_ARGUMENTS: u32 = 1024;
+/// The most actions of `SERVICE_FAILURE_ACTIONSW`.
+pub const SC_MAX_ACTIONS: u32 = 1024;
+/// The most triggers of `SERVICE_TRIGGER_INFO`.
+pub const SC_MAX_TRIGGERS: u32 = 64;
 
 // Numbers of the methods (opnums).
 
@@ -305,6 +327,10 @@ pub const R_START_SERVICE_W: u16 = 19;
 pub const R_GET_SERVICE_DISPLAY_NAME_W: u16 = 20;
 
 pub const R_GET_SERVICE_KEY_NAME_W: u16 = 21;
+
+pub const R_CHANGE_SERVICE_CONFIG2_W: u16 = 37;
+
+pub const R_QUERY_SERVICE_CONFIG2_W: u16 = 39;
 
 pub const R_QUERY_SERVICE_STATUS_EX: u16 = 40;
 

@@ -1,7 +1,7 @@
 ghost use Rattle.std.specs.Prelude.{◌≡◌, ◌+◌, ◌-◌, ◌*◌, ◌<◌, ◌^◌, length, min};
-ghost use Rattle.scm_model.specs.Texts.{some_bytes, some_text, some_words, text_of, text_of_call, text_of_change, text_of_new, text_of_words};
+ghost use Rattle.scm_model.specs.Texts.{some_actions, some_bytes, some_text, some_words, text_of, text_of_call, text_of_change, text_of_info, text_of_new, text_of_words};
 
-use super::{ChangeService, NewService, Request, Step};
+use super::{Action, ChangeService, Info, NewService, Request, Step};
 use scm_text::{Items, WText};
 
 /// How much text there is in a text that may be absent.
@@ -79,6 +79,34 @@ fn some_words(words: &Option<Items<WText>>) -> u128
     }
 }
 
+/// How much text there is in actions that may be absent: 8 each.
+fn some_actions(actions: &Option<Items<Action>>) -> u128
+    ensures text { result ≡ some_actions actions.now }
+    ensures small { result < 2 ^ 68 }
+{
+    match actions {
+        Some(actions) => 8 * actions.len() as u128,
+        None => 0,
+    }
+}
+
+/// How much text there is in what is asked at a level.
+fn text_of_info(info: &Info) -> u128
+    ensures text { result ≡ text_of_info info.now }
+    ensures small { result < 2 ^ 70 }
+{
+    match info {
+        Info::Description(text) => some_text(text),
+        Info::Failure {
+            reset: _,
+            command,
+            actions,
+        } => some_text(command) + some_actions(actions),
+        Info::Triggers(list) => 32 * list.len() as u128,
+        Info::Delayed(_) | Info::OnExit(_) | Info::Other(_) | Info::Nothing(_) => 0,
+    }
+}
+
 /// How much text a request has, as far as numbers go.
 fn text_of_call(request: &Request) -> u128
     ensures { result ≡ min (text_of_call request.now) (2 ^ 128 - 1) }
@@ -86,6 +114,7 @@ fn text_of_call(request: &Request) -> u128
     match request {
         Request::Change(change) => text_of_change(change),
         Request::Create(new) => text_of_new(new),
+        Request::Change2 { handle: _, info } => text_of_info(info),
         Request::OpenManager {
             database,
             access: _,
@@ -111,8 +140,8 @@ fn text_of_call(request: &Request) -> u128
 }
 
 impl Step {
-    /// How much text the step has, as far as numbers go: twice the units of its texts, the bytes of its lists of bytes, and 8 for
-    /// each word.
+    /// How much text the step has, as far as numbers go: twice the units of its texts, the bytes of its lists of bytes, 8 for
+    /// each word and each action, and 32 for each trigger.
     pub fn text(&self) -> u128
         ensures { result ≡ min (text_of self.now) (2 ^ 128 - 1) }
     {

@@ -8,6 +8,8 @@ pub mod Delete
 pub mod Needs
 pub mod Create
 pub mod Change
+pub mod Change2
+pub mod QueryConfig2
 pub mod QueryConfig
 pub mod OtherName
 pub mod EnumDependents

@@ -26,6 +26,8 @@ use Rattle.scm_rules.specs.Notify.{notify_verdict, notify_done, notice_verdict, 
 use Rattle.scm_rules.specs.EnumDependents.{enum_dependents_verdict, enum_dependents_told, enum_dependents_done}
 use Rattle.scm_rules.specs.EnumServices.{enum_services_verdict, enum_services_told, enum_services_done}
 use Rattle.scm_rules.specs.QueryStatusEx.{query_ex_verdict, query_ex_told, query_ex_done}
+use Rattle.scm_rules.specs.Change2.{change2_verdict, change2_done, change2_change}
+use Rattle.scm_rules.specs.QueryConfig2.{query_config2_verdict, query_config2_told, query_config2_done}
 use Rattle.scm_rules.specs.Close.{close_verdict, close_done}
 use Rattle.scm_rules.specs.OpenManager.{open_manager_verdict, open_manager_done}
 use Rattle.scm_rules.specs.OpenService.{open_service_verdict, open_service_done}
@@ -53,6 +55,8 @@ verdict l f caller (request.GetNotify handle) append = notice_verdict f caller h
 verdict l f caller (request.CloseNotify handle) append = notice_verdict f caller handle
 verdict l f caller (request.EnumDependents handle states size) append = enum_dependents_verdict f caller handle states size
 verdict l f caller (request.EnumServices handle kinds states size resume) append = enum_services_verdict f caller handle kinds states size resume
+verdict l f caller (request.Change2 handle asked) append = change2_verdict f caller handle asked append
+verdict l f caller (request.QueryConfig2 handle level size) append = query_config2_verdict f caller handle level size
 verdict l f caller (request.QueryStatusEx handle level size) append = query_ex_verdict f caller handle level size
 
 -- what a call is told that is refused: where a size is too small, how much is needed, and what of a page there is room for; how a service stands that gets no control now
@@ -64,6 +68,7 @@ told_refused f caller (request.DisplayName handle name size) code = other_name_t
 told_refused f caller (request.KeyName handle name size) code = other_name_told (name_by_display f name) code
 told_refused f caller (request.EnumDependents handle states size) code = enum_dependents_told f caller handle states size code
 told_refused f caller (request.EnumServices handle kinds states size resume) code = enum_services_told f kinds states size resume code
+told_refused f caller (request.QueryConfig2 handle level size) code = query_config2_told f caller handle level size code
 told_refused f caller (request.QueryStatusEx handle level size) code = query_ex_told size code
 told_refused f caller asked code = refused asked code
 
@@ -90,6 +95,8 @@ done_of l f caller (request.GetNotify handle) = get_notify_done f caller handle
 done_of l f caller (request.CloseNotify handle) = close_notify_done f caller handle
 done_of l f caller (request.EnumDependents handle states size) = enum_dependents_done f caller handle states size
 done_of l f caller (request.EnumServices handle kinds states size resume) = enum_services_done f kinds states size resume
+done_of l f caller (request.Change2 handle asked) = change2_done f caller handle asked
+done_of l f caller (request.QueryConfig2 handle level size) = query_config2_done f caller handle level size
 done_of l f caller (request.QueryStatusEx handle level size) = query_ex_done f caller handle size
 
 -- the reply and the state of a call
@@ -105,6 +112,7 @@ unless_refused code change = if code == 0 then change else None
 abbrev pub change_of_call : Limits → Flat → ℕ → Request → Option Change
 change_of_call l f caller (request.Delete handle) = unless_refused (delete_verdict f caller handle appended.Kept) (delete_change f caller handle)
 change_of_call l f caller (request.Change change) = unless_refused (change_verdict f caller change appended.Kept) (change_change f caller change)
+change_of_call l f caller (request.Change2 handle asked) = unless_refused (change2_verdict f caller handle asked appended.Kept) (change2_change f caller handle asked)
 change_of_call l f caller (request.Create new) = unless_refused (create_verdict l f caller new appended.Kept) (create_change f new)
 change_of_call l f caller asked = None
 

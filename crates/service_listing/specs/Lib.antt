@@ -2,3 +2,4 @@ pub mod Layout
 pub mod Pages
 pub mod Sizes
 pub mod Fitting
+pub mod Levels
