@@ -19,7 +19,7 @@ length_units (u ∷ us) =
     let rest = length_units us in
     omega (arith, length-append (to_le_bytes w16 u) (flat_map (to_le_bytes w16) us), rest)
 
-length_text : (text : List ℕ) → length (text_bytes text) ≡ text_size text
+pub length_text : (text : List ℕ) → length (text_bytes text) ≡ text_size text
 unfolding text_bytes
 length_text text = omega (arith, length-append (flat_map (to_le_bytes w16) text) (to_le_bytes w16 0), length_units text)
 

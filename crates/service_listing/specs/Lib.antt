@@ -3,3 +3,4 @@ pub mod Pages
 pub mod Sizes
 pub mod Fitting
 pub mod Levels
+pub mod Placed

@@ -6,7 +6,9 @@ mod levels;
 mod sizes;
 mod writing;
 
-pub use laws::{bytes_have_their_sizes, pages_are_longest};
+pub use laws::{
+    bytes_have_their_sizes, levels_have_their_parts, levels_have_their_sizes, pages_are_longest,
+};
 pub use levels::level;
 pub use sizes::{count, fitting, listing_size};
 pub use writing::{listing, process_status};
