@@ -18,6 +18,7 @@ use Rattle.scm_rules.specs.EnumDependents.{enum_dependents_done, enum_dependents
 use Rattle.scm_rules.specs.EnumServices.{enum_services_done, enum_services_told, enum_services_verdict}
 use Rattle.scm_rules.specs.QueryStatusEx.{query_ex_done, query_ex_told, query_ex_verdict}
 use Rattle.scm_rules.specs.QueryConfig.{query_config_done, query_config_told, query_config_verdict}
+use Rattle.scm_rules.specs.QueryConfig2.{query_config2_done, query_config2_told, query_config2_verdict}
 use Rattle.scm_rules.specs.Steps.{at_moment, keeps_right}
 use Rattle.scm_rules.specs.Verdicts.{change_of, change_of_call, tells_right}
 use Rattle.scm_core.specs.Inside.{KeepsMade}
@@ -57,6 +58,7 @@ made_at l f moment caller (request.SetStatus handle status) = refl
 made_at l f moment caller (request.Unlock handle) = refl
 made_at l f moment caller (request.QueryLock handle size) = refl
 made_at l f moment caller (request.Change change) = refl
+made_at l f moment caller (request.Change2 handle asked) = refl
 made_at l f moment caller (request.Create new) = refl
 made_at l f moment caller (request.OpenManager database access) = refl
 made_at l f moment caller (request.OpenService handle name access) = refl
@@ -67,6 +69,9 @@ made_at l f moment caller (request.EnumDependents handle states size) =
 made_at l f moment caller (request.EnumServices handle kinds states size resume) =
     let code = enum_services_verdict f caller handle kinds states size resume in
     ap replying (told_at code (enum_services_told f kinds states size resume code) (enum_services_done f kinds states size resume).reply (with_moment f moment) f)
+made_at l f moment caller (request.QueryConfig2 handle level size) =
+    let code = query_config2_verdict f caller handle level size in
+    ap replying (told_at code (query_config2_told f caller handle level size code) (query_config2_done f caller handle level size).reply (with_moment f moment) f)
 made_at l f moment caller (request.QueryStatusEx handle level size) =
     let code = query_ex_verdict f caller handle level size in
     ap replying (told_at code (query_ex_told size code) (query_ex_done f caller handle size).reply (with_moment f moment) f)
@@ -101,12 +106,14 @@ room_at t moment caller (request.SetStatus handle status) append has = has
 room_at t moment caller (request.Unlock handle) append has = has
 room_at t moment caller (request.QueryLock handle size) append has = has
 room_at t moment caller (request.Change change) append has = has
+room_at t moment caller (request.Change2 handle asked) append has = has
 room_at t moment caller (request.Create new) append has = has
 room_at t moment caller (request.OpenManager database access) append has = has
 room_at t moment caller (request.OpenService handle name access) append has = has
 room_at t moment caller (request.Start handle words) append has = has
 room_at t moment caller (request.EnumDependents handle states size) append has = has
 room_at t moment caller (request.EnumServices handle kinds states size resume) append has = has
+room_at t moment caller (request.QueryConfig2 handle level size) append has = has
 room_at t moment caller (request.QueryStatusEx handle level size) append has = has
 room_at t moment caller (request.Notify handle mask) append has = has
 room_at t moment caller (request.GetNotify handle) append has = has
@@ -164,6 +171,7 @@ has_room_unkept t (NoMemory caller) has = tt
 -- what was made for a call has the change that it makes
 change_made : (l : Limits) (f : Flat) (caller : ℕ) (asked : Request) → (made_for l f caller asked).change ≡ change_of_call l f caller asked
 change_made l f caller (request.Change change) = refl
+change_made l f caller (request.Change2 handle asked) = refl
 change_made l f caller (request.Create new) = refl
 change_made l f caller (request.Delete handle) = refl
 change_made l f caller _ = refl

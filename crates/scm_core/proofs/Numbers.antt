@@ -61,6 +61,7 @@ of_done l f caller (request.SetStatus handle status) = same f (done_of l f calle
 of_done l f caller (request.Unlock handle) = same f (done_of l f caller (request.Unlock handle)).flat refl
 of_done l f caller (request.QueryStatus handle) = same f f refl
 of_done l f caller (request.Change change) = same f (done_of l f caller (request.Change change)).flat refl
+of_done l f caller (request.Change2 handle asked) = same f (done_of l f caller (request.Change2 handle asked)).flat refl
 of_done l f caller (request.Create new) = record { handle = omega arith; caller = omega arith; service = omega arith; plan = omega arith; due = omega arith; registration = omega arith; process = refl }
 of_done l f caller (request.OpenManager database access) = record { handle = omega arith; caller = omega arith; service = omega arith; plan = omega arith; due = omega arith; registration = omega arith; process = refl }
 of_done l f caller (request.OpenService handle name access) =
@@ -75,6 +76,7 @@ of_done l f caller (request.DisplayName handle name size) = same f f refl
 of_done l f caller (request.KeyName handle name size) = same f f refl
 of_done l f caller (request.EnumDependents handle states size) = same f f refl
 of_done l f caller (request.EnumServices handle kinds states size resume) = same f f refl
+of_done l f caller (request.QueryConfig2 handle level size) = same f f refl
 of_done l f caller (request.QueryStatusEx handle level size) = same f f refl
 of_done l f caller (request.Notify handle mask) =
     elim (watched f caller handle) as (λ of. NumbersRise f (with_handle (registered f caller handle mask of) caller (kinds.Notify f.next.registration) 0)) [

@@ -8,10 +8,12 @@ use Rattle.scm_model.specs.declared.steps.Step.TheVariants.{Joined, Call}
 use Rattle.scm_model.specs.declared.flat.Limits.{Limits}
 use Rattle.scm_model.specs.declared.steps.Kept.TheVariants as appended
 use Rattle.scm_rules.specs.Change.{asked_config, change_verdict}
+use Rattle.scm_rules.specs.Change2.{asked_level, change2_verdict}
 use Rattle.scm_rules.specs.Create.{created_config, create_verdict}
 use Rattle.scm_rules.specs.EnumDependents.{enum_dependents_reply}
 use Rattle.scm_rules.specs.EnumServices.{enum_services_reply}
 use Rattle.scm_rules.specs.QueryConfig.{query_config_reply}
+use Rattle.scm_rules.specs.QueryConfig2.{query_config2_reply}
 use Rattle.scm_rules.specs.QueryStatusEx.{query_ex_reply}
 use Rattle.scm_rules.specs.Locks.{lock_owner}
 use Rattle.scm_rules.specs.Verdicts.{change_of_call}
@@ -46,6 +48,7 @@ nothing_made = record { name = None; config = None; code = 0; change = None; ent
 -- reads, and has texts or bytes in its reply, the reply
 abbrev pub made_for : Limits → Flat → ℕ → Request → Made
 made_for l f caller (request.Change change) = record nothing_made { config = asked_config f caller change; code = change_verdict f caller change appended.Kept; change = change_of_call l f caller (request.Change change) }
+made_for l f caller (request.Change2 handle asked) = record nothing_made { config = asked_level f caller handle asked; code = change2_verdict f caller handle asked appended.Kept; change = change_of_call l f caller (request.Change2 handle asked) }
 made_for l f caller (request.Create new) = record nothing_made { config = Some (created_config f new); code = create_verdict l f caller new appended.Kept; change = change_of_call l f caller (request.Create new) }
 made_for l f caller (request.Delete handle) = record nothing_made { change = change_of_call l f caller (request.Delete handle) }
 made_for l f caller (request.QueryConfig handle size) = record nothing_made { reply = Some (query_config_reply f caller handle size) }
@@ -55,6 +58,7 @@ made_for l f caller (request.DisplayName handle name size) = record nothing_made
 made_for l f caller (request.KeyName handle name size) = record nothing_made { reply = Some (other_name_reply f caller handle size (name_by_display f name)) }
 made_for l f caller (request.EnumDependents handle states size) = record nothing_made { reply = Some (enum_dependents_reply f caller handle states size) }
 made_for l f caller (request.EnumServices handle kinds states size resume) = record nothing_made { reply = Some (enum_services_reply f caller handle kinds states size resume) }
+made_for l f caller (request.QueryConfig2 handle level size) = record nothing_made { reply = Some (query_config2_reply f caller handle level size) }
 made_for l f caller (request.QueryStatusEx handle level size) = record nothing_made { reply = Some (query_ex_reply f caller handle level size) }
 made_for l f caller asked = nothing_made
 

@@ -7,7 +7,7 @@ use super::made::Made;
 use scm_arms_handle::{close, join, leave, lock, open_manager, open_service, query_lock, unlock};
 use scm_arms_notify::{close_notify, get_notify, notify};
 use scm_arms_process::{control, end, report, set_status, take_control};
-use scm_arms_service::{change, create, delete, query};
+use scm_arms_service::{change, change2, create, delete, query};
 use scm_arms_start::{end_start, fail_launch, finish, launched, start, take_launch, tick};
 use scm_model::{Answer, Kept, Request, Step};
 use scm_tables::Tables;
@@ -57,6 +57,10 @@ fn call(
             let config = made.config.take();
             Answer::Reply(change(tables, caller, asked, code, config, kept))
         }
+        Request::Change2 { handle, info } => {
+            let config = made.config.take();
+            Answer::Reply(change2(tables, caller, *handle, info, code, config, kept))
+        }
         Request::Create(_) => {
             let Request::Create(new) = taken(request) else {
                 unreachable!()
@@ -92,6 +96,7 @@ fn call(
         | Request::KeyName { .. }
         | Request::EnumDependents { .. }
         | Request::EnumServices { .. }
+        | Request::QueryConfig2 { .. }
         | Request::QueryStatusEx { .. } => Answer::Reply(made.reply.take().unwrap()),
     }
 }

@@ -4,7 +4,7 @@ ghost use Rattle.scm_core.specs.Judged.{change_in, told_in};
 ghost use Rattle.scm_rules.specs.Verdicts.{change_of, change_of_call, tells_right};
 
 use super::made::Made;
-use scm_arms_service::{changed, created, removed};
+use scm_arms_service::{changed, changed2, created, removed};
 use scm_model::{Change, Kept, Request, Step};
 use scm_tables::Tables;
 use scm_text::OutOfMemory;
@@ -83,6 +83,7 @@ fn change_of_call(
         Request::Create(new) => created(tables, &tables.limits(), caller, new, alloc),
         Request::Delete { handle } => removed(tables, caller, *handle, alloc),
         Request::Change(change) => changed(tables, caller, change, alloc),
+        Request::Change2 { handle, info } => changed2(tables, caller, *handle, info, alloc),
         _ => Ok(None),
     }
 }

@@ -4,14 +4,14 @@ ghost use Rattle.scm_model.specs.declared.steps.Change.TheVariants.{Created};
 ghost use Rattle.scm_rules.specs.Verdicts.{unless_refused};
 ghost use Rattle.scm_core.specs.Room.{IsMadeFor, made_for, nothing_made};
 
-use scm_arms_enum::{enum_dependents, enum_services, query_status_ex};
+use scm_arms_enum::{enum_dependents, enum_services, query_config2, query_status_ex};
 use scm_arms_handle::lock_owner;
 use scm_arms_service::{
-    asked_config, change_verdict, config_of, create_verdict, display_name, judged, key_name,
-    query_config, removed,
+    asked_config, asked_level, change_verdict, change2_verdict, config_of, create_verdict,
+    display_name, judged, judged2, key_name, query_config, removed,
 };
 use scm_arms_start::start_entries;
-use scm_model::{Change, ChangeService, Config, NewService, Reply, Request, Step};
+use scm_model::{Change, ChangeService, Config, Info, NewService, Reply, Request, Step};
 use scm_tables::Tables;
 use scm_text::{Items, OutOfMemory, WText};
 use std::alloc::Global;
@@ -132,6 +132,22 @@ fn make_for_change(
     Ok(made_of_config(config, code, told))
 }
 
+/// Makes what a change of a level needs.
+fn make_for_change2(
+    tables: &Tables,
+    caller: u64,
+    handle: u64,
+    info: &Info,
+    alloc: Global,
+) -> Result<Made, OutOfMemory>
+    ensures { IfOk result (λ made. made ≡ made_for tables.now.limits tables.now.flat caller (request.Change2 handle info.now)) }
+{
+    let config = asked_level(tables, caller, handle, info, alloc)?;
+    let code = change2_verdict(tables, caller, handle, info, alloc)?;
+    let told = judged2(tables, caller, handle, info, code, &config, alloc)?;
+    Ok(made_of_config(config, code, told))
+}
+
 /// Makes what a call needs.
 fn make_for_call(
     tables: &Tables,
@@ -148,6 +164,9 @@ fn make_for_call(
         }
         Request::QueryLock { .. } => Ok(made_of_name(lock_owner(tables, alloc)?)),
         Request::Change(change) => make_for_change(tables, caller, change, alloc),
+        Request::Change2 { handle, info } => {
+            make_for_change2(tables, caller, *handle, info, alloc)
+        }
         Request::QueryConfig { handle, size } => Ok(made_of_reply(query_config(
             tables, caller, *handle, *size, alloc,
         )?)),
@@ -168,6 +187,11 @@ fn make_for_call(
         } => Ok(made_of_reply(enum_services(
             tables, caller, *handle, *kinds, *states, *size, *resume, alloc,
         )?)),
+        Request::QueryConfig2 {
+            handle,
+            level,
+            size,
+        } => Ok(made_of_reply(query_config2(tables, caller, *handle, *level, *size, alloc)?)),
         Request::QueryStatusEx {
             handle,
             level,
