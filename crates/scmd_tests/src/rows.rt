@@ -35,10 +35,13 @@
 //!   bytes a service is where its name and its display name stand, and its status
 //! - `process`: service, level, size; it is told a count of bytes and the bytes, the size that is
 //!   needed, a code. The bytes are a status, the system's number of the process, and flags
+//! - `level`: service, level, the same again, a pointer and what it leads to; it is told a code.
+//!   `leveled`: service, level, size; it is told a count of bytes and the bytes, the size that is
+//!   needed, a code. The bytes are laid out as `service_listing` says of each level
 //! - `watch`: manager or service, events; it is told a handle and a code. `event`: this handle; it
 //!   is told the event, a status as in `process`, a name, a code
 
-pub const CALLS: [(&str, u16); 22] = [
+pub const CALLS: [(&str, u16); 24] = [
     ("close", 0),
     ("control", 1),
     ("delete", 2),
@@ -57,6 +60,8 @@ pub const CALLS: [(&str, u16); 22] = [
     ("start", 19),
     ("display", 20),
     ("key", 21),
+    ("level", 37),
+    ("leveled", 39),
     ("process", 40),
     ("watch", 47),
     ("event", 48),
@@ -238,7 +243,6 @@ bind
 = 0 pipe: faults
 bind
 a call that there is not        | 9                             | fault #1C010002
-a call that is not served yet   | 37 h1 0 0 0 0                 | fault #1C010002
                                 | manager - - 0                 | h1 0
 a name whose last unit is not 0 | open h1 3 0 3 x440062000100 4 | fault #6F7
 = 0 pipe: services, page by page
@@ -280,6 +284,90 @@ no process          | process h2 0 36 | 36 16 1 0 1077 0 0 0 0 0 0 0
 more room           | process h2 0 40 | 40 16 1 0 1077 0 0 0 0 0 x00^4 0 0
 of the manager      | process h1 0 36 | 36 x00^36 0 6
 out of its range    | process h2 0 8193 | fault #6F7
+= 0 pipe: a description
+bind
+manager
+                        | create h1 'A' - own '/bin/a' plain | - h2 0
+none yet                | leveled h2 1 4             | 4 0 0 0
+a text                  | level h2 1 1 * * 'Ab'      | 0
+a byte too few          | leveled h2 1 9             | 9 x00^9 10 122
+just enough             | leveled h2 1 10            | 10 4 x410062000000 0 0
+an absent text          | level h2 1 1 * -           | 0
+no description at all   | level h2 1 1 -             | 0
+leave it                | leveled h2 1 12            | 12 4 x410062000000 x0000 0 0
+2,049 units             | level h2 1 1 * * 'd^2049'  | 87
+an empty text           | level h2 1 1 * * ''        | 0
+deletes it              | leveled h2 1 4             | 4 0 0 0
+2,048 units             | level h2 1 1 * * 'd^2048'  | 0
+take so many bytes      | leveled h2 1 4101          | 4101 x00^4101 4102 122
+two levels at once      | level h2 1 3 * 1           | fault #6F7
+another level           | level h2 5 5 x0102         | 124
+                        | leveled h2 5 4             | 4 x00^4 0 124
+of the manager          | level h1 1 1 -             | 6
+                        | leveled h1 1 4             | 4 x00^4 0 6
+out of its range        | leveled h2 1 8193          | fault #6F7
+a handle that may change | open h1 'A' 2             | h3 0
+is not told             | leveled h3 1 4             | 4 x00^4 0 5
+a handle that is told   | open h1 'A' 1              | h4 0
+may not change          | level h4 5 5               | 5
+a marked service        | delete h2                  | 0
+has no other level      | level h2 5 5               | 1072
+and is told             | leveled h2 4 4             | 4 0 0 0
+= 0 pipe: what is done after failures
+bind
+manager
+                        | create h1 'A' - own '/bin/a' plain         | - h2 0
+nothing yet             | leveled h2 2 20                            | 20 0 0 0 0 0 0 0
+a restart and a command | level h2 2 2 * 60 - * 2 * '/r' 2 1 1000 3 5 | 0
+a byte too few          | leveled h2 2 41                            | 41 x00^41 42 122
+just enough             | leveled h2 2 42 | 42 60 0 36 2 20 1 1000 3 5 x2f0072000000 0 0
+absent actions          | level h2 2 2 * 7 - - 0 -                   | 0
+leave both              | leveled h2 2 42 | 42 60 0 36 2 20 1 1000 3 5 x2f0072000000 0 0
+other actions           | level h2 2 2 * 8 - - 1 * 1 2 9             | 0
+leave the command       | leveled h2 2 34 | 34 8 0 28 1 20 2 9 x2f0072000000 0 0
+no actions and no command | level h2 2 2 * 7 - * 0 * '' 0            | 0
+delete all              | leveled h2 2 20                            | 20 0 0 0 0 0 0 0
+an action of no kind    | level h2 2 2 * 0 - - 1 * 1 4 0             | 87
+a command without a word | level h2 2 2 * 0 - * 0 - '_'              | 87
+64 actions              | level h2 2 2 * 0 - - 64 * 64 x0200000000000000^64 | 0
+and one more            | level h2 2 2 * 0 - - 65 * 65 x0200000000000000^65 | 87
+another count           | level h2 2 2 * 0 - - 1 * 2 2 0 2 0         | fault #6F7
+a handle that may not start | open h1 'A' 2                          | h3 0
+asks for no restart     | level h3 2 2 * 0 - - 2 * 2 2 0 1 0         | 5
+and for a reboot        | level h3 2 2 * 0 - - 1 * 1 2 0             | 0
+a stop with an error    | level h2 4 4 * 9                           | 0
+is a failure            | leveled h2 4 4                             | 4 1 0 0
+                        | level h2 4 4 * 0                           | 0
+and is none             | leveled h2 4 4                             | 4 0 0 0
+= 0 pipe: a delayed start
+bind
+manager
+a start on demand       | create h1 'A' - own '/bin/a' plain      | - h2 0
+is not delayed          | level h2 3 3 * 1                        | 87
+                        | level h2 3 3 * 0                        | 0
+an automatic start      | change h2 keep 2 keep - - - - 0 - - 0 - | - 0
+is delayed              | level h2 3 3 * 9                        | 0
+                        | leveled h2 3 4                          | 4 1 0 0
+a byte too few          | leveled h2 3 3                          | 3 x00^3 4 122
+on demand again         | change h2 keep 3 keep - - - - 0 - - 0 - | - 0
+                        | leveled h2 3 4                          | 4 0 0 0
+= 0 pipe: triggers
+bind
+manager
+                        | create h1 'A' - own '/bin/a' plain | - h2 0
+none yet                | leveled h2 8 4       | 4 0 0 0
+one that stops          | level h2 8 8 * 1 * - 1 20 2 * 0 - x00112233445566778899aabbccddeeff | 0
+a byte too few          | leveled h2 8 27      | 27 x00^27 28 122
+just enough             | leveled h2 8 28      | 28 1 20 2 x00112233445566778899aabbccddeeff 0 0
+of another type         | level h2 8 8 * 1 * - 1 19 2 * 0 - x00112233445566778899aabbccddeeff | 87
+that does nothing       | level h2 8 8 * 1 * - 1 20 0 * 0 - x00112233445566778899aabbccddeeff | 87
+with data               | level h2 8 8 * 1 * - 1 20 2 * 1 - x00112233445566778899aabbccddeeff | 87
+without a subtype       | level h2 8 8 * 1 * - 1 20 2 - 0 - | 87
+two, one without        | level h2 8 8 * 2 * - 2 20 1 * 0 - 20 1 - 0 - x00112233445566778899aabbccddeeff | 87
+no list                 | level h2 8 8 * 1 - - | fault #6F7
+none of them is there   | leveled h2 8 28      | 28 1 20 2 x00112233445566778899aabbccddeeff 0 0
+an empty list           | level h2 8 8 * 0 - - | 0
+                        | leveled h2 8 4       | 4 0 0 0
 = 0 pipe: what can be watched
 bind
 manager
@@ -599,6 +687,10 @@ administrator
 a change that can't be kept | failcall 1 create h1 'A' - own '/bin/a' plain | reply - h0 1013
 is not made                 | call 1 create h1 'A' - own '/bin/a' plain | reply - h2 0
 no change                   | failcall 1 status h2                      | reply 16 1 0 1077 0 0 0 0
+                            | failcall 1 level h2 4 4 * 0               | reply 0
+                            | failcall 1 level h2 1 1 -                 | reply 0
+a level that can't be kept  | failcall 1 level h2 1 1 * * 'a'           | reply 1013
+is not there                | call 1 leveled h2 1 4                     | reply 4 0 0 0
 nothing is due              | tick                                      | idle
 = 0 replay: a start is given up after two minutes
 administrator
