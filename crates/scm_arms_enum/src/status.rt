@@ -26,8 +26,8 @@ fn process_status_in(tables: &Tables, service: Option<&Service>) -> ProcessStatu
     }
 }
 
-/// What is told of no status.
-fn refused(size: u32, needed: u32, code: u32, alloc: Global) -> Reply
+/// What is told without bytes.
+pub fn refused(size: u32, needed: u32, code: u32, alloc: Global) -> Reply
     ensures { result ≡ reply.Bytes size [] needed code }
 {
     Reply::Bytes {

@@ -30,17 +30,17 @@ use Rattle.scm_tables.specs.Tabled.{HasShortTexts}
 -- ## Refusals
 
 -- no code is 0
-abbrev AreCodes : Refusals → Type 0
+abbrev pub AreCodes : Refusals → Type 0
 AreCodes [] = Unit {0}
 AreCodes (row ∷ rows) = ((row.1 == 0) ≡ false) × AreCodes rows
 
 -- no test holds
-abbrev ArePassed : Refusals → Type 0
+abbrev pub ArePassed : Refusals → Type 0
 ArePassed [] = Unit {0}
 ArePassed (row ∷ rows) = (row.0 ≡ false) × ArePassed rows
 
 -- the last test decides where the others pass
-last_refusal : (rows : Refusals) → AreCodes rows → (b : Bool)
+pub last_refusal : (rows : Refusals) → AreCodes rows → (b : Bool)
     → first_refusal (rows ++ (b, 1013) ∷ []) ≡ cond (first_refusal (rows ++ (false, 1013) ∷ []) == 0 && b) 1013 (first_refusal (rows ++ (false, 1013) ∷ []))
 last_refusal [] codes b = refl
 last_refusal (row ∷ rows) codes b =
@@ -49,7 +49,7 @@ last_refusal (row ∷ rows) codes b =
     [ true ↦ rw codes.0 refl | false ↦ last_refusal rows codes.1 b ]
 
 -- at 0 every test passed
-passed : (rows : Refusals) → AreCodes rows → first_refusal rows ≡ 0 → ArePassed rows
+pub passed : (rows : Refusals) → AreCodes rows → first_refusal rows ≡ 0 → ArePassed rows
 passed [] codes e = tt
 passed (row ∷ rows) codes e =
     elim row.0 as (λ t. row.0 ≡ t → cond t row.1 (first_refusal rows) ≡ 0 → ArePassed (row ∷ rows)) [
@@ -76,7 +76,7 @@ stops (row ∷ rows) more other =
     ] other
 
 -- a call that is refused makes no change
-refused_outcome : (told code : ℕ) (asked : Request) (f : Flat) (done : Done) → told ≡ code → (code ≡ 0 → ⊥) → outcome told asked f done ≡ record { reply = refused asked code; flat = f }
+pub refused_outcome : (told code : ℕ) (asked : Request) (f : Flat) (done : Done) → told ≡ code → (code ≡ 0 → ⊥) → outcome told asked f done ≡ record { reply = refused asked code; flat = f }
 refused_outcome told code asked f done is other = rw (is, ne_eqb code 0 other) refl
 
 -- one that isn't makes its change

@@ -180,7 +180,11 @@ pub fn change_verdict(
 }
 
 /// The change from one configuration to another, if they are kept as different bytes.
-fn changed_from(old: &Config, new: &Config, alloc: Global) -> Result<Option<Change>, OutOfMemory>
+pub fn changed_from(
+    old: &Config,
+    new: &Config,
+    alloc: Global,
+) -> Result<Option<Change>, OutOfMemory>
     ensures { IfOk result (λ told. told ≡ changed_from old.now new.now) }
 {
     if are_kept_alike(old, new, alloc)? {

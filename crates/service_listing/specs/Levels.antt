@@ -19,15 +19,16 @@ some_text_bytes text = if length text == 0 then [] else text_bytes text
 abbrev pub description_bytes : List ℕ → List ℕ
 description_bytes description = numbers_bytes (offset_of 4 description ∷ []) ++ some_text_bytes description
 
-abbrev pub action_numbers : Action → List ℕ
-action_numbers action = action.what ∷ action.delay ∷ []
+abbrev pub action_bytes : Action → List ℕ
+action_bytes action = numbers_bytes (action.what ∷ action.delay ∷ [])
+
+-- the reset period, no reboot message, where the command stands, and how many actions stand where
+abbrev pub failure_numbers : Config → List ℕ
+failure_numbers config = config.reset ∷ 0 ∷ offset_of (20 + 8 * length config.actions) config.command ∷ length config.actions ∷ offset_of 20 config.actions ∷ []
 
 -- five numbers, the actions and the command
 abbrev pub failure_bytes : Config → List ℕ
-failure_bytes config =
-    numbers_bytes (config.reset ∷ 0 ∷ offset_of (20 + 8 * length config.actions) config.command ∷ length config.actions ∷ offset_of 20 config.actions ∷ [])
-    ++ numbers_bytes (flat_map action_numbers config.actions)
-    ++ some_text_bytes config.command
+failure_bytes config = numbers_bytes (failure_numbers config) ++ flat_map action_bytes config.actions ++ some_text_bytes config.command
 
 abbrev pub flag_bytes : Bool → List ℕ
 flag_bytes on = numbers_bytes ((if on then 1 else 0) ∷ [])

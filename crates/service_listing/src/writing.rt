@@ -10,7 +10,7 @@ use std::alloc::Global;
 
 /// Appends numbers of four bytes each, the low one first.
 #[tactic(auto, unfolding(crate::specs::Layout::numbers_bytes))]
-fn put_numbers(out: &mut Items<u8>, numbers: &[u32]) -> Result<(), OutOfMemory>
+pub fn put_numbers(out: &mut Items<u8>, numbers: &[u32]) -> Result<(), OutOfMemory>
     ensures { OnOk result (out.new ≡ out.old ++ numbers_bytes numbers.now) }
 {
     for number in numbers {
@@ -31,7 +31,7 @@ fn put_units(out: &mut Items<u8>, units: &[u16]) -> Result<(), OutOfMemory>
 
 /// Appends a text with its zero.
 #[tactic(auto, unfolding(crate::specs::Layout::text_bytes))]
-fn put_text(out: &mut Items<u8>, text: &WText) -> Result<(), OutOfMemory>
+pub fn put_text(out: &mut Items<u8>, text: &WText) -> Result<(), OutOfMemory>
     ensures { OnOk result (out.new ≡ out.old ++ text_bytes text.now) }
 {
     put_units(out, text.units())?;
