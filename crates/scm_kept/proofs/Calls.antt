@@ -1,6 +1,6 @@
 -- What the calls that change configurations make of them, and what is kept of that.
 use Rattle.std.proofs.Common.{ℕ, ◌≡◌, ◌∙◌, ◌==◌, true, false, cond, not, IsTrue, List, Option, None, Some, filter, map, ap, sym, refl, subst, eq-eqb}
-use Rattle.std.specs.Prelude.{IfSome, is_some, option_and_then, option_map}
+use Rattle.std.specs.Prelude.{All, IfSome, is_some, option_and_then, option_map}
 use Rattle.std.specs.Cmp.Lexicographic.{same_text as same_list}
 use Rattle.std.proofs.lemmas.List.{map-append}
 use Rattle.std.proofs.lemmas.List.Elements.{All-weaker, filter-append}
@@ -9,6 +9,7 @@ use Rattle.scm_model.specs.declared.flat.Flat.{Flat}
 use Rattle.scm_model.specs.declared.flat.Limits.{Limits}
 use Rattle.scm_model.specs.declared.flat.Service.{Service}
 use Rattle.scm_model.specs.declared.calls.ChangeService.{ChangeService}
+use Rattle.scm_model.specs.declared.calls.Info.{Info}
 use Rattle.scm_model.specs.declared.calls.NewService.{NewService}
 use Rattle.scm_model.specs.declared.calls.Reply.{Reply}
 use Rattle.scm_model.specs.declared.calls.Request.TheVariants as request
@@ -22,7 +23,8 @@ use Rattle.scm_model.specs.Outcomes.{Done}
 use Rattle.scm_model.specs.Refused.{answered}
 use Rattle.scm_model.specs.Rows.{held_service, service_of}
 use Rattle.service_record.specs.Spelling.{spelling}
-use Rattle.scm_rules.specs.Change.{change_change, change_done, change_refusals, change_verdict, changed_row, configured_in, is_kept_alike, new_config}
+use Rattle.scm_rules.specs.Change.{change_change, change_done, change_refusals, change_verdict, changed_from, configured_in, is_kept_alike, new_config}
+use Rattle.scm_rules.specs.Change2.{change2_change, change2_done, change2_refusals, change2_verdict, level_config}
 use Rattle.scm_rules.specs.Create.{create_change, create_done, create_refusals, create_verdict}
 use Rattle.scm_rules.specs.Delete.{delete_change, delete_done, delete_refusals, delete_verdict, marked_in, removed}
 use Rattle.scm_rules.specs.Verdicts.{call_of, change_of_call, tells_right, told_refused, unless_refused}
@@ -30,11 +32,12 @@ use Rattle.scm_history.specs.Kept.{kept_change, one_or_none}
 use Rattle.scm_runs.proofs.Calls.{all_pass, by_verdict}
 use Rattle.scm_runs.proofs.Founds.{if_some}
 use Rattle.scm_rules.proofs.Held.{held_is}
+use Rattle.scm_runs.proofs.Levels.{name_left}
 use Rattle.scm_runs.proofs.Lists.{found_only}
 use Rattle.scm_runs.proofs.Sound.{Sound}
 use Rattle.scm_kept.specs.Replayed.{AreKeptAs, IsKeptAs, replayed, unmarked}
 use Rattle.scm_kept.proofs.Alike.{all_same}
-use Rattle.scm_kept.proofs.Found.{IsAlike, all_named, alike_unmarked, configured_unmarked, marked_unmarked}
+use Rattle.scm_kept.proofs.Found.{IsAlike, IsNamed, all_named, alike_unmarked, configured_unmarked, marked_unmarked}
 use Rattle.scm_kept.proofs.Rows.{config_of, stays}
 
 -- the unmarked configurations of some services are those of others behind a change, if there is one
@@ -132,20 +135,23 @@ deleted l f moment caller handle appended.Failed s right =
     let code = delete_verdict g caller handle appended.Failed in
     of_failed code (told_refused g caller (request.Delete handle) code) g (delete_done g caller handle) (delete_failed g caller handle)
 
--- ## Change
+-- ## Another configuration
 
-one_configured : (f : Flat) (moment : ℕ) (change : ChangeService) (found : Option Service) → Sound f → IfSome found (λ row. service_of f row.number ≡ Some row)
-    → KeptBy f.services (option_and_then (changed_row f change) found) (configured_in (new_config (with_moment f moment) change) found f.services)
-one_configured f moment change None s is = all_same (unmarked f.services)
-one_configured f moment change (Some row) s is =
-    let config = new_config f change row in
+one_configured : (f : Flat) (new : Service → Config) (found : Option Service) → ((row : Service) → (new row).name ≡ row.config.name) → Sound f → IfSome found (λ row. service_of f row.number ≡ Some row)
+    → KeptBy f.services (option_and_then (λ row. changed_from row.config (new row)) found) (configured_in new found f.services)
+one_configured f new None named s is = all_same (unmarked f.services)
+one_configured f new (Some row) named s is =
+    let config = new row in
     elim (is_kept_alike row.config config) as (λ b. is_kept_alike row.config config ≡ b → KeptBy f.services (cond b None (Some (Changed config))) (map (configured_if row.number config) f.services)) [
       | true ↦ λ alike. alike_unmarked row.number config f.services
           (All-weaker (λ (r : Service). (r.number == row.number) ≡ true → r ≡ row) (IsAlike row.number config)
-          (λ r only same. subst (λ (old : Service). IsKeptAs config old.config) (sym (only same)) (record { name = refl; bytes = sym (same_list (spelling row.config) (spelling config) (sym alike)) })) f.services
+          (λ r only same. subst (λ (old : Service). IsKeptAs config old.config) (sym (only same)) (record { name = named row; bytes = sym (same_list (spelling row.config) (spelling config) (sym alike)) })) f.services
           (found_only (λ (r : Service). r.number) row.number row f.services s.services.numbered.rising is))
-      | false ↦ λ other. same_kept _ _ (configured_unmarked row.number config f.services (all_named row.number row f.services s.services.names s.services.numbered.rising is))
+      | false ↦ λ other. same_kept _ _ (configured_unmarked row.number config f.services
+          (subst (λ name. All (IsNamed row.number name) f.services) (sym (named row)) (all_named row.number row f.services s.services.names s.services.numbered.rising is)))
     ] refl
+
+-- ## Change
 
 change_failed : (f : Flat) (caller : ℕ) (change : ChangeService) → change_verdict f caller change appended.Failed ≡ 0 → ⊥
 change_failed f caller change e =
@@ -158,13 +164,37 @@ changed l f moment caller change appended.Kept s right =
     let g = with_moment f moment in
     let code = change_verdict g caller change appended.Kept in
     of_kept code (told_refused g caller (request.Change change) code) g (change_done g caller change) (change_change f caller change)
-    (one_configured f moment change (held_service f caller change.handle) s (held_row f caller change.handle))
+    (one_configured f (new_config f change) (held_service f caller change.handle) (λ row. refl) s (held_row f caller change.handle))
 changed l f moment caller change appended.NotAsked s right =
     let g = with_moment f moment in
     let code = change_verdict g caller change appended.NotAsked in
     of_unasked code (told_refused g caller (request.Change change) code) g (change_done g caller change) (change_change f caller change)
-    (one_configured f moment change (held_service f caller change.handle) s (held_row f caller change.handle)) right
+    (one_configured f (new_config f change) (held_service f caller change.handle) (λ row. refl) s (held_row f caller change.handle)) right
 changed l f moment caller change appended.Failed s right =
     let g = with_moment f moment in
     let code = change_verdict g caller change appended.Failed in
     of_failed code (told_refused g caller (request.Change change) code) g (change_done g caller change) (change_failed g caller change)
+
+-- ## Change2
+
+level_failed : (f : Flat) (caller handle : ℕ) (asked : Info) → change2_verdict f caller handle asked appended.Failed ≡ 0 → ⊥
+level_failed f caller handle asked e =
+    let p = all_pass (change2_refusals f caller handle asked appended.Failed) (refl, (refl, (refl, (refl, (refl, (refl, tt)))))) e in
+    let is = p.1.1.1.1.1.0 in cc
+
+pub level_changed : (l : Limits) (f : Flat) (moment caller handle : ℕ) (asked : Info) (append : Kept) → Sound f → IsTrue (tells_right (is_some (change_of_call l f caller (request.Change2 handle asked))) append)
+    → KeptBy f.services (kept_change l f (Call caller (request.Change2 handle asked) append)) (call_of l (with_moment f moment) caller (request.Change2 handle asked) append).flat.services
+level_changed l f moment caller handle asked appended.Kept s right =
+    let g = with_moment f moment in
+    let code = change2_verdict g caller handle asked appended.Kept in
+    of_kept code (told_refused g caller (request.Change2 handle asked) code) g (change2_done g caller handle asked) (change2_change f caller handle asked)
+    (one_configured f (level_config asked) (held_service f caller handle) (name_left asked) s (held_row f caller handle))
+level_changed l f moment caller handle asked appended.NotAsked s right =
+    let g = with_moment f moment in
+    let code = change2_verdict g caller handle asked appended.NotAsked in
+    of_unasked code (told_refused g caller (request.Change2 handle asked) code) g (change2_done g caller handle asked) (change2_change f caller handle asked)
+    (one_configured f (level_config asked) (held_service f caller handle) (name_left asked) s (held_row f caller handle)) right
+level_changed l f moment caller handle asked appended.Failed s right =
+    let g = with_moment f moment in
+    let code = change2_verdict g caller handle asked appended.Failed in
+    of_failed code (told_refused g caller (request.Change2 handle asked) code) g (change2_done g caller handle asked) (level_failed g caller handle asked)

@@ -27,7 +27,7 @@ use Rattle.scm_runs.proofs.Leaving.{gives as gives_leaving}
 use Rattle.scm_runs.proofs.Sound.{Sound}
 use Rattle.scm_kept.specs.Replayed.{AreKeptAs, UnmarkedAreKept, replayed, unmarked}
 use Rattle.scm_kept.proofs.Alike.{all_same, all_then, replay_alike, replay_append}
-use Rattle.scm_kept.proofs.Calls.{KeptBy, changed, created as kept_created, deleted, same_kept}
+use Rattle.scm_kept.proofs.Calls.{KeptBy, changed, created as kept_created, deleted, level_changed, same_kept}
 use Rattle.scm_kept.proofs.Rows.{IsBare, bare_unmarked, purged_unmarked, settled_unmarked}
 use Rattle.std.proofs.lemmas.Bool.{and_parts}
 
@@ -100,6 +100,8 @@ of_call l f moment caller (request.Delete handle) append s ok =
     by_effect l f moment (Call caller (request.Delete handle) append) s ok (deleted l f moment caller handle append s (and_parts _ _ ok).1)
 of_call l f moment caller (request.Change change) append s ok =
     by_effect l f moment (Call caller (request.Change change) append) s ok (changed l f moment caller change append s (and_parts _ _ ok).1)
+of_call l f moment caller (request.Change2 handle level) append s ok =
+    by_effect l f moment (Call caller (request.Change2 handle level) append) s ok (level_changed l f moment caller handle level append s (and_parts _ _ ok).1)
 of_call l f moment caller asked append s ok =
     quiet l f moment (Call caller asked append) (none_kept l f caller asked append refl) (unchanged_by l f (moment, Call caller asked append) s ok refl (λ number. refl) (λ number. refl))
 

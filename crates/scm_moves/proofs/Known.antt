@@ -45,6 +45,7 @@ use Rattle.scm_runs.proofs.Configured.{number_kept}
 use Rattle.scm_model.proofs.Found.{found_keeps}
 use Rattle.scm_runs.proofs.Founds.{opened_keeps, started_keeps, notify_apart}
 use Rattle.scm_rules.specs.Change.{new_config}
+use Rattle.scm_rules.specs.Change2.{level_config}
 use Rattle.scm_rules.proofs.Dues.{ticked_apart}
 
 -- two services have no process in common
@@ -224,6 +225,9 @@ holds_done l f caller (request.SetStatus handle report) append below h e =
 holds_done l f caller (request.Change change) append below h e =
     found_keeps (λ (rows : List Service). Holds (record f { services = rows })) (λ (one : Service). map (configured_if one.number (new_config f change one))) (held_service f caller change.handle) f.services h
     (λ one is. holds_change f one.number (new_config f change one) h)
+holds_done l f caller (request.Change2 handle level) append below h e =
+    found_keeps (λ (rows : List Service). Holds (record f { services = rows })) (λ (one : Service). map (configured_if one.number (level_config level one))) (held_service f caller handle) f.services h
+    (λ one is. holds_change f one.number (level_config level one) h)
 holds_done l f caller (request.Start handle words) append below h e = started_keeps Holds f caller handle words h (λ row is. record { own = h.own; opened = h.opened })
 holds_done l f caller (request.Notify handle mask) append below h e =
     notify_apart Holds f caller handle mask (λ rows next. record { own = h.own; opened = All-push (λ (row : HandleRow). IsOfOne f.services row.kind) f.handles _ h.opened tt })

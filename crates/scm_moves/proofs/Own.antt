@@ -31,6 +31,7 @@ use Rattle.scm_model.proofs.Found.{found_keeps}
 use Rattle.scm_runs.proofs.Founds.{opened_keeps, started_keeps, notify_apart}
 use Rattle.scm_model.specs.Rows.{held_service}
 use Rattle.scm_rules.specs.Change.{new_config}
+use Rattle.scm_rules.specs.Change2.{level_config}
 use Rattle.scm_rules.proofs.Dues.{ticked_apart}
 
 -- ## Rows
@@ -148,6 +149,10 @@ own_done l f moment caller (request.Change change) append v e =
     let new = new_config (with_moment f moment) change in
     found_keeps (All (HasOwn f step)) (λ (row : Service). map (configured_if row.number (new row))) (held_service f caller change.handle) f.services (own_same f step v.services.rising)
     (λ one is. own_change f step one.number (new one) v.services.rising)
+own_done l f moment caller (request.Change2 handle level) append v e =
+    let step = Call caller (request.Change2 handle level) append in
+    found_keeps (All (HasOwn f step)) (λ (row : Service). map (configured_if row.number (level_config level row))) (held_service f caller handle) f.services (own_same f step v.services.rising)
+    (λ one is. own_change f step one.number (level_config level one) v.services.rising)
 own_done l f moment caller (request.OpenService handle name access) append v e =
     let step = Call caller (request.OpenService handle name access) append in
     opened_keeps (λ (g : Flat). All (HasOwn f step) g.services) (with_moment f moment) caller name access (own_same f step v.services.rising) (λ row is. own_same f step v.services.rising)

@@ -26,6 +26,7 @@ use Rattle.start_plan.specs.Entered.{started_if, starting_in, with_entered, told
 use Rattle.start_plan.specs.Settle.{settled}
 use Rattle.scm_rules.proofs.Dues.{ticked_apart}
 use Rattle.scm_rules.specs.Change.{configured_in, new_config}
+use Rattle.scm_rules.specs.Change2.{level_config}
 use Rattle.scm_rules.specs.Delete.{marked_in, told_of_mark}
 use Rattle.scm_rules.specs.Launches.{current_of, fallen_if, is_taken, process_of, told_of_fall}
 use Rattle.scm_rules.specs.Reports.{reported_if, reported_in, told_of_report}
@@ -178,6 +179,9 @@ of_done l kind f caller (request.SetStatus handle status) append r s e =
 of_done l kind f caller (request.Change change) append r s e =
     found_all (λ found. Told kind (configured_in (new_config f change) found f.services) f.registrations) (held_service f caller change.handle) (nobody_is kind f.services f.registrations r.none)
     (λ row is. r.configures row (new_config f change row) (held_there f caller change.handle row is))
+of_done l kind f caller (request.Change2 handle level) append r s e =
+    found_all (λ found. Told kind (configured_in (level_config level) found f.services) f.registrations) (held_service f caller handle) (nobody_is kind f.services f.registrations r.none)
+    (λ row is. r.configures row (level_config level row) (held_there f caller handle row is))
 of_done l kind f caller (request.Create new) append r s e = r.creates _ _
 of_done l kind f caller (request.Notify handle mask) append r s e =
     notify_apart (ToldIn kind) f caller handle mask (λ rows next. nobody_is kind f.services rows r.none)

@@ -1,5 +1,5 @@
 -- RQueryServiceConfig2W: a level of a service's configuration.
-use Rattle.std.specs.Prelude.{ℕ, not, ◌^◌, ◌-◌, ◌==◌, nat_lt, List, [], ◌∷◌, length, min, Option, None, Some, is_none, option_and_then, unwrap_or, if◌then◌else◌}
+use Rattle.std.specs.Prelude.{ℕ, not, ◌^◌, ◌-◌, ◌==◌, nat_lt, List, [], ◌∷◌, length, min, Option, is_none, option_and_then, unwrap_or, if◌then◌else◌}
 use Rattle.scm_model.specs.declared.flat.Flat.{Flat}
 use Rattle.scm_model.specs.declared.flat.Service.{Service}
 use Rattle.scm_model.specs.declared.calls.Reply.{Reply}

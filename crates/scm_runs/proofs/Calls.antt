@@ -10,6 +10,7 @@ use Rattle.scm_model.specs.declared.flat.Limits.{Limits}
 use Rattle.scm_model.specs.declared.flat.Service.{Service}
 use Rattle.scm_model.specs.declared.flat.Status.{Status}
 use Rattle.scm_model.specs.declared.calls.ChangeService.{ChangeService}
+use Rattle.scm_model.specs.declared.calls.Info.{Info}
 use Rattle.scm_model.specs.declared.calls.NewService.{NewService}
 use Rattle.scm_model.specs.declared.calls.Reply.{Reply}
 use Rattle.scm_model.specs.declared.calls.Request.{Request}
@@ -25,6 +26,7 @@ use Rattle.scm_model.specs.Changes.{configured_if, with_moment, with_service, wi
 use Rattle.scm_model.specs.Outcomes.{Done}
 use Rattle.service_record.specs.Checks.{check_new, has_bad_names, has_bad_numbers, has_bad_texts, has_bad_lists, is_bad_account}
 use Rattle.scm_rules.specs.Change.{change_done, change_refusals, change_verdict, checked, loops, new_config, tags_no_group, takes_name}
+use Rattle.scm_rules.specs.Change2.{change2_done, change2_refusals, change2_verdict, has_bad_trigger, is_refused, level_config}
 use Rattle.scm_rules.specs.Close.{close_refusals}
 use Rattle.scm_rules.specs.Launches.{is_launched, process_of}
 use Rattle.scm_rules.specs.Locks.{lock_refusals}
@@ -42,6 +44,7 @@ use Rattle.scm_rules.specs.Steps.{at_moment, effect_of, finished, finished_step,
 use Rattle.scm_rules.specs.Verdicts.{call_of, done_of, verdict}
 use Rattle.scm_runs.proofs.Along.{Keeps}
 use Rattle.scm_runs.proofs.Configured.{configured}
+use Rattle.scm_runs.proofs.Levels.{display_left, name_left, needs_left}
 use Rattle.scm_runs.proofs.Lists.{found_has, none_found, none_any}
 use Rattle.scm_runs.proofs.Locked.{not_unlocked, closes_another, notify_another}
 use Rattle.scm_runs.proofs.Masks.{granted_within}
@@ -143,6 +146,21 @@ change_done_sound f caller change append s e =
     (λ row is. changed f change row found s is (held_is f caller change.handle row is) p.1.1.1.0
     (or_parts _ _ (or_parts (checked f change found == 87 || tags_no_group change found) (are_unreadable change.needs) p.1.1.1.1.0).0).0 p.1.1.1.1.1.1.0 p.1.1.1.1.1.1.1.0)
 
+-- a Change2 with verdict 0
+levelled : (f : Flat) (asked : Info) (row : Service) (found : Option Service) → Sound f → found ≡ Some row → service_of f row.number ≡ Some row → is_refused asked found ≡ false → Sound (with_config f row.number (level_config asked row))
+levelled f asked row None s is e free = absurd cc
+levelled f asked row (Some one) s is e free =
+    let same : one ≡ row = cc in
+    configured f row.number row (level_config asked row) None s e (name_left asked row) (display_left asked row) refl
+    (eqb-true (check_new (level_config asked row) None) 0 (not-false _ (subst (λ r. is_refused asked (Some r) ≡ false) same free))) (needs_left f asked row s.services e)
+
+change2_done_sound : (f : Flat) (caller handle : ℕ) (asked : Info) (append : Kept) → Sound f → change2_verdict f caller handle asked append ≡ 0 → Sound (change2_done f caller handle asked).flat
+change2_done_sound f caller handle asked append s e =
+    let p = all_pass (change2_refusals f caller handle asked append) (refl, (refl, (refl, (refl, (refl, (refl, tt)))))) e in
+    let found = held_service f caller handle in
+    found_keeps (λ (rows : List Service). Sound (record f { services = rows })) (λ (row : Service). map (configured_if row.number (level_config asked row))) found f.services s
+    (λ row is. levelled f asked row found s is (held_is f caller handle row is) (or_parts (has_bad_trigger asked) (is_refused asked found) p.1.1.1.1.0).1)
+
 -- a Start
 started : (f : Flat) (caller handle : ℕ) (words : Option (List (List ℕ))) → Sound f → is_caller f caller ≡ true → Sound (start_done f caller handle words).flat
 started f caller handle words s there =
@@ -208,6 +226,7 @@ of_done l f caller (request.SetStatus handle status) append s there e =
     (λ row is. reported_by f status row (held_named f caller handle row s is) (set_status_runs f caller handle status row is e) s)
 of_done l f caller (request.Unlock handle) append s there e = given_back f handle s
 of_done l f caller (request.Change change) append s there e = change_done_sound f caller change append s e
+of_done l f caller (request.Change2 handle asked) append s there e = change2_done_sound f caller handle asked append s e
 of_done l f caller (request.Create new) append s there e =
     let p = create_passed l f caller new append e in
     handed (with_creation f (created_config f new) (new_status new.kind)) caller _ _

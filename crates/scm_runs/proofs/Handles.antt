@@ -53,6 +53,7 @@ of_done l f caller (request.Lock handle) = record { rows = All-push (StoodOrIsNe
 of_done l f caller (request.SetStatus handle status) = record { rows = all_stood f; rising = omega arith }
 of_done l f caller (request.Unlock handle) = record { rows = All-filter _ (StoodOrIsNew f) f.handles (all_stood f); rising = omega arith }
 of_done l f caller (request.Change change) = record { rows = all_stood f; rising = omega arith }
+of_done l f caller (request.Change2 handle asked) = record { rows = all_stood f; rising = omega arith }
 of_done l f caller (request.Create new) = record { rows = All-push (StoodOrIsNew f) f.handles _ (all_stood f) (inr (omega arith)); rising = omega arith }
 of_done l f caller (request.OpenManager database access) = record { rows = All-push (StoodOrIsNew f) f.handles _ (all_stood f) (inr (omega arith)); rising = omega arith }
 of_done l f caller (request.OpenService handle name access) =

@@ -10,7 +10,6 @@ use Rattle.scm_model.specs.declared.flat.Limits.{Limits}
 use Rattle.scm_model.specs.declared.flat.Process.{Process}
 use Rattle.scm_model.specs.declared.flat.Service.{Service}
 use Rattle.scm_model.specs.declared.flat.Status.{Status}
-use Rattle.scm_model.specs.declared.calls.ChangeService.{ChangeService}
 use Rattle.scm_model.specs.declared.calls.NewService.{NewService}
 use Rattle.scm_model.specs.declared.calls.Reply.TheVariants as reply
 use Rattle.scm_model.specs.declared.calls.Request.{Request}
@@ -26,17 +25,19 @@ use Rattle.start_plan.specs.Entered.{starting_in, starting}
 use Rattle.start_plan.specs.Settle.{settled}
 use Rattle.status_machine.specs.Moves.{take_end}
 use Rattle.scm_rules.specs.Change.{new_config, configured_in}
+use Rattle.scm_rules.specs.Change2.{level_config}
 use Rattle.scm_rules.specs.Delete.{delete_done}
 use Rattle.scm_rules.specs.Launches.{fallen_if, is_taken, process_of}
 use Rattle.scm_rules.specs.Reports.{process_in_state, reported_if}
 use Rattle.scm_rules.specs.Steps.{at_moment, effect_of, may, step_of}
 use Rattle.scm_rules.specs.Verdicts.{call_of, done_of, told_refused, verdict}
-use Rattle.scm_runs.specs.Leaving.{IsFresh, IsSameService, LawOfLeaving, before_leaving, created, marks, numbers, reports, is_handle_of, is_number_of, is_process_of}
+use Rattle.scm_runs.specs.Leaving.{IsFresh, IsSameService, LawOfLeaving, before_leaving, configures, created, marks, numbers, reports, is_handle_of, is_number_of, is_process_of}
 use Rattle.scm_runs.proofs.Along.{Gives}
 use Rattle.scm_runs.proofs.Calls.{by_verdict}
 use Rattle.scm_runs.proofs.Configured.{HasText, name, name_kept, names_found, number_kept}
 use Rattle.scm_runs.proofs.Effects.{step_settled}
 use Rattle.scm_runs.proofs.Frames.{finished_keeps}
+use Rattle.scm_runs.proofs.Levels.{name_left}
 use Rattle.scm_runs.proofs.Lists.{found_has, found_passes, map_same, passes_not}
 use Rattle.scm_runs.proofs.Processes.{running_first}
 use Rattle.scm_runs.proofs.Rows.{fallen_or, kind_taken, reported_or}
@@ -110,38 +111,44 @@ stood_added f step told row one unmarked fresh up = record {
       (All-cons (λ (r : Service). f.next.service ≤ r.number) row [] up (All-nil (λ (r : Service). f.next.service ≤ r.number)));
 }
 
--- ## Change
+-- ## Configurations
 
-configured_row : (f : Flat) (caller : ℕ) (change : ChangeService) (append : Kept) (tag : Option ℕ) (config : Config) (one row : Service) → held_service f caller change.handle ≡ Some one
-    → HasText one.number name config.name row → IsSameService f (Call caller (request.Change change) append) (answer.Reply (reply.Tag tag 0)) row (configured_if one.number config row)
-configured_row f caller change append tag config one row is has =
+-- a step that does nothing to services but to give one of them another configuration
+record Configures (f : Flat) (step : Step) (told : Answer) (caller handle : ℕ) : Type 0 where
+  none : created f step told ≡ []
+  unmarked : (number : ℕ) → marks f step told number ≡ false
+  which : (number : ℕ) → configures f step told number ≡ is_handle_of f caller handle number
+
+configured_row : (f : Flat) (step : Step) (told : Answer) (caller handle : ℕ) (config : Config) (one row : Service) → Configures f step told caller handle → held_service f caller handle ≡ Some one
+    → HasText one.number name config.name row → IsSameService f step told row (configured_if one.number config row)
+configured_row f step told caller handle config one row does is has =
     let number = one.number in
+    let stays : row.marked ≡ (row.marked || marks f step told row.number) = or_false row.marked ∙ ap (λ marked. row.marked || marked) (sym (does.unmarked row.number)) in
     record {
       row = elim (row.number == number) as (λ b. cond b (replaced config row) row ≡ record row {
         config = (cond b (replaced config row) row).config;
         status = (cond b (replaced config row) row).status;
         process = (cond b (replaced config row) row).process;
-        marked = row.marked || false;
+        marked = row.marked || marks f step told row.number;
       }) [
-        | true ↦ ap (λ (marked : Bool). record (replaced config row) { marked = marked }) (or_false row.marked)
-        | false ↦ ap (λ (marked : Bool). record row { marked = marked }) (or_false row.marked)
+        | true ↦ ap (λ (marked : Bool). record (replaced config row) { marked = marked }) stays
+        | false ↦ ap (λ (marked : Bool). record row { marked = marked }) stays
       ];
       state = elim (row.number == number) as (λ b. (cond b (replaced config row) row).process ≡ row.process
-          → false ≡ false → (cond b (replaced config row) row).status ≡ record row.status { kind = (cond b (replaced config row) row).status.kind }) [ true ↦ λ same quiet. refl | false ↦ λ same quiet. refl ];
+          → reports f step row ≡ false → (cond b (replaced config row) row).status ≡ record row.status { kind = (cond b (replaced config row) row).status.kind }) [ true ↦ λ same quiet. refl | false ↦ λ same quiet. refl ];
       config = λ other. elim (row.number == number) as (λ b. b ≡ false → ((cond b (replaced config row) row).config ≡ row.config)
           × ((cond b (replaced config row) row).status.kind ≡ row.status.kind))
-          [ true ↦ λ e. absurd (cc) | false ↦ λ e. (refl, refl) ] (ap (λ found. is_number_of found row.number) (sym is) ∙ other);
+          [ true ↦ λ e. absurd (cc) | false ↦ λ e. (refl, refl) ] (ap (λ found. is_number_of found row.number) (sym is) ∙ sym (does.which row.number) ∙ other);
       name = name_kept number config row has;
     }
 
-stood_change : (f : Flat) (moment caller : ℕ) (change : ChangeService) (append : Kept) (tag : Option ℕ) → Sound f
-    → Stood f (Call caller (request.Change change) append) (answer.Reply (reply.Tag tag 0)) (configured_in (new_config (with_moment f moment) change) (held_service f caller change.handle) f.services)
-stood_change f moment caller change append tag s =
-    let new = new_config (with_moment f moment) change in
-    found_keeps (Stood f (Call caller (request.Change change) append) (answer.Reply (reply.Tag tag 0))) (λ (row : Service). map (configured_if row.number (new row))) (held_service f caller change.handle) f.services
-    (stood_same f _ _ refl (λ number. refl))
-    (λ row is. stood_mapped f _ _ (configured_if row.number (new row)) (number_kept row.number (new row)) refl
-    (λ k d lt. configured_row f caller change append tag (new row) row _ is (names_found f row.number row (new row) s.services (held_is f caller change.handle row is) refl k d lt)))
+stood_configured : (f : Flat) (step : Step) (told : Answer) (caller handle : ℕ) (new : Service → Config) → Configures f step told caller handle → ((row : Service) → (new row).name ≡ row.config.name)
+    → Sound f → Stood f step told (configured_in new (held_service f caller handle) f.services)
+stood_configured f step told caller handle new does named s =
+    found_keeps (Stood f step told) (λ (row : Service). map (configured_if row.number (new row))) (held_service f caller handle) f.services
+    (stood_same f step told does.none does.unmarked)
+    (λ row is. stood_mapped f step told (configured_if row.number (new row)) (number_kept row.number (new row)) does.none
+    (λ k d lt. configured_row f step told caller handle (new row) row _ does is (names_found f row.number row (new row) s.services (held_is f caller handle row is) (named row) k d lt)))
 
 -- ## Reports
 
@@ -201,7 +208,15 @@ stood_call l f moment caller (request.Change change) append s =
     let asked = request.Change change in
     let code = verdict l g caller asked append in
     by_verdict (λ r. Stood f (Call caller asked append) (answer.Reply r.reply) r.flat.services) code (told_refused g caller asked code) g (done_of l g caller asked)
-    (λ e. stood_change f moment caller change append _ s) (λ e. stood_same f _ _ refl (λ number. refl))
+    (λ e. stood_configured f _ _ caller change.handle (new_config g change) (record { none = refl; unmarked = λ number. refl; which = λ number. refl }) (λ row. refl) s)
+    (λ e. stood_same f _ _ refl (λ number. refl))
+stood_call l f moment caller (request.Change2 handle level) append s =
+    let g = with_moment f moment in
+    let asked = request.Change2 handle level in
+    let code = verdict l g caller asked append in
+    by_verdict (λ r. Stood f (Call caller asked append) (answer.Reply r.reply) r.flat.services) code (told_refused g caller asked code) g (done_of l g caller asked)
+    (λ e. stood_configured f _ _ caller handle (level_config level) (record { none = refl; unmarked = λ number. refl; which = λ number. refl }) (name_left level) s)
+    (λ e. stood_same f _ _ refl (λ number. refl))
 stood_call l f moment caller (request.Create new) append s =
     let g = with_moment f moment in
     let asked = request.Create new in

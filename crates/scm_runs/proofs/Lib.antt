@@ -16,6 +16,7 @@ pub mod Deadlines
 pub mod Sound
 pub mod Settling
 pub mod Configured
+pub mod Levels
 pub mod Ordered
 pub mod Calls
 pub mod Frames

@@ -42,6 +42,7 @@ use Rattle.scm_model.proofs.Found.{found_keeps}
 use Rattle.scm_runs.proofs.Founds.{opened_keeps, started_keeps, notify_apart}
 use Rattle.scm_model.specs.Rows.{held_service}
 use Rattle.scm_rules.specs.Change.{new_config}
+use Rattle.scm_rules.specs.Change2.{level_config}
 use Rattle.scm_rules.proofs.Dues.{ticked_apart}
 
 -- ## What effects leave of processes
@@ -82,6 +83,9 @@ old_done l f caller (request.SetStatus handle status) =
 old_done l f caller (request.Change change) =
     found_keeps (All (HasOld f.services)) (λ (row : Service). map (configured_if row.number (new_config f change row))) (held_service f caller change.handle) f.services (all_old f.services)
     (λ row is. old_change f row.number (new_config f change row))
+old_done l f caller (request.Change2 handle asked) =
+    found_keeps (All (HasOld f.services)) (λ (row : Service). map (configured_if row.number (level_config asked row))) (held_service f caller handle) f.services (all_old f.services)
+    (λ row is. old_change f row.number (level_config asked row))
 old_done l f caller (request.OpenService handle name access) =
     opened_keeps (λ (g : Flat). All (HasOld f.services) g.services) f caller name access (all_old f.services) (λ row is. all_old f.services)
 old_done l f caller (request.Start handle words) =

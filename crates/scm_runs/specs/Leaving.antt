@@ -76,9 +76,10 @@ abbrev pub marks : Flat → Step → Answer → ℕ → Bool
 marks f (Call caller (request.Delete handle) append) told number = succeeds told && is_handle_of f caller handle number
 marks f step told number = false
 
--- whether a step is a Change of the service with code 0
+-- whether a step is a change of the service's configuration with code 0
 abbrev pub configures : Flat → Step → Answer → ℕ → Bool
 configures f (Call caller (request.Change change) append) told number = succeeds told && is_handle_of f caller change.handle number
+configures f (Call caller (request.Change2 handle asked) append) told number = succeeds told && is_handle_of f caller handle number
 configures f step told number = false
 
 -- whether a step is a report of the service's current process, its own or by a call
@@ -87,7 +88,7 @@ reports f (Report process status) row = row.process == process
 reports f (Call caller (request.SetStatus handle status) append) row = is_process_of (held_service f caller handle) row.process
 reports f step row = false
 
--- a service after a step is the one before it: only its Delete marks it, and only its Change gives it another configuration, with another
+-- a service after a step is the one before it: only its Delete marks it, and only its changes give it another configuration, with another
 -- type in its status, under the same name; as long as its current process is the same and reports nothing, so is its status but for the
 -- type
 pub record IsSameService (f : Flat) (step : Step) (told : Answer) (old new : Service) : Type 0 where
@@ -109,7 +110,7 @@ pub record IsFresh (row : Service) : Type 0 where
 
 -- ## The law
 
--- the services are those that stood, in their order and each as it was but for its own Delete or Change, with the one that a Create adds,
+-- the services are those that stood, in their order and each as it was but for its own Delete or changes, with the one that a Create adds,
 -- without those that are marked, STOPPED and named by no handle; and none such stands
 pub record LawOfLeaving (l : Limits) (before : Flat) (e : Entry) (told : Answer) (after : Flat) : Type 0 where
   pub stood : numbers (before_leaving l before e).services ≡ numbers before.services ++ created before e.1 told

@@ -1,6 +1,7 @@
 -- What contracts see of the lists' fields, and what is always true of them.
 use Rattle.std.specs.Prelude.{ℕ, IsTrue, false, ◌≡◌, ◌≤◌, ◌<◌, ◌-◌, [], All, vec_capacity, vec_len}
 use Rattle.std.specs.List.{AllByRecursion}
+use Rattle.scm_model.specs.declared.flat.Next.{Next}
 use Rattle.scm_model.specs.declared.flat.Plan.{Plan}
 use Rattle.scm_model.specs.declared.flat.Service.{Service}
 use Rattle.scm_model.specs.Needs.{needs_of}
@@ -8,13 +9,26 @@ use Rattle.scm_model.specs.Walks.{IsAcyclic}
 use Rattle.scm_rules.specs.Needs.{need_rows}
 use Rattle.scm_tables.specs.Listed.{processes_in, wanted_in}
 use Rattle.scm_tables.specs.Tabled.{AreRising, HasShort, Tabled}
+use Rattle.scm_tables.specs.declared.tables.Numbers.{Numbers}
 use Rattle.scm_tables.specs.declared.tables.Tables.TheInside.{Inside}
+
+-- the numbers that are given next, with that of handles
+abbrev pub with_handles : Numbers → ℕ → Next
+with_handles n handle = record {
+  service = n.service;
+  handle = handle;
+  process = n.process;
+  plan = n.plan;
+  registration = n.registration;
+  due = n.due;
+  caller = n.caller;
+}
 
 abbrev pub tabled : Inside → Tabled
 tabled t = record {
   flat = record {
     services = t.services.items;
-    handles = t.handles.items;
+    handles = t.handles.rows;
     processes = processes_in t.processes.items;
     wanted = wanted_in t.processes.items;
     plans = t.plans.plans;
@@ -23,13 +37,13 @@ tabled t = record {
     callers = t.callers.items;
     lock = t.lock;
     moment = t.moment;
-    next = t.next;
+    next = with_handles t.next t.handles.next;
     reboots = t.reboots;
   };
   limits = t.limits;
   spare = record {
     services = vec_capacity t.services - vec_len t.services;
-    handles = vec_capacity t.handles - vec_len t.handles;
+    handles = t.handles.spare;
     callers = vec_capacity t.callers - vec_len t.callers;
     registrations = t.registrations.spare;
     plans = t.plans.spare;

@@ -1,9 +1,9 @@
 //! The lists of the service manager: the one set of reads and writes through which its calls reach them.
 #![tactic(auto)]
 
+mod caller_rows;
 mod depending;
 mod due_rows;
-mod handle_rows;
 mod indexing;
 mod needing;
 mod noticing;

@@ -11,6 +11,7 @@ ghost use Rattle.scm_tables.specs.Tabled.{HasShort};
 
 use super::process_rows::{ProcessRow, pid_of_row};
 use super::service_rows::{bare_status, leaves};
+use handle_table::HandleTable;
 use notify_queue::NotifyQueue;
 use scm_model::codes::{
     SERVICE_CONTINUE_PENDING, SERVICE_NOTIFY_CONTINUE_PENDING, SERVICE_NOTIFY_DELETE_PENDING,
@@ -19,7 +20,7 @@ use scm_model::codes::{
     SERVICE_NOTIFY_STOPPED, SERVICE_PAUSE_PENDING, SERVICE_PAUSED, SERVICE_RUNNING,
     SERVICE_START_PENDING, SERVICE_STOP_PENDING, SERVICE_STOPPED,
 };
-use scm_model::{HandleRow, ProcessStatus, Service, Status};
+use scm_model::{ProcessStatus, Service, Status};
 use status_machine::{take_end, take_report};
 
 /// The event that a state is.
@@ -146,9 +147,9 @@ pub fn note_mark(queue: &mut NotifyQueue, service: Option<&Service>, processes: 
 }
 
 /// Tells the manager's registrations that a service leaves, if it does.
-fn note_leaving(queue: &mut NotifyQueue, row: &Service, handles: &[HandleRow])
+fn note_leaving(queue: &mut NotifyQueue, row: &Service, handles: &HandleTable)
     requires { HasShort row.now }
-    ensures rows { queue.new.rows ≡ if leaves handles.now row.now then noted (event_of_leaving row.now) queue.old.rows else queue.old.rows }
+    ensures rows { queue.new.rows ≡ if leaves handles.now.rows row.now then noted (event_of_leaving row.now) queue.old.rows else queue.old.rows }
     ensures spare { queue.new.spare ≡ queue.old.spare }
 {
     if leaves(handles, row) {
@@ -162,9 +163,9 @@ fn note_leaving(queue: &mut NotifyQueue, row: &Service, handles: &[HandleRow])
 }
 
 /// Tells the manager's registrations of each service that leaves, in their order.
-pub fn note_all_leaving(queue: &mut NotifyQueue, services: &[Service], handles: &[HandleRow])
+pub fn note_all_leaving(queue: &mut NotifyQueue, services: &[Service], handles: &HandleTable)
     requires { All HasShort services.now }
-    ensures rows { queue.new.rows ≡ all_noted (map event_of_leaving (filter (leaves handles.now) services.now)) queue.old.rows }
+    ensures rows { queue.new.rows ≡ all_noted (map event_of_leaving (filter (leaves handles.now.rows) services.now)) queue.old.rows }
     ensures spare { queue.new.spare ≡ queue.old.spare }
 {
     for row in services {

@@ -12,10 +12,10 @@ ghost use Rattle.start_plan.specs.Entered.{started_if};
 ghost use Rattle.scm_model.specs.Ready.{is_running};
 ghost use Rattle.scm_tables.specs.Tags.{tag_in};
 
-use super::handle_rows::is_open_in;
 use dependency_index::is_named;
+use handle_table::HandleTable;
 use scm_model::codes::{SERVICE_RUNNING, SERVICE_START_PENDING, SERVICE_STOPPED};
-use scm_model::{Config, HandleRow, Need, Opened, Service, Status};
+use scm_model::{Config, Need, Opened, Service, Status};
 use scm_text::{WText, same};
 use status_machine::{take_end, take_report};
 
@@ -168,15 +168,15 @@ pub fn is_any_marked(rows: &[Service]) -> bool
 }
 
 /// Whether a service is marked, stopped and named by no handle.
-pub fn leaves(handles: &[HandleRow], row: &Service) -> bool
-    ensures { result ≡ leaves handles.now row.now }
+pub fn leaves(handles: &HandleTable, row: &Service) -> bool
+    ensures { result ≡ leaves handles.now.rows row.now }
 {
-    row.marked && row.status.state == SERVICE_STOPPED && !is_open_in(handles, row.number)
+    row.marked && row.status.state == SERVICE_STOPPED && !handles.is_open(row.number)
 }
 
 /// Keeps the services that stay.
-pub fn purge_in(rows: &mut Vec<Service>, handles: &[HandleRow])
-    ensures rows { rows.new.items ≡ filter (λ row. not (leaves handles.now row)) rows.old.items }
+pub fn purge_in(rows: &mut Vec<Service>, handles: &HandleTable)
+    ensures rows { rows.new.items ≡ filter (λ row. not (leaves handles.now.rows row)) rows.old.items }
     ensures capacity { vec_capacity rows.new ≡ vec_capacity rows.old }
 {
     rows.retain(|row| !leaves(handles, row));

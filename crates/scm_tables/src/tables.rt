@@ -1,18 +1,17 @@
 ghost use Rattle.std.specs.Prelude.{◌≡◌, ◌+◌, ◌^◌, ◌<◌, ◌≤◌, ◌==◌, filter, IfOk, OnOk, length, option_copied, All, []};
 ghost use Rattle.scm_model.specs.Changes.{with_handle, without_handle, without_handles_of, with_caller, without_caller, with_config, with_moment, without_lock_of};
 ghost use Rattle.scm_model.specs.Purge.{purged};
-ghost use Rattle.scm_model.specs.Rows.{caller_of, displayed, handle_of, held_by, held_service, is_caller, is_shown, is_shown_by_another, manager_mask, named, opened, owner_at, principal_of, service_of};
+ghost use Rattle.scm_model.specs.Rows.{caller_of, displayed, handle_of, held_by, held_service, holds_lock, is_caller, is_shown, is_shown_by_another, manager_mask, named, opened, owner_at, principal_of, service_of};
 ghost use Rattle.scm_rules.specs.Create.{next_tag, with_creation};
 ghost use Rattle.scm_model.specs.Changes.{with_service};
 ghost use Rattle.scm_rules.specs.Locks.{with_lock, without_lock};
 ghost use Rattle.scm_rules.specs.Opening.{empty_at, opening};
 ghost use Rattle.scm_model.specs.declared.codes.TheConstants.{SERVICE_RUNNING};
+ghost use Rattle.scm_tables.specs.Inside.{with_handles};
 ghost use Rattle.scm_tables.specs.Noticed.{with_marked};
 ghost use Rattle.scm_tables.specs.Tabled.{HasShortTexts};
 
-use super::handle_rows::{
-    caller_in, count_of, drop_caller, drop_caller_row, drop_number, is_held_by, owner_at, row_of,
-};
+use super::caller_rows::{caller_in, drop_caller_row};
 use super::needing::{is_acyclic, reserve_search, stays_acyclic};
 use super::noticing::{note_all_leaving, note_mark, with_pid};
 use super::opening::services_of;
@@ -22,16 +21,27 @@ use super::service_rows::{
     is_shown_in, mark_in, named_in, purge_in, row_with, running_in,
 };
 use database_lock::DatabaseLock;
+use handle_table::HandleTable;
 use notify_queue::NotifyQueue;
 use scm_model::codes::SERVICE_NOTIFY_CREATED;
 use scm_model::{
-    Caller, Config, Due, HandleKind, HandleRow, Limits, LockRow, Next, Opened, Principal, Service,
-    Status,
+    Caller, Config, Due, HandleKind, HandleRow, Limits, LockRow, Opened, Principal, Service, Status,
 };
 use scm_text::{Buffer, Items, OutOfMemory, WText};
 use start_plan::Plans;
 use std::alloc::Global;
 use std::marker::Model;
+
+/// The numbers that are given next. Those of handles their table keeps.
+#[derive(Clone, Copy)]
+pub struct Numbers {
+    pub service: u64,
+    pub process: u64,
+    pub plan: u64,
+    pub registration: u64,
+    pub due: u64,
+    pub caller: u64,
+}
 
 /// The manager's lists. Contracts see the flat state, the limits, and for how many rows more there is room.
 #[derive(Drop)]
@@ -43,7 +53,7 @@ pub struct Tables {
     has_marked: bool,
     /// For the services that a search through the needs comes by.
     searched: Buffer<u64>,
-    handles: Vec<HandleRow>,
+    handles: HandleTable,
     pub(crate) processes: Vec<ProcessRow>,
     pub(crate) plans: Plans,
     /// For what the next plan will have tried.
@@ -53,7 +63,7 @@ pub struct Tables {
     callers: Vec<Caller>,
     pub(crate) lock: DatabaseLock,
     pub(crate) moment: u64,
-    pub(crate) next: Next,
+    pub(crate) next: Numbers,
     reboots: u64,
     pub(crate) limits: Limits,
     pub(crate) alloc: Global,
@@ -71,18 +81,27 @@ impl Model for Tables {
 }
 
 /// The numbers that are given first, behind those of so many services.
-fn first_numbers(services: u64) -> Next
+fn first_numbers(services: u64) -> Numbers
     requires { services < 2 ^ 63 }
-    ensures { result ≡ record (empty_at 0).next { service = services + 1 } }
+    ensures { with_handles result 1 ≡ record (empty_at 0).next { service = services + 1 } }
 {
-    Next {
+    Numbers {
         service: services + 1,
-        handle: 1,
         process: 1,
         plan: 1,
         registration: 1,
         due: 1,
         caller: 1,
+    }
+}
+
+/// Whether a handle of the caller holds the lock.
+fn is_held_by(handles: &HandleTable, caller: u64, lock: Option<LockRow>) -> bool
+    ensures { result ≡ holds_lock handles.now.rows caller lock }
+{
+    match lock {
+        Some(held) => handles.find(caller, held.handle).is_some(),
+        None => false,
     }
 }
 
@@ -110,7 +129,7 @@ impl Tables {
             acyclic,
             has_marked: false,
             searched,
-            handles: Vec::new(alloc),
+            handles: HandleTable::new(alloc),
             processes,
             plans: Plans::none(alloc),
             tried: Vec::new(alloc),
@@ -137,7 +156,7 @@ impl Tables {
     pub fn handle(&self, caller: u64, number: u64) -> Option<HandleRow>
         ensures { result ≡ handle_of self.now.flat caller number }
     {
-        row_of(self.handles.as_slice(), caller, number)
+        self.handles.find(caller, number).copied()
     }
 
     /// The rights of a caller's manager handle.
@@ -183,7 +202,7 @@ impl Tables {
     pub fn handles_of(&self, caller: u64) -> usize
         ensures { result ≡ held_by self.now.flat caller }
     {
-        count_of(self.handles.as_slice(), caller)
+        self.handles.held_by(caller)
     }
 
     /// Makes room for one handle more.
@@ -193,10 +212,7 @@ impl Tables {
         ensures others { self.new.spare.services ≡ self.old.spare.services }
         ensures limits { self.new.limits ≡ self.old.limits }
     {
-        match self.handles.reserve(1) {
-            Ok(()) => Ok(()),
-            Err(_) => Err(OutOfMemory),
-        }
+        self.handles.reserve()
     }
 
     /// Gives a caller a handle, and answers its number. It takes no memory.
@@ -207,22 +223,14 @@ impl Tables {
         ensures flat { self.new.flat ≡ with_handle self.old.flat caller kind granted }
         ensures limits { self.new.limits ≡ self.old.limits }
     {
-        let number = self.next.handle;
-        self.handles.push_reserved(HandleRow {
-            number,
-            caller,
-            kind,
-            granted,
-        });
-        self.next.handle += 1;
-        number
+        self.handles.add(caller, kind, granted)
     }
 
     /// The number of the next handle.
     pub fn next_handle(&self) -> u64
         ensures { result ≡ self.now.flat.next.handle }
     {
-        self.next.handle
+        self.handles.next()
     }
 
     /// Takes a handle away.
@@ -230,7 +238,7 @@ impl Tables {
         ensures flat { self.new.flat ≡ without_handle self.old.flat number }
         ensures limits { self.new.limits ≡ self.old.limits }
     {
-        drop_number(&mut self.handles, number);
+        let _row = self.handles.remove(number);
     }
 
     /// Takes all handles of a caller away.
@@ -238,7 +246,7 @@ impl Tables {
         ensures flat { self.new.flat ≡ without_handles_of self.old.flat caller }
         ensures limits { self.new.limits ≡ self.old.limits }
     {
-        drop_caller(&mut self.handles, caller);
+        self.handles.run_down(caller);
     }
 
     /// Who holds the lock of the database, and since when.
@@ -252,7 +260,7 @@ impl Tables {
     pub fn owner_at(&self, held: LockRow) -> Option<u64>
         ensures { result ≡ owner_at self.now.flat.handles held }
     {
-        owner_at(self.handles.as_slice(), held)
+        self.handles.owner(held.handle)
     }
 
     /// A handle takes the lock at the present moment, if it is free.
@@ -277,7 +285,7 @@ impl Tables {
         ensures flat { self.new.flat ≡ without_lock_of self.old.flat caller }
         ensures limits { self.new.limits ≡ self.old.limits }
     {
-        if is_held_by(self.handles.as_slice(), caller, self.lock.holder()) {
+        if is_held_by(&self.handles, caller, self.lock.holder()) {
             self.lock = DatabaseLock::new();
         }
     }
@@ -533,9 +541,9 @@ impl Tables {
         note_all_leaving(
             &mut self.registrations,
             self.services.as_slice(),
-            self.handles.as_slice(),
+            &self.handles,
         );
-        purge_in(&mut self.services, self.handles.as_slice());
+        purge_in(&mut self.services, &self.handles);
         self.has_marked = is_any_marked(self.services.as_slice());
     }
 }

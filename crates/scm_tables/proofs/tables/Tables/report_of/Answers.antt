@@ -33,3 +33,8 @@ pub returns-clause-flat : goal.returns-clause-flat
 returns-clause-flat c =
     let found = c.in-Some.ensures ∙ ap (find (λ (row : Service). row.number == c.args.service)) c.as_slice.ensures.value in
     rw (← c.self.view_is, c.report_in.ensures, c.note_report.ensures.rows, c.as_slice-2.ensures.value, ← found) refl
+
+pub returns-in_default-clause-flat : goal.returns-in_default-clause-flat
+returns-in_default-clause-flat c =
+    let found = c.in_default.ensures ∙ ap (find (λ (row : Service). row.number == c.args.service)) c.as_slice.ensures.value in
+    rw (← c.self.view_is, ← found) refl

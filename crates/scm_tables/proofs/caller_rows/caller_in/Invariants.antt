@@ -1,5 +1,5 @@
 use Rattle.std.proofs.Common.{◌≡◌, ◌==◌, drop, find}
-use Rattle.scm_tables.proofs.handle_rows.caller_in.Given as goal
+use Rattle.scm_tables.proofs.caller_rows.caller_in.Given as goal
 
 -- the row is among those that are left
 abbrev pub invariant-loop-row : goal.invariant-loop-row
