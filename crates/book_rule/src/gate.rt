@@ -1,68 +1,49 @@
 // Where threads sleep until the turn is free.
+use std::sync::Wait;
 use std::sync::atomic::{AtomicU64, Ordering};
-use std::sync::{Condvar, Mutex, Wait};
 
-/// Who finds the turn taken says so (`arrive`), looks once more, and only then sleeps; who gives
-/// the turn up looks afterwards for such threads. So of these two one sees the other. At most one
-/// thread is woken at a time: the next is woken by a turn that was given up after the last one
-/// woke. Nothing is claimed of wake-ups.
+/// Nobody sleeps but those who count on a thread that was woken.
+const OPEN: u64 = 0;
+/// A thread sleeps, or is about to.
+const SHUT: u32 = 1;
+
+/// Who is about to sleep shuts the gate, looks at the turn once more, and only then sleeps; who
+/// gives the turn up looks at the gate afterwards. So of these two one sees the other. Who sees the
+/// gate shut opens it and wakes one thread, on which the others count: it shuts the gate again once
+/// it has the turn, or before it sleeps again. So while threads sleep, the gate is shut or one of
+/// them is on its way. Nothing is claimed of wake-ups.
 #[derive(Drop)]
 pub struct Gate {
-    /// How many threads have arrived and not left.
-    waiting: AtomicU64,
-    /// 1 while a wake-up is under way.
-    is_waking: AtomicU64,
-    /// Whether a wake-up waits for a thread to take it.
-    is_open: Mutex<bool>,
-    opened: Condvar,
+    word: AtomicU64,
 }
 
 impl Gate {
     pub fn new() -> Gate {
         Gate {
-            waiting: AtomicU64::new(0),
-            is_waking: AtomicU64::new(0),
-            is_open: Mutex::new(false),
-            opened: Condvar::new(),
+            word: AtomicU64::new(OPEN),
         }
     }
 
-    /// Whether threads wait.
-    pub fn has_waiting(&self) -> bool {
-        self.waiting.load(Ordering::SeqCst) != 0
+    /// Whether a thread sleeps, or is about to, and none is on its way.
+    pub fn is_shut(&self) -> bool {
+        self.word.load(Ordering::SeqCst) != OPEN
     }
 
-    /// From here on `wake_one` sees this thread.
-    pub fn arrive(&self) {
-        self.waiting.fetch_add(1, Ordering::SeqCst);
+    /// From here on `wake_one` finds that a thread may sleep.
+    pub fn shut(&self) {
+        self.word.store(u64::from(SHUT), Ordering::SeqCst);
     }
 
-    pub fn leave(&self) {
-        self.waiting.fetch_sub(1, Ordering::SeqCst);
-    }
-
-    /// Sleeps until a wake-up comes, and takes it.
+    /// Sleeps until a wake-up comes, and not at all where the gate was opened since it was shut. It
+    /// may also end for no reason.
     pub fn sleep<R: Wait>(&self, rt: &R) {
-        let mut is_open = self.is_open.lock(rt);
-        for _ in rt.forever() {
-            if *is_open {
-                break;
-            }
-            is_open = self.opened.wait(rt, is_open);
-        }
-        *is_open = false;
-        drop(is_open);
-        self.is_waking.store(0, Ordering::SeqCst);
+        self.word.park(rt, SHUT);
     }
 
-    /// Wakes a thread where some wait and none is on its way. To be called once the turn was given
-    /// up.
-    pub fn wake_one<R: Wait>(&self, rt: &R) {
-        if self.has_waiting() && self.is_waking.swap(1, Ordering::SeqCst) == 0 {
-            let mut is_open = self.is_open.lock(rt);
-            *is_open = true;
-            drop(is_open);
-            self.opened.notify_one();
+    /// Wakes a thread where the gate is shut. To be called once the turn was given up.
+    pub fn wake_one(&self) {
+        if self.is_shut() && self.word.swap(OPEN, Ordering::SeqCst) != OPEN {
+            self.word.wake_one();
         }
     }
 }

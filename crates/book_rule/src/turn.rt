@@ -13,9 +13,10 @@ use std::snapshot::Snapshot;
 use std::sync::Wait;
 
 /// How often a thread looks for the turn before it sleeps.
-const LOOKS: u32 = 100;
-/// How often it pauses between two looks, so that who has the turn isn't slowed by them.
-const PAUSES: u32 = 16;
+const LOOKS: u32 = 30;
+/// How often it pauses at most between two looks. It begins with one pause and doubles them: so a
+/// turn that is soon free is soon seen, and who makes many turns in a row isn't slowed by looks.
+const MOST_PAUSES: u32 = 128;
 
 /// Whether the turn is taken.
 const TURN: usize = 0;
@@ -93,23 +94,31 @@ impl<H: Content> Turn<H> {
         requires { Waits self.now seat.old }
         ensures { Enters H.way self.now seat.old seat.new result }
     {
-        if let Some(content) = self.spin(seat) {
+        if let Some(content) = self.try_enter(seat) {
             return content;
         }
-        self.gate.arrive();
-        for _ in rt.forever() {
+        if !self.gate.is_shut() {
             if let Some(content) = self.spin(seat) {
-                self.gate.leave();
+                return content;
+            }
+        }
+        for _ in rt.forever() {
+            self.gate.shut();
+            if let Some(content) = self.try_enter(seat) {
                 return content;
             }
             self.gate.sleep(rt);
+            if let Some(content) = self.spin(seat) {
+                self.gate.shut();
+                return content;
+            }
         }
         unreachable!()
     }
 
     /// Puts the content back, which holds one entry more than the seat has seen, makes that entry
     /// the history's last, and gives the turn up.
-    pub fn commit<R: Wait>(&self, rt: &R, seat: &mut TurnSeat<H>, content: Box<H>)
+    pub fn commit<R: Wait>(&self, _rt: &R, seat: &mut TurnSeat<H>, content: Box<H>)
         requires seat { Holding self.now seat.old }
         requires content { IsOneMore H.way self.now seat.old.me.0 content }
         ensures table { seat.new.table_id ≡ seat.old.table_id }
@@ -119,11 +128,11 @@ impl<H: Content> Turn<H> {
         let old = shared.exchange(seat, SLOT, Some(content));
         let None = old else { unreachable!() };
         shared.fetch_add::<Commit>(seat, LENGTH, 1);
-        self.free(rt, seat);
+        self.free(seat);
     }
 
     /// Puts the content back, which holds what the seat has seen, and gives the turn up.
-    pub fn give_back<R: Wait>(&self, rt: &R, seat: &mut TurnSeat<H>, content: Box<H>)
+    pub fn give_back<R: Wait>(&self, _rt: &R, seat: &mut TurnSeat<H>, content: Box<H>)
         requires seat { Holding self.now seat.old }
         requires fits { H.way.fits self.now.opening seat.old.me.0.seen content.value }
         ensures table { seat.new.table_id ≡ seat.old.table_id }
@@ -131,7 +140,7 @@ impl<H: Content> Turn<H> {
     {
         let old = self.table.shared.exchange(seat, SLOT, Some(content));
         let None = old else { unreachable!() };
-        self.free(rt, seat);
+        self.free(seat);
     }
 
     /// Makes a seat that has seen as much. Neither is alone from then on.
@@ -188,31 +197,33 @@ impl<H: Content> Turn<H> {
         ensures some { IfSome result (λ h. Enters H.way self.now seat.old seat.new h) }
         ensures none { IfNone result (IsSameSeat seat.old seat.new) }
     {
+        let mut pauses = 1;
         for _ in 0..LOOKS {
             if self.table.shared.peek(TURN) == 0 {
                 if let Some(content) = self.try_enter(seat) {
                     return Some(content);
                 }
             }
-            rest();
+            rest(pauses);
+            pauses = pauses.saturating_mul(2).min(MOST_PAUSES);
         }
-        self.try_enter(seat)
+        None
     }
 
     /// Gives the turn up, and wakes a thread where one sleeps.
-    fn free<R: Wait>(&self, rt: &R, seat: &mut TurnSeat<H>)
+    fn free(&self, seat: &mut TurnSeat<H>)
         requires { Settled H.way self.now seat.old }
         ensures table { seat.new.table_id ≡ seat.old.table_id }
         ensures seat { seat.new.me ≡ (having_left seat.old.me.0, []) }
     {
         self.table.shared.store::<Free>(seat, TURN, 0);
-        self.gate.wake_one(rt);
+        self.gate.wake_one();
     }
 }
 
-/// Pauses between two looks.
-fn rest() {
-    for _ in 0..PAUSES {
+/// Pauses so often.
+fn rest(pauses: u32) {
+    for _ in 0..pauses {
         spin_loop();
     }
 }
