@@ -3,9 +3,7 @@ use Rattle.std.proofs.Common.{◌≡◌, ℕ, zero, suc, ◌+◌, ◌-◌, ◌<�
 use Rattle.std.specs.Prelude.{nat_eq}
 use Rattle.std.proofs.Math.Seq.{drop-cons}
 use Rattle.std.proofs.Math.ListN.{drop_of_length-le}
-use Rattle.ndr_body.specs.Writing.{Draft, put_number}
-use Rattle.scm_model.specs.declared.flat.Action.{Action}
-use Rattle.sc_client.specs.Requests.{request_fragment, request_fragments, put_action_rows}
+use Rattle.sc_client.specs.Requests.{request_fragment, request_fragments}
 
 step : (n k call opnum : ℕ) (first : Bool) (rest : List ℕ) → k < n → 0 < length rest
     → request_fragments (n - k) call opnum first rest ≡ request_fragment call opnum first rest ++ request_fragments (n - (k + 1)) call opnum false (drop 1408 rest)
@@ -36,21 +34,6 @@ fragments_end n call opnum first rest text e = ap (λ r. text ++ r) (nothing_lef
 pub fragments_spent : (n k call opnum : ℕ) (first : Bool) (rest text : List ℕ) → n ≤ k → text ++ request_fragments (n - k) call opnum first rest ≡ text
 unfolding request_fragments
 fragments_spent n k call opnum first rest text h = let e : n - k ≡ 0 = omega arith in rw e (append-nil text)
-
--- ## Actions
-
--- one action more
-pub each_more : (actions : List Action) (i : ℕ) (a : Action) (d e f : Draft) → i < length actions → a ≡ get_or actions i a → e ≡ put_number a.what d → f ≡ put_number a.delay e
-    → put_action_rows (drop (i + 1) actions) f ≡ put_action_rows (drop i actions) d
-each_more actions i a d e f h is what delay =
-    ap (put_action_rows (drop (i + 1) actions)) (delay ∙ ap (put_number a.delay) what)
-    ∙ ap (λ xs. put_action_rows xs d) (sym (cut_at actions i a h is))
-  where
-    cut_at : (actions : List Action) (i : ℕ) (a : Action) → i < length actions → a ≡ get_or actions i a → drop i actions ≡ a ∷ drop (i + 1) actions
-    cut_at actions i a h is = rw add-one (drop-cons actions i a h ∙ ap (λ x. x ∷ drop (suc i) actions) (sym is))
-
-pub each_end : (actions : List Action) (i : ℕ) (d : Draft) → length actions ≤ i → put_action_rows (drop i actions) d ≡ d
-each_end actions i d h = ap (λ xs. put_action_rows xs d) (drop_of_length-le actions h)
 
 -- ## Fronts
 

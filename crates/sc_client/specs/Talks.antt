@@ -11,14 +11,15 @@ use Rattle.rpc_pdu.specs.declared.pdu.ResponsePdu.{ResponsePdu}
 use Rattle.sc_client.specs.declared.requests.TheConstants.{NDR}
 use Rattle.rpc_session.specs.Pdus.{Cut, CutEnd, Nothing, Part, BadAt, pdus_from}
 use Rattle.scm_bodies.specs.declared.call.Call.{Call}
+use Rattle.scm_bodies.specs.Calls.{call_of}
 use Rattle.scm_bodies.specs.Replies.{reply_at}
-use Rattle.sc_words.specs.declared.asking.Asked.{Asked}
+use Rattle.scm_model.specs.declared.calls.Request.{Request}
 use Rattle.sc_words.specs.declared.calls.Heard.{Heard}
 use Rattle.sc_words.specs.declared.calls.Heard.TheVariants as heard
 use Rattle.sc_words.specs.declared.command.Command.{Command}
 use Rattle.sc_words.specs.Asks.{asks}
 use Rattle.sc_client.specs.declared.talk.Talk.{Talk}
-use Rattle.sc_client.specs.Requests.{bind_text, call_for, request_text}
+use Rattle.sc_client.specs.Requests.{bind_text, request_text}
 
 -- ## One PDU
 
@@ -28,7 +29,7 @@ call_after hs = length hs + 2
 
 -- the call that is to be answered next
 unfoldable pub expected : Command → List Heard → Option Call
-expected c hs = option_and_then call_for (asks c hs)
+expected c hs = option_and_then call_of (asks c hs)
 
 -- what a whole stub tells in answer to a call
 unfoldable pub told_by : Option Call → List ℕ → Option Heard
@@ -85,7 +86,7 @@ pdu_move c t _ = None
 
 -- ## What is written
 
-abbrev pub some_request : ℕ → Option Asked → List ℕ
+abbrev pub some_request : ℕ → Option Request → List ℕ
 some_request call None = []
 some_request call (Some a) = request_text call a
 

@@ -9,11 +9,10 @@ ghost use Rattle.sc_client.specs.Talks.{acceptance, ack_move, answers, expected,
 ghost use Rattle.sc_client.specs.Talks.{is_next_fragment, hearing, is_whole, pdu_move};
 ghost use Rattle.sc_client.specs.Talks.{response_move, told_by, not_bound, with_stub};
 
-use super::requests::call_for;
 use ndr_body::BodyFault;
 use rpc_pdu::{Ack, FaultPdu, Pdu, ResponsePdu};
 use sc_words::{Command, Heard, next_request};
-use scm_bodies::{Call, read_reply};
+use scm_bodies::{Call, call_of, read_reply};
 use scm_model::Reply;
 use scm_text::{Items, OutOfMemory};
 use std::alloc::Global;
@@ -44,7 +43,7 @@ fn expected(alloc: Global, command: &Command, heard: &[Heard]) -> Result<Option<
     ensures { IfOk result (λ call. call ≡ expected command.now heard.now) }
 {
     match next_request(alloc, command, heard)? {
-        Some(asked) => Ok(call_for(&asked)),
+        Some(asked) => Ok(call_of(&asked)),
         None => Ok(None),
     }
 }

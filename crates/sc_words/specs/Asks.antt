@@ -3,13 +3,10 @@ use Rattle.std.specs.Prelude.{ℕ, ◌+◌, ◌/◌, ◌%◌, ◌==◌, Bool, tr
 use Rattle.std.specs.List.{flat_map}
 use Rattle.scm_model.specs.declared.calls.ChangeService.{ChangeService}
 use Rattle.scm_model.specs.declared.calls.NewService.{NewService}
+use Rattle.scm_model.specs.declared.calls.Info.TheVariants as info
 use Rattle.scm_model.specs.declared.calls.Request.{Request}
 use Rattle.scm_model.specs.declared.calls.Request.TheVariants as request
 use Rattle.scm_model.specs.declared.codes.TheConstants.{DELETE, SC_MANAGER_CONNECT, SC_MANAGER_CREATE_SERVICE, SERVICE_ALL_ACCESS, SERVICE_AUTO_START, SERVICE_CHANGE_CONFIG, SERVICE_CONTROL_CONTINUE, SERVICE_CONTROL_INTERROGATE, SERVICE_CONTROL_NETBINDDISABLE, SERVICE_CONTROL_PARAMCHANGE, SERVICE_CONTROL_PAUSE, SERVICE_CONTROL_STOP, SERVICE_DEMAND_START, SERVICE_DISABLED, SERVICE_ERROR_NORMAL, SERVICE_INTERROGATE, SERVICE_NO_CHANGE, SERVICE_PAUSE_CONTINUE, SERVICE_QUERY_STATUS, SERVICE_START, SERVICE_STOP, SERVICE_USER_DEFINED_CONTROL, SERVICE_WIN32_OWN_PROCESS}
-use Rattle.sc_words.specs.declared.asking.Asked.{Asked}
-use Rattle.sc_words.specs.declared.asking.Asked.TheVariants as asked
-use Rattle.sc_words.specs.declared.asking.Config2.{Config2}
-use Rattle.sc_words.specs.declared.asking.Config2.TheVariants as config2
 use Rattle.sc_words.specs.declared.calls.Heard.{Heard}
 use Rattle.sc_words.specs.declared.calls.Method.{Method}
 use Rattle.sc_words.specs.declared.calls.Method.TheVariants as method
@@ -110,34 +107,34 @@ change s handle = record {
 -- ## Requests
 
 -- what a task asks of its service, or of the manager where it creates it
-abbrev pub task_asks : Command → Task → Method → ℕ → Asked
-task_asks c (task.Create s) method.ChangeServiceConfig2 handle = asked.Config2 handle (config2.Delayed (is_delayed s.start))
-task_asks c (task.Create s) m handle = asked.Request (request.Create (creation c.name s handle))
-task_asks c (task.Config s) method.ChangeServiceConfig2 handle = asked.Config2 handle (config2.Delayed (is_delayed s.start))
-task_asks c (task.Config s) m handle = asked.Request (request.Change (change s handle))
-task_asks c (task.Description text) m handle = asked.Config2 handle (config2.Description text)
-task_asks c (task.Failure s) m handle = asked.Config2 handle (config2.Failure (unwrap_or s.reset 0) s.command s.actions)
-task_asks c (task.Start words) m handle = asked.Request (request.Start handle (Some words))
-task_asks c (task.Control code) m handle = asked.Request (request.Control handle code)
-task_asks c task.Query m handle = asked.Request (request.QueryStatus handle)
-task_asks c task.Delete m handle = asked.Request (request.Delete handle)
+abbrev pub task_asks : Command → Task → Method → ℕ → Request
+task_asks c (task.Create s) method.ChangeServiceConfig2 handle = request.Change2 handle (info.Delayed (is_delayed s.start))
+task_asks c (task.Create s) m handle = request.Create (creation c.name s handle)
+task_asks c (task.Config s) method.ChangeServiceConfig2 handle = request.Change2 handle (info.Delayed (is_delayed s.start))
+task_asks c (task.Config s) m handle = request.Change (change s handle)
+task_asks c (task.Description text) m handle = request.Change2 handle (info.Description (Some text))
+task_asks c (task.Failure s) m handle = request.Change2 handle (info.Failure (unwrap_or s.reset 0) s.command s.actions)
+task_asks c (task.Start words) m handle = request.Start handle (Some words)
+task_asks c (task.Control code) m handle = request.Control handle code
+task_asks c task.Query m handle = request.QueryStatus handle
+task_asks c task.Delete m handle = request.Delete handle
 
 -- what a call asks by the handle that was given last
-abbrev pub method_asks : Command → Method → ℕ → Asked
-method_asks c method.OpenSCManager handle = asked.Request (request.OpenManager None (manager_right c.task))
-method_asks c method.OpenService handle = asked.Request (request.OpenService handle c.name (service_right c.task))
+abbrev pub method_asks : Command → Method → ℕ → Request
+method_asks c method.OpenSCManager handle = request.OpenManager None (manager_right c.task)
+method_asks c method.OpenService handle = request.OpenService handle c.name (service_right c.task)
 method_asks c m handle = task_asks c c.task m handle
 
 -- the close of the handle that was given last among those that aren't closed
-abbrev pub close : Command → List Heard → Option Asked
+abbrev pub close : Command → List Heard → Option Request
 close c hs =
-    if nat_lt (closed c.task hs) (given c.task hs) then Some (asked.Request (request.Close (handle_before (closed c.task hs) c.task hs))) else None
+    if nat_lt (closed c.task hs) (given c.task hs) then Some (request.Close (handle_before (closed c.task hs) c.task hs)) else None
 
-abbrev pub asks_at : Standing → Command → List Heard → Option Asked
+abbrev pub asks_at : Standing → Command → List Heard → Option Request
 asks_at (Asks m) c hs = Some (method_asks c m (handle_before 0 c.task hs))
 asks_at (Failed m h) c hs = close c hs
 asks_at Done c hs = close c hs
 
 -- the next request of a command after these replies
-unfoldable pub asks : Command → List Heard → Option Asked
+unfoldable pub asks : Command → List Heard → Option Request
 asks c hs = asks_at (stage_of c.task hs) c hs

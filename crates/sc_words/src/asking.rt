@@ -1,7 +1,7 @@
 ghost use Rattle.std.specs.Prelude.{◌≡◌, ◌++◌, [], IfOk, OnOk, option_map, unwrap_or};
 ghost use Rattle.sc_words.specs.Asks.{asks, bytes_of, change, close, control_right, creation, is_delayed, manager_right, method_asks, needs_bytes, service_right, start_code, tag_asked, task_asks};
-ghost use Rattle.sc_words.specs.declared.asking.Config2.TheVariants as config2;
-ghost use Rattle.sc_words.specs.declared.asking.Asked.TheVariants as requests;
+ghost use Rattle.scm_model.specs.declared.calls.Info.TheVariants as info;
+ghost use Rattle.scm_model.specs.declared.calls.Request.TheVariants as request;
 
 use super::calls::{Heard, Method, Stage, closed, given, handle_before, stage_of};
 use super::command::{Command, Task};
@@ -15,31 +15,9 @@ use scm_model::codes::{
     SERVICE_INTERROGATE, SERVICE_NO_CHANGE, SERVICE_PAUSE_CONTINUE, SERVICE_QUERY_STATUS,
     SERVICE_START, SERVICE_STOP, SERVICE_USER_DEFINED_CONTROL, SERVICE_WIN32_OWN_PROCESS,
 };
-use scm_model::{Action, ChangeService, NewService, Request, copy_texts};
+use scm_model::{Action, ChangeService, Info, NewService, Request, copy_texts};
 use scm_text::{Items, OutOfMemory, WText};
 use std::alloc::Global;
-
-/// What `RChangeServiceConfig2W` changes, by its level: 1, 2 or 3.
-#[derive(Drop)]
-pub enum Config2 {
-    Description(WText),
-    Failure {
-        /// Seconds.
-        reset: u32,
-        command: Option<WText>,
-        actions: Option<Items<Action>>,
-    },
-    /// Whether the service starts some time after the others.
-    Delayed(bool),
-}
-
-/// What a command asks of its peer.
-#[derive(Drop)]
-pub enum Asked {
-    Request(Request),
-    /// `RChangeServiceConfig2W`, opnum 37, which is no `Request` yet.
-    Config2 { handle: u64, change: Config2 },
-}
 
 /// The right that is asked for on the manager.
 fn manager_right(task: &Task) -> u32
@@ -247,12 +225,12 @@ fn change(alloc: Global, settings: &Settings, handle: u64) -> Result<ChangeServi
 }
 
 /// What failure actions ask.
-fn failure(alloc: Global, settings: &Settings) -> Result<Config2, OutOfMemory>
-    ensures { IfOk result (λ change. change ≡ config2.Failure (unwrap_or settings.now.reset 0) settings.now.command settings.now.actions) }
+fn failure(alloc: Global, settings: &Settings) -> Result<Info, OutOfMemory>
+    ensures { IfOk result (λ change. change ≡ info.Failure (unwrap_or settings.now.reset 0) settings.now.command settings.now.actions) }
 {
     let command = copy_of_text(alloc, &settings.command)?;
     let actions = copy_of_actions(alloc, &settings.actions)?;
-    Ok(Config2::Failure {
+    Ok(Info::Failure {
         reset: settings.reset.unwrap_or(0),
         command,
         actions,
@@ -260,12 +238,12 @@ fn failure(alloc: Global, settings: &Settings) -> Result<Config2, OutOfMemory>
 }
 
 /// Whether the service starts delayed is asked by a call of its own.
-fn delay(handle: u64, settings: &Settings) -> Asked
-    ensures { result ≡ requests.Config2 handle (config2.Delayed (is_delayed settings.now.start)) }
+fn delay(handle: u64, settings: &Settings) -> Request
+    ensures { result ≡ request.Change2 handle (info.Delayed (is_delayed settings.now.start)) }
 {
-    Asked::Config2 {
+    Request::Change2 {
         handle,
-        change: Config2::Delayed(is_delayed(settings.start)),
+        info: Info::Delayed(is_delayed(settings.start)),
     }
 }
 
@@ -275,7 +253,7 @@ fn task_asks(
     command: &Command,
     method: Method,
     handle: u64,
-) -> Result<Asked, OutOfMemory>
+) -> Result<Request, OutOfMemory>
     ensures { IfOk result (λ asked. asked ≡ task_asks command.now command.now.task method handle) }
 {
     match &command.task {
@@ -284,33 +262,33 @@ fn task_asks(
                 return Ok(delay(handle, settings));
             }
             let new = creation(alloc, &command.name, settings, handle)?;
-            Ok(Asked::Request(Request::Create(new)))
+            Ok(Request::Create(new))
         }
         Task::Config(settings) => {
             if method == Method::ChangeServiceConfig2 {
                 return Ok(delay(handle, settings));
             }
             let change = change(alloc, settings, handle)?;
-            Ok(Asked::Request(Request::Change(change)))
+            Ok(Request::Change(change))
         }
-        Task::Description(text) => Ok(Asked::Config2 {
+        Task::Description(text) => Ok(Request::Change2 {
             handle,
-            change: Config2::Description(text.copy(alloc)?),
+            info: Info::Description(Some(text.copy(alloc)?)),
         }),
-        Task::Failure(settings) => Ok(Asked::Config2 {
+        Task::Failure(settings) => Ok(Request::Change2 {
             handle,
-            change: failure(alloc, settings)?,
+            info: failure(alloc, settings)?,
         }),
-        Task::Start(words) => Ok(Asked::Request(Request::Start {
+        Task::Start(words) => Ok(Request::Start {
             handle,
             words: Some(copy_texts(words.as_slice(), alloc)?),
-        })),
-        Task::Control(code) => Ok(Asked::Request(Request::Control {
+        }),
+        Task::Control(code) => Ok(Request::Control {
             handle,
             control: *code,
-        })),
-        Task::Query => Ok(Asked::Request(Request::QueryStatus { handle })),
-        Task::Delete => Ok(Asked::Request(Request::Delete { handle })),
+        }),
+        Task::Query => Ok(Request::QueryStatus { handle }),
+        Task::Delete => Ok(Request::Delete { handle }),
     }
 }
 
@@ -320,32 +298,32 @@ fn method_asks(
     command: &Command,
     method: Method,
     handle: u64,
-) -> Result<Asked, OutOfMemory>
+) -> Result<Request, OutOfMemory>
     ensures { IfOk result (λ asked. asked ≡ method_asks command.now method handle) }
 {
     match method {
-        Method::OpenSCManager => Ok(Asked::Request(Request::OpenManager {
+        Method::OpenSCManager => Ok(Request::OpenManager {
             database: None,
             access: manager_right(&command.task),
-        })),
-        Method::OpenService => Ok(Asked::Request(Request::OpenService {
+        }),
+        Method::OpenService => Ok(Request::OpenService {
             handle,
             name: command.name.copy(alloc)?,
             access: service_right(&command.task),
-        })),
+        }),
         _ => task_asks(alloc, command, method, handle),
     }
 }
 
 /// The close of the handle that was given last among those that aren't closed.
-fn close(command: &Command, heard: &[Heard]) -> Option<Asked>
+fn close(command: &Command, heard: &[Heard]) -> Option<Request>
     ensures { result ≡ close command.now heard.now }
 {
     let task = &command.task;
     let closed = closed(task, heard);
     if closed < given(task, heard) {
         let handle = handle_before(closed, task, heard);
-        Some(Asked::Request(Request::Close { handle }))
+        Some(Request::Close { handle })
     } else {
         None
     }
@@ -358,7 +336,7 @@ pub fn next_request(
     alloc: Global,
     command: &Command,
     heard: &[Heard],
-) -> Result<Option<Asked>, OutOfMemory>
+) -> Result<Option<Request>, OutOfMemory>
     ensures { IfOk result (λ asked. asked ≡ asks command.now heard.now) }
 {
     let Stage::Asks(method) = stage_of(&command.task, heard) else {

@@ -12,7 +12,7 @@ mod texts;
 mod values;
 mod verb;
 
-pub use asking::{Asked, Config2, next_request};
+pub use asking::next_request;
 pub use calls::{Heard, Method};
 pub use command::{Command, Task};
 pub use fault::WordsFault;
