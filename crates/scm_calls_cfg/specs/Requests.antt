@@ -9,7 +9,7 @@ use Rattle.scm_shapes.specs.declared.item.Item.{Item}
 use Rattle.scm_shapes.specs.declared.item.Item.TheVariants as item
 use Rattle.scm_shapes.specs.declared.item.Value.{Value}
 use Rattle.scm_shapes.specs.declared.item.Value.TheVariants as value
-use Rattle.scm_shapes.specs.Shapes.{after, first_handle, first_number, first_text, first_some_text, first_some_number, first_some_bytes}
+use Rattle.scm_shapes.specs.Shapes.{after, first_handle, first_number, first_text, first_some_text, first_some_number, first_some_bytes, first_info}
 use Rattle.scm_calls_cfg.specs.declared.calls.Call.{Call}
 use Rattle.scm_calls_cfg.specs.declared.calls.Call.TheVariants as call
 
@@ -18,6 +18,8 @@ abbrev pub config_shape : Call → List Item
 config_shape call.Change = item.Handle ∷ item.Number ∷ item.Number ∷ item.Number ∷ item.SomeText ∷ item.SomeText ∷ item.SomeNumber ∷ item.SomeBytes ∷ item.SomeText ∷ item.UnkeptBytes ∷ item.SomeText ∷ []
 config_shape call.Create = item.Handle ∷ item.Text ∷ item.SomeText ∷ item.Number ∷ item.Number ∷ item.Number ∷ item.Number ∷ item.Text ∷ item.SomeText ∷ item.SomeNumber ∷ item.SomeBytes ∷ item.SomeText ∷ item.UnkeptBytes ∷ []
 config_shape call.QueryConfig = item.Handle ∷ item.NumberTo MAX_CONFIG_SIZE ∷ []
+config_shape call.Change2 = item.Handle ∷ item.Info ∷ []
+config_shape call.QueryConfig2 = item.Handle ∷ item.Number ∷ item.NumberTo MAX_CONFIG_SIZE ∷ []
 
 abbrev pub change_from : List Value → ChangeService
 change_from vs = record {
@@ -53,6 +55,8 @@ abbrev pub config_from : Call → List Value → Request
 config_from call.Change vs = request.Change (change_from vs)
 config_from call.Create vs = request.Create (new_from vs)
 config_from call.QueryConfig vs = request.QueryConfig (first_handle vs) (first_number (after 1 vs))
+config_from call.Change2 vs = request.Change2 (first_handle vs) (first_info (after 1 vs))
+config_from call.QueryConfig2 vs = request.QueryConfig2 (first_handle vs) (first_number (after 1 vs)) (first_number (after 2 vs))
 
 abbrev pub change_values : ChangeService → List Value
 change_values change =
@@ -69,4 +73,6 @@ abbrev pub config_values : Request → List Value
 config_values (request.Change change) = change_values change
 config_values (request.Create new) = new_values new
 config_values (request.QueryConfig handle size) = value.Handle handle ∷ value.Number size ∷ []
+config_values (request.Change2 handle asked) = value.Handle handle ∷ value.Info asked ∷ []
+config_values (request.QueryConfig2 handle level size) = value.Handle handle ∷ value.Number level ∷ value.Number size ∷ []
 config_values _ = []

@@ -1,5 +1,5 @@
-//! Lines of calls on configurations, as in `scm_calls`: `RChangeServiceConfigW`, `RCreateServiceW`
-//! and `RQueryServiceConfigW` of MS-SCMR.
+//! Lines of calls on configurations, as in `scm_calls`: `RChangeServiceConfigW`, `RCreateServiceW`,
+//! `RQueryServiceConfigW`, `RChangeServiceConfig2W` and `RQueryServiceConfig2W` of MS-SCMR.
 #![tactic(auto)]
 
 mod calls;

@@ -43,6 +43,8 @@ pub fn request_shape(call: Call) -> &'static [Item]
             Item::UnkeptBytes,
         ],
         Call::QueryConfig => &[Item::Handle, Item::NumberTo(MAX_CONFIG_SIZE)],
+        Call::Change2 => &[Item::Handle, Item::Info],
+        Call::QueryConfig2 => &[Item::Handle, Item::Number, Item::NumberTo(MAX_CONFIG_SIZE)],
     }
 }
 
@@ -102,6 +104,15 @@ pub fn request_of(alloc: Global, call: Call, values: &mut Values) -> Request
         Call::Create => Request::Create(new_of(alloc, values)),
         Call::QueryConfig => Request::QueryConfig {
             handle: values.handle(),
+            size: values.number(),
+        },
+        Call::Change2 => Request::Change2 {
+            handle: values.handle(),
+            info: values.info(),
+        },
+        Call::QueryConfig2 => Request::QueryConfig2 {
+            handle: values.handle(),
+            level: values.number(),
             size: values.number(),
         },
     }
@@ -169,6 +180,17 @@ pub fn put_request(
         Request::Create(new) => put_new(new, out),
         Request::QueryConfig { handle, size } => {
             write_pieces(&[Piece::Handle(*handle), Piece::Number(*size)], out)
+        }
+        Request::Change2 { handle, info } => {
+            write_pieces(&[Piece::Handle(*handle), Piece::Info(info)], out)
+        }
+        Request::QueryConfig2 {
+            handle,
+            level,
+            size,
+        } => {
+            let (handle, level) = (Piece::Handle(*handle), Piece::Number(*level));
+            write_pieces(&[handle, level, Piece::Number(*size)], out)
         }
         _ => write_pieces(&[], out),
     }

@@ -1,15 +1,15 @@
 -- A body that is written is read back.
-use Rattle.std.proofs.Common.{◌≡◌, ℕ, ◌^◌, ◌<◌, ◌≤◌, List, [], ◌∷◌, ◌++◌, length, take, map, Option, Some, None, Result, Ok, Err, refl, sym, arith, subst, length-append, replicate, ◌-◌}
+use Rattle.std.proofs.Common.{◌≡◌, ℕ, ◌^◌, ◌<◌, ◌≤◌, Bool, true, false, cond, List, [], ◌∷◌, length, take, map, Option, Some, None, Result, Ok, Err, refl, sym, arith, subst, length-append, replicate, ◌-◌}
 use Rattle.std.specs.Prelude.{IfSome, IfOk}
-use Rattle.std.proofs.lemmas.Bool.{eq-eqb, le-leb}
+use Rattle.std.proofs.lemmas.Bool.{eq-eqb}
 use Rattle.std.proofs.lemmas.List.{append-nil, length-take, length-replicate}
 use Rattle.std.proofs.Math.Seq.{take-length}
 use Rattle.ndr_body.specs.declared.fault.BodyFault.{BodyFault}
-use Rattle.ndr_body.specs.Reading.{◌>>=◌, Gives, number_at, handle_at, text_at, some_text_at, some_number_at, some_bytes_at, bytes_at}
+use Rattle.ndr_body.specs.Reading.{◌>>=◌, Gives, number_at, handle_at, text_at, some_text_at, some_number_at, some_bytes_at, bytes_at, finished}
 use Rattle.ndr_body.specs.Writing.{Draft, blank, put_number, put_handle, put_text, put_bytes, put_some_text, put_some_number, put_referent}
 use Rattle.ndr_body.specs.Laws.{IsPutAs, filled}
 use Rattle.ndr_body.proofs.Written.{number_put, handle_put, text_put, bytes_put, any_text_put, any_number_put, no_text_put, no_bytes_put, some_bytes_put}
-use Rattle.ndr_body.proofs.Chains.{Holds, held_before, read_there, blank_referent, ends_there, handle_small, text_sent, pointed_sent, pointed_small, pointed_short}
+use Rattle.ndr_body.proofs.Chains.{read_there, blank_referent, ends_there, handle_small, text_sent, pointed_sent, pointed_small, pointed_short}
 use Rattle.ndr_body.proofs.Spelled.{IsBytes}
 use Rattle.scm_shapes.specs.declared.item.Item.{Item}
 use Rattle.scm_shapes.specs.declared.item.Item.TheVariants as item
@@ -18,35 +18,25 @@ use Rattle.scm_shapes.specs.declared.item.Value.TheVariants as value
 use Rattle.scm_shapes.specs.Ranges.{within_at}
 use Rattle.scm_shapes.specs.Sized.{sized_at, put_sized}
 use Rattle.scm_shapes.specs.Words.{words_at, put_words}
-use Rattle.scm_shapes.specs.Shapes.{made, item_at, values_at, body_values, put_value, put_values, body_bytes}
+use Rattle.scm_shapes.specs.Shapes.{item_at, values_at, leave_open, closed_at, body_values, put_value, put_values, body_bytes}
 use Rattle.scm_shapes.specs.Bodies.{ItemStands, ValuesStand, IsBody}
 use Rattle.scm_shapes.specs.Laws.{CanHold, CanHoldAll, as_read}
 use Rattle.scm_shapes.specs.Records.{lock_at, lock_of, lock_marks, lock_texts, owners, shown_at, shown_of, shown_told, shown_marks, shown_texts, put_record}
-use Rattle.scm_shapes.proofs.Each.{behind_both}
+use Rattle.scm_shapes.specs.Levels.{info_at, put_info}
+use Rattle.scm_shapes.specs.Parts.{made}
+use Rattle.scm_shapes.proofs.Parts.{joined_put, made_put, within_put}
+use Rattle.scm_shapes.proofs.Asked.{info_put, info_ranged}
 use Rattle.scm_shapes.proofs.Argv.{words_put, words_sent}
 use Rattle.scm_shapes.proofs.Recorded.{lock_put, lock_ranged, shown_put, shown_ranged, record_small}
 use Rattle.scm_shapes.proofs.Exact.{body_found}
 
 -- ## Two items
 
--- what is put as two items, of which the second may look at the first, is read as they are joined
-pub both_put : {A B C : Type 0} (first_at : List ℕ → ℕ → Result (A × ℕ) BodyFault) (second_at : List ℕ → ℕ → Result (B × ℕ) BodyFault) (finish : A × ℕ → B × ℕ → Result (C × ℕ) BodyFault) (p q : Draft → Draft) (a : A) (b : B) (c : C)
+-- what is put as two items is read as they are joined
+both_put : {A B C : Type 0} (first_at : List ℕ → ℕ → Result (A × ℕ) BodyFault) (second_at : List ℕ → ℕ → Result (B × ℕ) BodyFault) (finish : A × ℕ → B × ℕ → Result (C × ℕ) BodyFault) (p q : Draft → Draft) (a : A) (b : B) (c : C)
     → IsPutAs first_at p a → IsPutAs second_at q b → ((m n : ℕ) → finish (a, m) (b, n) ≡ Ok (c, n))
     → IsPutAs (λ body place. first_at body place >>= λ x. second_at body x.1 >>= λ y. finish x y) (λ d. q (p d)) c
-both_put first_at second_at finish p q a b c law1 law2 join = record {
-  read = λ d rest referent.
-      let d1 = p d in
-      let body = (q d1).bytes ++ rest in
-      let held2 : Holds body (q d1) = (rest, refl) in
-      let held1 = held_before second_at q b body d1 law2 held2 in
-      rw (
-        read_there first_at p a body d law1 referent held1,
-        read_there second_at q b body d1 law2 (law1.next d referent) held2,
-        join (length d1.bytes) (length (q d1).bytes),
-      ) refl;
-  behind = behind_both p q law1.behind law2.behind;
-  next = λ d referent. law2.next (p d) (law1.next d referent);
-}
+both_put {A = A} first_at second_at finish p q a b c law1 law2 join = joined_put first_at (λ (x : A). second_at) finish p q a b c law1 law2 join
 
 no_sized_put : IsPutAs sized_at (put_sized None) None
 unfolding sized_at put_sized
@@ -60,16 +50,7 @@ sized_put : (held : Option (List ℕ)) → IfSome held (λ held. length held < 2
 sized_put None lt = no_sized_put
 sized_put (Some held) lt = some_sized_put held lt
 
-within_put : (most n : ℕ) → n ≤ most → n < 2 ^ 32 → IsPutAs (within_at most) (put_number n) n
-unfolding within_at
-within_put most n le lt =
-    let law = number_put n lt in
-    record { read = λ d rest referent. rw (law.read d rest referent, le-leb n most le) refl; behind = law.behind; next = law.next }
-
 -- ## Items
-
-made_put : {A : Type 0} (make : A → Value) (read_at : List ℕ → ℕ → Result (A × ℕ) BodyFault) (put : Draft → Draft) (content : A) → IsPutAs read_at put content → IsPutAs (λ body place. made make (read_at body place)) put (make content)
-made_put make read_at put content law = record { read = λ d rest referent. rw (law.read d rest referent) refl; behind = law.behind; next = law.next }
 
 -- bytes come back with zeros up to their size
 bytes_item_put : (size : ℕ) (held : List ℕ) → size < 2 ^ 32 → IsPutAs (item_at item.Bytes) (put_value (value.Bytes size held)) (as_read (value.Bytes size held))
@@ -96,6 +77,7 @@ item_put item.Bytes (value.Bytes size held) h = bytes_item_put size held h
 item_put item.Words (value.Words words) h = made_put value.Words words_at (put_words words) words (words_put words h)
 item_put item.Lock (value.Lock held owner seconds) h =
     made_put (λ (l : ℕ × Option (List ℕ) × ℕ). value.Lock l.0 l.1 l.2) lock_at (put_record (lock_marks held owner seconds) (lock_texts owner)) (held, owner, seconds) (lock_put held owner seconds h.0 h.1.0 h.1.1)
+item_put item.Info (value.Info asked) h = made_put value.Info info_at (put_info asked) asked (info_put asked h)
 item_put item.Shown (value.Shown shown) h = made_put value.Shown shown_at (put_record (shown_marks shown) (shown_texts shown)) shown (shown_put shown h)
 item_put _ _ h = absurd h
 
@@ -108,13 +90,17 @@ values_put (kind ∷ kinds) (v ∷ vs) h = both_put (item_at kind) (values_at ki
 values_put [] (v ∷ vs) h = absurd h
 values_put (kind ∷ kinds) [] h = absurd h
 
+closes_there : (b : Bool) (d : Draft) → cond b (Ok tt) (finished d.bytes (length d.bytes)) ≡ Ok tt
+closes_there true d = refl
+closes_there false d = ends_there d
+
 -- the body of values that a shape can hold is read as they are
 pub body_again : (shape : List Item) (vs : List Value) → CanHoldAll shape vs → body_values shape (body_bytes vs) ≡ Ok (map as_read vs)
-unfolding body_values body_bytes
+unfolding body_values closed_at body_bytes
 body_again shape vs h =
     let d = put_values vs blank in
     let law = values_put shape vs h in
-    rw (read_there (values_at shape) (put_values vs) (map as_read vs) d.bytes blank law blank_referent ([], sym (append-nil d.bytes)), ends_there d) refl
+    rw (read_there (values_at shape) (put_values vs) (map as_read vs) d.bytes blank law blank_referent ([], sym (append-nil d.bytes)), closes_there (leave_open (map as_read vs)) d) refl
 
 -- ## What a body holds can be written
 
@@ -134,6 +120,7 @@ item_ranged item.Lock body place v after h =
     let t = h.there in
     let r = record_small 3 owners lock_of body place h.content after t in
     rw (h.is, t.is) (lock_ranged t.numbers t.texts r.0 r.1)
+item_ranged item.Info body place v after h = rw h.is (info_ranged body place h.content after h.there)
 item_ranged item.Shown body place v after h =
     let t = h.there in
     let r = record_small 9 shown_told shown_of body place h.content after t in

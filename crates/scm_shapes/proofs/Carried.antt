@@ -27,6 +27,7 @@ value_carried item.Bytes (value.Bytes size held) h = h
 value_carried item.Words (value.Words words) h = words_carried words h
 value_carried item.Lock (value.Lock held owner seconds) h = h
 value_carried item.Shown (value.Shown shown) h = h
+value_carried item.Info (value.Info asked) h = h.sent
 value_carried _ _ h = absurd h
 
 pub all_carried : (shape : List Item) (vs : List Value) → CanHoldAll shape vs → AllByRecursion IsCarried vs

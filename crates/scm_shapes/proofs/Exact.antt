@@ -1,11 +1,11 @@
 -- A body is read exactly where it is one of its shape.
-use Rattle.std.proofs.Common.{◌≡◌, ℕ, true, cond, List, [], ◌∷◌, length, Option, Some, None, Result, Ok, Err, refl, sym, ap, subst}
-use Rattle.std.specs.Prelude.{◌↔◌, IfOk}
+use Rattle.std.proofs.Common.{◌≡◌, ℕ, Bool, true, false, cond, inl, inr, List, [], ◌∷◌, length, Option, Some, None, Result, Ok, Err, refl, subst}
+use Rattle.std.specs.Prelude.{◌⊎◌, IfOk, IsTrue}
 use Rattle.std.proofs.lemmas.Bool.{eqb-true, eq-eqb}
 use Rattle.ndr_body.specs.declared.fault.BodyFault.{BodyFault}
 use Rattle.ndr_body.specs.declared.fault.BodyFault.TheVariants.{BadCount}
 use Rattle.ndr_body.specs.Reading.{◌>>=◌, Gives, aligned, number_at, handle_at, text_at, some_text_at, some_number_at, some_bytes_at, bytes_at, finished}
-use Rattle.ndr_body.specs.Spelled.{IsNumber, IsHandle, IsText, IsBytesOf, IsPointed, Stands}
+use Rattle.ndr_body.specs.Spelled.{IsNumber, IsHandle, IsText, IsBytesOf, IsPointed, IsEnded, Stands}
 use Rattle.ndr_body.proofs.Spelled.{IsBytes, bind_ok, ok_is, number_spelled, number_read}
 use Rattle.ndr_body.proofs.SpelledHandles.{handle_spelled, handle_read}
 use Rattle.ndr_body.proofs.SpelledTexts.{text_spelled, text_read}
@@ -14,19 +14,18 @@ use Rattle.scm_shapes.specs.declared.item.Item.{Item}
 use Rattle.scm_shapes.specs.declared.item.Item.TheVariants as item
 use Rattle.scm_shapes.specs.declared.item.Value.{Value}
 use Rattle.scm_shapes.specs.declared.item.Value.TheVariants as value
-use Rattle.scm_shapes.specs.Ranges.{within_at}
+use Rattle.scm_shapes.specs.Ranges.{within_at, WithinStands}
 use Rattle.scm_shapes.specs.Sized.{is_size, sized_at}
 use Rattle.scm_shapes.specs.Words.{words_at}
-use Rattle.scm_shapes.specs.Shapes.{made, item_at, values_at, body_values, first_as, fitted}
-use Rattle.scm_shapes.specs.Bodies.{WithinStands, IsSize, SizedStands, WordsStand, Holds, ItemStands, ValuesStand, IsBody}
-use Rattle.scm_shapes.specs.Records.{RecordStands, owners, lock_of, lock_at, shown_told, shown_of, shown_at}
-use Rattle.scm_shapes.proofs.Ranges.{guard_true, within_found, within_read}
+use Rattle.scm_shapes.specs.Shapes.{item_at, values_at, leave_open, closed_at, body_values, first_as, fitted}
+use Rattle.scm_shapes.specs.Bodies.{IsSize, SizedStands, WordsStand, ItemStands, ValuesStand, IsBody}
+use Rattle.scm_shapes.specs.Records.{RecordStands, record_at, owners, lock_of, lock_at, shown_told, shown_of, shown_at}
+use Rattle.scm_shapes.proofs.Ranges.{guard_true}
 use Rattle.scm_shapes.proofs.Argv.{words_found, words_read}
 use Rattle.scm_shapes.proofs.Recorded.{record_exactly}
-
--- what is read at a place stands there, and what stands there is read
-abbrev pub Exactly : {A : Type 0} → (List ℕ → ℕ → Result (A × ℕ) BodyFault) → (List ℕ → ℕ → A → ℕ → Type 0) → List ℕ → Type 0
-Exactly {A = A} read_at There body = (place : ℕ) (value : A) (after : ℕ) → (read_at body place ≡ Ok (value, after)) ↔ There body place value after
+use Rattle.scm_shapes.specs.Levels.{info_at, InfoStands}
+use Rattle.scm_shapes.proofs.Parts.{Exactly, number_exactly, within_exactly, made_exactly}
+use Rattle.scm_shapes.proofs.Asked.{info_exactly}
 
 -- ## Bytes with their size
 
@@ -59,44 +58,36 @@ sized_read body place held after h =
 
 -- ## Items
 
--- a value that is made of what is read
-made_exactly : {A : Type 0} (make : A → Value) (read_at : List ℕ → ℕ → Result (A × ℕ) BodyFault) (There : List ℕ → ℕ → A → ℕ → Type 0) (body : List ℕ)
-    → Exactly read_at There body → Exactly (λ bytes place. made make (read_at bytes place)) (Holds make There) body
-made_exactly {A = A} make read_at There body law place v after = (
-  λ e. let a = bind_ok (read_at body place) (λ x. Ok (make x.0, x.1)) (v, after) e in
-      let pair : Value × ℕ = (make a.0.0, a.0.1) in
-      let same : pair ≡ (v, after) = ok_is pair (v, after) a.2 in
-      let behind : a.0.1 ≡ after = ap (λ (p : Value × ℕ). p.1) same in
-      record { content = a.0.0; is = sym (ap (λ (p : Value × ℕ). p.0) same); there = subst (λ (n : ℕ). There body place a.0.0 n) behind ((law place a.0.0 a.0.1).0 a.1) },
-  λ h. rw ((law place h.content after).1 h.there, h.is) refl,
-)
+recorded : {A : Type 0} (count : ℕ) (told : List ℕ → Result ℕ ℕ) (make : List ℕ → List (List ℕ) → A) (body : List ℕ) → IsBytes body → Exactly (record_at count told make) (RecordStands count told make) body
+recorded count told make body fits = record { found = λ place v after e. (record_exactly count told make body fits place v after).0 e; read = λ place v after h. (record_exactly count told make body fits place v after).1 h }
 
 pub item_exactly : (kind : Item) (body : List ℕ) → IsBytes body → Exactly (item_at kind) (ItemStands kind) body
 unfolding item_at lock_at shown_at
 item_exactly item.Handle body fits =
-    made_exactly value.Handle handle_at (Stands IsHandle) body (λ place v after. (λ e. handle_spelled body (aligned place) (v, after) fits e, λ s. handle_read body (aligned place) v after fits s))
+    made_exactly value.Handle handle_at (Stands IsHandle) body (record { found = λ place v after e. handle_spelled body (aligned place) (v, after) fits e; read = λ place v after s. handle_read body (aligned place) v after fits s })
 item_exactly item.Number body fits =
-    made_exactly value.Number number_at (Stands IsNumber) body (λ place v after. (λ e. number_spelled body (aligned place) (aligned place) (v, after) fits e, λ s. number_read body (aligned place) (aligned place) v after s))
+    made_exactly value.Number number_at (Stands IsNumber) body (number_exactly body fits)
 item_exactly (item.NumberTo most) body fits =
-    made_exactly value.Number (within_at most) (WithinStands most) body (λ place v after. (λ e. within_found most body place (v, after) fits e, λ s. within_read most body place v after s.stands s.in_range))
+    made_exactly value.Number (within_at most) (WithinStands most) body (within_exactly most body fits)
 item_exactly item.Text body fits =
-    made_exactly value.Text text_at (Stands IsText) body (λ place v after. (λ e. text_spelled body (aligned place) (aligned place) (v, after) fits e, λ s. text_read body (aligned place) (aligned place) v after s))
+    made_exactly value.Text text_at (Stands IsText) body (record { found = λ place v after e. text_spelled body (aligned place) (aligned place) (v, after) fits e; read = λ place v after s. text_read body (aligned place) (aligned place) v after s })
 item_exactly item.SomeText body fits =
-    made_exactly value.SomeText some_text_at (Stands (IsPointed IsText)) body (λ place v after. (λ e. some_text_spelled body (aligned place) (v, after) fits e, λ s. some_text_read body (aligned place) v after s))
+    made_exactly value.SomeText some_text_at (Stands (IsPointed IsText)) body (record { found = λ place v after e. some_text_spelled body (aligned place) (v, after) fits e; read = λ place v after s. some_text_read body (aligned place) v after s })
 item_exactly item.UnkeptText body fits =
-    made_exactly (λ text. value.UnkeptText) some_text_at (Stands (IsPointed IsText)) body (λ place v after. (λ e. some_text_spelled body (aligned place) (v, after) fits e, λ s. some_text_read body (aligned place) v after s))
+    made_exactly (λ text. value.UnkeptText) some_text_at (Stands (IsPointed IsText)) body (record { found = λ place v after e. some_text_spelled body (aligned place) (v, after) fits e; read = λ place v after s. some_text_read body (aligned place) v after s })
 item_exactly item.SomeNumber body fits =
-    made_exactly value.SomeNumber some_number_at (Stands (IsPointed IsNumber)) body (λ place v after. (λ e. some_number_spelled body (aligned place) (v, after) fits e, λ s. some_number_read body (aligned place) v after s))
+    made_exactly value.SomeNumber some_number_at (Stands (IsPointed IsNumber)) body (record { found = λ place v after e. some_number_spelled body (aligned place) (v, after) fits e; read = λ place v after s. some_number_read body (aligned place) v after s })
 item_exactly item.SomeBytes body fits =
-    made_exactly value.SomeBytes sized_at SizedStands body (λ place v after. (λ e. sized_found body place (v, after) fits e, λ s. sized_read body place v after s))
+    made_exactly value.SomeBytes sized_at SizedStands body (record { found = λ place v after e. sized_found body place (v, after) fits e; read = λ place v after s. sized_read body place v after s })
 item_exactly item.UnkeptBytes body fits =
-    made_exactly (λ held. value.UnkeptBytes) sized_at SizedStands body (λ place v after. (λ e. sized_found body place (v, after) fits e, λ s. sized_read body place v after s))
+    made_exactly (λ held. value.UnkeptBytes) sized_at SizedStands body (record { found = λ place v after e. sized_found body place (v, after) fits e; read = λ place v after s. sized_read body place v after s })
 item_exactly item.Bytes body fits =
-    made_exactly (λ held. value.Bytes (length held) held) bytes_at (Stands IsBytesOf) body (λ place v after. (λ e. bytes_spelled body (aligned place) (aligned place) (v, after) fits e, λ s. bytes_read body (aligned place) (aligned place) v after s))
+    made_exactly (λ held. value.Bytes (length held) held) bytes_at (Stands IsBytesOf) body (record { found = λ place v after e. bytes_spelled body (aligned place) (aligned place) (v, after) fits e; read = λ place v after s. bytes_read body (aligned place) (aligned place) v after s })
 item_exactly item.Words body fits =
-    made_exactly value.Words words_at WordsStand body (λ place v after. (λ e. words_found body place (v, after) fits e, λ s. words_read body place v after fits s))
-item_exactly item.Lock body fits = made_exactly (λ (l : ℕ × Option (List ℕ) × ℕ). value.Lock l.0 l.1 l.2) lock_at (RecordStands 3 owners lock_of) body (record_exactly 3 owners lock_of body fits)
-item_exactly item.Shown body fits = made_exactly value.Shown shown_at (RecordStands 9 shown_told shown_of) body (record_exactly 9 shown_told shown_of body fits)
+    made_exactly value.Words words_at WordsStand body (record { found = λ place v after e. words_found body place (v, after) fits e; read = λ place v after s. words_read body place v after fits s })
+item_exactly item.Lock body fits = made_exactly (λ (l : ℕ × Option (List ℕ) × ℕ). value.Lock l.0 l.1 l.2) lock_at (RecordStands 3 owners lock_of) body (recorded 3 owners lock_of body fits)
+item_exactly item.Shown body fits = made_exactly value.Shown shown_at (RecordStands 9 shown_told shown_of) body (recorded 9 shown_told shown_of body fits)
+item_exactly item.Info body fits = made_exactly value.Info info_at InfoStands body (info_exactly body fits)
 
 -- ## Shapes
 
@@ -107,25 +98,34 @@ values_found (kind ∷ kinds) body place x fits e =
     let a = bind_ok (item_at kind body place) (λ first. values_at kinds body first.1 >>= λ others. Ok (first.0 ∷ others.0, others.1)) x e in
     let b = bind_ok (values_at kinds body a.0.1) (λ others. Ok (a.0.0 ∷ others.0, others.1)) x a.2 in
     let made : List Value × ℕ = (a.0.0 ∷ b.0.0, b.0.1) in
-    subst (λ (y : List Value × ℕ). ValuesStand (kind ∷ kinds) body place y.0 y.1) (ok_is made x b.2) (a.0.1, (item_exactly kind body fits place a.0.0 a.0.1).0 a.1, values_found kinds body a.0.1 b.0 fits b.1)
+    subst (λ (y : List Value × ℕ). ValuesStand (kind ∷ kinds) body place y.0 y.1) (ok_is made x b.2) (a.0.1, (item_exactly kind body fits).found place a.0.0 a.0.1 a.1, values_found kinds body a.0.1 b.0 fits b.1)
 
 values_read : (shape : List Item) (body : List ℕ) (place : ℕ) (vs : List Value) (after : ℕ) → IsBytes body → ValuesStand shape body place vs after → values_at shape body place ≡ Ok (vs, after)
 unfolding values_at
 values_read [] body place [] after fits h = rw h refl
-values_read (kind ∷ kinds) body place (v ∷ vs) after fits h = rw ((item_exactly kind body fits place v h.0).1 h.1, values_read kinds body h.0 vs after fits h.2) refl
+values_read (kind ∷ kinds) body place (v ∷ vs) after fits h = rw ((item_exactly kind body fits).read place v h.0 h.1, values_read kinds body h.0 vs after fits h.2) refl
 values_read [] body place (v ∷ vs) after fits h = absurd h
 values_read (kind ∷ kinds) body place [] after fits h = absurd h
 
+closed_ends : (b : Bool) (body : List ℕ) (place : ℕ) → cond b (Ok tt) (finished body place) ≡ Ok tt → IsTrue b ⊎ IsEnded body place
+closed_ends true body place e = inl refl
+closed_ends false body place e = inr (finished_ended body place e)
+
+ends_closed : (b : Bool) (body : List ℕ) (place : ℕ) → IsTrue b ⊎ IsEnded body place → cond b (Ok tt) (finished body place) ≡ Ok tt
+ends_closed true body place h = refl
+ends_closed false body place (inl h) = absurd cc
+ends_closed false body place (inr h) = ended_finished body place h
+
 pub body_found : (shape : List Item) (body : List ℕ) (vs : List Value) → IsBytes body → body_values shape body ≡ Ok vs → IsBody shape body vs
-unfolding body_values
+unfolding body_values closed_at
 body_found shape body vs fits e =
-    let a = bind_ok (values_at shape body 0) (λ values. finished body values.1 >>= λ ended. Ok values.0) vs e in
-    let b = bind_ok (finished body a.0.1) (λ ended. Ok a.0.0) vs a.2 in
-    subst (IsBody shape body) (ok_is a.0.0 vs b.2) (record { behind = a.0.1; stand = values_found shape body 0 a.0 fits a.1; ends = finished_ended body a.0.1 b.1 })
+    let a = bind_ok (values_at shape body 0) (λ values. closed_at values.0 body values.1 >>= λ closed. Ok values.0) vs e in
+    let b = bind_ok (closed_at a.0.0 body a.0.1) (λ closed. Ok a.0.0) vs a.2 in
+    subst (IsBody shape body) (ok_is a.0.0 vs b.2) (record { behind = a.0.1; stand = values_found shape body 0 a.0 fits a.1; ends = closed_ends (leave_open a.0.0) body a.0.1 b.1 })
 
 pub body_read : (shape : List Item) (body : List ℕ) (vs : List Value) → IsBytes body → IsBody shape body vs → body_values shape body ≡ Ok vs
-unfolding body_values
-body_read shape body vs fits h = rw (values_read shape body 0 vs h.behind fits h.stand, ended_finished body h.behind h.ends) refl
+unfolding body_values closed_at
+body_read shape body vs fits h = rw (values_read shape body 0 vs h.behind fits h.stand, ends_closed (leave_open vs) body h.behind h.ends) refl
 
 -- ## Values of a shape are of its kinds
 
@@ -143,6 +143,7 @@ first_fits item.Bytes body place v vs after h = rw h.is refl
 first_fits item.Words body place v vs after h = rw h.is refl
 first_fits item.Lock body place v vs after h = rw h.is refl
 first_fits item.Shown body place v vs after h = rw h.is refl
+first_fits item.Info body place v vs after h = rw h.is refl
 
 values_fit : (shape : List Item) (body : List ℕ) (place : ℕ) (vs : List Value) (after : ℕ) → ValuesStand shape body place vs after → fitted shape vs ≡ vs
 values_fit [] body place [] after h = refl

@@ -1,6 +1,10 @@
 pub mod Loop
 pub mod Ranges
 pub mod Referents
+pub mod Parts
+pub mod Asked
+pub mod Failing
+pub mod Grown
 pub mod Each
 pub mod Recorded
 pub mod Argv

@@ -11,7 +11,12 @@ use Rattle.scm_shapes.specs.declared.item.Item.{Item}
 use Rattle.scm_shapes.specs.declared.item.Value.{Value}
 use Rattle.scm_shapes.specs.Each.{each_at}
 use Rattle.scm_shapes.specs.Words.{put_referents}
+use Rattle.scm_shapes.specs.Parts.{for_each_at}
 use Rattle.scm_shapes.specs.Shapes.{item_at, values_at}
+
+-- the rest of a list from an index on
+pub at_index : {A : Type 0} (xs : List A) (i : ℕ) (x : A) → i < length xs → x ≡ get_or xs i x → drop i xs ≡ x ∷ drop (i + 1) xs
+at_index {A = A} xs i x lt is = rw add-one (drop-cons xs i x lt ∙ ap (λ (y : A). y ∷ drop (suc i) xs) (sym is))
 
 -- what was read before, and what is still read
 abbrev pub with_front : {A : Type 0} → List A → Result (List A × ℕ) BodyFault → Result (List A × ℕ) BodyFault
@@ -72,6 +77,28 @@ ends item_at e front count i body place total lt h so_far =
 
 pub is_done : {A : Type 0} (item_at : List ℕ → ℕ → Result (A × ℕ) BodyFault) (front : List A) (count i : ℕ) (body : List ℕ) (place : ℕ) (total : Result (List A × ℕ) BodyFault) → count ≤ i → with_front front (each_at item_at (count - i) body place) ≡ total → total ≡ Ok (front, place)
 is_done item_at front count i body place total le so_far = step_done front (each_at item_at (count - i) body place) total place (no_more item_at count i body place le) so_far
+
+-- ## An item for each of some
+
+module _ {A B : Type 0} (read_at : A → List ℕ → ℕ → Result (B × ℕ) BodyFault) (front : List B) (xs : List A) (i : ℕ) (d : A) (body : List ℕ) (place : ℕ) (total : Result (List B × ℕ) BodyFault) where
+  for_more : i < length xs → for_each_at read_at (drop i xs) body place ≡ consed (read_at (get_or xs i d) body place) (for_each_at read_at (drop (i + 1) xs) body)
+  unfolding for_each_at
+  for_more lt = rw (add-one, drop-cons xs i d lt) refl
+
+  pub for_goes_on : (first : B) (after : ℕ) → i < length xs → read_at (get_or xs i d) body place ≡ Ok (first, after) → with_front front (for_each_at read_at (drop i xs) body place) ≡ total
+      → with_front (front ++ first ∷ []) (for_each_at read_at (drop (i + 1) xs) body after) ≡ total
+  for_goes_on first after lt h so_far = step_on front (for_each_at read_at (drop i xs) body place) total (read_at (get_or xs i d) body place) (for_each_at read_at (drop (i + 1) xs) body) first after (for_more lt) h so_far
+
+  pub for_ends : (e : BodyFault) → i < length xs → Fails e (read_at (get_or xs i d) body place) → with_front front (for_each_at read_at (drop i xs) body place) ≡ total → Fails e total
+  for_ends e lt h so_far = step_ends front (for_each_at read_at (drop i xs) body place) total (read_at (get_or xs i d) body place) (for_each_at read_at (drop (i + 1) xs) body) e (for_more lt) h so_far
+
+for_none : {A B : Type 0} (read_at : A → List ℕ → ℕ → Result (B × ℕ) BodyFault) (xs : List A) (i : ℕ) (body : List ℕ) (place : ℕ) → length xs ≤ i → for_each_at read_at (drop i xs) body place ≡ Ok ([], place)
+unfolding for_each_at
+for_none read_at xs i body place le = rw (drop_all i xs le) refl
+
+pub for_done : {A B : Type 0} (read_at : A → List ℕ → ℕ → Result (B × ℕ) BodyFault) (front : List B) (xs : List A) (i : ℕ) (body : List ℕ) (place : ℕ) (total : Result (List B × ℕ) BodyFault)
+    → length xs ≤ i → with_front front (for_each_at read_at (drop i xs) body place) ≡ total → total ≡ Ok (front, place)
+for_done read_at front xs i body place total le so_far = step_done front (for_each_at read_at (drop i xs) body place) total place (for_none read_at xs i body place le) so_far
 
 -- ## The items of a shape
 

@@ -1,15 +1,13 @@
 -- Writing pieces one behind the other, as a loop does.
-use Rattle.std.proofs.Common.{◌≡◌, ◌≤◌, ◌<◌, ◌+◌, ℕ, suc, List, ◌∷◌, length, map, get_or, drop, Option, None, refl, sym, ap, ◌∙◌, add-one, drop-cons}
+use Rattle.std.proofs.Common.{◌≡◌, ◌≤◌, ◌<◌, ◌+◌, ℕ, List, length, map, get_or, drop, Option, None, refl}
 use Rattle.std.proofs.lemmas.List.{drop_all, drop_more}
 use Rattle.ndr_body.specs.Writing.{Draft, put_text}
 use Rattle.scm_shapes.specs.declared.item.Piece.{Piece}
 use Rattle.scm_shapes.specs.Each.{put_each}
 use Rattle.scm_shapes.specs.Records.{put_mark, put_marks}
 use Rattle.scm_shapes.specs.Shapes.{value_of, put_value, put_values}
+use Rattle.scm_shapes.proofs.Loop.{at_index}
 use Rattle.scm_shapes.proofs.Widths.{grows_values, grows_each, grows_marks}
-
-at_index : {A : Type 0} (xs : List A) (i : ℕ) (x : A) → i < length xs → x ≡ get_or xs i x → drop i xs ≡ x ∷ drop (i + 1) xs
-at_index {A = A} xs i x lt is = rw add-one (drop-cons xs i x lt ∙ ap (λ (y : A). y ∷ drop (suc i) xs) (sym is))
 
 -- the pieces from an index on, one of which is put
 pub piece_more : (pieces : List Piece) (i : ℕ) (piece : Piece) (d : Draft) → i < length pieces → piece ≡ get_or pieces i piece → put_values (map value_of (drop i pieces)) d ≡ put_values (map value_of (drop (i + 1) pieces)) (put_value (value_of piece) d)

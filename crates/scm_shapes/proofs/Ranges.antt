@@ -6,8 +6,7 @@ use Rattle.ndr_body.specs.declared.fault.BodyFault.TheVariants.{BadCount}
 use Rattle.ndr_body.specs.Reading.{aligned, number_at}
 use Rattle.ndr_body.specs.Spelled.{IsNumber, Stands}
 use Rattle.ndr_body.proofs.Spelled.{IsBytes, bind_ok, ok_is, number_spelled, number_read}
-use Rattle.scm_shapes.specs.Ranges.{within_at}
-use Rattle.scm_shapes.specs.Bodies.{WithinStands}
+use Rattle.scm_shapes.specs.Ranges.{within_at, WithinStands}
 
 pub guard_true : {A : Type 0} (b : Bool) (d : BodyFault) (x y : A) → cond b (Ok x) (Err d) ≡ Ok y → (b ≡ true) × (x ≡ y)
 guard_true true d x y e = (refl, ok_is x y e)

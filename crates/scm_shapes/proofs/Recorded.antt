@@ -5,7 +5,7 @@ use Rattle.std.specs.List.{AllByRecursion}
 use Rattle.scm_model.specs.declared.calls.Shown.{Shown}
 use Rattle.ndr_body.specs.Reading.{◌>>=◌, aligned, number_at, text_at}
 use Rattle.ndr_body.specs.Writing.{Draft, put_number, put_referent}
-use Rattle.ndr_body.specs.Spelled.{IsNumber, IsText}
+use Rattle.ndr_body.specs.Spelled.{IsNumber, IsText, Stands}
 use Rattle.ndr_body.specs.Laws.{IsReferent, IsPutAs, IsSent}
 use Rattle.ndr_body.proofs.Spelled.{IsBytes, bind_ok, ok_is, number_spelled, number_read}
 use Rattle.ndr_body.proofs.SpelledTexts.{text_spelled, text_read}
@@ -19,9 +19,9 @@ use Rattle.scm_shapes.proofs.Each.{Behind, behind_both, behind_nothing, behind_n
 
 -- ## Reading
 
-texts_found : (told : Result ℕ ℕ) (start : ℕ) (body : List ℕ) (place : ℕ) (x : List (List ℕ) × ℕ) → IsBytes body → texts_at told start body place ≡ Ok x → EachStands IsText body place x.0 x.1 × (told ≡ Ok (length x.0))
+texts_found : (told : Result ℕ ℕ) (start : ℕ) (body : List ℕ) (place : ℕ) (x : List (List ℕ) × ℕ) → IsBytes body → texts_at told start body place ≡ Ok x → EachStands (Stands IsText) body place x.0 x.1 × (told ≡ Ok (length x.0))
 texts_found (Ok count) start body place x fits e =
-    let t = each_found text_at IsText body count place x (λ at y. text_spelled body (aligned at) (aligned at) y fits) e in
+    let t = each_found text_at (Stands IsText) body count place x (λ at y. text_spelled body (aligned at) (aligned at) y fits) e in
     (t.0, rw t.1 refl)
 texts_found (Err far) start body place x fits e = absurd cc
 
@@ -31,7 +31,7 @@ module _ {A : Type 0} (count : ℕ) (told : List ℕ → Result ℕ ℕ) (make :
   record_found place x fits e =
       let a = bind_ok (each_at number_at count body place) (λ numbers. texts_at (told numbers.0) place body numbers.1 >>= λ texts. Ok (make numbers.0 texts.0, texts.1)) x e in
       let b = bind_ok (texts_at (told a.0.0) place body a.0.1) (λ texts. Ok (make a.0.0 texts.0, texts.1)) x a.2 in
-      let n = each_found number_at IsNumber body count place a.0 (λ at y. number_spelled body (aligned at) (aligned at) y fits) a.1 in
+      let n = each_found number_at (Stands IsNumber) body count place a.0 (λ at y. number_spelled body (aligned at) (aligned at) y fits) a.1 in
       let t = texts_found (told a.0.0) place body a.0.1 b.0 fits b.1 in
       let pair : A × ℕ = (make a.0.0 b.0.0, b.0.1) in
       let found : RecordStands count told make body place pair.0 pair.1 = record {
@@ -50,8 +50,8 @@ module _ {A : Type 0} (count : ℕ) (told : List ℕ → Result ℕ ℕ) (make :
   unfolding record_at
   record_read place value after h =
       let numbers : each_at number_at count body place ≡ Ok (h.numbers, h.behind) =
-      subst (λ (n : ℕ). each_at number_at n body place ≡ Ok (h.numbers, h.behind)) h.counted (each_read number_at IsNumber body h.numbers place h.behind (λ at y end s. number_read body (aligned at) (aligned at) y end s) h.numbers_stand) in
-      let texts = each_read text_at IsText body h.texts h.behind after (λ at y end s. text_read body (aligned at) (aligned at) y end s) h.texts_stand in
+      subst (λ (n : ℕ). each_at number_at n body place ≡ Ok (h.numbers, h.behind)) h.counted (each_read number_at (Stands IsNumber) body h.numbers place h.behind (λ at y end s. number_read body (aligned at) (aligned at) y end s) h.numbers_stand) in
+      let texts = each_read text_at (Stands IsText) body h.texts h.behind after (λ at y end s. text_read body (aligned at) (aligned at) y end s) h.texts_stand in
       rw (numbers, h.told_of, texts, h.is) refl
 
   pub record_exactly : IsBytes body → (place : ℕ) (value : A) (after : ℕ) → (record_at count told make body place ≡ Ok (value, after)) ↔ RecordStands count told make body place value after
@@ -112,7 +112,7 @@ record_put told make marks texts value small sent tells makes = record {
 
 -- ## What is read can be written
 
-each_small : (bytes : List ℕ) (place : ℕ) (ns : List ℕ) (after : ℕ) → EachStands IsNumber bytes place ns after → AllByRecursion (λ n. n < 2 ^ 32) ns
+each_small : (bytes : List ℕ) (place : ℕ) (ns : List ℕ) (after : ℕ) → EachStands (Stands IsNumber) bytes place ns after → AllByRecursion (λ n. n < 2 ^ 32) ns
 each_small bytes place [] after h = tt
 each_small bytes place (n ∷ ns) after h = (h.1.is.small, each_small bytes h.0 ns after h.2)
 

@@ -12,6 +12,7 @@ use Rattle.scm_shapes.specs.Each.{put_each}
 use Rattle.scm_shapes.specs.Words.{put_referents, put_list, put_words}
 use Rattle.scm_shapes.specs.Records.{put_mark, put_marks, put_record, shown_texts}
 use Rattle.scm_shapes.specs.Shapes.{put_value, put_values, body_bytes}
+use Rattle.scm_shapes.proofs.Grown.{length_info}
 use Rattle.scm_shapes.specs.Widths.{text_width, end_of, record_width, width_of}
 
 length_sized : (held : Option (List ℕ)) (d : Draft) → length (put_sized held d).bytes ≡ aligned (length d.bytes) + width_of (value.SomeBytes held)
@@ -74,6 +75,7 @@ length_value (value.SomeBytes held) d = length_sized held d
 length_value value.UnkeptBytes d = length_sized None d
 length_value (value.Bytes size held) d = length_put_bytes (take size held) size d (omega (arith, length-take size held))
 length_value (value.Words words) d = length_words words d
+length_value (value.Info asked) d = length_info asked d
 length_value (value.Lock held None seconds) d = length_record (Some held) (Some 0 ∷ Some seconds ∷ []) [] d
 length_value (value.Lock held (Some owner) seconds) d = length_record (Some held) (None ∷ Some seconds ∷ []) (owner ∷ []) d
 length_value (value.Shown None) d = length_record (Some 0) (Some 0 ∷ Some 0 ∷ Some 0 ∷ Some 0 ∷ Some 0 ∷ Some 0 ∷ Some 0 ∷ Some 0 ∷ []) [] d

@@ -1,20 +1,19 @@
 -- Which bytes are a body of a shape: a relation on whole bodies. Padding holds anything, a nonzero referent is any,
--- and at most three bytes follow.
-use Rattle.std.specs.Prelude.{◌≡◌, ◌<◌, ◌≤◌, ◌⊎◌, ℕ, List, [], ◌∷◌, length, Option, None, Some, Ok}
+-- and at most three bytes follow, or any that a level that isn't served leaves open.
+use Rattle.std.specs.Prelude.{◌≡◌, ◌<◌, ◌≤◌, ◌⊎◌, ℕ, List, [], ◌∷◌, length, IsTrue, Option, None, Some, Ok}
 use Rattle.ndr_body.specs.Spelled.{IsNumber, IsHandle, IsText, IsBytesOf, IsPointed, IsEnded, Stands}
 use Rattle.scm_shapes.specs.declared.item.Item.{Item}
 use Rattle.scm_shapes.specs.declared.item.Item.TheVariants as item
 use Rattle.scm_shapes.specs.declared.item.Value.{Value}
 use Rattle.scm_shapes.specs.declared.item.Value.TheVariants as value
 use Rattle.scm_shapes.specs.Words.{pointing, words_of, unlisted}
+use Rattle.scm_shapes.specs.Ranges.{WithinStands}
 use Rattle.scm_shapes.specs.Records.{RecordStands, owners, lock_of, shown_told, shown_of}
+use Rattle.scm_shapes.specs.Parts.{Holds}
+use Rattle.scm_shapes.specs.Levels.{InfoStands}
+use Rattle.scm_shapes.specs.Shapes.{leave_open}
 
--- ## Numbers in a range, bytes with their size, and words
-
--- a number of at most so much
-pub record WithinStands (most : ℕ) (bytes : List ℕ) (place n after : ℕ) : Type 0 where
-  pub stands : Stands IsNumber bytes place n after
-  pub in_range : n ≤ most
+-- ## Bytes with their size, and words
 
 -- a size that stands behind bytes is theirs, and anything where there are none
 abbrev pub IsSize : Option (List ℕ) → ℕ → Type 0
@@ -54,12 +53,6 @@ pub record WordsStand (bytes : List ℕ) (place : ℕ) (words : Option (List (Li
 
 -- ## Shapes
 
--- a value made of what stands there
-pub record Holds {A : Type 0} (make : A → Value) (There : List ℕ → ℕ → A → ℕ → Type 0) (bytes : List ℕ) (place : ℕ) (v : Value) (after : ℕ) : Type 0 where
-  pub content : A
-  pub is : v ≡ make content
-  pub there : There bytes place content after
-
 -- an item of this kind stands at a place, and holds the value
 abbrev pub ItemStands : Item → List ℕ → ℕ → Value → ℕ → Type 0
 ItemStands item.Handle = Holds value.Handle (Stands IsHandle)
@@ -75,6 +68,7 @@ ItemStands item.Bytes = Holds (λ held. value.Bytes (length held) held) (Stands 
 ItemStands item.Words = Holds value.Words WordsStand
 ItemStands item.Lock = Holds (λ l. value.Lock l.0 l.1 l.2) (RecordStands 3 owners lock_of)
 ItemStands item.Shown = Holds value.Shown (RecordStands 9 shown_told shown_of)
+ItemStands item.Info = Holds value.Info InfoStands
 
 -- items of these kinds stand one behind the other
 abbrev pub ValuesStand : List Item → List ℕ → ℕ → List Value → ℕ → Type 0
@@ -83,8 +77,8 @@ ValuesStand (kind ∷ kinds) bytes place (v ∷ vs) after = (behind : ℕ) × It
 ValuesStand [] bytes place (v ∷ vs) after = ⊥
 ValuesStand (kind ∷ kinds) bytes place [] after = ⊥
 
--- bytes are a body of this shape, and hold the values
+-- bytes are a body of this shape, and hold the values; any bytes may follow where these leave it open
 pub record IsBody (shape : List Item) (bytes : List ℕ) (values : List Value) : Type 0 where
   pub behind : ℕ
   pub stand : ValuesStand shape bytes 0 values behind
-  pub ends : IsEnded bytes behind
+  pub ends : IsTrue (leave_open values) ⊎ IsEnded bytes behind

@@ -1,14 +1,18 @@
 -- Items of one kind, one behind the other.
-use Rattle.std.specs.Prelude.{◌≡◌, ℕ, suc, zero, List, [], ◌∷◌, Result, Ok}
+use Rattle.std.specs.Prelude.{◌≡◌, ℕ, suc, zero, List, [], ◌∷◌, length, Result, Ok}
 use Rattle.ndr_body.specs.declared.fault.BodyFault.{BodyFault}
 use Rattle.ndr_body.specs.Reading.{◌>>=◌}
 use Rattle.ndr_body.specs.Writing.{Draft, put_text}
-use Rattle.ndr_body.specs.Spelled.{Stands}
 
 -- items stand one behind the other
-abbrev pub EachStands : {A : Type 0} → (List ℕ → A → Type 0) → List ℕ → ℕ → List A → ℕ → Type 0
-EachStands Is bytes place [] after = after ≡ place
-EachStands Is bytes place (value ∷ values) after = (behind : ℕ) × Stands Is bytes place value behind × EachStands Is bytes behind values after
+abbrev pub EachStands : {A : Type 0} → (List ℕ → ℕ → A → ℕ → Type 0) → List ℕ → ℕ → List A → ℕ → Type 0
+EachStands There bytes place [] after = after ≡ place
+EachStands There bytes place (value ∷ values) after = (behind : ℕ) × There bytes place value behind × EachStands There bytes behind values after
+
+-- so many do
+pub record CountedStand {A : Type 0} (count : ℕ) (There : List ℕ → ℕ → A → ℕ → Type 0) (bytes : List ℕ) (place : ℕ) (values : List A) (after : ℕ) : Type 0 where
+  pub counted : length values ≡ count
+  pub stand : EachStands There bytes place values after
 
 -- so many are read
 unfoldable pub each_at : {A : Type 0} → (List ℕ → ℕ → Result (A × ℕ) BodyFault) → ℕ → List ℕ → ℕ → Result (List A × ℕ) BodyFault

@@ -1,9 +1,12 @@
 -- Which values have a body of a shape, and what is read of the one that is written.
-use Rattle.std.specs.Prelude.{◌<◌, ◌≤◌, ◌^◌, ℕ, List, [], ◌∷◌, length, take, Some, IfSome}
+use Rattle.std.specs.Prelude.{◌<◌, ◌≤◌, ◌^◌, ℕ, List, [], ◌∷◌, length, take, IsTrue, Some, IfSome}
 use Rattle.std.specs.List.{AllByRecursion}
+use Rattle.scm_model.specs.declared.calls.Info.{Info}
 use Rattle.scm_model.specs.declared.calls.Shown.{Shown}
+use Rattle.scm_model.specs.Ranges.{info_in_range}
 use Rattle.ndr_body.specs.Laws.{IsSent, filled}
 use Rattle.scm_shapes.specs.Records.{shown_texts}
+use Rattle.scm_shapes.specs.Levels.{IsInfoSent}
 use Rattle.scm_shapes.specs.declared.item.Item.{Item}
 use Rattle.scm_shapes.specs.declared.item.Item.TheVariants as item
 use Rattle.scm_shapes.specs.declared.item.Value.{Value}
@@ -27,6 +30,11 @@ pub record IsShown (shown : Shown) : Type 0 where
   pub tag : shown.tag < 2 ^ 32
   pub texts : AllByRecursion IsSent (shown_texts (Some shown))
 
+-- what is asked at a level, with its counts in their ranges
+pub record IsInfo (asked : Info) : Type 0 where
+  pub in_range : IsTrue (info_in_range asked)
+  pub sent : IsInfoSent asked
+
 -- a value that an item of this kind can hold
 abbrev pub CanHold : Item → Value → Type 0
 CanHold item.Handle (value.Handle n) = n < 2 ^ 64
@@ -42,6 +50,7 @@ CanHold item.Bytes (value.Bytes size held) = size < 2 ^ 32
 CanHold item.Words (value.Words words) = IfSome words AreSent
 CanHold item.Lock (value.Lock held owner seconds) = (held < 2 ^ 32) × (IfSome owner IsSent × (seconds < 2 ^ 32))
 CanHold item.Shown (value.Shown shown) = IfSome shown IsShown
+CanHold item.Info (value.Info asked) = IsInfo asked
 CanHold _ _ = ⊥
 
 -- values that a body of this shape can hold
@@ -70,3 +79,4 @@ IsCarried (value.Bytes size held) = size < 2 ^ 32
 IsCarried (value.Words words) = IfSome words (λ words. AllByRecursion IsSent words)
 IsCarried (value.Lock held owner seconds) = (held < 2 ^ 32) × (IfSome owner IsSent × (seconds < 2 ^ 32))
 IsCarried (value.Shown shown) = IfSome shown IsShown
+IsCarried (value.Info asked) = IsInfoSent asked

@@ -2,6 +2,8 @@ pub mod Each
 pub mod Records
 pub mod Words
 pub mod Ranges
+pub mod Parts
+pub mod Levels
 pub mod Sized
 pub mod Shapes
 pub mod Plain

@@ -5,7 +5,7 @@ use Rattle.ndr_body.specs.declared.fault.BodyFault.{BodyFault}
 use Rattle.ndr_body.specs.declared.fault.BodyFault.TheVariants.{BadCount}
 use Rattle.ndr_body.specs.Reading.{◌>>=◌, aligned, number_at, text_at}
 use Rattle.ndr_body.specs.Writing.{Draft, put_number, put_referent}
-use Rattle.ndr_body.specs.Spelled.{IsNumber, IsText}
+use Rattle.ndr_body.specs.Spelled.{IsNumber, IsText, Stands}
 use Rattle.scm_shapes.specs.declared.records.Heads.{Heads}
 use Rattle.scm_shapes.specs.Each.{each_at, put_each, EachStands}
 
@@ -27,10 +27,10 @@ pub record RecordStands {A : Type 0} (count : ℕ) (told : List ℕ → Result �
   pub numbers : List ℕ
   pub counted : length numbers ≡ count
   pub behind : ℕ
-  pub numbers_stand : EachStands IsNumber bytes place numbers behind
+  pub numbers_stand : EachStands (Stands IsNumber) bytes place numbers behind
   pub texts : List (List ℕ)
   pub told_of : told numbers ≡ Ok (length texts)
-  pub texts_stand : EachStands IsText bytes behind texts after
+  pub texts_stand : EachStands (Stands IsText) bytes behind texts after
   pub is : value ≡ make numbers texts
 
 -- ## Writing

@@ -1,5 +1,8 @@
 -- Bodies by their shapes: how a body is read, and the one form that is written.
-use Rattle.std.specs.Prelude.{ℕ, zero, suc, List, [], ◌∷◌, length, take, Option, None, Result, Ok}
+use Rattle.std.specs.Prelude.{ℕ, zero, suc, Bool, true, false, List, [], ◌∷◌, length, take, Option, None, Result, Ok, if◌then◌else◌}
+use Rattle.std.specs.List.{list_any}
+use Rattle.scm_model.specs.declared.calls.Info.{Info}
+use Rattle.scm_model.specs.declared.calls.Info.TheVariants as info
 use Rattle.scm_model.specs.declared.calls.Shown.{Shown}
 use Rattle.ndr_body.specs.declared.fault.BodyFault.{BodyFault}
 use Rattle.ndr_body.specs.Reading.{◌>>=◌, number_at, handle_at, text_at, some_text_at, some_number_at, bytes_at, finished}
@@ -14,12 +17,10 @@ use Rattle.scm_shapes.specs.Ranges.{within_at}
 use Rattle.scm_shapes.specs.Sized.{sized_at, put_sized}
 use Rattle.scm_shapes.specs.Words.{words_at, put_words}
 use Rattle.scm_shapes.specs.Records.{lock_at, lock_marks, lock_texts, shown_at, shown_marks, shown_texts, put_record}
+use Rattle.scm_shapes.specs.Parts.{made}
+use Rattle.scm_shapes.specs.Levels.{info_at, put_info}
 
 -- ## Reading
-
--- a value made of what is read
-abbrev pub made : {A : Type 0} → (A → Value) → Result (A × ℕ) BodyFault → Result (Value × ℕ) BodyFault
-made make read = read >>= λ x. Ok (make x.0, x.1)
 
 unfoldable pub item_at : Item → List ℕ → ℕ → Result (Value × ℕ) BodyFault
 item_at item.Handle body place = made value.Handle (handle_at body place)
@@ -35,6 +36,7 @@ item_at item.Bytes body place = made (λ held. value.Bytes (length held) held) (
 item_at item.Words body place = made value.Words (words_at body place)
 item_at item.Lock body place = made (λ l. value.Lock l.0 l.1 l.2) (lock_at body place)
 item_at item.Shown body place = made value.Shown (shown_at body place)
+item_at item.Info body place = made value.Info (info_at body place)
 
 -- the items of a shape, one behind the other
 unfoldable pub values_at : List Item → List ℕ → ℕ → Result (List Value × ℕ) BodyFault
@@ -44,11 +46,22 @@ values_at (kind ∷ kinds) body place = do
   others ← values_at kinds body first.1
   Ok (first.0 ∷ others.0, others.1)
 
+-- any bytes may stand behind a level that isn't served
+abbrev pub leaves_open : Value → Bool
+leaves_open (value.Info (info.Other level)) = true
+leaves_open _ = false
+
+abbrev pub leave_open : List Value → Bool
+leave_open vs = list_any leaves_open vs
+
+unfoldable pub closed_at : List Value → List ℕ → ℕ → Result (Unit {0}) BodyFault
+closed_at vs body place = if leave_open vs then Ok tt else finished body place
+
 -- a whole body of a shape, or the first fault
 unfoldable pub body_values : List Item → List ℕ → Result (List Value) BodyFault
 body_values shape body = do
   values ← values_at shape body 0
-  ended ← finished body values.1
+  closed ← closed_at values.0 body values.1
   Ok values.0
 
 -- ## Taking values
@@ -107,6 +120,10 @@ abbrev pub first_shown : List Value → Option Shown
 first_shown (value.Shown shown ∷ vs) = shown
 first_shown _ = None
 
+abbrev pub first_info : List Value → Info
+first_info (value.Info asked ∷ vs) = asked
+first_info _ = info.Other 0
+
 -- the first value as one of a kind
 abbrev pub first_as : Item → List Value → Value
 first_as item.Handle vs = value.Handle (first_handle vs)
@@ -122,6 +139,7 @@ first_as item.Bytes vs = value.Bytes (first_size vs) (first_bytes vs)
 first_as item.Words vs = value.Words (first_words vs)
 first_as item.Lock vs = value.Lock (first_lock vs).0 (first_lock vs).1 (first_lock vs).2
 first_as item.Shown vs = value.Shown (first_shown vs)
+first_as item.Info vs = value.Info (first_info vs)
 
 -- values as those of a shape
 abbrev pub fitted : List Item → List Value → List Value
@@ -143,6 +161,7 @@ put_value (value.Bytes size held) d = put_bytes (take size held) size d
 put_value (value.Words words) d = put_words words d
 put_value (value.Lock held owner seconds) d = put_record (lock_marks held owner seconds) (lock_texts owner) d
 put_value (value.Shown shown) d = put_record (shown_marks shown) (shown_texts shown) d
+put_value (value.Info asked) d = put_info asked d
 
 unfoldable pub put_values : List Value → Draft → Draft
 put_values [] d = d
@@ -165,3 +184,4 @@ value_of (piece.Bytes size held) = value.Bytes size held.now
 value_of (piece.Words words) = value.Words words.now
 value_of (piece.Lock held owner seconds) = value.Lock held owner.now seconds
 value_of (piece.Shown shown) = value.Shown shown.now
+value_of (piece.Info asked) = value.Info asked.now

@@ -1,6 +1,8 @@
 -- How many bytes the body of some values has.
 use Rattle.std.specs.Prelude.{ℕ, ◌+◌, ◌*◌, List, [], ◌∷◌, length, map, Option, Some, None}
 use Rattle.ndr_body.specs.Reading.{aligned}
+use Rattle.ndr_body.specs.Writing.{blank}
+use Rattle.scm_shapes.specs.Levels.{put_info}
 use Rattle.scm_shapes.specs.Records.{lock_marks, lock_texts, shown_marks, shown_texts}
 use Rattle.scm_shapes.specs.declared.item.Value.{Value}
 use Rattle.scm_shapes.specs.declared.item.Value.TheVariants as value
@@ -34,6 +36,7 @@ width_of value.UnkeptBytes = 8
 width_of (value.Bytes size held) = 4 + size
 width_of (value.Lock held owner seconds) = record_width (lock_marks held owner seconds) (lock_texts owner)
 width_of (value.Shown shown) = record_width (shown_marks shown) (shown_texts shown)
+width_of (value.Info asked) = length (put_info asked blank).bytes
 width_of (value.Words None) = 8
 width_of (value.Words (Some [])) = 8
 width_of (value.Words (Some (word ∷ words))) = end_of (map text_width (word ∷ words)) (12 + 4 * length (word ∷ words))

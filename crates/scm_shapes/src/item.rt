@@ -1,5 +1,5 @@
 use super::apart::Apart;
-use scm_model::Shown;
+use scm_model::{Info, Shown};
 use scm_text::{Items, WText};
 
 /// A kind of item in a body.
@@ -31,6 +31,8 @@ pub enum Item {
     Lock,
     /// A configuration: nine numbers, five of which point to texts, and these texts. Nine times 0 for none.
     Shown,
+    /// What is asked to be changed at one level: the level twice, and a pointer to it.
+    Info,
 }
 
 /// What an item holds. Nothing is known of an item that isn't kept.
@@ -51,6 +53,7 @@ pub enum Value {
     /// Whether it is held, by whom, and for how many seconds.
     Lock(u32, Option<WText>, u32),
     Shown(Apart),
+    Info(Info),
 }
 
 /// A value to write, which is held elsewhere.
@@ -69,4 +72,5 @@ pub enum Piece<'a> {
     Words(&'a Option<Items<WText>>),
     Lock(u32, &'a Option<WText>, u32),
     Shown(&'a Option<Shown>),
+    Info(&'a Info),
 }

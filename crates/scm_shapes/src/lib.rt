@@ -3,6 +3,8 @@
 
 mod apart;
 mod item;
+mod levels;
+mod levels_written;
 mod places;
 mod reading;
 mod records;

@@ -2,13 +2,14 @@ ghost use Rattle.std.specs.Prelude.{◌≡◌, ◌==◌, List, [], Ok, IfOk};
 ghost use Rattle.ndr_body.specs.Reading.{FindsMemory, Gives};
 ghost use Rattle.scm_shapes.specs.Sized.{is_size, sized_at};
 ghost use Rattle.scm_shapes.specs.declared.item.Value.{Value as AValue};
-ghost use Rattle.scm_shapes.specs.Shapes.{item_at, values_at, body_values};
+ghost use Rattle.scm_shapes.specs.Shapes.{item_at, values_at, closed_at, body_values};
 ghost use Rattle.scm_shapes.specs.Plain.{IsPlain, ArePlain};
 ghost use Rattle.scm_shapes.specs.Bodies.{IsBody};
 ghost use Rattle.scm_shapes.specs.Laws.{CanHoldAll};
 
 use crate::apart::Apart;
 use crate::item::{Item, Value};
+use crate::levels::read_info;
 use crate::places::{next_place, read_within};
 use crate::records::{read_lock, read_shown};
 use crate::values::Values;
@@ -78,6 +79,7 @@ fn read_item(reader: &mut NdrReader, alloc: Global, item: Item) -> Result<Value,
             let shown = read_shown(reader, alloc)?;
             Ok(Value::Shown(Apart::new(alloc, shown)?))
         }
+        Item::Info => Ok(Value::Info(read_info(reader, alloc)?)),
     }
 }
 
@@ -100,6 +102,19 @@ fn read_values(
     Ok(())
 }
 
+/// Ends a body, unless the values leave it open.
+#[tactic(auto, unfolding(crate::specs::Shapes::closed_at))]
+fn close(reader: &NdrReader, values: &Values) -> Result<(), BodyFault>
+    ensures value { Gives (λ done. done) result (closed_at values.now reader.now.body reader.now.place) }
+    ensures memory { FindsMemory result }
+{
+    if values.leave_open() {
+        Ok(())
+    } else {
+        reader.finish()
+    }
+}
+
 #[tactic(auto, unfolding(crate::specs::Shapes::body_values))]
 fn values_of(alloc: Global, shape: &[Item], body: &[u8]) -> Result<Values, BodyFault>
     ensures values { Gives (λ v. v) result (body_values shape.now body.now) }
@@ -108,7 +123,7 @@ fn values_of(alloc: Global, shape: &[Item], body: &[u8]) -> Result<Values, BodyF
     let mut reader = NdrReader::new(body);
     let mut values = Values::new(alloc);
     read_values(&mut reader, alloc, shape, &mut values)?;
-    reader.finish()?;
+    close(&reader, &values)?;
     Ok(values)
 }
 

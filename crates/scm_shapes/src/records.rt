@@ -1,7 +1,7 @@
 ghost use Rattle.std.specs.Prelude.{◌≡◌, ◌≤◌, [], ◌∷◌, Some, IsOk, OnOk, length};
 ghost use Rattle.ndr_body.specs.Reading.{Gives, number_at};
 ghost use Rattle.scm_shapes.specs.declared.item.Value.TheVariants as value;
-ghost use Rattle.scm_shapes.specs.Shapes.{made};
+ghost use Rattle.scm_shapes.specs.Parts.{made};
 ghost use Rattle.scm_shapes.specs.Each.{each_at, put_each};
 ghost use Rattle.scm_shapes.specs.Records.{lock_at, lock_marks, lock_texts, begins_blank, is_blank, is_pointed, left_over, missing, misfit, numbers_in, shown_texts_at, shown_at, shown_marks, shown_texts, put_mark, put_marks, put_record};
 

@@ -1,8 +1,8 @@
 ghost use Rattle.std.specs.Prelude.{◌≡◌, ◌++◌, ◌∷◌, ◌<◌, ◌≤◌, [], length, IfOk, IsOk, MatchOption, OnOk, OnErr, option_to_list};
-ghost use Rattle.scm_shapes.specs.Shapes.{rest, first_handle, first_number, first_text, first_some_text, first_some_number, first_some_bytes, first_size, first_bytes, first_words, first_lock, first_shown};
+ghost use Rattle.scm_shapes.specs.Shapes.{rest, first_handle, first_number, first_text, first_some_text, first_some_number, first_some_bytes, first_size, first_bytes, first_words, first_lock, first_shown, first_info, leaves_open, leave_open};
 
 use crate::item::Value;
-use scm_model::Shown;
+use scm_model::{Info, Shown};
 use scm_text::{Items, OutOfMemory, WText};
 use smallvec::SmallVec;
 use std::alloc::Global;
@@ -57,6 +57,13 @@ fn first_some_number(values: &[Value]) -> Option<u32>
     }
 }
 
+/// Whether a value leaves open what stands behind the body.
+fn leaves_open(value: &Value) -> bool
+    ensures { result ≡ leaves_open value.now }
+{
+    matches!(value, Value::Info(Info::Other(_)))
+}
+
 /// Lets a value go that isn't of the kind that is asked for, or that there is no memory for.
 fn let_go(_value: Option<Value>) {}
 
@@ -83,6 +90,13 @@ impl Values {
                 Err(OutOfMemory)
             }
         }
+    }
+
+    /// Whether any bytes may stand behind the body of these.
+    pub(crate) fn leave_open(&self) -> bool
+        ensures { result ≡ leave_open self.now }
+    {
+        self.queue.as_slice().iter().any(leaves_open)
     }
 
     /// Takes the first value, if there is one.
@@ -221,6 +235,20 @@ impl Values {
             other => {
                 let_go(other);
                 None
+            }
+        }
+    }
+
+    /// What is asked at a level.
+    pub fn info(&mut self) -> Info
+        ensures value { result ≡ first_info self.old }
+        ensures rest { self.new ≡ rest self.old }
+    {
+        match self.take() {
+            Some(Value::Info(asked)) => asked,
+            other => {
+                let_go(other);
+                Info::Other(0)
             }
         }
     }

@@ -6,6 +6,7 @@ ghost use Rattle.scm_shapes.specs.Laws.{CanHoldAll, as_read};
 ghost use Rattle.scm_shapes.specs.Shapes.{body_values, value_of, put_value, put_values, body_bytes};
 
 use crate::item::Piece;
+use crate::levels_written::put_info;
 use crate::records::{put_lock, put_shown};
 use crate::words::put_words;
 use ndr_body::NdrWriter;
@@ -53,6 +54,7 @@ fn put_piece(writer: &mut NdrWriter, piece: Piece) -> Result<(), OutOfMemory>
         Piece::Words(words) => put_words(writer, words),
         Piece::Lock(held, owner, seconds) => put_lock(writer, held, owner, seconds),
         Piece::Shown(shown) => put_shown(writer, shown),
+        Piece::Info(asked) => put_info(writer, asked),
     }
 }
 
