@@ -125,6 +125,8 @@ held_ranged (request.QueryConfig handle size) h = le-leb size MAX_CONFIG_SIZE h.
 held_ranged (request.EnumDependents handle states size) h = le-leb size MAX_ENUM_SIZE h.1.1.0.in_range
 held_ranged (request.EnumServices handle kinds states size resume) h = le-leb size MAX_ENUM_SIZE h.1.1.1.0.in_range
 held_ranged (request.QueryStatusEx handle level size) h = le-leb size MAX_CONFIG_SIZE h.1.1.0.in_range
+held_ranged (request.Change2 handle asked) h = h.1.0.in_range
+held_ranged (request.QueryConfig2 handle level size) h = le-leb size MAX_CONFIG_SIZE h.1.1.0.in_range
 held_ranged (request.Start handle words) h = few words h.1.0
 held_ranged _ h = refl
 
@@ -139,6 +141,8 @@ ranged_held (request.QueryConfig handle size) range h = (h.0, (record { in_range
 ranged_held (request.EnumDependents handle states size) range h = (h.0, (h.1.0, (record { in_range = leb-true size MAX_ENUM_SIZE range; small = h.1.1.0 }, tt)))
 ranged_held (request.EnumServices handle kinds states size resume) range h = (h.0, (h.1.0, (h.1.1.0, (record { in_range = leb-true size MAX_ENUM_SIZE range; small = h.1.1.1.0 }, h.1.1.1.1))))
 ranged_held (request.QueryStatusEx handle level size) range h = (h.0, (h.1.0, (record { in_range = leb-true size MAX_CONFIG_SIZE range; small = h.1.1.0 }, tt)))
+ranged_held (request.Change2 handle asked) range h = (h.0, (record { in_range = range; sent = h.1.0 }, tt))
+ranged_held (request.QueryConfig2 handle level size) range h = (h.0, (h.1.0, (record { in_range = leb-true size MAX_CONFIG_SIZE range; small = h.1.1.0 }, tt)))
 ranged_held (request.Start handle words) range h = (h.0, (words_held words range h.1.0, tt))
 ranged_held _ range h = h
 
