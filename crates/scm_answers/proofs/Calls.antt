@@ -26,6 +26,7 @@ use Rattle.scm_bodies.specs.Replies.{Answers}
 use Rattle.scm_rules.specs.Locks.{principal_name, owner_of}
 use Rattle.scm_rules.specs.OtherName.{display_in, name_in, name_or_empty}
 use Rattle.scm_rules.specs.QueryConfig.{query_config_refusals, query_config_verdict, shown_by, size_in}
+use Rattle.scm_rules.specs.QueryConfig2.{level_by, level_size, query_config2_refusals, query_config2_verdict}
 use Rattle.service_listing.specs.Layout.{listing_bytes, listing_size, process_status_bytes}
 use Rattle.service_listing.specs.Pages.{page_in}
 use Rattle.service_listing.proofs.Lengths.{length_listing, length_status, page_fits}
@@ -57,6 +58,7 @@ listing_fits size rows le = bytes_of size (listing_size rows) (listing_bytes row
 pub of_refused : (asked : Request) (code : ℕ) → Answers asked (refused asked code)
 of_refused (request.EnumDependents handle states size) code = (refl, no_bytes size)
 of_refused (request.EnumServices handle kinds states size resume) code = (refl, no_bytes size)
+of_refused (request.QueryConfig2 handle level size) code = (refl, no_bytes size)
 of_refused (request.QueryStatusEx handle level size) code = (refl, no_bytes size)
 of_refused (request.DisplayName handle name size) code = (refl, omega arith)
 of_refused (request.KeyName handle name size) code = (refl, omega arith)
@@ -74,6 +76,7 @@ of_told f caller (request.KeyName handle name size) code = (refl, omega arith)
 of_told f caller (request.EnumDependents handle states size) code = (refl, no_bytes size)
 of_told f caller (request.EnumServices handle kinds states size resume) code =
     page_told handle kinds states size resume (services_asked f kinds states resume) code (code == ERROR_MORE_DATA)
+of_told f caller (request.QueryConfig2 handle level size) code = (refl, no_bytes size)
 of_told f caller (request.QueryStatusEx handle level size) code = (refl, no_bytes size)
 of_told f caller asked code = (refl, tt)
 
@@ -88,6 +91,13 @@ shown_fits : (f : Flat) (caller handle size : ℕ) → size ≤ 8192 → query_c
 shown_fits f caller handle size most e =
     let p = all_pass (query_config_refusals f caller handle size) (refl, (refl, (refl, tt))) e in
     fits (shown_by f caller handle) size most (ltb-false size (size_in (shown_by f caller handle)) p.1.1.0)
+
+-- so is a level of a configuration
+level_fits : (f : Flat) (caller handle level size : ℕ) → size ≤ 8192 → query_config2_verdict f caller handle level size ≡ 0 → IsWhole size size (level_by f caller handle level)
+level_fits f caller handle level size most e =
+    let p = all_pass (query_config2_refusals f caller handle level size) (refl, (refl, (refl, (refl, tt)))) e in
+    let le = ltb-false size (level_size f caller handle level) p.1.1.1.0 in
+    record { is = refl; whole = omega (arith, most, le) }
 
 -- so are services, and a status with its process
 dependents_fit : (f : Flat) (caller handle states size : ℕ) → enum_dependents_verdict f caller handle states size ≡ 0 → listing_size (dependents_by f caller handle states) ≤ size
@@ -145,6 +155,7 @@ short_found f (Some number) told = found_has HasShortName (λ (row : Registratio
 
 of_done : (l : Limits) (f : Flat) (caller : ℕ) (asked : Request) (append : Kept) → AllShort f → All HasShortName f.registrations → IsTrue (in_range asked) → verdict l f caller asked append ≡ 0 → Answers asked (done_of l f caller asked).reply
 of_done l f caller (request.QueryConfig handle size) append short told range e = (refl, shown_fits f caller handle size (leb-true size 8192 range) e)
+of_done l f caller (request.QueryConfig2 handle level size) append short told range e = (refl, level_fits f caller handle level size (leb-true size 8192 range) e)
 of_done l f caller (request.QueryLock handle size) append short told range e = (refl, short_owner f f.lock)
 of_done l f caller (request.DisplayName handle name size) append short told range e =
     (refl, short_display (named f name) (found_has (λ (row : Service). AreShort row.config) (λ (row : Service). same_text row.config.name name) f.services short))
