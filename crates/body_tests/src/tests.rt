@@ -1,9 +1,10 @@
-use crate::rows::{Asked, NO_REPLIES, NO_REQUESTS, REPLIES, REQUESTS, Told};
+use crate::rows::{Asked, NO_REPLIES, NO_REQUESTS, OTHER_FORMS, REPLIES, REQUESTS, Told};
 use crate::words::{reply, request};
 use ndr_body::BodyFault;
 use scm_bodies::{
     Call, call_at, read_reply, read_request, reply_bound, write_reply, write_request,
 };
+use scm_model::codes::R_CHANGE_SERVICE_CONFIG2_W;
 use scm_model::{Reply, Request};
 use scm_text::Buffer;
 use std::alloc::{AllocError, Global};
@@ -62,6 +63,27 @@ fn bodies_of_requests(rt: HostRuntime) -> Result<(), Fail> {
     for row in REQUESTS {
         if !is_asked(rt.alloc(), row) {
             return Err(row.1.into());
+        }
+    }
+    Ok(())
+}
+
+/// Whether a body is read as a request that is written in this form.
+fn is_read_as(alloc: Global, opnum: u16, hex: &str, form: &str) -> bool {
+    match (call_at(opnum), bytes_of(alloc, hex), bytes_of(alloc, form)) {
+        (Some(call), Ok(bytes), Ok(form)) => {
+            let read = read_request(alloc, call, bytes.as_slice());
+            read.is_ok_and(|read| is_written(alloc, &read, form.as_slice()))
+        }
+        _ => false,
+    }
+}
+
+#[test]
+fn bodies_in_other_forms(rt: HostRuntime) -> Result<(), Fail> {
+    for (hex, form) in OTHER_FORMS {
+        if !is_read_as(rt.alloc(), R_CHANGE_SERVICE_CONFIG2_W, hex, form) {
+            return Err(hex.into());
         }
     }
     Ok(())

@@ -1,14 +1,18 @@
 //! Requests and replies from words. A `-` is none, and a `.` in a text is left out. Without memory
 //! less is made, which is then another body.
 use scm_model::codes::{
-    R_CHANGE_SERVICE_CONFIG_W, R_CLOSE_NOTIFY_HANDLE, R_CLOSE_SERVICE_HANDLE, R_CONTROL_SERVICE,
-    R_CREATE_SERVICE_W, R_DELETE_SERVICE, R_ENUM_DEPENDENT_SERVICES_W, R_ENUM_SERVICES_STATUS_W,
-    R_GET_NOTIFY_RESULTS, R_GET_SERVICE_DISPLAY_NAME_W, R_LOCK_SERVICE_DATABASE,
-    R_NOTIFY_SERVICE_STATUS_CHANGE, R_OPEN_SC_MANAGER_W, R_OPEN_SERVICE_W,
-    R_QUERY_SERVICE_CONFIG_W, R_QUERY_SERVICE_LOCK_STATUS_W, R_QUERY_SERVICE_STATUS,
-    R_QUERY_SERVICE_STATUS_EX, R_SET_SERVICE_STATUS, R_START_SERVICE_W, R_UNLOCK_SERVICE_DATABASE,
+    R_CHANGE_SERVICE_CONFIG_W, R_CHANGE_SERVICE_CONFIG2_W, R_CLOSE_NOTIFY_HANDLE,
+    R_CLOSE_SERVICE_HANDLE, R_CONTROL_SERVICE, R_CREATE_SERVICE_W, R_DELETE_SERVICE,
+    R_ENUM_DEPENDENT_SERVICES_W, R_ENUM_SERVICES_STATUS_W, R_GET_NOTIFY_RESULTS,
+    R_GET_SERVICE_DISPLAY_NAME_W, R_LOCK_SERVICE_DATABASE, R_NOTIFY_SERVICE_STATUS_CHANGE,
+    R_OPEN_SC_MANAGER_W, R_OPEN_SERVICE_W, R_QUERY_SERVICE_CONFIG_W, R_QUERY_SERVICE_CONFIG2_W,
+    R_QUERY_SERVICE_LOCK_STATUS_W, R_QUERY_SERVICE_STATUS, R_QUERY_SERVICE_STATUS_EX,
+    R_SET_SERVICE_STATUS, R_START_SERVICE_W, R_UNLOCK_SERVICE_DATABASE,
 };
-use scm_model::{ChangeService, NewService, ProcessStatus, Reply, Request, Shown, Status};
+use scm_model::{
+    Action, ChangeService, Info, NewService, ProcessStatus, Reply, Request, Shown, Status,
+    TriggerIn,
+};
 use scm_text::{Items, OutOfMemory, WText};
 use std::alloc::Global;
 
@@ -124,6 +128,65 @@ fn new_service(alloc: Global, words: Words) -> NewService {
     }
 }
 
+/// Actions, two words each. A `-` is for none that are told of.
+fn actions(alloc: Global, words: Words) -> Option<Items<Action>> {
+    if word(words, 0) == "-" {
+        return None;
+    }
+    let mut actions = Items::new(alloc);
+    for place in 0..words.len() / 2 {
+        let action = Action {
+            what: number(words, 2 * place),
+            delay: number(words, 2 * place + 1),
+        };
+        let _pushed = actions.push(action).is_ok();
+    }
+    Some(actions)
+}
+
+/// 16 bytes that rise by 1.
+fn subtype(first: Option<u32>) -> Option<[u8; 16]> {
+    let [.., first] = first?.to_be_bytes();
+    let mut bytes = [first; 16];
+    for place in 1..16 {
+        bytes[place] = bytes[place - 1].wrapping_add(1);
+    }
+    Some(bytes)
+}
+
+/// Triggers, four words each, of which the third is the first byte of the subtype.
+fn triggers(alloc: Global, words: Words) -> Items<TriggerIn> {
+    let mut triggers = Items::new(alloc);
+    for place in 0..words.len() / 4 {
+        let trigger = TriggerIn {
+            kind: number(words, 4 * place),
+            action: number(words, 4 * place + 1),
+            subtype: subtype(some_number(words, 4 * place + 2)),
+            items: number(words, 4 * place + 3),
+        };
+        let _pushed = triggers.push(trigger).is_ok();
+    }
+    triggers
+}
+
+/// What is asked at the level that the first word tells. A `-` and the level are for nothing.
+fn info(alloc: Global, words: Words) -> Info {
+    let rest = behind(words);
+    match word(words, 0) {
+        "-" => Info::Nothing(number(rest, 0)),
+        "1" => Info::Description(some_text(alloc, rest, 0)),
+        "2" => Info::Failure {
+            reset: number(rest, 0),
+            command: some_text(alloc, rest, 1),
+            actions: actions(alloc, behind(behind(rest))),
+        },
+        "3" => Info::Delayed(number(rest, 0) == 1),
+        "4" => Info::OnExit(number(rest, 0) == 1),
+        "8" => Info::Triggers(triggers(alloc, rest)),
+        _ => Info::Other(number(words, 0)),
+    }
+}
+
 /// What a request of the call asks.
 pub fn request(alloc: Global, opnum: u16, words: Words) -> Request {
     let handle = u64::from(number(words, 0));
@@ -155,9 +218,14 @@ pub fn request(alloc: Global, opnum: u16, words: Words) -> Request {
         },
         R_GET_NOTIFY_RESULTS => Request::GetNotify { handle },
         R_CLOSE_NOTIFY_HANDLE => Request::CloseNotify { handle },
-        R_ENUM_DEPENDENT_SERVICES_W | R_ENUM_SERVICES_STATUS_W | R_QUERY_SERVICE_STATUS_EX => {
-            request_for_services(opnum, words, handle)
-        }
+        R_ENUM_DEPENDENT_SERVICES_W
+        | R_ENUM_SERVICES_STATUS_W
+        | R_QUERY_SERVICE_CONFIG2_W
+        | R_QUERY_SERVICE_STATUS_EX => request_for_services(opnum, words, handle),
+        R_CHANGE_SERVICE_CONFIG2_W => Request::Change2 {
+            handle,
+            info: info(alloc, behind(words)),
+        },
         _ => request_with_texts(alloc, opnum, words, handle),
     }
 }
@@ -175,6 +243,11 @@ fn request_for_services(opnum: u16, words: Words, handle: u64) -> Request {
             states: number(words, 2),
             size: number(words, 3),
             resume: some_number(words, 4),
+        },
+        R_QUERY_SERVICE_CONFIG2_W => Request::QueryConfig2 {
+            handle,
+            level: number(words, 1),
+            size: number(words, 2),
         },
         _ => Request::QueryStatusEx {
             handle,
@@ -321,9 +394,10 @@ pub fn reply(alloc: Global, opnum: u16, words: Words) -> Reply {
             size: number(words, 1),
             code: number(words, 2),
         },
-        R_ENUM_DEPENDENT_SERVICES_W | R_ENUM_SERVICES_STATUS_W | R_QUERY_SERVICE_STATUS_EX => {
-            reply_with_bytes(alloc, opnum, words)
-        }
+        R_ENUM_DEPENDENT_SERVICES_W
+        | R_ENUM_SERVICES_STATUS_W
+        | R_QUERY_SERVICE_CONFIG2_W
+        | R_QUERY_SERVICE_STATUS_EX => reply_with_bytes(alloc, opnum, words),
         R_GET_NOTIFY_RESULTS => notice(alloc, words),
         _ => Reply::Code(number(words, 0)),
     }

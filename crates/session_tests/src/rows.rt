@@ -38,8 +38,7 @@ const STOPPED: &str = "SERVICE_NAME: Web\nTYPE: 16\nSTATE: 1 STOPPED\nACCEPTED: 
 const WEB: &str = "create|Web|binPath=|/bin/sh /srv/web.sh|start=|auto|depend=|Db/+Net|\
     DisplayName=|Web server";
 
-/// The usual session of an administrator, in order, behind words that aren't a command and a verb
-/// whose call isn't served.
+/// The usual session of an administrator, in order, behind words that aren't a command.
 pub const ROWS: &[Row] = &[
     Row {
         words: "query",
@@ -55,8 +54,8 @@ pub const ROWS: &[Row] = &[
     },
     Row {
         words: "description|Db|text",
-        text: "[SC] ChangeServiceConfig2 FAULT 469827586\n",
-        status: 1,
+        text: "[SC] ChangeServiceConfig2 SUCCESS\n",
+        status: 0,
         again: false,
     },
     Row {
@@ -68,6 +67,12 @@ pub const ROWS: &[Row] = &[
     Row {
         words: WEB,
         text: "[SC] CreateService SUCCESS\n",
+        status: 0,
+        again: false,
+    },
+    Row {
+        words: "failure|Web|reset=|60|actions=|restart/1000/restart/2000",
+        text: "[SC] ChangeServiceConfig2 SUCCESS\n",
         status: 0,
         again: false,
     },
