@@ -17,6 +17,7 @@ use Rattle.scm_rules.specs.Room.{has_room, is_owed, need}
 use Rattle.scm_rules.specs.Steps.{keeps_right, may_come}
 use Rattle.scm_rules.specs.Verdicts.{change_of}
 use Rattle.scm_core.specs.Managed.{WasMadeFor}
+use Rattle.scm_trail.specs.Notes.{is_brief}
 use Rattle.scm_book.specs.declared.owed.Owed.{Owed}
 use Rattle.scm_book.specs.declared.owed.Owed.TheVariants as owes
 use Rattle.scm_history.specs.Kept.{kept_change}
@@ -93,6 +94,14 @@ owed_text (owes.Launched process pid) = refl
 owed_text (owes.LaunchFailed process code) = refl
 owed_text (owes.Ended process) = refl
 owed_text (owes.Gone caller) = refl
+
+pub owed_brief : (o : Owed) → is_brief (owed_step o) ≡ true
+owed_brief (owes.EndStart caller plan) = refl
+owed_brief owes.LaunchTaken = refl
+owed_brief (owes.Launched process pid) = refl
+owed_brief (owes.LaunchFailed process code) = refl
+owed_brief (owes.Ended process) = refl
+owed_brief (owes.Gone caller) = refl
 
 pub owed_right : (l : Limits) (f : Flat) (o : Owed) → keeps_right l f (owed_step o) ≡ true
 owed_right l f (owes.EndStart caller plan) = refl

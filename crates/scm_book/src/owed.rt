@@ -1,4 +1,5 @@
-ghost use Rattle.std.specs.Prelude.{◌≡◌};
+ghost use Rattle.std.specs.Prelude.{◌≡◌, true};
+ghost use Rattle.scm_trail.specs.Notes.{is_brief};
 ghost use Rattle.scm_book.specs.Steps.{owed_step};
 
 use scm_model::Step;
@@ -38,12 +39,21 @@ impl Owed {
     }
 
     /// The note of the step, which takes no memory.
+    #[tactic(auto, using(crate::proofs::Room::owed_brief))]
     pub fn note(self) -> Note
         ensures { result ≡ owed_step self }
     {
-        let Some(note) = Note::brief(&self.step()) else {
-            unreachable!()
-        };
-        note
+        brief_note(&self.step())
     }
+}
+
+/// The note of a step that takes no memory to write.
+fn brief_note(step: &Step) -> Note
+    requires { is_brief step.now ≡ true }
+    ensures { result ≡ step.now }
+{
+    let Some(note) = Note::brief(step) else {
+        unreachable!()
+    };
+    note
 }
