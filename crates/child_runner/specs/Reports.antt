@@ -1,9 +1,10 @@
 -- What the bytes of a child report, and the reports that are made of them.
-use Rattle.std.specs.Prelude.{ℕ, ◌≡◌, ◌==◌, All, false, List, [], ◌∷◌, ◌++◌, Result, Ok, Err}
+use Rattle.std.specs.Prelude.{ℕ, ◌≡◌, ◌==◌, All, false, List, [], ◌∷◌, ◌++◌, Option, None, Some, Result, Ok, Err}
 use Rattle.std.specs.List.{cons_option, slice_split}
 use Rattle.outside.specs.Written.{Begins}
 use Rattle.scm_model.specs.declared.flat.Status.{Status}
 use Rattle.scm_model.specs.declared.steps.Answer.{Answer}
+use Rattle.scm_model.specs.declared.steps.Step.{Step}
 use Rattle.scm_model.specs.declared.steps.Step.TheVariants.{Report}
 use Rattle.book_rule.specs.declared.view.Opening.{Opening}
 use Rattle.child_link.specs.Cutting.{kept}
@@ -11,6 +12,13 @@ use Rattle.child_link.specs.Lines.{reported}
 use Rattle.scm_book.specs.Passes.{FindsNoMemory, FindsNoRoom, Known, MadeSo}
 use Rattle.scm_book.specs.declared.fault.MakeFault.{MakeFault}
 use Rattle.scm_book.specs.declared.fault.MakeFault.TheVariants as lacks
+
+-- ## A step
+
+-- the status that a step reports
+abbrev pub status_told : Step → Option Status
+status_told (Report process status) = Some status
+status_told step = None
 
 -- ## What is reported
 

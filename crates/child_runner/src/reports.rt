@@ -3,7 +3,7 @@ ghost use Rattle.std.specs.Prelude.{◌≡◌, ◌≤◌, ◌∷◌, [], length}
 ghost use Rattle.scm_model.specs.declared.flat.Phase.TheVariants as phases;
 ghost use Rattle.scm_book.specs.Passes.{HoldsProcess, IsOf};
 ghost use Rattle.child_link.specs.Lines.{reported};
-ghost use Rattle.child_runner.specs.Reports.{Fed, Reports};
+ghost use Rattle.child_runner.specs.Reports.{Fed, Reports, status_told};
 
 use child_link::{LineCutter, read_line_step};
 use outside::Clock;
@@ -12,14 +12,22 @@ use scm_book::{Book, MakeFault, Pass, ReportEnd};
 use scm_model::{Status, Step};
 use std::sync::Wait;
 
+/// The status that a step reports, if it is a report.
+fn status_of(step: &Step) -> Option<Status>
+    ensures { result ≡ status_told step.now }
+{
+    match step {
+        Step::Report { status, .. } => Some(*status),
+        _ => None,
+    }
+}
+
 /// The status that a line of a process reports, if it is a report.
 fn status_in(line: &[u8], process: u64) -> Option<Status>
     ensures { result ≡ reported line.now }
 {
-    let Step::Report { status, .. } = read_line_step(line, process)? else {
-        unreachable!()
-    };
-    Some(status)
+    let step = read_line_step(line, process)?;
+    status_of(&step)
 }
 
 /// Makes a report of a process.
