@@ -1,5 +1,5 @@
 use crate::rows::command_of;
-use sc_words::{Asked, Command, Heard, next_request};
+use sc_words::{Command, Heard, next_request};
 use scm_model::{Reply, Request};
 use scm_text::Items;
 use std::alloc::Global;
@@ -14,8 +14,8 @@ fn add(heard: &mut Items<Heard>, reply: Reply) -> Result<(), Fail> {
 
 fn next(alloc: Global, command: &Command, heard: &Items<Heard>) -> Result<Request, Fail> {
     match next_request(alloc, command, heard.as_slice())? {
-        Some(Asked::Request(request)) => Ok(request),
-        _ => Err("no request".into()),
+        Some(request) => Ok(request),
+        None => Err("no request".into()),
     }
 }
 

@@ -111,6 +111,18 @@ const ROWS: &[(&str, u64, Last, &str)] = &[
     (
         "a|description|Db|text",
         2,
+        Last::Code(0),
+        "[SC] ChangeServiceConfig2 SUCCESS\n",
+    ),
+    (
+        "a|failure|Db|reset=|60|actions=|restart/1000",
+        2,
+        Last::Code(5),
+        "[SC] ChangeServiceConfig2 FAILED 5\n",
+    ),
+    (
+        "a|description|Db|text",
+        2,
         Last::Fault(0x1C01_0002),
         "[SC] ChangeServiceConfig2 FAULT 469827586\n",
     ),

@@ -19,6 +19,23 @@ const RUNNING: &str = "\
 /// The fault of a call that isn't served, in answer to the fourth.
 const FAULT: &str = "0500030310000000200000000400000000000000000000000200011c00000000";
 
+/// The request for a handle of the service `Db` with the rights to change and to start it.
+const OPEN_TO_CHANGE: &str = "\
+    050000031000000044000000030000002c00000000001000\
+    0000000001000000000000000000000000000000\
+    030000000000000003000000440062000000000012000000";
+
+/// One restart after a second, and a minute without failures, at level 2 of the handle 2.
+const RESTARTS: &str = "\
+    050000031000000058000000040000004000000000002500\
+    0000000002000000000000000000000000000000\
+    0200000002000000000002003c0000000000000000000000\
+    01000000040002000100000001000000e8030000";
+
+/// The code 0, in answer to the fourth.
+const CHANGED: &str = "05000203100000001c000000040000000400000000000000\
+    00000000";
+
 /// The answers to two closes, the fifth and the sixth.
 const CLOSED: &str = "\
     050002031000000030000000050000001800000000000000\
@@ -85,6 +102,14 @@ const ROWS: &[Row] = &[
         status: 1,
         text: "[SC] OpenService FAILED 1060\n",
         asked: &[BIND_AND_OPEN, OPEN_DB, CLOSE],
+    },
+    Row {
+        line: "127.0.0.1:9|failure|Db|reset=|60|actions=|restart/1000",
+        peer: &[ACK_AND_HANDLE, SERVICE, CHANGED, CLOSED],
+        fails: Fails::Nothing,
+        status: 0,
+        text: "[SC] ChangeServiceConfig2 SUCCESS\n",
+        asked: &[BIND_AND_OPEN, OPEN_TO_CHANGE, RESTARTS],
     },
     Row {
         line: "127.0.0.1:9|description|Db|text",
