@@ -13,3 +13,5 @@ pub mod Sifted
 pub mod Reaching
 pub mod Cycles
 pub mod Closing
+pub mod Listing
+pub mod Shelves

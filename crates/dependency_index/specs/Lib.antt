@@ -3,3 +3,4 @@ pub mod Order
 pub mod Indexed
 pub mod Naming
 pub mod Dependents
+pub mod Kept

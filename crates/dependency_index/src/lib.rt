@@ -4,6 +4,7 @@
 mod dependents;
 mod graph;
 mod index;
+mod keeping;
 mod naming;
 mod order;
 mod rows;

@@ -1,5 +1,6 @@
-ghost use Rattle.std.specs.Prelude.{ℕ, ◌≡◌, ◌+◌, ◌-◌, ◌^◌, ◌==◌, Bool, true, false, length, min, option_copied, if◌then◌else◌};
-ghost use Rattle.dependency_index.specs.Naming.{active, active_in, is_active, is_named, names, naming, naming_in, row_of};
+ghost use Rattle.std.specs.Prelude.{ℕ, ◌≡◌, ◌+◌, ◌-◌, ◌^◌, ◌==◌, Bool, true, false, not, filter, length, min, option_copied, if◌then◌else◌};
+ghost use Rattle.dependency_index.specs.Naming.{is_named, names, row_of};
+ghost use Rattle.scm_model.specs.declared.codes.TheConstants.{SERVICE_STOPPED};
 
 use super::steps::Steps;
 use scm_model::codes::SERVICE_STOPPED;
@@ -38,23 +39,6 @@ pub fn names(name: &WText, row: &NeedRow) -> bool
     false
 }
 
-/// Whether a service names the one of this name and isn't stopped. Its state is looked at only where it does.
-fn is_active<S: StateLook, L: Ledger>(
-    name: &WText,
-    row: &NeedRow,
-    states: &S,
-    steps: &mut Steps<L>,
-) -> bool
-    ensures active { result ≡ is_active name.now (S.state_of states.now) row.now }
-    ensures looks { steps.new ≡ steps.old + (if names name.now row.now then 1 else 0) }
-{
-    if names(name, row) {
-        states.state_of(row.number, steps) != SERVICE_STOPPED
-    } else {
-        false
-    }
-}
-
 /// A count with one more or not, in 32 bits.
 fn raised(count: u32, more: bool) -> u32
     ensures { result ≡ min (count + (if more then 1 else 0)) (2 ^ 32 - 1) }
@@ -62,19 +46,18 @@ fn raised(count: u32, more: bool) -> u32
     if more { count.saturating_add(1) } else { count }
 }
 
-/// How many services name the one of this name and aren't stopped.
-pub fn active<S: StateLook, L: Ledger>(
-    rows: &[NeedRow],
-    name: &WText,
+/// How many of some services aren't stopped. Each one's state is looked at once.
+pub fn active_among<S: StateLook, L: Ledger>(
+    services: &[u64],
     states: &S,
     steps: &mut Steps<L>,
 ) -> u32
-    ensures active { result ≡ active rows.now (S.state_of states.now) name.now }
-    ensures looks { steps.new ≡ steps.old + naming rows.now name.now }
+    ensures active { result ≡ min (length (filter (λ service. not (S.state_of states.now service == SERVICE_STOPPED)) services.now)) (2 ^ 32 - 1) }
+    ensures looks { steps.new ≡ steps.old + length services.now }
 {
     let mut count = 0;
-    for row in rows {
-        count = raised(count, is_active(name, row, states, steps));
+    for service in services {
+        count = raised(count, states.state_of(*service, steps) != SERVICE_STOPPED);
     }
     count
 }
