@@ -1,31 +1,23 @@
 -- What ticks keep.
-use Rattle.std.proofs.Common.{ℕ, ◌≡◌, ◌==◌, zero, suc, true, false, cond, not, List, [], ◌∷◌, Option, None, Some, filter, length, subst, refl}
+use Rattle.std.proofs.Common.{ℕ, ◌≡◌, ◌+◌, zero, suc, true, false, cond, List, [], ◌∷◌, Option, None, Some, filter, length, subst, refl}
 use Rattle.std.specs.Prelude.{All}
 use Rattle.std.proofs.lemmas.List.Elements.{All-filter, All-head, All-tail}
 use Rattle.scm_model.specs.declared.flat.Due.{Due}
-use Rattle.scm_model.specs.declared.flat.DueKind.{DueKind}
 use Rattle.scm_model.specs.declared.flat.Flat.{Flat}
-use Rattle.scm_model.specs.declared.flat.Plan.{Plan}
+use Rattle.scm_model.specs.declared.flat.Limits.{Limits}
 use Rattle.scm_model.proofs.Found.{found_keeps}
-use Rattle.scm_rules.specs.Due.{all_fired, comes_before, earlier, expired, fired, first_due, first_fired, is_due, next_due, ticked}
+use Rattle.scm_rules.specs.Due.{comes_before, earlier, first_due, is_due, next_due}
+use Rattle.scm_rules.specs.Ticks.{all_fired, fired, first_fired, ticked}
 
 -- ## One row after another
 
-all_keep : (P : Flat → Type 0) → ((f : Flat) (row : Due) → next_due f ≡ Some row → P f → P (fired row f)) → (n : ℕ) (f : Flat) → P f → P (all_fired n f)
-all_keep P each zero f p = p
-all_keep P each (suc n) f p = all_keep P each n (first_fired f) (found_keeps P fired (next_due f) f p (λ row is. each f row is p))
+all_keep : (P : Flat → Type 0) (l : Limits) → ((f : Flat) (row : Due) → next_due f ≡ Some row → P f → P (fired l row f)) → (n : ℕ) (f : Flat) → P f → P (all_fired l n f)
+all_keep P l each zero f p = p
+all_keep P l each (suc n) f p = all_keep P l each n (first_fired l f) (found_keeps P (fired l) (next_due f) f p (λ row is. each f row is p))
 
 -- what each row that is due keeps
-pub ticked_keeps : (P : Flat → Type 0) → ((f : Flat) (row : Due) → next_due f ≡ Some row → P f → P (fired row f)) → (f : Flat) → P f → P (ticked f)
-ticked_keeps P each f p = all_keep P each (length f.dues) f p
-
--- what speaks of neither plans nor rows that become due
-pub ticked_apart : (P : Flat → Type 0) → ((f : Flat) (plans : List Plan) (rows : List Due) → P f → P (record f { plans = plans; dues = rows })) → (f : Flat) → P f → P (ticked f)
-ticked_apart P any f p = ticked_keeps P (λ g row is q. any g (expired g.plans row.kind) (filter (λ (due : Due). not (due.number == row.number)) g.dues) q) f p
-
--- what speaks of plans alone
-pub ticked_plans : (P : List Plan → Type 0) → ((plans : List Plan) (kind : DueKind) → P plans → P (expired plans kind)) → (f : Flat) → P f.plans → P (ticked f).plans
-ticked_plans P each f p = ticked_keeps (λ (g : Flat). P g.plans) (λ g row is q. each g.plans row.kind q) f p
+pub ticked_keeps : (P : Flat → Type 0) (l : Limits) → ((f : Flat) (row : Due) → next_due f ≡ Some row → P f → P (fired l row f)) → (f : Flat) → P f → P (ticked l f)
+ticked_keeps P l each f p = all_keep P l each (length f.dues + length f.dues) f p
 
 -- ## The row that is due first
 

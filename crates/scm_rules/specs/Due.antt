@@ -1,13 +1,9 @@
--- What becomes due, and what it does.
-use Rattle.std.specs.Prelude.{ℕ, Bool, false, not, ◌||◌, ◌&&◌, ◌==◌, ◌+◌, ◌++◌, nat_le, nat_lt, zero, suc, List, [], ◌∷◌, Option, None, Some, filter, length, if◌then◌else◌}
+-- What becomes due, and when.
+use Rattle.std.specs.Prelude.{ℕ, Bool, false, not, ◌||◌, ◌&&◌, ◌==◌, ◌+◌, ◌++◌, nat_le, nat_lt, List, [], ◌∷◌, Option, None, Some, filter, if◌then◌else◌}
 use Rattle.scm_model.specs.declared.flat.Due.{Due}
 use Rattle.scm_model.specs.declared.flat.DueKind.{DueKind}
 use Rattle.scm_model.specs.declared.flat.DueKind.TheVariants as dues
 use Rattle.scm_model.specs.declared.flat.Flat.{Flat}
-use Rattle.scm_model.specs.declared.flat.Plan.{Plan}
-use Rattle.scm_model.specs.declared.codes.TheConstants.{ERROR_SERVICE_REQUEST_TIMEOUT}
-use Rattle.scm_model.specs.Found.{if_found}
-use Rattle.start_plan.specs.Decided.{decided_in, is_numbered}
 
 -- ## A row that is put in
 
@@ -57,34 +53,3 @@ first_due (row ∷ rows) = Some (earlier row (first_due rows))
 -- the row that is due first
 abbrev pub next_due : Flat → Option Due
 next_due f = first_due (filter (is_due f.moment) f.dues)
-
--- ## What is due takes place
-
--- a plan is given up whose deadline comes
-abbrev pub expired : List Plan → DueKind → List Plan
-expired plans (dues.Deadline plan) = decided_in (is_numbered plan) ERROR_SERVICE_REQUEST_TIMEOUT plans
-expired plans kind = plans
-
--- what a row does once it is due; no call makes a row of another kind than a deadline yet
-abbrev pub fire : Flat → DueKind → Flat
-fire f kind = record f { plans = expired f.plans kind }
-
-abbrev pub without_due : Flat → ℕ → Flat
-without_due f number = record f { dues = filter (λ (due : Due). not (due.number == number)) f.dues }
-
--- the row leaves, and does what it does
-abbrev pub fired : Due → Flat → Flat
-fired row f = fire (without_due f row.number) row.kind
-
--- the row that is due first takes place, if one is due
-abbrev pub first_fired : Flat → Flat
-first_fired f = if_found fired (next_due f) f
-
--- so many times
-abbrev pub all_fired : ℕ → Flat → Flat
-all_fired zero f = f
-all_fired (suc more) f = all_fired more (first_fired f)
-
--- the rows that are due take place, in the order in which they became due
-abbrev pub ticked : Flat → Flat
-ticked f = all_fired (length f.dues) f

@@ -17,13 +17,16 @@ pub mod EnumServices
 pub mod QueryStatusEx
 pub mod Locks
 pub mod Due
+pub mod Failures
 pub mod Start
+pub mod Ticks
 pub mod Notify
 pub mod Verdicts
 pub mod Launches
 pub mod Reports
 pub mod Ends
 pub mod Controls
+pub mod Raise
 pub mod Steps
 pub mod Opening
 pub mod Runs

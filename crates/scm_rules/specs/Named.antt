@@ -5,7 +5,7 @@ use Rattle.scm_model.specs.declared.flat.Limits.{Limits}
 use Rattle.scm_model.specs.declared.steps.Answer.{Answer}
 use Rattle.scm_model.specs.declared.steps.Answer.TheVariants as answer
 use Rattle.scm_model.specs.declared.steps.Step.{Step}
-use Rattle.scm_model.specs.declared.steps.Step.TheVariants.{Joined, Call, EndStart, LaunchTaken, Launched, LaunchFailed, Report, Ended, Gone, NoMemory}
+use Rattle.scm_model.specs.declared.steps.Step.TheVariants.{Joined, Call, EndStart, LaunchTaken, Launched, LaunchFailed, Report, Ended, Raised, Gone, NoMemory}
 use Rattle.scm_rules.specs.Launches.{first_wanted}
 use Rattle.scm_model.specs.Entries.{Entry}
 use Rattle.scm_rules.specs.Steps.{step_of}
@@ -21,6 +21,7 @@ is_it number (Some of) = number == of
 abbrev pub caller_named : Step → Option ℕ
 caller_named (Call caller asked append) = Some caller
 caller_named (EndStart caller plan) = Some caller
+caller_named (Raised caller subtype) = Some caller
 caller_named (Gone caller) = Some caller
 caller_named (NoMemory caller) = Some caller
 caller_named step = None

@@ -15,6 +15,7 @@ use Rattle.scm_model.specs.Refused.{first_refusal, outcome, Refusals}
 use Rattle.scm_model.specs.Outcomes.{Done, Told}
 use Rattle.scm_model.specs.declared.codes.TheConstants.{ERROR_ACCESS_DENIED, ERROR_INVALID_DATA, ERROR_INVALID_HANDLE, SERVICE_SET_STATUS, SERVICE_STOPPED}
 use Rattle.status_machine.specs.Moves.{take_report, takes}
+use Rattle.scm_rules.specs.Failures.{failed_by, with_failure}
 use Rattle.scm_rules.specs.Launches.{is_launched, process_of}
 pub use Rattle.scm_rules.specs.Launches.{current_of}
 use Rattle.scm_rules.specs.Rights.{lacks}
@@ -39,12 +40,13 @@ abbrev pub told_of_report : List Process → Status → Option Service → List 
 told_of_report processes report =
     if_found (λ row. told_of_move (pid_of processes (reported_if row.process report row)) row (reported_if row.process report row))
 
--- the service whose current process this is takes the report
+-- the service whose current process this is takes the report, which may be a failure of it
 abbrev pub with_report : Flat → ℕ → Status → Flat
-with_report f process report = record f {
-  services = map (reported_if process report) f.services;
-  registrations = told_of_report f.processes report (current_of f process) f.registrations;
-}
+with_report f process report =
+    if_found with_failure (failed_by report (current_of f process)) (record f {
+      services = map (reported_if process report) f.services;
+      registrations = told_of_report f.processes report (current_of f process) f.registrations;
+    })
 
 -- how a report of the current process is answered
 abbrev pub report_answer : Result Status ℕ → Answer
@@ -80,14 +82,16 @@ set_status_verdict f caller handle report = first_refusal (set_status_refusals f
 abbrev pub reported_in : Status → Option Service → List Service → List Service
 reported_in report = if_found (λ row. map (reported_if row.process report))
 
+-- the service, if there is one, takes a report as if its current process had made it
+abbrev pub with_report_of : Flat → Option Service → Status → Flat
+with_report_of f service report =
+    if_found with_failure (failed_by report service) (record f {
+      services = reported_in report service f.services;
+      registrations = told_of_report f.processes report service f.registrations;
+    })
+
 abbrev pub set_status_done : Flat → ℕ → ℕ → Status → Done
-set_status_done f caller handle report = record {
-  reply = reply.Code 0;
-  flat = record f {
-    services = reported_in report (held_service f caller handle) f.services;
-    registrations = told_of_report f.processes report (held_service f caller handle) f.registrations;
-  };
-}
+set_status_done f caller handle report = record { reply = reply.Code 0; flat = with_report_of f (held_service f caller handle) report }
 
 abbrev pub set_status_outcome : Flat → ℕ → ℕ → Status → Done
 set_status_outcome f caller handle report =

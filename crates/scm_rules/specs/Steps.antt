@@ -10,7 +10,7 @@ use Rattle.scm_model.specs.declared.calls.Reply.TheVariants as reply
 use Rattle.scm_model.specs.declared.calls.Request.{Request}
 use Rattle.scm_model.specs.declared.calls.Request.TheVariants as request
 use Rattle.scm_model.specs.declared.steps.Step.{Step}
-use Rattle.scm_model.specs.declared.steps.Step.TheVariants.{Joined, Call, EndStart, LaunchTaken, Launched, LaunchFailed, Report, Ended, ControlTaken, Tick, Gone, NoMemory}
+use Rattle.scm_model.specs.declared.steps.Step.TheVariants.{Joined, Call, EndStart, LaunchTaken, Launched, LaunchFailed, Report, Ended, ControlTaken, Tick, Raised, Gone, NoMemory}
 use Rattle.scm_model.specs.declared.steps.Answer.{Answer}
 use Rattle.scm_model.specs.declared.steps.Answer.TheVariants as answer
 use Rattle.scm_model.specs.Rows.{is_caller}
@@ -24,7 +24,9 @@ use Rattle.scm_rules.specs.Controls.{control_taken, controls_of, waits}
 use Rattle.scm_rules.specs.Launches.{is_launched, is_taken, launch_failed, launch_taken, launched, process_of}
 use Rattle.scm_rules.specs.Reports.{reported}
 use Rattle.scm_rules.specs.Ends.{process_ended}
-use Rattle.scm_rules.specs.Due.{is_due, ticked}
+use Rattle.scm_rules.specs.Due.{is_due}
+use Rattle.scm_rules.specs.Ticks.{ticked}
+use Rattle.scm_rules.specs.Raise.{raise_verdict, raised}
 use Rattle.scm_rules.specs.Start.{can_end, ended}
 use Rattle.scm_rules.specs.Verdicts.{call_of, change_of_call, tells_right, verdict}
 
@@ -61,7 +63,8 @@ effect_of l f (LaunchFailed process code) = record { answer = answer.Done; flat 
 effect_of l f (Report process status) = reported f process status
 effect_of l f (Ended process) = process_ended f process
 effect_of l f (ControlTaken process) = control_taken f process
-effect_of l f Tick = record { answer = answer.Done; flat = ticked f }
+effect_of l f Tick = record { answer = answer.Done; flat = ticked l f }
+effect_of l f (Raised caller subtype) = record { answer = answer.Reply (reply.Code (raise_verdict f caller)); flat = raised l f caller subtype }
 effect_of l f (Gone caller) = record { answer = answer.Done; flat = gone f caller }
 effect_of l f (NoMemory caller) = record { answer = answer.Done; flat = f }
 
@@ -120,6 +123,7 @@ may_come l f moment (Report process status) = is_launched (process_of f process)
 may_come l f moment (Ended process) = is_launched (process_of f process)
 may_come l f moment (ControlTaken process) = waits (controls_of f process)
 may_come l f moment Tick = list_any (is_due (max f.moment moment)) f.dues
+may_come l f moment (Raised caller subtype) = is_caller f caller
 may_come l f moment (Gone caller) = is_caller f caller
 may_come l f moment (NoMemory caller) = is_caller f caller
 

@@ -5,5 +5,5 @@
 mod order;
 mod triggers;
 
-pub use order::{auto_order, automatic_services_are_in_a_stable_order};
+pub use order::{AutoStart, auto_order, auto_starts, automatic_services_are_in_a_stable_order};
 pub use triggers::matching;
