@@ -21,10 +21,8 @@ use Rattle.start_plan.specs.Settle.{is_due_still, settle_all, settled, stays, wi
 use Rattle.start_plan.proofs.Plain.{settles_beside}
 use Rattle.start_plan.proofs.Keeps.{all_filter, keeps_all}
 use Rattle.start_plan.proofs.Enterings.{all_units}
-use Rattle.scm_rules.specs.Due.{expired}
 use Rattle.scm_model.specs.declared.flat.Due.{Due}
-use Rattle.scm_model.specs.declared.flat.DueKind.{DueKind}
-use Rattle.scm_model.specs.declared.flat.DueKind.TheVariants as dues
+use Rattle.scm_tables.specs.Places.{HasPlaces}
 use Rattle.scm_tables.specs.Inside.{IsBelow, IsKept}
 use Rattle.scm_tables.specs.Tabled.{HasShort, HasShortTexts}
 use Rattle.scm_tables.specs.declared.tables.Tables.TheInside.{Inside}
@@ -125,23 +123,18 @@ pub below_more : (n : ℕ) (plans : List Plan) (plan : Plan) → AllByRecursion 
 below_more n [] plan all e = (omega (arith, e), tt)
 below_more n (p ∷ ps) plan all e = (let lt = all.0 in omega arith, below_more n ps plan all.1 e)
 
-pub expired_below : (n : ℕ) (plans : List Plan) (kind : DueKind) → AllByRecursion (IsBelow n) plans → AllByRecursion (IsBelow n) (expired plans kind)
-expired_below n plans (dues.Deadline plan) all = below_decided n _ 1053 plans all
-expired_below n plans (dues.Start service) all = all
-expired_below n plans (dues.Command service) all = all
-expired_below n plans (dues.Reboot service) all = all
-
 -- plans that are settled beside the rest of the state, and the deadlines that are left
 pub settles : (l : Limits) (f g : Flat) (plans ended : List Plan) (rows : List Due) → ended ≡ filter stays (settle_all l f plans).1 → g ≡ (settle_all l f plans).0
     → rows ≡ filter (λ (due : Due). is_due_still ended due.kind) g.dues → record g { plans = ended; dues = rows } ≡ settled l (with_plans f plans)
 settles l f g plans ended rows plans_are flat_is rows_are =
     rw (rows_are, flat_is, plans_are) (sym (settles_beside l f plans))
 
--- lists that differ in plans, due rows and what no list tells are kept where their plans are
+-- lists that differ in plans, due rows and what no list tells are kept where their plans and due rows are
 pub other_plans : {t u : Inside} → IsKept t → u.next.service ≡ t.next.service → u.services.items ≡ t.services.items → u.acyclic ≡ t.acyclic → u.has_marked ≡ t.has_marked
     → u.limits.processes ≡ t.limits.processes → vec_capacity u.processes ≡ vec_capacity t.processes → u.tried.items ≡ t.tried.items
-    → AllByRecursion (IsBelow u.next.plan) u.plans.plans → IsKept u
-other_plans kept next rows acyclic marked limit capacity tried plans = record {
+    → u.start_room ≡ t.start_room → u.starts.items ≡ t.starts.items → u.commands.items ≡ t.commands.items
+    → AllByRecursion (IsBelow u.next.plan) u.plans.plans → HasPlaces t.services.items u.dues.items (vec_capacity u.dues) → IsKept u
+other_plans kept next rows acyclic marked limit capacity tried wide starts commands plans dues = record {
   rising = rw next (rw rows kept.rising);
   texts = rw rows kept.texts;
   needs = rw acyclic (rw rows kept.needs);
@@ -149,4 +142,6 @@ other_plans kept next rows acyclic marked limit capacity tried plans = record {
   room = rw limit (rw capacity kept.room);
   plans = plans;
   untried = tried ∙ kept.untried;
+  dues = rw rows dues;
+  rooms = rw (wide, starts, commands) kept.rooms;
 }

@@ -6,3 +6,6 @@ pub mod Wording
 pub mod NeedRows
 pub mod Opened
 pub mod Unmarked
+pub mod Placed
+pub mod Fired
+pub mod Failures

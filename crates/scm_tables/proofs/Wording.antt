@@ -10,7 +10,9 @@ use Rattle.scm_model.specs.declared.flat.Flat.{Flat}
 use Rattle.scm_model.specs.declared.flat.Opened.{Opened}
 use Rattle.scm_model.specs.declared.flat.Service.{Service}
 use Rattle.scm_model.specs.Rows.{service_of}
-use Rattle.scm_rules.specs.Launches.{first_wanted, path_in, service_of_process}
+use Rattle.scm_model.specs.declared.flat.Wanted.{Wanted}
+use Rattle.scm_rules.specs.Launches.{head_word, line_of, path_in, service_of_process}
+use Rattle.scm_tables.specs.Lined.{emptied_line, words_told}
 use Rattle.scm_tables.specs.Lines.{first_line}
 use Rattle.scm_tables.specs.declared.process_rows.ProcessRow.{ProcessRow}
 use Rattle.scm_tables.specs.Listed.{is_wanted_row, process_shown, processes_in, wanted_in, wanted_of, without_words, words_in}
@@ -18,7 +20,7 @@ use Rattle.scm_tables.specs.Tabled.{HasShort}
 
 -- a row without its words
 abbrev pub emptied : ProcessRow → ProcessRow
-emptied row = record row { words = [] }
+emptied row = record row { line = emptied_line row.line }
 
 -- the place of the first row that is wanted
 pub record IsFirst (rows : List ProcessRow) (i : ℕ) (d : ProcessRow) : Type 0 where
@@ -32,7 +34,7 @@ first_of rows i d e = let p = position-Some is_wanted_row rows i d e in record {
 next_first : (row : ProcessRow) (rows : List ProcessRow) (i : ℕ) (d : ProcessRow) → IsFirst (row ∷ rows) (suc i) d → IsFirst rows i d
 next_first row rows i d f = record { within = (let lt = f.within in omega arith); wanted = f.wanted; none = λ k lt. f.none (suc k) (omega (arith, lt)) }
 
-pub words_at : (rows : List ProcessRow) (i : ℕ) (d : ProcessRow) → IsFirst rows i d → words_in (wanted_in rows) ≡ (get_or rows i d).words
+pub words_at : (rows : List ProcessRow) (i : ℕ) (d : ProcessRow) → IsFirst rows i d → words_in (wanted_in rows) ≡ words_told (get_or rows i d).line
 words_at [] i d f = absurd (let lt = f.within in omega arith)
 words_at (row ∷ rows) zero d f = ap (λ b. words_in (map wanted_of (cond b (row ∷ filter is_wanted_row rows) (filter is_wanted_row rows)))) f.wanted
 words_at (row ∷ rows) (suc i) d f =
@@ -84,30 +86,33 @@ short_with f (Some number) all = found_has HasShort (λ (row : Service). row.num
 
 -- ## Lines
 
-no_lines : (f : Flat) (xs : List ProcessRow) → first_wanted (map wanted_of xs) ≡ None → (first_line f (map wanted_of xs)).0 ≡ []
-no_lines f [] e = refl
-no_lines f (x ∷ xs) e = absurd cc
+-- the launch that is wanted first is that of the first process that is to be launched
+pub first_lined : (f : Flat) (rows : List ProcessRow) (row : ProcessRow) → find is_wanted_row rows ≡ Some row → first_line f (wanted_in rows) ≡ line_of f (wanted_of row)
+first_lined f [] row e = absurd cc
+first_lined f (one ∷ rows) row e =
+    elim (is_wanted_row one) as (λ b. cond b (Some one) (find is_wanted_row rows) ≡ Some row → first_line f (map wanted_of (cond b (one ∷ filter is_wanted_row rows) (filter is_wanted_row rows))) ≡ line_of f (wanted_of row)) [
+      | true ↦ λ is. (let same : one ≡ row = cc in ap (λ (r : ProcessRow). line_of f (wanted_of r)) same)
+      | false ↦ λ is. first_lined f rows row is
+    ] e
 
--- nothing is wanted
-pub no_path : (f : Flat) (rows : List ProcessRow) → first_wanted (wanted_in rows) ≡ None → (first_line f (wanted_in rows)).0 ≡ []
-no_path f rows e = no_lines f (filter is_wanted_row rows) e
+pub none_lined : (f : Flat) (rows : List ProcessRow) → find is_wanted_row rows ≡ None → first_line f (wanted_in rows) ≡ ([], [])
+none_lined f [] e = refl
+none_lined f (one ∷ rows) e =
+    elim (is_wanted_row one) as (λ b. cond b (Some one) (find is_wanted_row rows) ≡ None → first_line f (map wanted_of (cond b (one ∷ filter is_wanted_row rows) (filter is_wanted_row rows))) ≡ ([], [])) [
+      | true ↦ λ is. absurd cc
+      | false ↦ λ is. none_lined f rows is
+    ] e
 
-one_line : (f : Flat) (xs : List ProcessRow) (process : ℕ) → first_wanted (map wanted_of xs) ≡ Some process
-    → (first_line f (map wanted_of xs)).0 ≡ path_in (option_and_then (service_of f) (service_of_process f process))
-one_line f [] process e = absurd cc
-one_line f (x ∷ xs) process e = (let same : x.number ≡ process = cc in ap (λ n. path_in (option_and_then (service_of f) (service_of_process f n))) same)
+line_words : (f : Flat) (row : Wanted) → cond row.command [] row.words ≡ (line_of f row).1
+line_words f row =
+    elim row.command as (λ b. cond b [] row.words ≡ (cond {A = List ℕ × List (List ℕ)} b (head_word row.words, []) (path_in (option_and_then (service_of f) (service_of_process f row.process)), row.words)).1) [ true ↦ refl | false ↦ refl ]
 
--- no launch is a command's
-pub first_path : (f : Flat) (rows : List ProcessRow) (process : ℕ) → first_wanted (wanted_in rows) ≡ Some process
-    → (first_line f (wanted_in rows)).0 ≡ path_in (option_and_then (service_of f) (service_of_process f process))
-first_path f rows process e = one_line f (filter is_wanted_row rows) process e
-
-words_of_lines : (f : Flat) (xs : List ProcessRow) → words_in (map wanted_of xs) ≡ (first_line f (map wanted_of xs)).1
+words_of_lines : (f : Flat) (rows : List Wanted) → words_in rows ≡ (first_line f rows).1
 words_of_lines f [] = refl
-words_of_lines f (x ∷ xs) = refl
+words_of_lines f (row ∷ rows) = line_words f row
 
 pub first_words : (f : Flat) (rows : List ProcessRow) → words_in (wanted_in rows) ≡ (first_line f (wanted_in rows)).1
-first_words f rows = words_of_lines f (filter is_wanted_row rows)
+first_words f rows = words_of_lines f (wanted_in rows)
 
 -- and the service that a handle is of
 pub held_has : (P : Service → Type 0) (rows : List Service) (handle : Option Opened) → All P rows → IfSome (option_and_then (λ (of : Opened). find (λ (row : Service). row.number == of.service) rows) handle) P

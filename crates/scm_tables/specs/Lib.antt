@@ -4,3 +4,9 @@ pub mod Lines
 pub mod Inside
 pub mod Tags
 pub mod Noticed
+pub mod Firing
+pub mod Places
+pub mod Rooms
+pub mod Failed
+pub mod Started
+pub mod Lined

@@ -1,5 +1,5 @@
 -- The processes, each with the words that its launch is to have: two lists of the flat state in one.
-use Rattle.std.specs.Prelude.{ℕ, Bool, true, false, List, [], ◌∷◌, map, filter}
+use Rattle.std.specs.Prelude.{ℕ, Bool, true, false, List, [], ◌∷◌, map, filter, if◌then◌else◌}
 use Rattle.scm_model.specs.declared.flat.Process.{Process}
 use Rattle.scm_model.specs.declared.flat.Phase.{Phase}
 use Rattle.scm_model.specs.declared.flat.Phase.TheVariants as phases
@@ -19,7 +19,7 @@ abbrev pub is_wanted_row : ProcessRow → Bool
 is_wanted_row row = is_wanted_phase row.phase
 
 abbrev pub wanted_of : ProcessRow → Wanted
-wanted_of row = record { process = row.number; command = false; words = row.words }
+wanted_of row = record { process = row.number; command = row.line.command; words = row.line.words }
 
 abbrev pub processes_in : List ProcessRow → List Process
 processes_in rows = map process_shown rows
@@ -27,10 +27,10 @@ processes_in rows = map process_shown rows
 abbrev pub wanted_in : List ProcessRow → List Wanted
 wanted_in rows = map wanted_of (filter is_wanted_row rows)
 
--- the words of the launch that is wanted first
+-- the words of the launch that is wanted first, which has none where it is a command's
 abbrev pub words_in : List Wanted → List (List ℕ)
 words_in [] = []
-words_in (row ∷ rows) = row.words
+words_in (row ∷ rows) = if row.command then [] else row.words
 
 -- they are taken out of it
 abbrev pub without_words : List Wanted → List Wanted

@@ -1,25 +1,16 @@
 -- The states that a change makes of which registrations are told.
 use Rattle.std.specs.Prelude.{ℕ}
 use Rattle.scm_model.specs.declared.flat.Flat.{Flat}
-use Rattle.scm_model.specs.declared.flat.Status.{Status}
 use Rattle.scm_model.specs.Notices.{new_registration, with_registration}
 use Rattle.scm_model.specs.Rows.{held_service, service_of}
 use Rattle.scm_rules.specs.Delete.{marked_in, told_of_mark}
 use Rattle.scm_rules.specs.Notify.{told_at_once}
-use Rattle.scm_rules.specs.Reports.{reported_in, told_of_report}
 
 -- a service is marked, if it is there
 abbrev pub with_marked : Flat → ℕ → Flat
 with_marked f service = record f {
   services = marked_in (service_of f service) f.services;
   registrations = told_of_mark f.processes (service_of f service) f.registrations;
-}
-
--- a service takes a report as if its current process had made it
-abbrev pub with_report_of : Flat → ℕ → Status → Flat
-with_report_of f service report = record f {
-  services = reported_in report (service_of f service) f.services;
-  registrations = told_of_report f.processes report (service_of f service) f.registrations;
 }
 
 -- a caller is registered for events of a service, or of the manager as 0; the one of the handle may be told at once

@@ -1,7 +1,8 @@
-ghost use Rattle.std.specs.Prelude.{◌≡◌, ◌==◌, Some, filter, not, if◌then◌else◌};
+ghost use Rattle.std.specs.Prelude.{◌≡◌, ◌==◌, Some, filter, not, vec_capacity, if◌then◌else◌};
 ghost use Rattle.std.specs.List.{list_any};
-ghost use Rattle.scm_rules.specs.Due.{comes_before, earlier, expired, first_due, is_due};
+ghost use Rattle.scm_rules.specs.Due.{beside, comes_before, earlier, first_due, is_due, is_due_of, of_others};
 ghost use Rattle.start_plan.specs.Settle.{is_due_still};
+ghost use Rattle.scm_tables.specs.Firing.{commands_in, starts_in};
 
 use scm_model::{Due, DueKind};
 use start_plan::Plans;
@@ -18,16 +19,69 @@ fn is_due_still(plans: &Plans, kind: DueKind) -> bool
 
 /// Drops the deadlines of plans that are decided or gone.
 pub fn keep_due(rows: &mut Vec<Due>, plans: &Plans)
-    ensures { rows.new.items ≡ filter (λ due. is_due_still plans.now.plans due.kind) rows.old.items }
+    ensures rows { rows.new.items ≡ filter (λ due. is_due_still plans.now.plans due.kind) rows.old.items }
+    ensures capacity { vec_capacity rows.new ≡ vec_capacity rows.old }
 {
     rows.retain(|row| is_due_still(plans, row.kind));
 }
 
 /// Keeps the rows that have another number.
 pub fn drop_due(rows: &mut Vec<Due>, number: u64)
-    ensures { rows.new.items ≡ filter (λ due. not (due.number == number)) rows.old.items }
+    ensures rows { rows.new.items ≡ filter (λ due. not (due.number == number)) rows.old.items }
+    ensures capacity { vec_capacity rows.new ≡ vec_capacity rows.old }
 {
     rows.retain(|row| !(row.number == number));
+}
+
+/// Whether a row that becomes due is of a service.
+fn is_due_of(service: u64, kind: DueKind) -> bool
+    ensures { result ≡ is_due_of service kind }
+{
+    match kind {
+        DueKind::Deadline(_) => false,
+        DueKind::Start(number) | DueKind::Command(number) | DueKind::Reboot(number) => {
+            number == service
+        }
+    }
+}
+
+/// Keeps the rows that are of no service or of another one.
+fn keep_others(rows: &mut Vec<Due>, service: u64)
+    ensures rows { rows.new.items ≡ of_others service rows.old.items }
+    ensures capacity { vec_capacity rows.new ≡ vec_capacity rows.old }
+{
+    rows.retain(|row| !is_due_of(service, row.kind));
+}
+
+/// Keeps the rows that stay when one of this kind is put in.
+pub fn keep_beside(rows: &mut Vec<Due>, kind: DueKind)
+    ensures rows { rows.new.items ≡ beside kind rows.old.items }
+    ensures capacity { vec_capacity rows.new ≡ vec_capacity rows.old }
+{
+    match kind {
+        DueKind::Deadline(_) => {}
+        DueKind::Start(service) | DueKind::Command(service) | DueKind::Reboot(service) => {
+            keep_others(rows, service)
+        }
+    }
+}
+
+/// How many rows are starts.
+pub fn starts_in(rows: &[Due]) -> usize
+    ensures { result ≡ starts_in rows.now }
+{
+    rows.iter()
+        .filter(|row| matches!(row.kind, DueKind::Start(_)))
+        .count()
+}
+
+/// How many rows are commands.
+pub fn commands_in(rows: &[Due]) -> usize
+    ensures { result ≡ commands_in rows.now }
+{
+    rows.iter()
+        .filter(|row| matches!(row.kind, DueKind::Command(_)))
+        .count()
 }
 
 /// Whether a row is due.
@@ -87,14 +141,4 @@ pub fn first_due(rows: &[Due], moment: u64) -> Option<Due>
         found = with_row(rows[left], moment, found);
     }
     found
-}
-
-/// What a row does once it is due.
-pub fn fire(plans: &mut Plans, kind: DueKind)
-    ensures { plans.new.plans ≡ expired plans.old.plans kind }
-{
-    match kind {
-        DueKind::Deadline(plan) => plans.expire(plan),
-        DueKind::Start(_) | DueKind::Command(_) | DueKind::Reboot(_) => {}
-    }
 }

@@ -1,4 +1,4 @@
-ghost use Rattle.std.specs.Prelude.{◌≡◌, ◌≤◌, length, IfOk, IsSome};
+ghost use Rattle.std.specs.Prelude.{◌≡◌, ◌≤◌, [], length, IfOk, IsSome};
 ghost use Rattle.scm_model.specs.Rows.{service_of};
 ghost use Rattle.scm_rules.specs.Needs.{makes_cycle, start_order};
 
@@ -38,6 +38,20 @@ impl Tables {
         }
     }
 
+    /// Writes the services to start for a service, by number: each after what it needs, and none that is RUNNING. It takes no memory.
+    pub(crate) fn write_start_order(&self, target: u64, room: &mut Buffer<u64>)
+        requires listed { IsSome (service_of self.now.flat target) }
+        requires empty { room.old.items ≡ [] }
+        requires room { length self.now.flat.services ≤ room.old.room }
+        ensures order { room.new.items ≡ start_order self.now.flat target }
+        ensures few { length room.new.items ≤ length self.now.flat.services }
+    {
+        let needing = Needing {
+            services: self.services.as_slice(),
+        };
+        order_of(&needing, target, self, room);
+    }
+
     /// The services to start for a service, by number: each after what it needs, and none that is RUNNING.
     pub fn start_order(&self, target: u64, alloc: Global) -> Result<Items<u64>, OutOfMemory>
         requires { IsSome (service_of self.now.flat target) }
@@ -45,10 +59,7 @@ impl Tables {
         ensures few { IfOk result (λ order. length order ≤ length self.now.flat.services) }
     {
         let mut room = Buffer::with_room(alloc, self.services.len())?;
-        let needing = Needing {
-            services: self.services.as_slice(),
-        };
-        order_of(&needing, target, self, &mut room);
+        self.write_start_order(target, &mut room);
         Ok(Items::from_vec(room.into_vec()))
     }
 }

@@ -4,13 +4,17 @@
 mod caller_rows;
 mod depending;
 mod due_rows;
+mod failing;
+mod firing;
 mod indexing;
+mod lines;
 mod needing;
 mod noticing;
 mod opening;
 mod planning;
 mod process_rows;
 mod registering;
+mod rooms;
 mod running;
 mod service_rows;
 mod settling;

@@ -1,22 +1,22 @@
-ghost use Rattle.std.specs.Prelude.{◌≡◌, ◌≤◌, ◌<◌, ◌-◌, ◌^◌, None, [], length, min, option_and_then, option_copied, OnOk};
+ghost use Rattle.std.specs.Prelude.{◌≡◌, ◌≤◌, ◌<◌, ◌+◌, ◌-◌, ◌^◌, None, [], length, min, option_and_then, option_copied, vec_capacity, vec_len, OnOk};
 ghost use Rattle.std.specs.List.{list_any};
-ghost use Rattle.scm_rules.specs.Launches.{first_wanted, is_taken, path_in, process_of, service_of_process, with_decided, with_fallen, with_launched, with_taken, without_process};
+ghost use Rattle.scm_rules.specs.Launches.{first_wanted, is_taken, line_of, path_in, process_of, service_of_process, with_decided, with_launched, with_taken, without_process};
 ghost use Rattle.scm_rules.specs.Owed.{owed};
-ghost use Rattle.scm_rules.specs.Due.{fired, first_fired, is_due, ticked};
+ghost use Rattle.scm_rules.specs.Room.{owed_by_due, owed_by_kind};
+ghost use Rattle.start_plan.specs.Owed.{total};
+ghost use Rattle.scm_rules.specs.Due.{is_due};
 ghost use Rattle.scm_rules.specs.Start.{can_end, ended, with_plan};
 ghost use Rattle.scm_rules.specs.Steps.{wants_launch, without_plans};
 ghost use Rattle.scm_model.specs.Rows.{service_of};
 ghost use Rattle.start_plan.specs.Decided.{plan_caller, code_of, is_target};
 ghost use Rattle.scm_tables.specs.Lines.{first_line};
-ghost use Rattle.scm_tables.specs.Listed.{without_words};
+ghost use Rattle.scm_tables.specs.Listed.{wanted_of, without_words};
 
-use super::due_rows::{drop_due, fire, first_due, is_any_due};
-use super::noticing::note_fall;
+use super::due_rows::is_any_due;
 use super::process_rows::{
-    drop_process, first_wanted, is_any_wanted, is_taken_in, launch_in, owed_in, service_of,
-    take_in, take_words,
+    ProcessRow, drop_process, first_wanted, is_any_wanted, is_taken_in, launch_in, owed_in,
+    service_of, take_in, take_words, wanted_first,
 };
-use super::service_rows::{current_in, fall_in};
 use super::tables::Tables;
 use scm_model::{Due, DueKind, Plan, Service};
 use scm_text::{Items, OutOfMemory, TextRoom, WText};
@@ -77,9 +77,21 @@ impl Tables {
         requires { 2048 ≤ path.old.room }
         ensures { path.new ≡ record { units = (first_line self.now.flat self.now.flat.wanted).0; room = path.old.room } }
     {
-        match self.first_wanted() {
-            Some(process) => self.write_path(self.service_of_process(process), path),
+        match wanted_first(self.processes.as_slice()) {
+            Some(row) => self.write_line(row, path),
             None => path.set(&WText::new(self.alloc)),
+        }
+    }
+
+    /// Writes the path of a launch: the text of a command, or the path of a service.
+    fn write_line(&self, row: &ProcessRow, path: &mut TextRoom)
+        requires { 2048 ≤ path.old.room }
+        ensures { path.new ≡ record { units = (line_of self.now.flat (wanted_of row.now)).0; room = path.old.room } }
+    {
+        if row.line.is_command() {
+            row.line.write_command(self.alloc, path);
+        } else {
+            self.write_path(self.service_of_process(row.number), path);
         }
     }
 
@@ -118,20 +130,6 @@ impl Tables {
         ensures limits { self.new.limits ≡ self.old.limits }
     {
         drop_process(&mut self.processes, process);
-    }
-
-    /// The service falls whose current process this is; its registrations are told.
-    pub fn fall(&mut self, process: u64, code: u32)
-        ensures flat { self.new.flat ≡ with_fallen self.old.flat process code }
-        ensures limits { self.new.limits ≡ self.old.limits }
-    {
-        note_fall(
-            &mut self.registrations,
-            current_in(self.services.as_slice(), process),
-            process,
-            code,
-        );
-        fall_in(&mut self.services, process, code);
     }
 
     /// Decides the undecided plans with a target, if any.
@@ -188,6 +186,25 @@ impl Tables {
         self.plans.gone(caller);
     }
 
+    #[tactic(auto, using(crate::proofs::Placed::reserved))]
+    /// Makes room for so many rows more that become due, beside a place for each service.
+    pub(crate) fn reserve_dues(&mut self, more: u32) -> Result<(), OutOfMemory>
+        ensures flat { self.new.flat ≡ self.old.flat }
+        ensures limits { self.new.limits ≡ self.old.limits }
+        ensures room { OnOk result (more ≤ self.new.spare.dues) }
+        ensures spare { self.new.spare ≡ record self.old.spare { services = self.new.spare.services; dues = self.new.spare.dues } }
+        ensures more { self.old.spare.dues ≤ self.new.spare.dues }
+    {
+        if self
+            .dues
+            .reserve(self.services.len() + more as usize)
+            .is_err()
+        {
+            return Err(OutOfMemory);
+        }
+        Ok(())
+    }
+
     /// Makes room for a plan more that tries so many services, and for its deadline.
     pub fn reserve_plan(&mut self, entries: usize) -> Result<(), OutOfMemory>
         ensures flat { self.new.flat ≡ self.old.flat }
@@ -197,9 +214,7 @@ impl Tables {
         ensures tried { OnOk result (entries ≤ self.new.spare.tried) }
     {
         self.plans.reserve(1)?;
-        if self.dues.reserve(1).is_err() {
-            return Err(OutOfMemory);
-        }
+        self.reserve_dues(1)?;
         match self.tried.reserve(entries) {
             Ok(()) => Ok(()),
             Err(_) => Err(OutOfMemory),
@@ -227,6 +242,28 @@ impl Tables {
         ensures limits { self.new.limits ≡ self.old.limits }
     {
         let tried = replace(&mut self.tried, Vec::new(self.alloc));
+        self.put_plan(plan, tried);
+    }
+
+    /// Begins a plan that has the next number, and its deadline. The list is the room for what the plan will have tried.
+    pub(crate) fn put_plan(&mut self, plan: Plan, tried: Vec<u64>)
+        requires plans { 1 ≤ self.old.spare.plans }
+        requires dues { 1 ≤ self.old.spare.dues }
+        requires empty { tried.items ≡ [] }
+        requires tried { length plan.entries ≤ vec_capacity tried - vec_len tried }
+        requires number { plan.number ≡ self.old.flat.next.plan }
+        requires undecided { plan.code ≡ None }
+        requires fresh { plan.tried ≡ [] }
+        requires next_plan { self.old.flat.next.plan < 2 ^ 63 }
+        requires next_due { self.old.flat.next.due < 2 ^ 63 }
+        ensures flat { self.new.flat ≡ with_plan self.old.flat plan }
+        ensures limits { self.new.limits ≡ self.old.limits }
+        ensures plans { self.new.spare.plans + 1 ≡ self.old.spare.plans }
+        ensures dues { self.new.spare.dues + 1 ≡ self.old.spare.dues }
+        ensures starts { self.new.spare.starts ≡ self.old.spare.starts }
+        ensures entries { self.new.spare.entries ≡ self.old.spare.entries }
+        ensures commands { self.new.spare.commands ≡ self.old.spare.commands }
+    {
         self.plans.begin(plan, tried);
         self.dues.push_reserved(Due {
             moment: self.moment.saturating_add(PATIENCE),
@@ -244,38 +281,6 @@ impl Tables {
         is_any_due(self.dues.as_slice(), moment)
     }
 
-    /// A row leaves, and does what it does once it is due.
-    fn fire(&mut self, row: Due)
-        ensures flat { self.new.flat ≡ fired row self.old.flat }
-        ensures limits { self.new.limits ≡ self.old.limits }
-    {
-        drop_due(&mut self.dues, row.number);
-        fire(&mut self.plans, row.kind);
-    }
-
-    /// The row that is due first takes place, if one is due.
-    fn fire_first(&mut self)
-        ensures flat { self.new.flat ≡ first_fired self.old.flat }
-        ensures limits { self.new.limits ≡ self.old.limits }
-    {
-        match first_due(self.dues.as_slice(), self.moment) {
-            Some(row) => self.fire(row),
-            None => {}
-        }
-    }
-
-    /// The rows that are due take place, in the order in which they became due, and leave.
-    pub fn tick(&mut self)
-        ensures flat { self.new.flat ≡ ticked self.old.flat }
-        ensures limits { self.new.limits ≡ self.old.limits }
-    {
-        let mut left = self.dues.len();
-        while left > 0 {
-            self.fire_first();
-            left -= 1;
-        }
-    }
-
     /// How many steps are owed, up to 2^64 - 1.
     pub fn owed(&self) -> u64
         ensures { result ≡ min (owed self.now.flat) (2 ^ 64 - 1) }
@@ -283,5 +288,40 @@ impl Tables {
         (self.callers() as u64)
             .saturating_add(owed_in(self.processes.as_slice()))
             .saturating_add(self.plans.owed())
+    }
+
+    /// How many steps a row may make owed once it is due, up to 2^64 - 1.
+    fn owed_by_kind(&self, kind: DueKind) -> u64
+        ensures { result ≡ min (owed_by_kind self.now.flat kind) (2 ^ 64 - 1) }
+    {
+        match kind {
+            DueKind::Start(service) => {
+                if self.service(service).is_some() {
+                    (self.services() as u64).saturating_mul(3)
+                } else {
+                    0
+                }
+            }
+            DueKind::Command(service) => {
+                if self.service(service).is_some() {
+                    3
+                } else {
+                    0
+                }
+            }
+            DueKind::Deadline(_) | DueKind::Reboot(_) => 0,
+        }
+    }
+
+    /// How many steps the rows may make owed once they are due, up to 2^64 - 1.
+    pub fn owed_by_dues(&self) -> u64
+        ensures { result ≡ min (total (owed_by_due self.now.flat) self.now.flat.dues) (2 ^ 64 - 1) }
+    {
+        let mut owed = 0u64;
+        for place in 0..self.dues.len() {
+            let kind = self.dues[place].kind;
+            owed = owed.saturating_add(self.owed_by_kind(kind));
+        }
+        owed
     }
 }

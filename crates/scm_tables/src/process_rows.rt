@@ -8,13 +8,13 @@ ghost use Rattle.scm_rules.specs.Steps.{wants_launch as is_any_wanted};
 ghost use Rattle.start_plan.specs.Owed.{total};
 ghost use Rattle.scm_tables.specs.Listed.{is_wanted_row, listed_as, processes_in, wanted_in, without_words, words_in};
 
+use super::lines::Line;
 use control_dispatch::Controls;
 use scm_model::Phase;
 use scm_text::{Items, WText};
 use std::alloc::Global;
-use std::mem::replace;
 
-/// A process, with the words that its launch is to have.
+/// A process, with what its launch is to have.
 #[derive(Drop)]
 pub struct ProcessRow {
     pub number: u64,
@@ -25,7 +25,7 @@ pub struct ProcessRow {
     pub pid: u32,
     /// The controls that wait.
     pub controls: Controls,
-    pub words: Items<WText>,
+    pub line: Line,
 }
 
 /// The launch of a process is taken in hand.
@@ -211,6 +211,13 @@ pub fn is_any_wanted(rows: &[ProcessRow]) -> bool
     false
 }
 
+/// The first process that is to be launched.
+pub fn wanted_first(rows: &[ProcessRow]) -> Option<&ProcessRow>
+    ensures { option_copied result ≡ find is_wanted_row rows.now }
+{
+    rows.iter().find(|row| matches!(row.phase, Phase::Wanted))
+}
+
 /// Where the first process stands that is to be launched.
 fn place_of_wanted(rows: &[ProcessRow]) -> Option<usize>
     ensures { result ≡ position is_wanted_row rows.now }
@@ -227,7 +234,7 @@ pub fn take_words(rows: &mut Vec<ProcessRow>, alloc: Global) -> Items<WText>
     ensures capacity { vec_capacity rows.new ≡ vec_capacity rows.old }
 {
     match place_of_wanted(rows.as_slice()) {
-        Some(place) => replace(&mut rows[place].words, Items::new(alloc)),
+        Some(place) => rows[place].line.take_words(alloc),
         None => Items::new(alloc),
     }
 }

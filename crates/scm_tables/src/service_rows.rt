@@ -6,6 +6,7 @@ ghost use Rattle.scm_model.specs.Changes.{configured_if, marked_if};
 ghost use Rattle.scm_model.specs.Purge.{leaves};
 ghost use Rattle.scm_rules.specs.Controls.{is_active_by};
 ghost use Rattle.scm_rules.specs.Create.{greatest_tag};
+ghost use Rattle.scm_rules.specs.Failures.{counted_if};
 ghost use Rattle.scm_rules.specs.Launches.{fallen_if};
 ghost use Rattle.scm_rules.specs.Reports.{reported_if};
 ghost use Rattle.start_plan.specs.Entered.{started_if};
@@ -13,6 +14,7 @@ ghost use Rattle.scm_model.specs.Ready.{is_running};
 ghost use Rattle.scm_tables.specs.Tags.{tag_in};
 
 use dependency_index::is_named;
+use failure_actions::on_failure;
 use handle_table::HandleTable;
 use scm_model::codes::{SERVICE_RUNNING, SERVICE_START_PENDING, SERVICE_STOPPED};
 use scm_model::{Config, Need, Opened, Service, Status};
@@ -29,6 +31,13 @@ pub fn row_with(rows: &[Service], number: u64) -> Option<&Service>
         }
     }
     None
+}
+
+/// The service at a place.
+pub fn row_at(rows: &[Service], place: usize) -> Option<&Service>
+    ensures { option_copied result ≡ slice_get rows.now place }
+{
+    rows.get(place)
 }
 
 /// The service that a handle is of.
@@ -308,5 +317,24 @@ pub fn fall_in(rows: &mut Vec<Service>, process: u64, code: u32)
 {
     for row in rows.iter_mut() {
         fall_row(row, process, code);
+    }
+}
+
+/// A failure at a moment is counted with a service.
+fn count_row(row: &mut Service, number: u64, moment: u64)
+    ensures { row.new ≡ counted_if number moment row.old }
+{
+    if row.number == number {
+        row.failures = on_failure(&row.config, row.failures, row.last_failure, moment).failures;
+        row.last_failure = moment;
+    }
+}
+
+/// A failure at a moment is counted with the service with a number.
+pub fn count_in(rows: &mut Vec<Service>, number: u64, moment: u64)
+    ensures { rows.new.items ≡ map (counted_if number moment) rows.old.items }
+{
+    for row in rows.iter_mut() {
+        count_row(row, number, moment);
     }
 }

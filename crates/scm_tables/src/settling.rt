@@ -7,6 +7,7 @@ ghost use Rattle.scm_model.specs.Ready.{is_fulfilled, is_ready, is_running, is_u
 ghost use Rattle.start_plan.specs.Settle.{settled};
 
 use super::due_rows::keep_due;
+use super::lines::Line;
 use super::noticing::note_start;
 use super::process_rows::{ProcessRow, is_full};
 use super::service_rows::{has_running, row_with, start_in};
@@ -143,7 +144,7 @@ impl Field for Tables {
             phase: Phase::Wanted,
             pid: 0,
             controls: Controls::new(),
-            words,
+            line: Line::of_service(words),
         });
         self.next.process += 1;
     }

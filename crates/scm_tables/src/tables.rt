@@ -1,4 +1,4 @@
-ghost use Rattle.std.specs.Prelude.{◌≡◌, ◌+◌, ◌^◌, ◌<◌, ◌≤◌, ◌==◌, filter, IfOk, OnOk, length, option_copied, All, []};
+ghost use Rattle.std.specs.Prelude.{◌≡◌, ◌+◌, ◌^◌, ◌<◌, ◌≤◌, ◌==◌, filter, IfOk, OnOk, length, option_copied, slice_get, All, []};
 ghost use Rattle.scm_model.specs.Changes.{with_handle, without_handle, without_handles_of, with_caller, without_caller, with_config, with_moment, without_lock_of};
 ghost use Rattle.scm_model.specs.Purge.{purged};
 ghost use Rattle.scm_model.specs.Rows.{caller_of, displayed, handle_of, held_by, held_service, holds_lock, is_caller, is_shown, is_shown_by_another, manager_mask, named, opened, owner_at, principal_of, service_of};
@@ -14,11 +14,12 @@ ghost use Rattle.scm_tables.specs.Tabled.{HasShortTexts};
 use super::caller_rows::{caller_in, drop_caller_row};
 use super::needing::{is_acyclic, reserve_search, stays_acyclic};
 use super::noticing::{note_all_leaving, note_mark, with_pid};
-use super::opening::services_of;
+use super::opening::{automatic_starts, services_of};
 use super::process_rows::ProcessRow;
+use super::rooms::{CommandRoom, StartRoom};
 use super::service_rows::{
     configure_in, displayed_in, greatest_tag_in, is_any_marked, is_shown_by_another_in,
-    is_shown_in, mark_in, named_in, purge_in, row_with, running_in,
+    is_shown_in, mark_in, named_in, purge_in, row_at, row_with, running_in,
 };
 use database_lock::DatabaseLock;
 use handle_table::HandleTable;
@@ -60,11 +61,15 @@ pub struct Tables {
     pub(crate) tried: Vec<u64>,
     pub(crate) registrations: NotifyQueue,
     pub(crate) dues: Vec<Due>,
+    /// For how many services each room of a plan without a caller is large enough.
+    pub(crate) start_room: usize,
+    pub(crate) starts: Vec<StartRoom>,
+    pub(crate) commands: Vec<CommandRoom>,
     callers: Vec<Caller>,
     pub(crate) lock: DatabaseLock,
     pub(crate) moment: u64,
     pub(crate) next: Numbers,
-    reboots: u64,
+    pub(crate) reboots: u64,
     pub(crate) limits: Limits,
     pub(crate) alloc: Global,
 }
@@ -80,17 +85,18 @@ impl Model for Tables {
     ghost invariant = { IsKept };
 }
 
-/// The numbers that are given first, behind those of so many services.
-fn first_numbers(services: u64) -> Numbers
-    requires { services < 2 ^ 63 }
-    ensures { with_handles result 1 ≡ record (empty_at 0).next { service = services + 1 } }
+/// The numbers that are given first, behind those of so many services and rows that become due.
+fn first_numbers(services: u64, dues: u64) -> Numbers
+    requires services { services < 2 ^ 63 }
+    requires dues { dues < 2 ^ 63 }
+    ensures { with_handles result 1 ≡ record (empty_at 0).next { service = services + 1; due = dues + 1 } }
 {
     Numbers {
         service: services + 1,
         process: 1,
         plan: 1,
         registration: 1,
-        due: 1,
+        due: dues + 1,
         caller: 1,
     }
 }
@@ -106,24 +112,27 @@ fn is_held_by(handles: &HandleTable, caller: u64, lock: Option<LockRow>) -> bool
 }
 
 impl Tables {
-    /// A service that never ran for each configuration, with room for as many processes as may be listed.
+    /// A service that never ran for each configuration, with room for as many processes as may be listed. Those start by themselves that
+    /// are automatic, those of the listed groups first.
     pub fn new(
         alloc: Global,
         limits: Limits,
+        groups: &[WText],
         configs: Items<Config>,
         moment: u64,
     ) -> Result<Self, OutOfMemory>
         requires { All HasShortTexts configs }
-        ensures flat { IfOk result (λ tables. tables.flat ≡ opening limits [] configs moment) }
+        ensures flat { IfOk result (λ tables. tables.flat ≡ opening limits groups.now configs moment) }
         ensures limits { IfOk result (λ tables. tables.limits ≡ limits) }
     {
         let Ok(processes) = Vec::with_capacity(alloc, limits.processes as usize) else {
             return Err(OutOfMemory);
         };
-        let count = configs.len() as u64;
         let services = services_of(alloc, configs)?;
+        let dues = automatic_starts(alloc, services.as_slice(), groups, moment)?;
         let mut searched = Buffer::with_room(alloc, services.len() + 1)?;
         let acyclic = is_acyclic(services.as_slice(), &mut searched);
+        let next = first_numbers(services.len() as u64, dues.len() as u64);
         Ok(Tables {
             services,
             acyclic,
@@ -134,11 +143,14 @@ impl Tables {
             plans: Plans::none(alloc),
             tried: Vec::new(alloc),
             registrations: NotifyQueue::new(alloc),
-            dues: Vec::new(alloc),
+            dues,
+            start_room: 0,
+            starts: Vec::new(alloc),
+            commands: Vec::new(alloc),
             callers: Vec::new(alloc),
             lock: DatabaseLock::new(),
             moment,
-            next: first_numbers(count),
+            next,
             reboots: 0,
             limits,
             alloc,
@@ -401,6 +413,13 @@ impl Tables {
         row_with(self.services.as_slice(), number)
     }
 
+    /// The service at a place.
+    pub fn row_at(&self, place: usize) -> Option<&Service>
+        ensures { option_copied result ≡ slice_get self.now.flat.services place }
+    {
+        row_at(self.services.as_slice(), place)
+    }
+
     /// The service with the same name.
     pub fn named(&self, name: &WText) -> Option<&Service>
         ensures { option_copied result ≡ named self.now.flat name.now }
@@ -437,13 +456,15 @@ impl Tables {
         greatest.saturating_add(1)
     }
 
-    /// Makes room for one service more.
+    #[tactic(auto, using(crate::proofs::Placed::both_free))]
+    /// Makes room for one service more, and for what becomes due of it.
     pub fn reserve_service(&mut self) -> Result<(), OutOfMemory>
         ensures flat { self.new.flat ≡ self.old.flat }
         ensures room { OnOk result (1 ≤ self.new.spare.services) }
         ensures others { self.new.spare.handles ≡ self.old.spare.handles }
         ensures limits { self.new.limits ≡ self.old.limits }
     {
+        self.reserve_dues(1)?;
         if self.services.reserve(1).is_err() {
             return Err(OutOfMemory);
         }

@@ -8,6 +8,7 @@ use Rattle.scm_tables.proofs.Wording.{found_has}
 use Rattle.start_plan.specs.Entered.{started_if, told_of_start}
 use Rattle.scm_rules.proofs.Needed.{same_graph}
 use Rattle.scm_tables.proofs.Keeping.{texts_map, started_needs, started_number, started_config}
+use Rattle.scm_tables.proofs.Placed.{map_keeps}
 use Rattle.scm_tables.proofs.Rising.{rising_map}
 use Rattle.scm_tables.proofs.settling.TablesField.enter.Goals as goal
 
@@ -20,7 +21,7 @@ returns-clause-flat c =
     let process = c.self.inside.next.process in
     let found = c.row_with.ensures ∙ ap (find (λ (row : Service). row.number == c.args.service)) c.as_slice.ensures.value in
     let told = c.note_start.ensures.rows process ∙ ap (λ (o : Option Service). told_of_start c.args.service process o c.self.inside.registrations.rows) found in
-    rw (← c.self.view_is, c.start_in.ensures, c.push_reserved.ensures.items, c.new.ensures, told) (simp (map-append, filter-append))
+    rw (← c.self.view_is, c.start_in.ensures, c.push_reserved.ensures.items, c.new.ensures, c.of_service.ensures, told) (simp (map-append, filter-append))
 
 pub invariant_of-self : goal.invariant_of-self
 invariant_of-self c =
@@ -33,4 +34,6 @@ invariant_of-self c =
       room = rw c.push_reserved.ensures.capacity kept.room;
       plans = kept.plans;
       untried = kept.untried;
+      dues = rw c.start_in.ensures (map_keeps (started_if c.args.service c.self.inside.next.process) (started_number c.args.service c.self.inside.next.process) kept.dues);
+      rooms = kept.rooms;
     }

@@ -2,6 +2,7 @@ use Rattle.scm_tables.proofs.Unmarked.{configured_mark, unmarked_map}
 use Rattle.scm_model.specs.Changes.{configured_if}
 use Rattle.scm_rules.proofs.Needed.{still_free}
 use Rattle.scm_tables.proofs.Keeping.{texts_configured}
+use Rattle.scm_tables.proofs.Placed.{map_keeps}
 use Rattle.scm_tables.proofs.Rising.{rising_map, configured_number}
 use Rattle.scm_tables.proofs.tables.Tables.configure.Goals as goal
 
@@ -17,4 +18,6 @@ invariant_of-self c =
       room = kept.room;
       plans = kept.plans;
       untried = kept.untried;
+      dues = rw c.configure_in.ensures.rows (map_keeps (configured_if c.args.number c.args.config) (configured_number c.args.number c.args.config) kept.dues);
+      rooms = kept.rooms;
     }

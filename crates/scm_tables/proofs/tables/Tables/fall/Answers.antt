@@ -5,6 +5,7 @@ use Rattle.scm_rules.specs.Launches.{fallen_if}
 use Rattle.scm_rules.proofs.Needed.{same_graph}
 use Rattle.scm_tables.specs.Tabled.{HasShort}
 use Rattle.scm_tables.proofs.Keeping.{fallen_number, fallen_needs, fallen_config, texts_map}
+use Rattle.scm_tables.proofs.Placed.{map_keeps}
 use Rattle.scm_tables.proofs.Rising.{rising_map}
 use Rattle.scm_tables.proofs.Wording.{found_has}
 use Rattle.scm_tables.proofs.tables.Tables.fall.Goals as goal
@@ -24,4 +25,6 @@ invariant_of-self c =
       room = kept.room;
       plans = kept.plans;
       untried = kept.untried;
+      dues = rw c.fall_in.ensures (map_keeps (fallen_if c.args.process c.args.code) (fallen_number c.args.process c.args.code) kept.dues);
+      rooms = kept.rooms;
     }

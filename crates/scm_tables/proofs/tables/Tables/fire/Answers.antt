@@ -1,7 +1,18 @@
-use Rattle.std.proofs.Common.{refl}
-use Rattle.scm_tables.proofs.Keeping.{other_plans, expired_below}
+use Rattle.std.proofs.Common.{refl, subst}
+use Rattle.scm_model.specs.declared.flat.DueKind.{DueKind}
+use Rattle.start_plan.specs.Decided.{is_numbered}
+use Rattle.scm_tables.proofs.Fired.{start_left}
+use Rattle.scm_tables.proofs.Keeping.{below_decided, other_plans}
+use Rattle.scm_tables.specs.Firing.{CanFireOne, starts_in}
 use Rattle.scm_tables.proofs.tables.Tables.fire.Goals as goal
 
 pub invariant_of-self : goal.invariant_of-self
 invariant_of-self c =
-    other_plans c.self.invariant refl refl refl refl refl refl refl (rw c.fire.ensures (expired_below c.self.inside.next.plan c.self.inside.plans.plans c.args.row.kind c.self.invariant.plans))
+    let kept = c.self.invariant in
+    other_plans kept refl refl refl refl refl refl refl refl refl refl (rw c.expire.ensures.plans (below_decided _ (is_numbered c.in-Deadline.plan) 1053 _ kept.plans)) kept.dues
+
+pub returns-in-Start-clause-left : goal.returns-in-Start-clause-left
+returns-in-Start-clause-left c =
+    let after = c.restart.ensures in
+    let can = subst (λ (kind : DueKind). CanFireOne kind c.args.self.now) c.in-Start.is c.requires in
+    start_left c.in-Start.service c.args.self.now c.restart.new.self after.flat after.limits after.commands (after.left (starts_in c.args.self.now.flat.dues) can.starts) can

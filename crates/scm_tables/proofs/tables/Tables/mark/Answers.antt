@@ -5,6 +5,7 @@ use Rattle.scm_model.specs.Changes.{marked_if}
 use Rattle.scm_rules.proofs.Needed.{same_graph}
 use Rattle.scm_tables.specs.Tabled.{HasShort}
 use Rattle.scm_tables.proofs.Keeping.{texts_map}
+use Rattle.scm_tables.proofs.Placed.{map_keeps}
 use Rattle.scm_tables.proofs.Rising.{rising_map}
 use Rattle.scm_tables.proofs.Wording.{found_has}
 use Rattle.scm_tables.proofs.tables.Tables.mark.Goals as goal
@@ -26,4 +27,11 @@ invariant_of-self c =
       room = kept.room;
       plans = kept.plans;
       untried = kept.untried;
+      dues = rw c.mark_in.ensures.rows (map_keeps (marked_if number) (λ row. refl) kept.dues);
+      rooms = kept.rooms;
     }
+
+pub returns-clause-flat : goal.returns-clause-flat
+returns-clause-flat c =
+    let found = c.in-Some.ensures ∙ ap (find (λ (row : Service). row.number == c.args.service)) c.as_slice.ensures.value in
+    rw (← c.self.view_is, c.mark_in.ensures.rows, c.note_mark.ensures.rows, c.as_slice-2.ensures.value, ← found) refl

@@ -7,6 +7,7 @@ use Rattle.std.specs.List.{list_any}
 use Rattle.std.proofs.lemmas.List.Elements.{All-filter}
 use Rattle.scm_rules.proofs.Needed.{fewer}
 use Rattle.scm_tables.specs.Tabled.{HasShort, Tabled}
+use Rattle.scm_tables.proofs.Placed.{left_keeps}
 use Rattle.scm_tables.proofs.Rising.{rising_filter}
 use Rattle.scm_tables.proofs.tables.Tables.purge.Goals as goal
 
@@ -21,6 +22,8 @@ invariant_of-self c =
       room = kept.room;
       plans = kept.plans;
       untried = kept.untried;
+      dues = rw c.purge_in.ensures.rows (left_keeps _ kept.dues);
+      rooms = kept.rooms;
     }
 
 -- where none is marked

@@ -1,10 +1,11 @@
 use Rattle.scm_tables.specs.Inside.{IsUnmarked}
-use Rattle.std.proofs.Common.{refl, subst, sym}
+use Rattle.std.proofs.Common.{◌≤◌, arith, refl, subst, sym}
 use Rattle.scm_model.specs.Needs.{needs_of}
 use Rattle.scm_model.specs.Walks.{IsAcyclic}
 use Rattle.std.proofs.lemmas.List.Elements.{All-push}
 use Rattle.scm_rules.proofs.Needed.{rows_added}
-use Rattle.scm_tables.specs.Tabled.{HasShort}
+use Rattle.scm_tables.specs.Tabled.{HasShort, Tabled}
+use Rattle.scm_tables.proofs.Placed.{push_keeps}
 use Rattle.scm_tables.proofs.Rising.{rising_push}
 use Rattle.scm_tables.proofs.tables.Tables.put_service.Goals as goal
 
@@ -19,4 +20,6 @@ invariant_of-self c =
       room = kept.room;
       plans = kept.plans;
       untried = kept.untried;
+      dues = rw c.push_reserved.ensures.items (push_keeps _ kept.dues (let room = subst (λ (t : Tabled). 1 ≤ t.spare.services) (sym c.self.view_is) c.requires.room in omega (arith, room)));
+      rooms = kept.rooms;
     }

@@ -1,40 +1,9 @@
-use Rattle.scm_tables.proofs.Unmarked.{reported_mark, unmarked_map}
-use Rattle.std.proofs.Common.{◌==◌, ◌∙◌, ap, find, refl, subst, sym}
-use Rattle.std.specs.Prelude.{Option, IfSome}
+use Rattle.std.proofs.Common.{◌==◌, refl}
 use Rattle.scm_model.specs.declared.flat.Service.{Service}
-use Rattle.scm_rules.specs.Reports.{reported_if}
-use Rattle.scm_rules.proofs.Needed.{same_graph}
-use Rattle.scm_tables.specs.Tabled.{HasShort}
-use Rattle.scm_tables.proofs.Keeping.{reported_config, reported_needs, reported_number, texts_map}
-use Rattle.scm_tables.proofs.Rising.{rising_map}
-use Rattle.scm_tables.proofs.Wording.{found_has}
+use Rattle.scm_tables.proofs.Failures.{taken_listed}
 use Rattle.scm_tables.proofs.tables.Tables.report_of.Goals as goal
 
-pub note_report-requires : goal.note_report-requires
-note_report-requires c =
-    let found = c.in-Some.ensures ∙ ap (find (λ (row : Service). row.number == c.args.service)) c.as_slice.ensures.value in
-    subst (λ (o : Option Service). IfSome o HasShort) (sym found) (found_has HasShort (λ (row : Service). row.number == c.args.service) c.self.inside.services.items c.self.invariant.texts)
-
-pub invariant_of-self : goal.invariant_of-self
-invariant_of-self c =
-    let kept = c.self.invariant in
-    let process = c.in-Some.row.now.process in
-    record {
-      rising = rw c.report_in.ensures (rising_map _ (reported_if process c.args.report.now) (reported_number process c.args.report.now) _ kept.rising);
-      texts = rw c.report_in.ensures (texts_map (reported_if process c.args.report.now) (reported_config process c.args.report.now) _ kept.texts);
-      needs = λ t. rw c.report_in.ensures (same_graph (reported_if process c.args.report.now) (reported_needs process c.args.report.now) _ (kept.needs t));
-      unmarked = λ no. rw c.report_in.ensures (unmarked_map (reported_if process c.args.report.now) (reported_mark process c.args.report.now) _ (kept.unmarked no));
-      room = kept.room;
-      plans = kept.plans;
-      untried = kept.untried;
-    }
-
-pub returns-clause-flat : goal.returns-clause-flat
-returns-clause-flat c =
-    let found = c.in-Some.ensures ∙ ap (find (λ (row : Service). row.number == c.args.service)) c.as_slice.ensures.value in
-    rw (← c.self.view_is, c.report_in.ensures, c.note_report.ensures.rows, c.as_slice-2.ensures.value, ← found) refl
-
-pub returns-in_default-clause-flat : goal.returns-in_default-clause-flat
-returns-in_default-clause-flat c =
-    let found = c.in_default.ensures ∙ ap (find (λ (row : Service). row.number == c.args.service)) c.as_slice.ensures.value in
-    rw (← c.self.view_is, ← found) refl
+pub fail-requires-clause-service : goal.fail-requires-clause-service
+fail-requires-clause-service c =
+    rw (c.failure_of-failed.ensures, c.failed_by.ensures, c.service.ensures, c.take_report_of.ensures.flat)
+    (taken_listed c.self.inside.moment c.args.report.now (λ (row : Service). row.number == c.args.service) c.args.self.now.flat.services _ refl)

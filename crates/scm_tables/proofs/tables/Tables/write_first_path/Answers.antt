@@ -1,20 +1,22 @@
-use Rattle.std.proofs.Common.{◌≡◌, ◌∙◌, Some, ap, sym, subst, ℕ, List}
-use Rattle.std.specs.Prelude.{option_and_then}
-use Rattle.scm_model.specs.Rows.{service_of}
-use Rattle.scm_rules.specs.Launches.{first_wanted, path_in, service_of_process}
+use Rattle.std.proofs.Common.{◌≡◌, ◌∙◌, ap, sym, subst, ℕ, List, [], find}
+use Rattle.scm_rules.specs.Launches.{line_of}
 use Rattle.scm_tables.specs.Inside.{tabled}
 use Rattle.scm_tables.specs.Lines.{first_line}
+use Rattle.scm_tables.specs.Listed.{is_wanted_row, wanted_of}
 use Rattle.scm_tables.specs.Tabled.{Tabled}
-use Rattle.scm_tables.proofs.Wording.{first_path}
+use Rattle.scm_tables.proofs.Wording.{first_lined, none_lined}
 use Rattle.scm_tables.proofs.tables.Tables.write_first_path.Goals as goal
 
 pub returns-in-Some : goal.returns-in-Some
 returns-in-Some c =
-    let f = c.args.self.now.flat in
-    let process = c.in-Some.process in
-    let path : (first_line f f.wanted).0 ≡ path_in (option_and_then (service_of f) (service_of_process f process)) =
-    subst (λ (t : Tabled). first_wanted t.flat.wanted ≡ Some process → (first_line t.flat t.flat.wanted).0 ≡ path_in (option_and_then (service_of t.flat) (service_of_process t.flat process)))
-    c.self.view_is (first_path (tabled c.self.inside).flat c.self.inside.processes.items process) (sym c.in-Some.ensures) in
-    c.write_path.ensures
-    ∙ ap (λ found. record { units = path_in (option_and_then (service_of f) found); room = c.args.path.now.room }) c.service_of_process.ensures
-    ∙ ap (λ (p : List ℕ). record { units = p; room = c.args.path.now.room }) (sym path)
+    let row = c.in-Some.row.now in
+    let found = ap (find is_wanted_row) (sym c.as_slice.ensures.value) ∙ sym c.in-Some.ensures in
+    let line = subst (λ (t : Tabled). first_line t.flat t.flat.wanted ≡ line_of t.flat (wanted_of row)) c.self.view_is (first_lined (tabled c.self.inside).flat c.self.inside.processes.items row found) in
+    c.write_line.ensures ∙ ap (λ (l : List ℕ × List (List ℕ)). record { units = l.0; room = c.args.path.now.room }) (sym line)
+
+pub returns-in-None : goal.returns-in-None
+returns-in-None c =
+    let found = ap (find is_wanted_row) (sym c.as_slice.ensures.value) ∙ sym c.in-None.ensures in
+    let line = subst (λ (t : Tabled). first_line t.flat t.flat.wanted ≡ ([], [])) c.self.view_is (none_lined (tabled c.self.inside).flat c.self.inside.processes.items found) in
+    c.set-in-None.ensures ∙ ap (λ (units : List ℕ). record { units = units; room = c.args.path.now.room }) c.new.ensures
+    ∙ ap (λ (l : List ℕ × List (List ℕ)). record { units = l.0; room = c.args.path.now.room }) (sym line)
