@@ -20,7 +20,7 @@ fn granted_in(handle: Option<Opened>) -> Option<u32>
 }
 
 /// How many controls wait for a service's process.
-fn waiting_for(tables: &Tables, service: Option<&Service>) -> u32
+pub fn waiting_for(tables: &Tables, service: Option<&Service>) -> u32
     ensures { result ≡ waiting_for tables.now.flat (option_copied service.entry) }
 {
     match service {

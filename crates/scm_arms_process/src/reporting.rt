@@ -1,4 +1,4 @@
-ghost use Rattle.std.specs.Prelude.{◌≡◌, ◌&&◌, option_copied};
+ghost use Rattle.std.specs.Prelude.{◌≡◌, ◌<◌, ◌^◌, ◌&&◌, option_copied};
 ghost use Rattle.scm_model.specs.declared.calls.Request.TheVariants as request;
 ghost use Rattle.scm_model.specs.Refused.{outcome};
 ghost use Rattle.scm_rules.specs.Reports.{may_report, report_answer, report_told, reported, set_status_done, set_status_verdict, set_status_outcome};
@@ -6,8 +6,7 @@ ghost use Rattle.scm_rules.specs.Ends.{end_told, process_ended};
 ghost use Rattle.status_machine.specs.Moves.{takes};
 
 use scm_model::codes::{
-    ERROR_ACCESS_DENIED, ERROR_INVALID_DATA, ERROR_INVALID_HANDLE, ERROR_PROCESS_ABORTED,
-    SERVICE_SET_STATUS,
+    ERROR_ACCESS_DENIED, ERROR_INVALID_DATA, ERROR_INVALID_HANDLE, SERVICE_SET_STATUS,
 };
 use scm_model::{Answer, Reply, Service, Status};
 use scm_tables::{Tables, mask_lacks};
@@ -33,8 +32,10 @@ fn report_told(service: Option<&Service>, report: &Status) -> Answer
     }
 }
 
-/// The service whose current process this is takes its report, if it is one that it may make. It takes no memory.
+/// The service whose current process this is takes its report, if it is one that it may make. It is a failure where the service stops with
+/// an error. It takes no memory.
 pub fn report(tables: &mut Tables, process: u64, report: &Status) -> Answer
+    requires { tables.old.flat.next.due < 2 ^ 63 }
     ensures answer { result ≡ (reported tables.old.flat process report.now).answer }
     ensures flat { tables.new.flat ≡ (reported tables.old.flat process report.now).flat }
     ensures limits { tables.new.limits ≡ tables.old.limits }
@@ -54,14 +55,15 @@ fn end_told(service: Option<&Service>) -> Answer
     }
 }
 
-/// A process leaves, and the service falls whose current one it is. It takes no memory.
+/// A process leaves, and the service falls whose current one it is, which is a failure. It takes no memory.
 pub fn end(tables: &mut Tables, process: u64) -> Answer
+    requires { tables.old.flat.next.due < 2 ^ 63 }
     ensures answer { result ≡ (process_ended tables.old.flat process).answer }
     ensures flat { tables.new.flat ≡ (process_ended tables.old.flat process).flat }
     ensures limits { tables.new.limits ≡ tables.old.limits }
 {
     let answer = end_told(tables.current(process));
-    tables.fall(process, ERROR_PROCESS_ABORTED);
+    tables.abort(process);
     tables.remove_process(process);
     answer
 }
@@ -102,6 +104,7 @@ pub fn set_status_verdict(tables: &Tables, caller: u64, handle: u64, report: &St
 
 /// A service takes a report as if its current process had made it. It takes no memory.
 pub fn set_status(tables: &mut Tables, caller: u64, handle: u64, report: &Status) -> Reply
+    requires { tables.old.flat.next.due < 2 ^ 63 }
     ensures reply { result ≡ (set_status_outcome tables.old.flat caller handle report.now).reply }
     ensures flat { tables.new.flat ≡ (set_status_outcome tables.old.flat caller handle report.now).flat }
     ensures limits { tables.new.limits ≡ tables.old.limits }

@@ -1,8 +1,8 @@
 -- The codes of creations and changes: what keeping adds to them, and what follows where they are 0.
-use Rattle.std.proofs.Common.{ℕ, ◌≡◌, ◌≤◌, ◌==◌, ◌&&◌, ◌||◌, ◌∙◌, Bool, true, false, not, cond, List, [], ◌∷◌, ◌++◌, Option, None, Some, length, take, drop, refl, ap, sym, subst, inl, inr}
-use Rattle.std.specs.Prelude.{option_map}
+use Rattle.std.proofs.Common.{ℕ, ◌≡◌, ◌≤◌, ◌<◌, ◌==◌, ◌&&◌, ◌||◌, ◌∙◌, Bool, true, false, not, cond, List, [], ◌∷◌, ◌++◌, Option, None, Some, length, take, drop, refl, ap, sym, subst, inl, inr}
+use Rattle.std.specs.Prelude.{nat_le, nat_lt, option_map}
 use Rattle.std.specs.List.{list_any}
-use Rattle.std.proofs.lemmas.Bool.{cases_Bool, false≢true, ltb-false, ne_eqb}
+use Rattle.std.proofs.lemmas.Bool.{cases_Bool, false≢true, leb-false, ltb-false, ne_eqb}
 use Rattle.scm_model.specs.declared.calls.ChangeService.{ChangeService}
 use Rattle.scm_model.specs.declared.calls.NewService.{NewService}
 use Rattle.scm_model.specs.declared.flat.Config.{Config}
@@ -108,6 +108,36 @@ short_path config account names texts =
       | inr short ↦ ltb-false 2048 (length config.path) short
     ]
 
+-- so is a command
+long_command : (names numbers path group description empty wordless long broken lists account : Bool) → long ≡ true → empty ≡ false
+    → (cond names 123 (cond (numbers || (path || group || description || (not empty && (wordless || long || broken))) || lists) 87 (cond account 1057 0)) == 123) ≡ false
+    → (cond names 123 (cond (numbers || (path || group || description || (not empty && (wordless || long || broken))) || lists) 87 (cond account 1057 0)) == 87) ≡ false
+    → ⊥
+long_command true numbers path group description empty wordless long broken lists account is some p q = false≢true (sym p)
+long_command false true path group description empty wordless long broken lists account is some p q = false≢true (sym q)
+long_command false false true group description empty wordless long broken lists account is some p q = false≢true (sym q)
+long_command false false false true description empty wordless long broken lists account is some p q = false≢true (sym q)
+long_command false false false false true empty wordless long broken lists account is some p q = false≢true (sym q)
+long_command false false false false false true wordless long broken lists account is some p q = false≢true (sym some)
+long_command false false false false false false true long broken lists account is some p q = false≢true (sym q)
+long_command false false false false false false false true broken lists account is some p q = false≢true (sym q)
+long_command false false false false false false false false broken lists account is some p q = false≢true is
+
+-- and has units
+some_units : (units : ℕ) → nat_lt 2048 units ≡ true → (units == 0) ≡ false
+some_units units e = ne_eqb units 0 (λ z. false≢true (ap (λ n. nat_lt 2048 n) (sym z) ∙ e))
+
+short_command : (config : Config) (account : Option (List ℕ)) → (check_new config account == 123) ≡ false → (check_new config account == 87) ≡ false → length config.command ≤ 2048
+unfolding check_new
+short_command config account names texts =
+    elim (cases_Bool (is_longer 2048 config.command)) [
+      | inl long ↦ absurd
+          (long_command (has_bad_names config) (has_bad_numbers config) (is_bad_line config.path) (is_longer 256 config.group) (is_longer 2048 config.description)
+          (length config.command == 0) (not (has_word config.command)) (is_longer 2048 config.command) (has_unpaired_surrogate config.command) (has_bad_lists config)
+          (is_bad_account account) long (some_units (length config.command) long) names texts)
+      | inr short ↦ ltb-false 2048 (length config.command) short
+    ]
+
 -- where it isn't refused for its names, these aren't bad
 good_names : (bad : Bool) (rest : ℕ) → (cond bad 123 rest == 123) ≡ false → bad ≡ false
 good_names true rest e = e
@@ -127,12 +157,20 @@ short_name config account names =
     (good_names (has_bad_names config) (first_refusal ((has_bad_numbers config || has_bad_texts config || has_bad_lists config, 87) ∷ (is_bad_account account, 1057) ∷ [])) names))
 
 pub short_texts : (config : Config) (account : Option (List ℕ)) → (check_new config account == 123) ≡ false → (check_new config account == 87) ≡ false → HasShortTexts config
-short_texts config account names texts = record { path = short_path config account names texts; name = short_name config account names }
+short_texts config account names texts = record {
+  path = short_path config account names texts;
+  command = short_command config account names texts;
+  name = short_name config account names;
+}
 
 -- of three tests that fail the first fails
 first_false : (a b c : Bool) → (a || b || c) ≡ false → a ≡ false
 first_false true b c e = e
 first_false false b c e = refl
+
+either_false : (a b : Bool) → (a || b) ≡ false → a ≡ false
+either_false true b e = e
+either_false false b e = refl
 
 -- ## Creations
 
@@ -146,6 +184,12 @@ created_texts : (l : Limits) (f : Flat) (caller : ℕ) (new : NewService) (appen
 created_texts l f caller new append e =
     let all : ArePassed (create_refusals l f caller new append) = passed (create_refusals l f caller new append) (refl, (refl, (refl, (refl, (refl, (refl, (refl, (refl, (refl, (refl, (refl, tt))))))))))) e in
     short_texts (created_config f new) new.account all.1.1.0 (first_false (check_new (created_config f new) new.account == 87) (tags_nothing new) (are_unreadable new.needs) all.1.1.1.0)
+
+-- nor is it where as many services are there as may be
+pub created_few : (l : Limits) (f : Flat) (caller : ℕ) (new : NewService) (append : Kept) → create_verdict l f caller new append ≡ 0 → length f.services < l.services
+created_few l f caller new append e =
+    let all : ArePassed (create_refusals l f caller new append) = passed (create_refusals l f caller new append) (refl, (refl, (refl, (refl, (refl, (refl, (refl, (refl, (refl, (refl, (refl, tt))))))))))) e in
+    leb-false l.services (length f.services) (either_false (nat_le l.services (length f.services)) _ all.1.1.1.1.1.1.1.1.1.0)
 
 -- what the rights deny is a creation's code
 pub create_denied : (l : Limits) (f : Flat) (caller : ℕ) (new : NewService) (denied : ℕ) → denied ≡ first_refusal (right_refusals f caller new) → (denied ≡ 0 → ⊥)

@@ -1,9 +1,10 @@
 ghost use Rattle.std.specs.Prelude.{◌≡◌, unwrap_or};
 ghost use Rattle.scm_model.specs.declared.steps.Answer.TheVariants as answer;
 ghost use Rattle.scm_model.specs.declared.calls.Reply.TheVariants as reply;
-ghost use Rattle.scm_rules.specs.Due.{ticked};
 ghost use Rattle.scm_rules.specs.Start.{ended};
 ghost use Rattle.scm_rules.specs.Steps.{finished};
+ghost use Rattle.scm_rules.specs.Ticks.{ticked};
+ghost use Rattle.scm_tables.specs.Firing.{CanFire};
 ghost use Rattle.start_plan.specs.Decided.{code_of};
 
 use scm_model::{Answer, Reply};
@@ -44,10 +45,11 @@ pub fn finish(tables: &mut Tables, answer: Answer) -> Answer
     }
 }
 
-/// What is due takes place.
+/// What is due takes place. It takes no memory.
 pub fn tick(tables: &mut Tables) -> Answer
+    requires { CanFire tables.old }
     ensures answer { result ≡ answer.Done }
-    ensures flat { tables.new.flat ≡ ticked tables.old.flat }
+    ensures flat { tables.new.flat ≡ ticked tables.old.limits tables.old.flat }
     ensures limits { tables.new.limits ≡ tables.old.limits }
 {
     tables.tick();

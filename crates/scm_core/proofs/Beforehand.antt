@@ -1,5 +1,5 @@
 -- What is made for a step, and its room, don't hang on the moment.
-use Rattle.std.proofs.Common.{ℕ, ◌≡◌, ◌≤◌, ◌==◌, ◌∙◌, true, false, cond, List, Option, Some, ap, refl, subst, sym}
+use Rattle.std.proofs.Common.{ℕ, ◌≡◌, ◌≤◌, ◌<◌, ◌^◌, ◌==◌, ◌∙◌, true, false, cond, length, List, Option, Some, ap, arith, refl, subst, sym}
 use Rattle.std.specs.Prelude.{is_some}
 use Rattle.scm_model.specs.Changes.{with_moment}
 use Rattle.scm_model.specs.declared.calls.Request.{Request}
@@ -8,7 +8,7 @@ use Rattle.scm_model.specs.declared.flat.Flat.{Flat}
 use Rattle.scm_model.specs.declared.flat.Limits.{Limits}
 use Rattle.scm_model.specs.declared.steps.Kept.{Kept}
 use Rattle.scm_model.specs.declared.steps.Step.{Step}
-use Rattle.scm_model.specs.declared.steps.Step.TheVariants.{Joined, Call, EndStart, LaunchTaken, Launched, LaunchFailed, Report, Ended, ControlTaken, Tick, Gone, NoMemory}
+use Rattle.scm_model.specs.declared.steps.Step.TheVariants.{Joined, Call, EndStart, LaunchTaken, Launched, LaunchFailed, Report, Ended, ControlTaken, Tick, Raised, Gone, NoMemory}
 use Rattle.scm_model.specs.declared.calls.Reply.{Reply}
 use Rattle.scm_model.specs.Refused.{answered}
 use Rattle.scm_model.specs.Entries.{unkept}
@@ -24,9 +24,14 @@ use Rattle.scm_rules.specs.Verdicts.{change_of, change_of_call, tells_right}
 use Rattle.scm_core.specs.Inside.{KeepsMade}
 use Rattle.scm_core.specs.Judged.{told_in, change_in}
 use Rattle.scm_core.specs.Managed.{WasMadeFor}
+use Rattle.scm_arms_process.specs.Raised.{raise_starts, started_among}
+use Rattle.scm_rules.specs.Raise.{raise_verdict}
+use Rattle.scm_rules.specs.Room.{is_started_at}
+use Rattle.scm_tables.specs.Firing.{CanFire, HasFires, HasPlanNumbers, HasStarts, starts_in}
+use Rattle.scm_tables.proofs.Placed.{fewer}
 use Rattle.scm_tables.specs.Tabled.{Spare, Tabled}
 use Rattle.scm_core.specs.declared.made.Made.{Made}
-use Rattle.scm_core.specs.Room.{HasRoomFor, IsMadeFor, made_for, nothing_made}
+use Rattle.scm_core.specs.Room.{HasNumbers, HasRoomFor, IsMadeFor, made_for, nothing_made}
 use Rattle.scm_model.specs.declared.steps.Change.{Change}
 
 -- the reply of a call that changes nothing
@@ -90,6 +95,7 @@ is_made_at l f moment made (Report process status) is = tt
 is_made_at l f moment made (Ended process) is = tt
 is_made_at l f moment made (ControlTaken process) is = tt
 is_made_at l f moment made Tick is = tt
+is_made_at l f moment made (Raised caller subtype) is = tt
 is_made_at l f moment made (Gone caller) is = tt
 is_made_at l f moment made (NoMemory caller) is = tt
 
@@ -119,14 +125,24 @@ room_at t moment caller (request.Notify handle mask) append has = has
 room_at t moment caller (request.GetNotify handle) append has = has
 room_at t moment caller (request.CloseNotify handle) append has = has
 
+starts_at : (t : Tabled) (moment count : ℕ) → HasStarts count t → HasStarts count (record t { flat = with_moment t.flat moment })
+starts_at t moment count has = record { starts = has.starts; plans = has.plans; dues = has.dues; entries = has.entries }
+
+-- lists with these parts
+moved : (t u : Tabled) (moment : ℕ) (P : Tabled → Type 0) → u.flat ≡ with_moment t.flat moment → u.limits ≡ t.limits → u.spare ≡ t.spare → P (record t { flat = with_moment t.flat moment }) → P u
+moved t u moment P flat limits spare has =
+    subst (λ s. P (record { flat = u.flat; limits = u.limits; spare = s })) (sym spare)
+    (subst (λ l. P (record { flat = u.flat; limits = l; spare = t.spare })) (sym limits)
+    (subst (λ f. P (record { flat = f; limits = t.limits; spare = t.spare })) (sym flat) has))
+
 -- the room of lists that moved on to the step's moment
 pub has_room_at : (t u : Tabled) (moment : ℕ) (step : Step) → u.flat ≡ at_moment t.flat moment step → u.limits ≡ t.limits → u.spare ≡ t.spare → HasRoomFor t step → HasRoomFor u step
 has_room_at t u moment (Call caller asked append) flat limits spare has =
-    let moved = room_at t moment caller asked append has in
-    let step = Call caller asked append in
-    subst (λ s. HasRoomFor (record { flat = u.flat; limits = u.limits; spare = s }) step) (sym spare)
-    (subst (λ l. HasRoomFor (record { flat = u.flat; limits = l; spare = t.spare }) step) (sym limits)
-    (subst (λ f. HasRoomFor (record { flat = f; limits = t.limits; spare = t.spare }) step) (sym flat) moved))
+    moved t u moment (λ v. HasRoomFor v (Call caller asked append)) flat limits spare (room_at t moment caller asked append has)
+has_room_at t u moment Tick flat limits spare has =
+    moved t u moment HasFires flat limits spare (record { starts = starts_at t moment (starts_in t.flat.dues) has.starts; commands = has.commands })
+has_room_at t u moment (Raised caller subtype) flat limits spare has =
+    moved t u moment (λ v. HasRoomFor v (Raised caller subtype)) flat limits spare (starts_at t moment (raise_starts t.flat caller subtype) has)
 has_room_at t u moment (Joined principal) flat limits spare has = subst (λ (s : Spare). 1 ≤ s.callers) (sym spare) has
 has_room_at t u moment (EndStart caller plan) flat limits spare has = tt
 has_room_at t u moment LaunchTaken flat limits spare has = tt
@@ -135,7 +151,6 @@ has_room_at t u moment (LaunchFailed process code) flat limits spare has = tt
 has_room_at t u moment (Report process status) flat limits spare has = tt
 has_room_at t u moment (Ended process) flat limits spare has = tt
 has_room_at t u moment (ControlTaken process) flat limits spare has = tt
-has_room_at t u moment Tick flat limits spare has = tt
 has_room_at t u moment (Gone caller) flat limits spare has = tt
 has_room_at t u moment (NoMemory caller) flat limits spare has = tt
 
@@ -151,6 +166,7 @@ is_made_unkept l f made (Report process status) is = tt
 is_made_unkept l f made (Ended process) is = tt
 is_made_unkept l f made (ControlTaken process) is = tt
 is_made_unkept l f made Tick is = tt
+is_made_unkept l f made (Raised caller subtype) is = tt
 is_made_unkept l f made (Gone caller) is = tt
 is_made_unkept l f made (NoMemory caller) is = tt
 
@@ -164,7 +180,8 @@ has_room_unkept t (LaunchFailed process code) has = tt
 has_room_unkept t (Report process status) has = tt
 has_room_unkept t (Ended process) has = tt
 has_room_unkept t (ControlTaken process) has = tt
-has_room_unkept t Tick has = tt
+has_room_unkept t Tick has = has
+has_room_unkept t (Raised caller subtype) has = has
 has_room_unkept t (Gone caller) has = tt
 has_room_unkept t (NoMemory caller) has = tt
 
@@ -186,3 +203,23 @@ pub told_made : (l : Limits) (f : Flat) (made : Made) (room : Option Step) (step
 told_made l f made room (Call caller asked append) keeps was =
     ap (λ (change : Option Change). tells_right (is_some change) append) (made_before l f made room (Call caller asked append) keeps was)
 told_made l f made room _ keeps was = refl
+
+-- ## What a tick and a raise begin
+
+-- all that is due can take place
+pub can_fire : (t : Tabled) → HasFires t → HasNumbers t.flat → t.limits.processes < 2 ^ 32 → t.flat.next.process ≤ 2 ^ 62 → CanFire t
+can_fire t room numbers limit few = record {
+  room = room;
+  numbers = record { plans = omega (arith, numbers.starts.plans); dues = omega (arith, numbers.starts.dues) };
+  processes = omega (arith, limit, few);
+}
+
+raises_few : (f : Flat) (caller : ℕ) (subtype : List ℕ) → raise_starts f caller subtype ≤ length f.services
+raises_few f caller subtype =
+    elim (raise_verdict f caller == 0) as (λ b. cond b (started_among subtype f.services) 0 ≤ length f.services) [ true ↦ fewer (is_started_at subtype) f.services | false ↦ omega arith ]
+
+-- what is raised has numbers
+pub raise_numbers : (f : Flat) (caller : ℕ) (subtype : List ℕ) → HasNumbers f → HasPlanNumbers (raise_starts f caller subtype) f
+raise_numbers f caller subtype numbers =
+    let few = raises_few f caller subtype in
+    record { plans = omega (arith, few, numbers.starts.plans); dues = omega (arith, few, numbers.starts.dues) }

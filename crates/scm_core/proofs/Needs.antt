@@ -4,7 +4,7 @@ use Rattle.std.proofs.lemmas.Bool.{cases_lt, le-leb, lt-leb}
 use Rattle.scm_model.specs.declared.calls.Request.{Request}
 use Rattle.scm_model.specs.declared.calls.Request.TheVariants as request
 use Rattle.scm_model.specs.declared.steps.Step.{Step}
-use Rattle.scm_model.specs.declared.steps.Step.TheVariants.{Joined, Call, Tick}
+use Rattle.scm_model.specs.declared.steps.Step.TheVariants.{Joined, Call, Raised, Tick}
 use Rattle.scm_rules.specs.Room.{need_of_call, need_with}
 
 call_needs : (services : ℕ) (asked : Request) → 1 ≤ need_of_call services asked
@@ -16,6 +16,7 @@ some_need : (services : ℕ) (step : Step) → 1 ≤ need_with services step
 some_need services (Joined principal) = omega arith
 some_need services (Call caller asked append) = call_needs services asked
 some_need services Tick = omega arith
+some_need services (Raised caller subtype) = omega arith
 some_need services step = omega arith
 
 same_test : (a b l : ℕ) → (a ≤ l → b ≤ l) → (b ≤ l → a ≤ l) → nat_le a l ≡ nat_le b l

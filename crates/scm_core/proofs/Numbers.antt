@@ -1,130 +1,458 @@
--- A step gives few numbers.
-use Rattle.std.proofs.Common.{ℕ, ◌≡◌, ◌+◌, ◌<◌, ◌≤◌, ◌^◌, ◌==◌, true, false, cond, [], ◌∷◌, Option, None, Some, length, length-append, refl, sym, subst, ap, arith}
+-- A step gives few numbers, and adds a service only where one more may be.
+use Rattle.std.proofs.Common.{ℕ, ◌≡◌, ◌∙◌, ◌+◌, ◌*◌, ◌<◌, ◌≤◌, ◌^◌, ◌==◌, ◌||◌, true, false, cond, not, List, [], ◌∷◌, ◌++◌, Option, None, Some, filter, length, map, length-append, refl, sym, subst, ap, arith, eqb-true}
+use Rattle.std.specs.Prelude.{Bool, nat_le, unwrap_or}
+use Rattle.std.specs.List.{list_any}
 use Rattle.std.proofs.lemmas.Bool.Decides.{nat_tests}
+use Rattle.std.proofs.lemmas.List.{length-map}
+use Rattle.scm_model.specs.declared.flat.Action.{Action}
+use Rattle.scm_model.specs.declared.flat.Due.{Due}
+use Rattle.scm_model.specs.declared.flat.DueKind.{DueKind}
+use Rattle.scm_model.specs.declared.flat.DueKind.TheVariants as dues
 use Rattle.scm_model.specs.declared.flat.Flat.{Flat}
 use Rattle.scm_model.specs.declared.flat.Limits.{Limits}
 use Rattle.scm_model.specs.declared.flat.Next.{Next}
+use Rattle.scm_model.specs.declared.flat.Plan.{Plan}
+use Rattle.scm_model.specs.declared.flat.Service.{Service}
+use Rattle.scm_model.specs.declared.flat.Status.{Status}
 use Rattle.scm_model.specs.declared.calls.Reply.{Reply}
 use Rattle.scm_model.specs.declared.calls.Request.{Request}
 use Rattle.scm_model.specs.declared.calls.Request.TheVariants as request
+use Rattle.scm_model.specs.declared.flat.HandleKind.TheVariants as kinds
 use Rattle.scm_model.specs.declared.steps.Answer.{Answer}
 use Rattle.scm_model.specs.declared.steps.Answer.TheVariants as answer
 use Rattle.scm_model.specs.declared.steps.Kept.{Kept}
 use Rattle.scm_model.specs.declared.steps.Step.{Step}
-use Rattle.scm_model.specs.declared.steps.Step.TheVariants.{Joined, Call, EndStart, LaunchTaken, Launched, LaunchFailed, Report, Ended, ControlTaken, Tick, Gone, NoMemory}
-use Rattle.scm_model.specs.Refused.{answered}
+use Rattle.scm_model.specs.declared.steps.Step.TheVariants.{Joined, Call, EndStart, LaunchTaken, Launched, LaunchFailed, Report, Ended, ControlTaken, Tick, Raised, Gone, NoMemory}
+use Rattle.scm_model.specs.declared.codes.TheConstants.{SERVICE_CONTROL_STOP, SERVICE_TRIGGER_ACTION_SERVICE_START}
+use Rattle.scm_model.specs.Changes.{configured_if, marked_if, new_service, with_handle, with_moment}
+use Rattle.scm_model.specs.Found.{if_found}
 use Rattle.scm_model.specs.Outcomes.{Done}
+use Rattle.scm_model.specs.Purge.{leaves, purged}
+use Rattle.scm_model.specs.Refused.{answered}
+use Rattle.scm_model.specs.Rows.{held_service, named, service_of}
+use Rattle.scm_model.proofs.Found.{found_keeps}
+use Rattle.failure_actions.specs.Failing.{due_action, on_failure}
 use Rattle.start_plan.specs.Decided.{code_of}
-use Rattle.start_plan.specs.Entered.{HasNumbers as HasProcessNumbers, wanted_process}
+use Rattle.start_plan.specs.Entered.{HasNumbers as HasProcessNumbers, started_if, wanted_process}
 use Rattle.start_plan.specs.Moves.{is_full}
-use Rattle.start_plan.specs.Settle.{settled}
+use Rattle.start_plan.specs.Settle.{is_due_still, settle_all, settled, stays}
 use Rattle.start_plan.proofs.Enterings.{all_units}
 use Rattle.start_plan.proofs.Keeps.{Keeps, keeps_all}
-use Rattle.scm_rules.specs.Steps.{at_moment, effect_of, finished, left_by, step_of}
-use Rattle.scm_rules.specs.Verdicts.{call_of, done_of, told_refused, verdict}
-use Rattle.scm_core.specs.Room.{HasNumbers}
-use Rattle.scm_model.proofs.Found.{found_keeps}
-use Rattle.scm_model.specs.Rows.{held_service, named}
-use Rattle.scm_model.specs.declared.flat.HandleKind.TheVariants as kinds
-use Rattle.scm_model.specs.Changes.{with_handle}
+use Rattle.start_triggers.specs.Triggers.{matching}
+use Rattle.scm_rules.specs.Change.{new_config}
+use Rattle.scm_rules.specs.Controls.{controlled_if}
+use Rattle.scm_rules.specs.Create.{create_verdict, created_config, new_status}
+use Rattle.scm_rules.specs.Due.{beside, next_due, of_others, with_due}
+use Rattle.scm_rules.specs.Ends.{with_end}
+use Rattle.scm_rules.specs.Failures.{counted_if, failed_by, moment_after, with_action, with_failure}
+use Rattle.scm_rules.specs.Change2.{level_config}
+use Rattle.scm_rules.specs.Launches.{current_of, fallen_if, with_fallen}
 use Rattle.scm_rules.specs.Notify.{registered, watched}
 use Rattle.scm_rules.specs.OpenService.{service_granted, with_opened}
-use Rattle.scm_rules.specs.Start.{with_start}
-use Rattle.std.specs.Prelude.{unwrap_or}
-use Rattle.scm_rules.proofs.Dues.{ticked_apart}
+use Rattle.scm_rules.specs.Raise.{all_triggered, gets_stop, raised, raise_verdict, triggered, with_stop}
+use Rattle.scm_rules.specs.Reports.{reported_if}
+use Rattle.scm_rules.specs.Start.{deadline_at, ended, with_start}
+use Rattle.scm_rules.specs.Steps.{at_moment, effect_of, finished, finished_step, left_by, step_of}
+use Rattle.scm_rules.specs.Ticks.{can_run, can_start, fire, fired, ticked, with_command, with_restart, with_wanted_command, without_due}
+use Rattle.scm_rules.specs.Verdicts.{call_of, done_of, told_refused, verdict}
+use Rattle.scm_rules.proofs.Dues.{ticked_keeps}
+use Rattle.scm_tables.specs.Failed.{taken_by, taken_by_service}
+use Rattle.scm_tables.specs.Firing.{HasPlanNumbers, begins_plan, one_if, starts_in}
+use Rattle.scm_tables.proofs.Fired.{first_leaves, found_restarts, not_counted, restarts}
+use Rattle.scm_tables.proofs.Placed.{fewer, fewer_pass}
+use Rattle.scm_arms_service.proofs.Judging.{created_few}
+use Rattle.scm_core.specs.Room.{HasNumbers}
 
--- each next number rises by one at most, but for those of processes, which stay
-pub record NumbersRise (old new : Flat) : Type 0 where
+-- of plans and of what becomes due, with the starts that stand, as many numbers as there are services and two; of processes as many as may be
+-- listed; of all else one
+pub record NumbersRise (l : Limits) (old new : Flat) : Type 0 where
   pub handle : new.next.handle ≤ old.next.handle + 1
   pub caller : new.next.caller ≤ old.next.caller + 1
   pub service : new.next.service ≤ old.next.service + 1
-  pub plan : new.next.plan ≤ old.next.plan + 1
-  pub due : new.next.due ≤ old.next.due + 1
+  pub plan : new.next.plan + starts_in new.dues ≤ old.next.plan + starts_in old.dues + (length old.services + 2)
+  pub due : new.next.due + starts_in new.dues ≤ old.next.due + starts_in old.dues + (length old.services + 2)
   pub registration : new.next.registration ≤ old.next.registration + 1
-  pub process : new.next.process ≡ old.next.process
+  pub process : new.next.process ≤ old.next.process + l.processes
+  pub few : length old.services ≤ l.services → length new.services ≤ l.services
 
 -- no number is given
-same : (old new : Flat) → new.next ≡ old.next → NumbersRise old new
-same old new e = subst (λ n. NumbersRise old (record new { next = n })) (sym e) (record { handle = omega arith; caller = omega arith; service = omega arith; plan = omega arith; due = omega arith; registration = omega arith; process = refl })
+same : (l : Limits) (old new : Flat) → new.next ≡ old.next → new.dues ≡ old.dues → length new.services ≡ length old.services → NumbersRise l old new
+same l old new e d s =
+    subst (λ n. NumbersRise l old (record new { next = n })) (sym e)
+    (subst (λ rows. NumbersRise l old (record new { next = old.next; dues = rows })) (sym d)
+    (record { handle = omega arith; caller = omega arith; service = omega arith; plan = omega arith; due = omega arith; registration = omega arith; process = omega arith; few = λ few. omega (arith, few, s) }))
+
+-- one number of a handle, or of a caller, or of a registration
+one : (l : Limits) (old new : Flat) → new.next.handle ≤ old.next.handle + 1 → new.next.caller ≤ old.next.caller + 1 → new.next.registration ≤ old.next.registration + 1 → new.next.service ≡ old.next.service
+    → new.next.plan ≡ old.next.plan → new.next.due ≡ old.next.due → new.next.process ≡ old.next.process → new.dues ≡ old.dues → new.services ≡ old.services → NumbersRise l old new
+one l old new handle caller registration service plan due process rows services =
+    let starts = ap starts_in rows in
+    record {
+      handle = handle;
+      caller = caller;
+      service = omega (arith, service);
+      plan = omega (arith, plan, starts);
+      due = omega (arith, due, starts);
+      registration = registration;
+      process = omega (arith, process);
+      few = λ few. omega (arith, few, ap (λ (rs : List Service). length rs) services);
+    }
+
+-- ## Failures
+
+-- a failure gives one number, of a row that may be a start
+record Fails (f g : Flat) : Type 0 where
+  handle : g.next.handle ≡ f.next.handle
+  caller : g.next.caller ≡ f.next.caller
+  service : g.next.service ≡ f.next.service
+  plan : g.next.plan ≡ f.next.plan
+  due : g.next.due ≤ f.next.due + 1
+  registration : g.next.registration ≡ f.next.registration
+  process : g.next.process ≡ f.next.process
+  starts : starts_in g.dues ≤ starts_in f.dues + 1
+  services : length g.services ≡ length f.services
+
+fails_nothing : (f : Flat) → Fails f f
+fails_nothing f = record { handle = refl; caller = refl; service = refl; plan = refl; due = omega arith; registration = refl; process = refl; starts = omega arith; services = refl }
+
+one_row : (rows : List Due) (due : Due) → starts_in (rows ++ due ∷ []) ≤ starts_in rows + 1
+one_row [] due = elim (begins_plan due.kind) as (λ b. length (cond b (due ∷ []) []) ≤ 0 + 1) [ true ↦ omega arith | false ↦ omega arith ]
+one_row (row ∷ rows) due =
+    elim (begins_plan row.kind) as (λ b. length (cond b (row ∷ filter (λ (d : Due). begins_plan d.kind) (rows ++ due ∷ [])) (filter (λ (d : Due). begins_plan d.kind) (rows ++ due ∷ [])))
+    ≤ length (cond b (row ∷ filter (λ (d : Due). begins_plan d.kind) rows) (filter (λ (d : Due). begins_plan d.kind) rows)) + 1)
+    [ true ↦ omega (arith, one_row rows due) | false ↦ omega (arith, one_row rows due) ]
+
+fewer_starts : (kind : DueKind) (rows : List Due) → starts_in (beside kind rows) ≤ starts_in rows
+fewer_starts (dues.Deadline plan) rows = omega arith
+fewer_starts (dues.Start service) rows = fewer_pass (λ (d : Due). begins_plan d.kind) _ rows
+fewer_starts (dues.Command service) rows = fewer_pass (λ (d : Due). begins_plan d.kind) _ rows
+fewer_starts (dues.Reboot service) rows = fewer_pass (λ (d : Due). begins_plan d.kind) _ rows
+
+of_due : (f : Flat) (moment : ℕ) (kind : DueKind) → Fails f (with_due f moment kind)
+of_due f moment kind = record {
+  handle = refl;
+  caller = refl;
+  service = refl;
+  plan = refl;
+  due = omega arith;
+  registration = refl;
+  process = refl;
+  starts = omega (arith, one_row (beside kind f.dues) (record { moment = moment; number = f.next.due; kind = kind }), fewer_starts kind f.dues);
+  services = refl;
+}
+
+of_action : (number : ℕ) (f : Flat) (action : Option Action) → Fails f (if_found (with_action number) action f)
+of_action number f action =
+    found_keeps (Fails f) (with_action number) action f (fails_nothing f)
+    (λ found is. found_keeps (Fails f) (λ kind g. with_due g (moment_after g.moment found.delay) kind) (due_action number found) f (fails_nothing f) (λ kind at. of_due f (moment_after f.moment found.delay) kind))
+
+of_failure : (row : Service) (f : Flat) → Fails f (with_failure row f)
+of_failure row f =
+    let counting = counted_if row.number f.moment in
+    let r = of_action row.number (record f { services = map counting f.services }) (on_failure row.config row.failures row.last_failure f.moment).action in
+    record {
+      handle = r.handle;
+      caller = r.caller;
+      service = r.service;
+      plan = r.plan;
+      due = r.due;
+      registration = r.registration;
+      process = r.process;
+      starts = r.starts;
+      services = r.services ∙ length-map f.services counting;
+    }
+
+of_found : (found : Option Service) (f : Flat) → Fails f (if_found with_failure found f)
+of_found found f = found_keeps (Fails f) with_failure found f (fails_nothing f) (λ row is. of_failure row f)
+
+-- after a change that gives no number
+failing : (l : Limits) (old f g : Flat) → f.next ≡ old.next → f.dues ≡ old.dues → length f.services ≡ length old.services → Fails f g → NumbersRise l old g
+failing l old f g next rows services r =
+    let starts = ap starts_in rows in
+    record {
+      handle = omega (arith, r.handle, ap (λ n. n.handle) next);
+      caller = omega (arith, r.caller, ap (λ n. n.caller) next);
+      service = omega (arith, r.service, ap (λ n. n.service) next);
+      plan = omega (arith, r.plan, ap (λ n. n.plan) next, r.starts, starts);
+      due = omega (arith, r.due, ap (λ n. n.due) next, r.starts, starts);
+      registration = omega (arith, r.registration, ap (λ n. n.registration) next);
+      process = omega (arith, r.process, ap (λ n. n.process) next);
+      few = λ few. omega (arith, few, r.services, services);
+    }
 
 -- ## Calls
 
-of_answered : (code : ℕ) (told : Reply) (f : Flat) (done : Done) → NumbersRise f done.flat → NumbersRise f (answered code told f done).flat
-of_answered code told f done rises = elim (code == 0) as (λ b. NumbersRise f (cond {A = Done} b done (record { reply = told; flat = f })).flat) [ true ↦ rises | false ↦ same f f refl ]
+of_answered : (l : Limits) (code : ℕ) (told : Reply) (f : Flat) (done : Done) → ((code == 0) ≡ true → NumbersRise l f done.flat) → NumbersRise l f (answered code told f done).flat
+of_answered l code told f done rises =
+    elim (code == 0) as (λ b. ((code == 0) ≡ b → NumbersRise l f (cond {A = Done} b done (record { reply = told; flat = f })).flat)) [ true ↦ rises | false ↦ λ e. same l f f refl refl refl ] refl
 
-of_done : (l : Limits) (f : Flat) (caller : ℕ) (asked : Request) → NumbersRise f (done_of l f caller asked).flat
-of_done l f caller (request.Close handle) = same f (done_of l f caller (request.Close handle)).flat refl
-of_done l f caller (request.Control handle control) = same f (done_of l f caller (request.Control handle control)).flat refl
-of_done l f caller (request.Delete handle) = same f (done_of l f caller (request.Delete handle)).flat refl
-of_done l f caller (request.Lock handle) = record { handle = omega arith; caller = omega arith; service = omega arith; plan = omega arith; due = omega arith; registration = omega arith; process = refl }
-of_done l f caller (request.SetStatus handle status) = same f (done_of l f caller (request.SetStatus handle status)).flat refl
-of_done l f caller (request.Unlock handle) = same f (done_of l f caller (request.Unlock handle)).flat refl
-of_done l f caller (request.QueryStatus handle) = same f f refl
-of_done l f caller (request.Change change) = same f (done_of l f caller (request.Change change)).flat refl
-of_done l f caller (request.Change2 handle asked) = same f (done_of l f caller (request.Change2 handle asked)).flat refl
-of_done l f caller (request.Create new) = record { handle = omega arith; caller = omega arith; service = omega arith; plan = omega arith; due = omega arith; registration = omega arith; process = refl }
-of_done l f caller (request.OpenManager database access) = record { handle = omega arith; caller = omega arith; service = omega arith; plan = omega arith; due = omega arith; registration = omega arith; process = refl }
-of_done l f caller (request.OpenService handle name access) =
-    found_keeps (NumbersRise f) (with_opened caller (unwrap_or (service_granted f caller access) 0)) (named f name) f (same f f refl)
-    (λ row is. record { handle = omega arith; caller = omega arith; service = omega arith; plan = omega arith; due = omega arith; registration = omega arith; process = refl })
-of_done l f caller (request.QueryConfig handle size) = same f f refl
-of_done l f caller (request.QueryLock handle size) = same f f refl
-of_done l f caller (request.Start handle words) =
-    found_keeps (NumbersRise f) (with_start caller (unwrap_or words [])) (held_service f caller handle) f (same f f refl)
-    (λ row is. record { handle = omega arith; caller = omega arith; service = omega arith; plan = omega arith; due = omega arith; registration = omega arith; process = refl })
-of_done l f caller (request.DisplayName handle name size) = same f f refl
-of_done l f caller (request.KeyName handle name size) = same f f refl
-of_done l f caller (request.EnumDependents handle states size) = same f f refl
-of_done l f caller (request.EnumServices handle kinds states size resume) = same f f refl
-of_done l f caller (request.QueryConfig2 handle level size) = same f f refl
-of_done l f caller (request.QueryStatusEx handle level size) = same f f refl
-of_done l f caller (request.Notify handle mask) =
-    elim (watched f caller handle) as (λ of. NumbersRise f (with_handle (registered f caller handle mask of) caller (kinds.Notify f.next.registration) 0)) [
-      | None ↦ record { handle = omega arith; caller = omega arith; service = omega arith; plan = omega arith; due = omega arith; registration = omega arith; process = refl }
-      | Some of ↦ record { handle = omega arith; caller = omega arith; service = omega arith; plan = omega arith; due = omega arith; registration = omega arith; process = refl }
+found_length : (change : Service → Service → Service) (found : Option Service) (rows : List Service) → length (if_found (λ (row : Service). map (change row)) found rows) ≡ length rows
+found_length change None rows = refl
+found_length change (Some row) rows = length-map rows (change row)
+
+of_done : (l : Limits) (f : Flat) (caller : ℕ) (asked : Request) (append : Kept) → (verdict l f caller asked append == 0) ≡ true → NumbersRise l f (done_of l f caller asked).flat
+of_done l f caller (request.Close handle) append ok = same l f (done_of l f caller (request.Close handle)).flat refl refl refl
+of_done l f caller (request.Control handle control) append ok = same l f (done_of l f caller (request.Control handle control)).flat refl refl refl
+of_done l f caller (request.Delete handle) append ok =
+    same l f (done_of l f caller (request.Delete handle)).flat refl refl (found_length (λ row. marked_if row.number) (held_service f caller handle) f.services)
+of_done l f caller (request.Lock handle) append ok = one l f (done_of l f caller (request.Lock handle)).flat (omega arith) (omega arith) (omega arith) refl refl refl refl refl refl
+of_done l f caller (request.SetStatus handle status) append ok =
+    let service = held_service f caller handle in
+    let before = taken_by_service f service status in
+    failing l f before (done_of l f caller (request.SetStatus handle status)).flat refl refl (found_length (λ row. reported_if row.process status) service f.services) (of_found (failed_by status service) before)
+of_done l f caller (request.Unlock handle) append ok = same l f (done_of l f caller (request.Unlock handle)).flat refl refl refl
+of_done l f caller (request.QueryStatus handle) append ok = same l f f refl refl refl
+of_done l f caller (request.Change change) append ok =
+    same l f (done_of l f caller (request.Change change)).flat refl refl (found_length (λ row. configured_if row.number (new_config f change row)) (held_service f caller change.handle) f.services)
+of_done l f caller (request.Change2 handle asked) append ok =
+    same l f (done_of l f caller (request.Change2 handle asked)).flat refl refl (found_length (λ row. configured_if row.number (level_config asked row)) (held_service f caller handle) f.services)
+of_done l f caller (request.Create new) append ok =
+    let few = created_few l f caller new append (eqb-true (create_verdict l f caller new append) 0 ok) in
+    record {
+      handle = omega arith;
+      caller = omega arith;
+      service = omega arith;
+      plan = omega arith;
+      due = omega arith;
+      registration = omega arith;
+      process = omega arith;
+      few = λ held. omega (arith, few, length-append f.services (new_service f.next.service (created_config f new) (new_status new.kind) ∷ []));
+    }
+of_done l f caller (request.OpenManager database access) append ok = one l f (done_of l f caller (request.OpenManager database access)).flat (omega arith) (omega arith) (omega arith) refl refl refl refl refl refl
+of_done l f caller (request.OpenService handle name access) append ok =
+    found_keeps (NumbersRise l f) (with_opened caller (unwrap_or (service_granted f caller access) 0)) (named f name) f (same l f f refl refl refl)
+    (λ row is. one l f (with_opened caller (unwrap_or (service_granted f caller access) 0) row f) (omega arith) (omega arith) (omega arith) refl refl refl refl refl refl)
+of_done l f caller (request.QueryConfig handle size) append ok = same l f f refl refl refl
+of_done l f caller (request.QueryLock handle size) append ok = same l f f refl refl refl
+of_done l f caller (request.Start handle words) append ok =
+    found_keeps (NumbersRise l f) (with_start caller (unwrap_or words [])) (held_service f caller handle) f (same l f f refl refl refl)
+    (λ row is.
+    let starts = not_counted begins_plan f.dues (record { moment = deadline_at f.moment; number = f.next.due; kind = dues.Deadline f.next.plan }) refl in
+    record { handle = omega arith; caller = omega arith; service = omega arith; plan = omega (arith, starts); due = omega (arith, starts); registration = omega arith; process = omega arith; few = λ few. few })
+of_done l f caller (request.DisplayName handle name size) append ok = same l f f refl refl refl
+of_done l f caller (request.KeyName handle name size) append ok = same l f f refl refl refl
+of_done l f caller (request.EnumDependents handle states size) append ok = same l f f refl refl refl
+of_done l f caller (request.EnumServices handle kinds states size resume) append ok = same l f f refl refl refl
+of_done l f caller (request.QueryConfig2 handle level size) append ok = same l f f refl refl refl
+of_done l f caller (request.QueryStatusEx handle level size) append ok = same l f f refl refl refl
+of_done l f caller (request.Notify handle mask) append ok =
+    elim (watched f caller handle) as (λ of. NumbersRise l f (with_handle (registered f caller handle mask of) caller (kinds.Notify f.next.registration) 0)) [
+      | None ↦ one l f (with_handle (registered f caller handle mask None) caller (kinds.Notify f.next.registration) 0) (omega arith) (omega arith) (omega arith) refl refl refl refl refl refl
+      | Some of ↦ one l f (with_handle (registered f caller handle mask (Some of)) caller (kinds.Notify f.next.registration) 0) (omega arith) (omega arith) (omega arith) refl refl refl refl refl refl
     ]
-of_done l f caller (request.GetNotify handle) = same f (done_of l f caller (request.GetNotify handle)).flat refl
-of_done l f caller (request.CloseNotify handle) = same f (done_of l f caller (request.CloseNotify handle)).flat refl
+of_done l f caller (request.GetNotify handle) append ok = same l f (done_of l f caller (request.GetNotify handle)).flat refl refl refl
+of_done l f caller (request.CloseNotify handle) append ok = same l f (done_of l f caller (request.CloseNotify handle)).flat refl refl refl
 
-of_call : (l : Limits) (f : Flat) (caller : ℕ) (asked : Request) (append : Kept) → NumbersRise f (call_of l f caller asked append).flat
-of_call l f caller asked append = of_answered (verdict l f caller asked append) (told_refused f caller asked (verdict l f caller asked append)) f (done_of l f caller asked) (of_done l f caller asked)
+of_call : (l : Limits) (f : Flat) (caller : ℕ) (asked : Request) (append : Kept) → NumbersRise l f (call_of l f caller asked append).flat
+of_call l f caller asked append =
+    of_answered l (verdict l f caller asked append) (told_refused f caller asked (verdict l f caller asked append)) f (done_of l f caller asked) (of_done l f caller asked append)
+
+-- ## What is due
+
+-- plans rise as starts leave, and processes as commands run
+record Ticks (l : Limits) (f g : Flat) : Type 0 where
+  handle : g.next.handle ≡ f.next.handle
+  caller : g.next.caller ≡ f.next.caller
+  service : g.next.service ≡ f.next.service
+  plan : g.next.plan + starts_in g.dues ≤ f.next.plan + starts_in f.dues
+  due : g.next.due + starts_in g.dues ≤ f.next.due + starts_in f.dues
+  registration : g.next.registration ≡ f.next.registration
+  alike : g.next.process + length f.processes ≡ f.next.process + length g.processes
+  process : g.next.process ≤ f.next.process + l.processes
+  services : g.services ≡ f.services
+
+-- a start gives no other number
+record SameNext (f g : Flat) : Type 0 where
+  handle : g.next.handle ≡ f.next.handle
+  caller : g.next.caller ≡ f.next.caller
+  service : g.next.service ≡ f.next.service
+  registration : g.next.registration ≡ f.next.registration
+
+restart_next : (found : Option Service) (f : Flat) → SameNext f (if_found with_restart found f)
+restart_next None f = record { handle = refl; caller = refl; service = refl; registration = refl }
+restart_next (Some row) f =
+    elim (can_start f row) as (λ b. SameNext f (cond b (with_start 0 [] row f) f)) [
+      | true ↦ record { handle = refl; caller = refl; service = refl; registration = refl }
+      | false ↦ record { handle = refl; caller = refl; service = refl; registration = refl }
+    ]
+
+few_run : (l : Limits) (f : Flat) (row : Service) → can_run l f row ≡ true → length f.processes < l.processes
+few_run l f row e = grind (arith, nat_tests)
+
+of_command : (l : Limits) (f g : Flat) (found : Option Service) → Ticks l f g → Ticks l f (if_found (with_command l) found g)
+of_command l f g found r =
+    found_keeps (Ticks l f) (with_command l) found g r
+    (λ row is. elim (can_run l g row) as (λ b. can_run l g row ≡ b → Ticks l f (cond b (with_wanted_command row.config.command g) g)) [
+      | true ↦ λ e. record {
+        handle = r.handle;
+        caller = r.caller;
+        service = r.service;
+        plan = r.plan;
+        due = r.due;
+        registration = r.registration;
+        alike = omega (arith, r.alike, length-append g.processes (wanted_process g.next.process 0 ∷ []));
+        process = omega (arith, r.alike, few_run l g row e);
+        services = r.services;
+      }
+      | false ↦ λ e. r
+    ] refl)
+
+-- a state from which the row has left, in whose place it gives a number more where it is a start
+of_kind : (l : Limits) (f g : Flat) (kind : DueKind) → Ticks l f (record g { next = record g.next { plan = g.next.plan + one_if (begins_plan kind); due = g.next.due + one_if (begins_plan kind) } }) → Ticks l f (fire l kind g)
+of_kind l f g (dues.Deadline plan) r = record { handle = r.handle; caller = r.caller; service = r.service; plan = omega (arith, r.plan); due = omega (arith, r.due); registration = r.registration; alike = r.alike; process = r.process; services = r.services }
+of_kind l f g (dues.Start service) r =
+    let b = found_restarts (service_of g service) g in
+    let n = restart_next (service_of g service) g in
+    record {
+      handle = n.handle ∙ r.handle;
+      caller = n.caller ∙ r.caller;
+      service = n.service ∙ r.service;
+      plan = omega (arith, r.plan, b.plans, b.starts);
+      due = omega (arith, r.due, b.due, b.starts);
+      registration = n.registration ∙ r.registration;
+      alike = omega (arith, r.alike, b.process, ap (λ ps. length ps) b.listed);
+      process = omega (arith, r.process, b.process);
+      services = b.services ∙ r.services;
+    }
+of_kind l f g (dues.Command service) r =
+    of_command l f g (service_of g service) (record { handle = r.handle; caller = r.caller; service = r.service; plan = omega (arith, r.plan); due = omega (arith, r.due); registration = r.registration; alike = r.alike; process = r.process; services = r.services })
+of_kind l f g (dues.Reboot service) r = record { handle = r.handle; caller = r.caller; service = r.service; plan = omega (arith, r.plan); due = omega (arith, r.due); registration = r.registration; alike = r.alike; process = r.process; services = r.services }
+
+of_row : (l : Limits) (f g : Flat) (row : Due) → next_due g ≡ Some row → Ticks l f g → Ticks l f (fired l row g)
+of_row l f g row is r =
+    let left = first_leaves begins_plan g row is in
+    of_kind l f (without_due row.number g) row.kind
+    (record { handle = r.handle; caller = r.caller; service = r.service; plan = omega (arith, r.plan, left); due = omega (arith, r.due, left); registration = r.registration; alike = r.alike; process = r.process; services = r.services })
+
+of_tick : (l : Limits) (f : Flat) → Ticks l f (ticked l f)
+of_tick l f =
+    ticked_keeps (Ticks l f) l (of_row l f) f
+    (record { handle = refl; caller = refl; service = refl; plan = omega arith; due = omega arith; registration = refl; alike = refl; process = omega arith; services = refl })
+
+-- ## A raise
+
+-- each service may give a number of a plan, and one of its deadline
+record Raises (count : ℕ) (f g : Flat) : Type 0 where
+  handle : g.next.handle ≡ f.next.handle
+  caller : g.next.caller ≡ f.next.caller
+  service : g.next.service ≡ f.next.service
+  plan : g.next.plan ≤ f.next.plan + count
+  due : g.next.due ≤ f.next.due + count
+  registration : g.next.registration ≡ f.next.registration
+  process : g.next.process ≡ f.next.process
+  starts : starts_in g.dues ≡ starts_in f.dues
+  services : g.services ≡ f.services
+
+raises_more : (count : ℕ) (f g : Flat) → Raises count f g → Raises (1 + count) f g
+raises_more count f g r = record { handle = r.handle; caller = r.caller; service = r.service; plan = omega (arith, r.plan); due = omega (arith, r.due); registration = r.registration; process = r.process; starts = r.starts; services = r.services }
+
+of_triggered : (l : Limits) (count : ℕ) (f g : Flat) (row : Service) (action : ℕ) → Raises count f g → Raises (1 + count) f (triggered l row action g)
+of_triggered l count f g row action r =
+    elim (action == SERVICE_TRIGGER_ACTION_SERVICE_START) as (λ b. Raises (1 + count) f (cond b (with_restart row g) (with_stop l row g))) [
+      | true ↦
+          let b = restarts row g in
+          let n = restart_next (Some row) g in
+          record {
+            handle = n.handle ∙ r.handle;
+            caller = n.caller ∙ r.caller;
+            service = n.service ∙ r.service;
+            plan = omega (arith, r.plan, b.plans);
+            due = omega (arith, r.due, b.due);
+            registration = n.registration ∙ r.registration;
+            process = b.process ∙ r.process;
+            starts = b.starts ∙ r.starts;
+            services = b.services ∙ r.services;
+          }
+      | false ↦
+          let m = raises_more count f g r in
+          elim (gets_stop l g row) as (λ b. Raises (1 + count) f (cond b (record g { processes = map (controlled_if l.controls row.process SERVICE_CONTROL_STOP) g.processes }) g)) [
+            | true ↦ record { handle = m.handle; caller = m.caller; service = m.service; plan = m.plan; due = m.due; registration = m.registration; process = m.process; starts = m.starts; services = m.services }
+            | false ↦ m
+          ]
+    ]
+
+of_all : (l : Limits) (subtype : List ℕ) (rows : List Service) (count : ℕ) (f g : Flat) → Raises count f g → Raises (length rows + count) f (all_triggered l subtype rows g)
+of_all l subtype [] count f g r = record { handle = r.handle; caller = r.caller; service = r.service; plan = omega (arith, r.plan); due = omega (arith, r.due); registration = r.registration; process = r.process; starts = r.starts; services = r.services }
+of_all l subtype (row ∷ rows) count f g r =
+    let one = found_keeps (Raises (1 + count) f) (triggered l row) (matching row.config subtype) g (raises_more count f g r) (λ action is. of_triggered l count f g row action r) in
+    let rest = of_all l subtype rows (1 + count) f (if_found (triggered l row) (matching row.config subtype) g) one in
+    record { handle = rest.handle; caller = rest.caller; service = rest.service; plan = omega (arith, rest.plan); due = omega (arith, rest.due); registration = rest.registration; process = rest.process; starts = rest.starts; services = rest.services }
+
+of_raise : (l : Limits) (f : Flat) (caller : ℕ) (subtype : List ℕ) → NumbersRise l f (raised l f caller subtype)
+of_raise l f caller subtype =
+    elim (raise_verdict f caller == 0) as (λ b. NumbersRise l f (cond b (all_triggered l subtype f.services f) f)) [
+      | true ↦
+          let r = of_all l subtype f.services 0 f f (record { handle = refl; caller = refl; service = refl; plan = omega arith; due = omega arith; registration = refl; process = refl; starts = refl; services = refl }) in
+          record {
+            handle = omega (arith, r.handle);
+            caller = omega (arith, r.caller);
+            service = omega (arith, r.service);
+            plan = omega (arith, r.plan, r.starts);
+            due = omega (arith, r.due, r.starts);
+            registration = omega (arith, r.registration);
+            process = omega (arith, r.process);
+            few = λ few. omega (arith, few, ap (λ (rs : List Service). length rs) r.services);
+          }
+      | false ↦ same l f f refl refl refl
+    ]
 
 -- ## Steps
 
-of_effect : (l : Limits) (f : Flat) (step : Step) → NumbersRise f (effect_of l f step).flat
-of_effect l f (Joined principal) = record { handle = omega arith; caller = omega arith; service = omega arith; plan = omega arith; due = omega arith; registration = omega arith; process = refl }
+of_effect : (l : Limits) (f : Flat) (step : Step) → NumbersRise l f (effect_of l f step).flat
+of_effect l f (Joined principal) = one l f (effect_of l f (Joined principal)).flat (omega arith) (omega arith) (omega arith) refl refl refl refl refl refl
 of_effect l f (Call caller asked append) = of_call l f caller asked append
-of_effect l f (EndStart caller plan) = same f (effect_of l f (EndStart caller plan)).flat refl
-of_effect l f LaunchTaken = same f (effect_of l f LaunchTaken).flat refl
-of_effect l f (Launched process pid) = same f (effect_of l f (Launched process pid)).flat refl
-of_effect l f (LaunchFailed process code) = same f (effect_of l f (LaunchFailed process code)).flat refl
-of_effect l f (Report process status) = same f (effect_of l f (Report process status)).flat refl
-of_effect l f (Ended process) = same f (effect_of l f (Ended process)).flat refl
-of_effect l f (ControlTaken process) = same f (effect_of l f (ControlTaken process)).flat refl
-of_effect l f Tick = same f (effect_of l f Tick).flat (ticked_apart (λ (g : Flat). g.next ≡ f.next) (λ g plans rows e. e) f refl)
-of_effect l f (Gone caller) = same f (effect_of l f (Gone caller)).flat refl
-of_effect l f (NoMemory caller) = same f f refl
+of_effect l f (EndStart caller plan) = same l f (effect_of l f (EndStart caller plan)).flat refl refl refl
+of_effect l f LaunchTaken = same l f (effect_of l f LaunchTaken).flat refl refl refl
+of_effect l f (Launched process pid) = same l f (effect_of l f (Launched process pid)).flat refl refl refl
+of_effect l f (LaunchFailed process code) = same l f (effect_of l f (LaunchFailed process code)).flat refl refl (length-map f.services (fallen_if process code))
+of_effect l f (Report process status) =
+    let before = taken_by f process status in
+    failing l f before (effect_of l f (Report process status)).flat refl refl (length-map f.services (reported_if process status)) (of_found (failed_by status (current_of f process)) before)
+of_effect l f (Ended process) =
+    let before = with_fallen f process 1067 in
+    let r = failing l f before (with_end f process) refl refl (length-map f.services (fallen_if process 1067)) (of_found (current_of f process) before) in
+    record { handle = r.handle; caller = r.caller; service = r.service; plan = r.plan; due = r.due; registration = r.registration; process = r.process; few = r.few }
+of_effect l f (ControlTaken process) = same l f (effect_of l f (ControlTaken process)).flat refl refl refl
+of_effect l f Tick =
+    let r = of_tick l f in
+    record {
+      handle = omega (arith, r.handle);
+      caller = omega (arith, r.caller);
+      service = omega (arith, r.service);
+      plan = omega (arith, r.plan);
+      due = omega (arith, r.due);
+      registration = omega (arith, r.registration);
+      process = r.process;
+      few = λ few. omega (arith, few, ap (λ (rs : List Service). length rs) r.services);
+    }
+of_effect l f (Raised caller subtype) = of_raise l f caller subtype
+of_effect l f (Gone caller) = same l f (effect_of l f (Gone caller)).flat refl refl refl
+of_effect l f (NoMemory caller) = same l f f refl refl refl
 
-at_next : (f : Flat) (moment : ℕ) (step : Step) → (at_moment f moment step).next ≡ f.next
-at_next f moment (NoMemory caller) = refl
-at_next f moment (Joined principal) = refl
-at_next f moment (Call caller asked append) = refl
-at_next f moment (EndStart caller plan) = refl
-at_next f moment LaunchTaken = refl
-at_next f moment (Launched process pid) = refl
-at_next f moment (LaunchFailed process code) = refl
-at_next f moment (Report process status) = refl
-at_next f moment (Ended process) = refl
-at_next f moment (ControlTaken process) = refl
-at_next f moment Tick = refl
-at_next f moment (Gone caller) = refl
+-- at the step's moment
+at_keeps : (P : Flat → Type 0) (f : Flat) (moment : ℕ) (step : Step) → P f → P (with_moment f moment) → P (at_moment f moment step)
+at_keeps P f moment (NoMemory caller) still moved = still
+at_keeps P f moment (Joined principal) still moved = moved
+at_keeps P f moment (Call caller asked append) still moved = moved
+at_keeps P f moment (EndStart caller plan) still moved = moved
+at_keeps P f moment LaunchTaken still moved = moved
+at_keeps P f moment (Launched process pid) still moved = moved
+at_keeps P f moment (LaunchFailed process code) still moved = moved
+at_keeps P f moment (Report process status) still moved = moved
+at_keeps P f moment (Ended process) still moved = moved
+at_keeps P f moment (ControlTaken process) still moved = moved
+at_keeps P f moment Tick still moved = moved
+at_keeps P f moment (Raised caller subtype) still moved = moved
+at_keeps P f moment (Gone caller) still moved = moved
 
 -- the next numbers can still be given at the step's moment
 pub numbers_at : (f g : Flat) (moment : ℕ) (step : Step) → g ≡ at_moment f moment step → HasNumbers f → HasNumbers g
 numbers_at f g moment step e has =
-    let next = ap (λ (x : Flat). x.next) e in
-    let same_next = at_next f moment step in
-    rw e (subst (λ n. HasNumbers (record (at_moment f moment step) { next = n })) (sym same_next) (record { handle = has.handle; caller = has.caller; service = has.service; plan = has.plan; due = has.due; registration = has.registration }))
+    rw e (at_keeps HasNumbers f moment step has
+    (record { handle = has.handle; caller = has.caller; service = has.service; plan = has.plan; due = has.due; registration = has.registration; starts = record { plans = has.starts.plans; dues = has.starts.dues } }))
+
+pub processes_at : (f g : Flat) (moment : ℕ) (step : Step) → g ≡ at_moment f moment step → f.next.process ≤ 2 ^ 62 → g.next.process ≤ 2 ^ 62
+processes_at f g moment step e few = rw e (at_keeps (λ (x : Flat). x.next.process ≤ 2 ^ 62) f moment step few few)
 
 -- ## Settling
 
@@ -138,6 +466,8 @@ record Rises (l : Limits) (f g : Flat) : Type 0 where
   plan : g.next.plan ≡ f.next.plan
   due : g.next.due ≡ f.next.due
   registration : g.next.registration ≡ f.next.registration
+  starts : starts_in g.dues ≤ starts_in f.dues
+  services : length g.services ≡ length f.services
 
 few_listed : (l : Limits) (f : Flat) → is_full l f ≡ false → length f.processes < l.processes
 few_listed l f e = grind (arith, nat_tests)
@@ -153,6 +483,8 @@ rises l f = record {
     plan = r.plan;
     due = r.due;
     registration = r.registration;
+    starts = r.starts;
+    services = length-map g.services (started_if n g.next.process) ∙ r.services;
   };
   tries = λ g plan n entry q. tt;
   drops = λ plan n rest code q. tt;
@@ -160,23 +492,36 @@ rises l f = record {
 
 of_settled : (l : Limits) (f : Flat) → Rises l f (settled l f)
 of_settled l f =
+    let all = settle_all l f f.plans in
     let r = (keeps_all l (Rises l f) (λ plan. Unit {0}) (rises l f) f f.plans
-    (record { alike = refl; bounded = omega arith; handle = refl; caller = refl; service = refl; plan = refl; due = refl; registration = refl }) (all_units f.plans)).flat in
-    record { alike = r.alike; bounded = r.bounded; handle = r.handle; caller = r.caller; service = r.service; plan = r.plan; due = r.due; registration = r.registration }
+    (record { alike = refl; bounded = omega arith; handle = refl; caller = refl; service = refl; plan = refl; due = refl; registration = refl; starts = omega arith; services = refl }) (all_units f.plans)).flat in
+    let fewer = fewer_pass (λ (due : Due). begins_plan due.kind) (λ (due : Due). is_due_still (filter stays all.1) due.kind) all.0.dues in
+    record {
+      alike = r.alike;
+      bounded = r.bounded;
+      handle = r.handle;
+      caller = r.caller;
+      service = r.service;
+      plan = r.plan;
+      due = r.due;
+      registration = r.registration;
+      starts = omega (arith, r.starts, fewer);
+      services = r.services;
+    }
 
-left_next : (f : Flat) (plan : ℕ) (code : Option ℕ) → (left_by f plan code).next ≡ f.next
-left_next f plan None = refl
-left_next f plan (Some code) = refl
+left_keeps : (P : Flat → Type 0) (f : Flat) (plan : ℕ) (code : Option ℕ) → P f → P (ended f plan) → P (left_by f plan code)
+left_keeps P f plan None still left = still
+left_keeps P f plan (Some code) still left = left
 
-finished_next : (f : Flat) (told : Answer) → (finished f told).flat.next ≡ f.next
-finished_next f (answer.Begun plan) = left_next f plan (code_of f.plans plan)
-finished_next f (answer.Caller number) = refl
-finished_next f (answer.Reply told) = refl
-finished_next f (answer.Launch process) = refl
-finished_next f (answer.Control code) = refl
-finished_next f (answer.Refused code) = refl
-finished_next f answer.Stale = refl
-finished_next f answer.Done = refl
+finished_keeps : (P : Flat → Type 0) (f : Flat) (told : Answer) → P f → ((plan : ℕ) → P (ended f plan)) → P (finished f told).flat
+finished_keeps P f (answer.Begun plan) still left = left_keeps P f plan (code_of f.plans plan) still (left plan)
+finished_keeps P f (answer.Caller number) still left = still
+finished_keeps P f (answer.Reply told) still left = still
+finished_keeps P f (answer.Launch process) still left = still
+finished_keeps P f (answer.Control code) still left = still
+finished_keeps P f (answer.Refused code) still left = still
+finished_keeps P f answer.Stale still left = still
+finished_keeps P f answer.Done still left = still
 
 -- ## A whole step
 
@@ -190,25 +535,39 @@ pub record StepRises (l : Limits) (old new : Flat) : Type 0 where
   pub handle : new.next.handle ≤ old.next.handle + 1
   pub caller : new.next.caller ≤ old.next.caller + 1
   pub service : new.next.service ≤ old.next.service + 1
-  pub plan : new.next.plan ≤ old.next.plan + 1
-  pub due : new.next.due ≤ old.next.due + 1
+  pub plan : new.next.plan + starts_in new.dues ≤ old.next.plan + starts_in old.dues + (length old.services + 2)
+  pub due : new.next.due + starts_in new.dues ≤ old.next.due + starts_in old.dues + (length old.services + 2)
   pub registration : new.next.registration ≤ old.next.registration + 1
-  pub process : new.next.process ≤ old.next.process + l.processes
+  pub process : new.next.process ≤ old.next.process + 2 * l.processes
+  pub few : length old.services ≤ l.services → length new.services ≤ l.services
 
--- a step gives at most one number of each kind, and of processes as many as may be listed
+-- neither what ends a start nor who leaves gives one
+stepped : (l : Limits) (f : Flat) (step : Step) → StepRises l f (purged (finished (settled l (effect_of l f step).flat) (effect_of l f step).answer).flat)
+stepped l f step =
+    let done = effect_of l f step in
+    let still = settled l done.flat in
+    let e = of_effect l f step in
+    let s = of_settled l done.flat in
+    let ends = finished_keeps (λ (g : Flat). (g.next ≡ still.next) × (g.dues ≡ still.dues) × (g.services ≡ still.services)) still done.answer (refl, refl, refl) (λ plan. (refl, refl, refl)) in
+    let all = (finished still done.answer).flat in
+    let starts = ap starts_in ends.1 in
+    let services = ap (λ (rs : List Service). length rs) ends.2 in
+    let left = fewer (λ (row : Service). not (leaves all.handles row)) all.services in
+    record {
+      handle = omega (arith, e.handle, s.handle, ap (λ (n : Next). n.handle) ends.0);
+      caller = omega (arith, e.caller, s.caller, ap (λ (n : Next). n.caller) ends.0);
+      service = omega (arith, e.service, s.service, ap (λ (n : Next). n.service) ends.0);
+      plan = omega (arith, e.plan, s.plan, s.starts, starts, ap (λ (n : Next). n.plan) ends.0);
+      due = omega (arith, e.due, s.due, s.starts, starts, ap (λ (n : Next). n.due) ends.0);
+      registration = omega (arith, e.registration, s.registration, ap (λ (n : Next). n.registration) ends.0);
+      process = omega (arith, e.process, s.bounded, ap (λ (n : Next). n.process) ends.0);
+      few = λ few. (let more = e.few few in omega (arith, more, s.services, services, left));
+    }
+
+-- a step gives few numbers of each kind
 pub of_step : (l : Limits) (f : Flat) (moment : ℕ) (step : Step) → StepRises l f (step_of l f moment step).flat
 of_step l f moment step =
-    let begun = at_moment f moment step in
-    let e = of_effect l begun step in
-    let s = of_settled l (effect_of l begun step).flat in
-    let ends = finished_next (settled l (effect_of l begun step).flat) (effect_of l begun step).answer in
-    let first = at_next f moment step in
-    record {
-      handle = omega (arith, ap (λ (n : Next). n.handle) first, e.handle, s.handle, ap (λ (n : Next). n.handle) ends);
-      caller = omega (arith, ap (λ (n : Next). n.caller) first, e.caller, s.caller, ap (λ (n : Next). n.caller) ends);
-      service = omega (arith, ap (λ (n : Next). n.service) first, e.service, s.service, ap (λ (n : Next). n.service) ends);
-      plan = omega (arith, ap (λ (n : Next). n.plan) first, e.plan, s.plan, ap (λ (n : Next). n.plan) ends);
-      due = omega (arith, ap (λ (n : Next). n.due) first, e.due, s.due, ap (λ (n : Next). n.due) ends);
-      registration = omega (arith, ap (λ (n : Next). n.registration) first, e.registration, s.registration, ap (λ (n : Next). n.registration) ends);
-      process = omega (arith, ap (λ (n : Next). n.process) first, e.process, s.bounded, ap (λ (n : Next). n.process) ends);
-    }
+    at_keeps (λ (begun : Flat). StepRises l begun (step_of l f moment step).flat → StepRises l f (step_of l f moment step).flat) f moment step
+    (λ r. r)
+    (λ r. record { handle = r.handle; caller = r.caller; service = r.service; plan = r.plan; due = r.due; registration = r.registration; process = r.process; few = r.few })
+    (stepped l (at_moment f moment step) step)

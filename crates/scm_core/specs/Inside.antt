@@ -1,9 +1,10 @@
 -- What contracts see of a manager's fields, and what is always true of them.
-use Rattle.std.specs.Prelude.{◌+◌, ◌*◌, ◌^◌, ◌≤◌, Option, None, Some, option_map}
+use Rattle.std.specs.Prelude.{◌+◌, ◌*◌, ◌^◌, ◌≤◌, Option, None, Some, length, option_map}
 use Rattle.scm_model.specs.declared.flat.Flat.{Flat}
 use Rattle.scm_model.specs.declared.flat.Limits.{Limits}
 use Rattle.scm_model.specs.declared.steps.Step.{Step}
 use Rattle.scm_model.specs.Entries.{unkept}
+use Rattle.scm_tables.specs.Firing.{starts_in}
 use Rattle.scm_tables.specs.Tabled.{Tabled}
 use Rattle.scm_core.specs.declared.made.Made.{Made}
 use Rattle.scm_core.specs.declared.manager.Manager.TheInside.{Inside}
@@ -28,16 +29,19 @@ abbrev pub KeepsMade : Limits → Flat → Made → Option Step → Type 0
 KeepsMade l f made None = Unit {0}
 KeepsMade l f made (Some step) = IsMadeFor l f made step
 
--- a step gives few numbers: of processes as many as may be listed, of all else one; few services stand from the beginning
+-- a step gives few numbers: of processes twice as many as may be listed, of plans and what becomes due, with the starts that stand, as many
+-- as services may be, of all else one; few services stand from the beginning
 pub record IsSound (a : Inside) : Type 0 where
   pub handles : a.tables.flat.next.handle ≤ a.steps + 1
   pub callers : a.tables.flat.next.caller ≤ a.steps + 1
   pub services : a.tables.flat.next.service ≤ a.steps + 2 ^ 10
-  pub plans : a.tables.flat.next.plan ≤ a.steps + 1
-  pub dues : a.tables.flat.next.due ≤ a.steps + 1
+  pub plans : a.tables.flat.next.plan + starts_in a.tables.flat.dues ≤ (a.steps + 1) * 2 ^ 11
+  pub dues : a.tables.flat.next.due + starts_in a.tables.flat.dues ≤ (a.steps + 1) * 2 ^ 11
   pub registrations : a.tables.flat.next.registration ≤ a.steps + 1
-  pub processes : a.tables.flat.next.process ≤ a.steps * 2 ^ 12 + 1
-  pub limit : a.tables.limits.processes ≤ 2 ^ 12
+  pub processes : a.tables.flat.next.process ≤ a.steps * 2 ^ 11 + 1
+  pub few : length a.tables.flat.services ≤ a.tables.limits.services
+  pub most : a.tables.limits.services ≤ 2 ^ 10
+  pub limit : a.tables.limits.processes ≤ 2 ^ 10
   pub controls : a.tables.limits.controls ≤ 16
   pub room : KeepsRoom a.tables (promised a.room)
   pub made : KeepsMade a.tables.limits a.tables.flat a.made (promised a.room)

@@ -4,7 +4,7 @@ use Rattle.scm_text.specs.TextWithRoom.{TextWithRoom}
 use Rattle.scm_model.specs.declared.flat.Flat.{Flat}
 use Rattle.scm_model.specs.declared.flat.Limits.{Limits}
 use Rattle.scm_model.specs.declared.steps.Step.{Step}
-use Rattle.scm_model.specs.declared.steps.Step.TheVariants.{Joined, Call, LaunchTaken}
+use Rattle.scm_model.specs.declared.steps.Step.TheVariants.{Joined, Call, LaunchTaken, Raised, Tick}
 use Rattle.scm_model.specs.Entries.{unkept}
 use Rattle.scm_rules.specs.Launches.{first_wanted}
 use Rattle.scm_rules.specs.Steps.{step_of}
@@ -18,10 +18,12 @@ pub record Managed : Type 0 where
   pub text : ℕ
   pub room : Option Step
 
--- room was made for the step, where it may add a row; the others use none
+-- room was made for the step, where it may add a row or begin what is due or raised; the others use none
 abbrev pub WasMadeFor : Option Step → Step → Type 0
 WasMadeFor room (Joined principal) = room ≡ Some (Joined principal)
 WasMadeFor room (Call caller asked append) = room ≡ Some (unkept (Call caller asked append))
+WasMadeFor room Tick = room ≡ Some Tick
+WasMadeFor room (Raised caller subtype) = room ≡ Some (Raised caller subtype)
 WasMadeFor room step = Unit {0}
 
 -- no limit is greater than these

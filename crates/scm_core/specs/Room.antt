@@ -1,10 +1,10 @@
 -- The room that a step uses.
-use Rattle.std.specs.Prelude.{ℕ, ◌≡◌, ◌≤◌, ◌<◌, ◌^◌, length, None, Some}
+use Rattle.std.specs.Prelude.{ℕ, ◌≡◌, ◌≤◌, ◌<◌, ◌+◌, ◌^◌, length, None, Some}
 use Rattle.scm_model.specs.declared.flat.Flat.{Flat}
 use Rattle.scm_model.specs.declared.calls.Request.{Request}
 use Rattle.scm_model.specs.declared.calls.Request.TheVariants as request
 use Rattle.scm_model.specs.declared.steps.Step.{Step}
-use Rattle.scm_model.specs.declared.steps.Step.TheVariants.{Joined, Call}
+use Rattle.scm_model.specs.declared.steps.Step.TheVariants.{Joined, Call, Tick, Raised}
 use Rattle.scm_model.specs.declared.flat.Limits.{Limits}
 use Rattle.scm_model.specs.declared.steps.Kept.TheVariants as appended
 use Rattle.scm_rules.specs.Change.{asked_config, change_verdict}
@@ -19,6 +19,8 @@ use Rattle.scm_rules.specs.Locks.{lock_owner}
 use Rattle.scm_rules.specs.Verdicts.{change_of_call}
 use Rattle.scm_rules.specs.OtherName.{display_by_name, name_by_display, other_name_reply}
 use Rattle.scm_arms_start.specs.Entries.{start_entries}
+use Rattle.scm_arms_process.specs.Raised.{raise_starts}
+use Rattle.scm_tables.specs.Firing.{HasFires, HasPlanNumbers, HasStarts, starts_in}
 use Rattle.scm_tables.specs.Tabled.{Tabled}
 use Rattle.scm_core.specs.declared.made.Made.{Made}
 
@@ -33,9 +35,12 @@ HasRoomForCall t caller (request.Start handle words) =
 HasRoomForCall t caller (request.Notify handle mask) = (1 ≤ t.spare.handles) × (1 ≤ t.spare.registrations)
 HasRoomForCall t caller asked = Unit {0}
 
+-- so do the plans and commands that a tick or a raise begins
 abbrev pub HasRoomFor : Tabled → Step → Type 0
 HasRoomFor t (Joined principal) = 1 ≤ t.spare.callers
 HasRoomFor t (Call caller asked append) = HasRoomForCall t caller asked
+HasRoomFor t Tick = HasFires t
+HasRoomFor t (Raised caller subtype) = HasStarts (raise_starts t.flat caller subtype) t
 HasRoomFor t step = Unit {0}
 
 -- ## What is made beforehand, so that the step takes no memory
@@ -66,7 +71,7 @@ abbrev pub IsMadeFor : Limits → Flat → Made → Step → Type 0
 IsMadeFor l f made (Call caller asked append) = made ≡ made_for l f caller asked
 IsMadeFor l f made step = Unit {0}
 
--- the next numbers can still be given
+-- the next numbers can still be given; of plans and what becomes due also those of each start that is due or raised
 pub record HasNumbers (f : Flat) : Type 0 where
   pub handle : f.next.handle < 2 ^ 63
   pub caller : f.next.caller < 2 ^ 63
@@ -74,3 +79,4 @@ pub record HasNumbers (f : Flat) : Type 0 where
   pub plan : f.next.plan < 2 ^ 63
   pub due : f.next.due < 2 ^ 63
   pub registration : f.next.registration < 2 ^ 63
+  pub starts : HasPlanNumbers (starts_in f.dues + length f.services) f

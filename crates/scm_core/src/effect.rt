@@ -6,7 +6,7 @@ ghost use Rattle.scm_core.specs.Room.{HasNumbers, HasRoomFor, HasRoomForCall, Is
 use super::made::Made;
 use scm_arms_handle::{close, join, leave, lock, open_manager, open_service, query_lock, unlock};
 use scm_arms_notify::{close_notify, get_notify, notify};
-use scm_arms_process::{control, end, report, set_status, take_control};
+use scm_arms_process::{control, end, raise, report, set_status, take_control};
 use scm_arms_service::{change, change2, create, delete, query};
 use scm_arms_start::{end_start, fail_launch, finish, launched, start, take_launch, tick};
 use scm_model::{Answer, Kept, Request, Step};
@@ -119,16 +119,20 @@ fn begin(tables: &mut Tables, moment: u64, step: &Step)
         | Step::Ended { .. }
         | Step::ControlTaken { .. }
         | Step::Tick
+        | Step::Raised { .. }
         | Step::Gone { .. } => tables.move_to(moment),
     }
 }
 
+#[tactic(auto, using(crate::proofs::Beforehand::can_fire, crate::proofs::Beforehand::raise_numbers))]
 /// Does what a step does before the plans are settled and marked services leave.
 fn effect(tables: &mut Tables, alloc: Global, step: &mut Step, made: &mut Made) -> Answer
     requires made { IsMadeFor tables.old.limits tables.old.flat made.old step.old }
     requires room { HasRoomFor tables.old step.old }
     requires numbers { HasNumbers tables.old.flat }
+    requires limit { tables.old.limits.processes < 2 ^ 32 }
     requires controls { tables.old.limits.controls ≤ 16 }
+    requires processes { tables.old.flat.next.process ≤ 2 ^ 62 }
     ensures answer { result ≡ (effect_of tables.old.limits tables.old.flat step.old).answer }
     ensures flat { tables.new.flat ≡ (effect_of tables.old.limits tables.old.flat step.old).flat }
     ensures limits { tables.new.limits ≡ tables.old.limits }
@@ -148,12 +152,19 @@ fn effect(tables: &mut Tables, alloc: Global, step: &mut Step, made: &mut Made) 
         Step::Ended { process } => end(tables, *process),
         Step::ControlTaken { process } => take_control(tables, *process),
         Step::Tick => tick(tables),
+        Step::Raised { caller, subtype: _ } => {
+            let caller = *caller;
+            let Step::Raised { caller: _, subtype } = step else {
+                unreachable!()
+            };
+            raise(tables, caller, subtype)
+        }
         Step::Gone { caller } => leave(tables, *caller),
         Step::NoMemory { caller: _ } => Answer::Done,
     }
 }
 
-#[tactic(auto, using(crate::proofs::Beforehand::is_made_at, crate::proofs::Beforehand::has_room_at, crate::proofs::Numbers::numbers_at, crate::proofs::Numbers::numbers_left))]
+#[tactic(auto, using(crate::proofs::Beforehand::is_made_at, crate::proofs::Beforehand::has_room_at, crate::proofs::Numbers::numbers_at, crate::proofs::Numbers::processes_at, crate::proofs::Numbers::numbers_left))]
 /// Does a step: its effect, then the plans are settled, a start that this decided is answered, and marked services leave. `made` was
 /// made for it beforehand.
 pub fn act(

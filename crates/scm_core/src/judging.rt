@@ -31,6 +31,7 @@ pub fn may_come(tables: &Tables, moment: u64, step: &Step) -> bool
         Step::Ended { process } => tables.is_running(*process),
         Step::ControlTaken { process } => tables.waiting(*process).is_some_and(|most| 0 < most),
         Step::Tick => tables.is_due(tables.moment().max(moment)),
+        Step::Raised { caller, subtype: _ } => tables.is_caller(*caller),
         Step::Gone { caller } => tables.is_caller(*caller),
         Step::NoMemory { caller } => tables.is_caller(*caller),
     }

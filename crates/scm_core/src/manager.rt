@@ -70,7 +70,8 @@ fn keep(made: &mut Made, now: Made)
 }
 
 impl Manager {
-    /// A manager with a service for each configuration, which never ran, and with no callers. It takes no groups yet.
+    /// A manager with a service for each configuration, which never ran, and with no callers. Those start by themselves that are automatic,
+    /// those of the listed groups first.
     pub fn new(
         alloc: Global,
         limits: Limits,
@@ -78,7 +79,6 @@ impl Manager {
         configs: Items<Config>,
         moment: u64,
     ) -> Result<Manager, OutOfMemory>
-        requires groups { groups ≡ [] }
         requires configs { CanOpen limits configs }
         requires limits { AreSmall limits }
         ensures flat { IfOk result (λ manager. manager.flat ≡ opening limits groups configs moment) }
@@ -86,7 +86,7 @@ impl Manager {
         ensures fresh { IfOk result (λ manager. (manager.steps ≡ 0) × (manager.text ≡ 0) × (manager.room ≡ None)) }
     {
         Ok(Manager {
-            tables: Tables::new(alloc, limits, configs, moment)?,
+            tables: Tables::new(alloc, limits, groups.as_slice(), configs, moment)?,
             steps: 0,
             text: 0,
             room: None,

@@ -1,9 +1,10 @@
 ghost use Rattle.std.specs.Prelude.{◌≡◌, ◌+◌, ◌*◌, ◌-◌, ◌^◌, min, nat_le};
 ghost use Rattle.scm_model.specs.Texts.{text_of};
 ghost use Rattle.scm_rules.specs.Owed.{owed};
-ghost use Rattle.scm_rules.specs.Room.{has_room, need, need_of_call, need_of_start, need_with};
+ghost use Rattle.scm_rules.specs.Room.{cost, debt, has_room, is_owed, need, need_of_call, need_of_start, need_of_starts, need_with, owed_by_raise};
 
 use super::manager::Manager;
+use scm_arms_process::started_in;
 use scm_model::{Request, Step};
 
 /// What a start needs where there are so many services, up to 2^128 - 1.
@@ -13,9 +14,9 @@ fn need_of_start(services: u128) -> u128
     services.saturating_mul(3).saturating_add(2)
 }
 
-/// What a tick needs where there are so many services, up to 2^128 - 1.
-fn need_of_tick(services: u128) -> u128
-    ensures { result ≡ min ((3 * services + 1) * services + 1) (2 ^ 128 - 1) }
+/// What starts of each service need where there are so many services, up to 2^128 - 1.
+fn need_of_starts(services: u128) -> u128
+    ensures { result ≡ min (need_of_starts services) (2 ^ 128 - 1) }
 {
     let each = services.saturating_mul(3).saturating_add(1);
     each.saturating_mul(services).saturating_add(1)
@@ -38,8 +39,29 @@ fn need_with(services: u128, step: &Step) -> u128
     match step {
         Step::Joined { .. } => 2,
         Step::Call { request, .. } => need_of_call(services, request),
-        Step::Tick => need_of_tick(services),
+        Step::Tick | Step::Raised { .. } => need_of_starts(services),
         _ => 1,
+    }
+}
+
+/// Whether a step was counted when it came to be owed.
+fn is_owed(step: &Step) -> bool
+    ensures { result ≡ is_owed step.now }
+{
+    match step {
+        Step::EndStart { .. }
+        | Step::LaunchTaken
+        | Step::Launched { .. }
+        | Step::LaunchFailed { .. }
+        | Step::Ended { .. }
+        | Step::Gone { .. } => true,
+        Step::Joined { .. }
+        | Step::Call { .. }
+        | Step::Report { .. }
+        | Step::ControlTaken { .. }
+        | Step::Tick
+        | Step::Raised { .. }
+        | Step::NoMemory { .. } => false,
     }
 }
 
@@ -65,6 +87,33 @@ impl Manager {
         ensures { result ≡ min (need self.now.flat step.now) (2 ^ 128 - 1) }
     {
         need_with(self.services() as u128, step)
+    }
+
+    /// How many entries a step may add and leave owed: of a tick and a raise no more than what they
+    /// begin. 2^64 - 1 where they are more. It takes no memory.
+    pub fn debt(&self, step: &Step) -> u64
+        ensures { result ≡ min (debt self.now.flat step.now) (2 ^ 64 - 1) }
+    {
+        match step {
+            Step::Tick => self.tables.owed_by_dues().saturating_add(1),
+            Step::Raised { caller: _, subtype } => self.owed_by_raise(subtype).saturating_add(1),
+            _ => self.cost(step),
+        }
+    }
+
+    /// What a raise may make owed, up to 2^64 - 1.
+    fn owed_by_raise(&self, subtype: &[u8; 16]) -> u64
+        ensures { result ≡ min (owed_by_raise self.now.flat subtype.now) (2 ^ 64 - 1) }
+    {
+        let started = started_in(self.tables.rows(), subtype) as u64;
+        self.services().saturating_mul(3).saturating_mul(started)
+    }
+
+    /// What a step costs beyond what was owed, up to 2^64 - 1.
+    fn cost(&self, step: &Step) -> u64
+        ensures { result ≡ min (cost self.now.flat step.now) (2 ^ 64 - 1) }
+    {
+        if is_owed(step) { 0 } else { self.need(step) }
     }
 
     /// Whether the limits have room for a step, with all that is owed and that it may make owed, and

@@ -2,6 +2,7 @@ ghost use Rattle.std.specs.Prelude.{◌≡◌, ◌≤◌, length, IfSome, OnOk};
 ghost use Rattle.scm_core.specs.Room.{HasRoomFor, HasRoomForCall, IsMadeFor, made_for};
 
 use super::made::Made;
+use scm_arms_process::raise_starts;
 use scm_model::{Request, Step};
 use scm_tables::Tables;
 use scm_text::{Items, OutOfMemory};
@@ -49,7 +50,7 @@ fn reserve_call(
     }
 }
 
-/// Makes room for the rows that a step may add, for which this was made.
+/// Makes room for the rows that a step may add and for what it begins, for which this was made.
 pub fn reserve(tables: &mut Tables, step: &Step, made: &Made) -> Result<(), OutOfMemory>
     requires { IsMadeFor tables.old.limits tables.old.flat made.now step.now }
     ensures flat { tables.new.flat ≡ tables.old.flat }
@@ -63,6 +64,11 @@ pub fn reserve(tables: &mut Tables, step: &Step, made: &Made) -> Result<(), OutO
             request,
             kept: _,
         } => reserve_call(tables, *caller, request, made),
+        Step::Tick => tables.reserve_tick(),
+        Step::Raised { caller, subtype } => {
+            let starts = raise_starts(tables, *caller, subtype);
+            tables.reserve_starts(starts)
+        }
         _ => Ok(()),
     }
 }
