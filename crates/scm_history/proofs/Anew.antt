@@ -9,10 +9,10 @@ use Rattle.scm_model.specs.declared.flat.Phase.{Phase}
 use Rattle.scm_model.specs.declared.flat.Phase.TheVariants as phases
 use Rattle.scm_model.specs.declared.flat.Process.{Process}
 use Rattle.scm_model.specs.declared.steps.Step.{Step}
-use Rattle.scm_model.specs.declared.steps.Step.TheVariants.{Joined, Call, LaunchTaken, Launched, LaunchFailed, Ended, ControlTaken, Tick}
+use Rattle.scm_model.specs.declared.steps.Step.TheVariants.{Joined, Call, LaunchTaken, Launched, LaunchFailed, Report, Ended, ControlTaken, Tick, Raised}
 use Rattle.scm_model.specs.Changes.{with_moment}
 use Rattle.scm_rules.specs.Controls.{relieved_if}
-use Rattle.scm_rules.specs.Launches.{first_wanted, is_taken, is_taken_phase, launched_if, process_of, taken_if}
+use Rattle.scm_rules.specs.Launches.{current_of, first_wanted, is_taken, is_taken_phase, launched_if, process_of, taken_if, with_fallen, without_process}
 use Rattle.scm_rules.specs.Runs.{IsLegal, run_state}
 use Rattle.scm_model.specs.Entries.{Entry}
 use Rattle.scm_rules.specs.Steps.{at_moment, effect_of, may, step_of}
@@ -27,17 +27,19 @@ use Rattle.scm_history.specs.Anew.{MakesAnew}
 use Rattle.scm_rules.specs.Named.{caller_made, has_begun, has_made, has_taken, is_it, makes_caller, names_caller, plan_made, process_taken, takes_process}
 use Rattle.scm_history.specs.Processes.{apart_from_controls}
 use Rattle.scm_history.proofs.Callers.{rising}
-use Rattle.scm_history.proofs.Effects.{controls_apart, of_call}
+use Rattle.scm_history.proofs.Effects.{controls_apart, of_call, of_raise}
 use Rattle.scm_history.proofs.Finds.{found_map}
 use Rattle.scm_history.proofs.Numbers.{begun, joins_after, plan_rises}
 use Rattle.scm_history.proofs.Own.{given_it}
-use Rattle.scm_history.proofs.Processes.{after_effect, has, launches, left_not, listed_below, process_rises, takes, told_apart}
+use Rattle.scm_history.proofs.Processes.{after_effect, has, launches, left_not, listed_below, process_rises, takes, ticked_still, told_apart}
 use Rattle.std.proofs.lemmas.Bool.{and_parts}
 use Rattle.scm_runs.proofs.Histories.{made_front, may_behind}
 use Rattle.scm_rules.specs.Histories.{state}
 use Rattle.scm_model.proofs.Found.{found_keeps}
 use Rattle.scm_runs.proofs.Founds.{if_some, it_is}
-use Rattle.scm_rules.proofs.Dues.{ticked_apart}
+use Rattle.scm_runs.proofs.Failing.{failing_apart}
+use Rattle.scm_rules.specs.Failures.{failed_by}
+use Rattle.scm_model.specs.declared.codes.TheConstants.{ERROR_PROCESS_ABORTED}
 
 -- what would make it smaller than it is isn't so
 not_yet : (b : Bool) (number next : ℕ) → (b ≡ true → number < next) → next ≤ number → b ≡ false
@@ -103,25 +105,29 @@ wanted_apart : (row : Option Process) → is_wanted_in (option_map apart_from_co
 wanted_apart None = refl
 wanted_apart (Some row) = refl
 
-past_effect : (l : Limits) (f : Flat) (moment : ℕ) (step : Step) (number : ℕ) → is_wanted_in (process_of f number) ≡ false → is_wanted_in (process_of (effect_of l (at_moment f moment step) step).flat number) ≡ false
-past_effect l f moment (Call caller asked append) number past = told_apart is_wanted_in wanted_apart number f.processes _ (of_call l (with_moment f moment) caller asked append).processes ∙ past
-past_effect l f moment LaunchTaken number past =
+past_effect : (l : Limits) (f : Flat) (moment : ℕ) (step : Step) (number : ℕ) → number < f.next.process → is_wanted_in (process_of f number) ≡ false → is_wanted_in (process_of (effect_of l (at_moment f moment step) step).flat number) ≡ false
+past_effect l f moment (Call caller asked append) number low past = told_apart is_wanted_in wanted_apart number f.processes _ (of_call l (with_moment f moment) caller asked append).processes ∙ past
+past_effect l f moment LaunchTaken number low past =
     found_keeps (λ (rows : List Process). is_wanted_in (find (has number) rows) ≡ false) (λ process. map (taken_if process)) (first_wanted f.wanted) f.processes past
     (λ one is. ap is_wanted_in (found_map (has number) (taken_if one) (λ row. ap (λ n. n == number) ((takes one).number_same row)) f.processes) ∙ past_taken one (find (has number) f.processes) past)
-past_effect l f moment (Launched process pid) number past =
+past_effect l f moment (Launched process pid) number low past =
     ap is_wanted_in (found_map (has number) (launched_if process pid) (λ row. ap (λ n. n == number) ((launches process pid).number_same row)) f.processes)
     ∙ past_launched process pid (find (has number) f.processes) past
-past_effect l f moment (LaunchFailed process code) number past = left_not is_wanted_in refl number process f.processes past
-past_effect l f moment (Ended process) number past = left_not is_wanted_in refl number process f.processes past
-past_effect l f moment (ControlTaken process) number past =
+past_effect l f moment (LaunchFailed process code) number low past = left_not is_wanted_in refl number process f.processes past
+past_effect l f moment (Report process status) number low past = failing_apart (λ (g : Flat). is_wanted_in (process_of g number) ≡ false) (failed_by status (current_of f process)) _ past
+past_effect l f moment (Ended process) number low past =
+    failing_apart (λ (g : Flat). is_wanted_in (process_of (without_process g process) number) ≡ false) (current_of f process) (with_fallen (with_moment f moment) process ERROR_PROCESS_ABORTED)
+    (left_not is_wanted_in refl number process f.processes past)
+past_effect l f moment (ControlTaken process) number low past =
     told_apart is_wanted_in wanted_apart number f.processes _ (controls_apart (relieved_if process) (controls_fewer process) f.processes) ∙ past
-past_effect l f moment Tick number past = ticked_apart (λ (g : Flat). is_wanted_in (process_of g number) ≡ false) (λ g plans rows q. q) (with_moment f moment) past
-past_effect l f moment step number past = past
+past_effect l f moment Tick number low past = ap is_wanted_in (ticked_still l (with_moment f moment) number low).same ∙ past
+past_effect l f moment (Raised caller subtype) number low past = told_apart is_wanted_in wanted_apart number f.processes _ (of_raise l (with_moment f moment) caller subtype).processes ∙ past
+past_effect l f moment step number low past = past
 
 past_step : (l : Limits) (f : Flat) (moment : ℕ) (step : Step) (number : ℕ) → IsPast number f → IsPast number (step_of l f moment step).flat
 past_step l f moment step number is = record {
   low = (let low = is.low in let up = process_rises l f moment step in omega (arith, low, up));
-  past = ap is_wanted_in (after_effect l f moment step number is.low) ∙ past_effect l f moment step number is.past;
+  past = ap is_wanted_in (after_effect l f moment step number is.low) ∙ past_effect l f moment step number is.low is.past;
 }
 
 past_along : (l : Limits) (f : Flat) (number : ℕ) (es : List Entry) → IsPast number f → IsPast number (run_state l f es)

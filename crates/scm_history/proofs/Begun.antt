@@ -1,5 +1,5 @@
 -- A start that is answered was begun by a Call of the same caller.
-use Rattle.std.proofs.Common.{ℕ, ◌≡◌, ◌==◌, ◌&&◌, ◌||◌, Bool, true, false, not, cond, IsTrue, List, [], ◌∷◌, Option, None, Some, find, map, ap, sym, refl, subst, eq-eqb, eqb-true}
+use Rattle.std.proofs.Common.{ℕ, ◌≡◌, ◌==◌, ◌&&◌, ◌||◌, Bool, true, false, not, cond, IsTrue, List, [], ◌∷◌, Option, None, Some, find, map, ap, sym, refl, subst, eq-eqb, eqb-true, ne_eqb}
 use Rattle.std.specs.Prelude.{option_map}
 use Rattle.std.specs.List.{AllByRecursion}
 use Rattle.scm_model.specs.declared.flat.DueKind.{DueKind}
@@ -14,15 +14,15 @@ use Rattle.scm_model.specs.declared.steps.Answer.{Answer}
 use Rattle.scm_model.specs.declared.steps.Answer.TheVariants as answer
 use Rattle.scm_model.specs.declared.steps.Kept.{Kept}
 use Rattle.scm_model.specs.declared.steps.Step.{Step}
-use Rattle.scm_model.specs.declared.steps.Step.TheVariants.{Call, EndStart, Launched, LaunchFailed, Report, Ended, Tick, Gone, LaunchTaken, ControlTaken}
+use Rattle.scm_model.specs.declared.steps.Step.TheVariants.{Call, EndStart, Launched, LaunchFailed, Report, Ended, Tick, Raised, Gone, LaunchTaken, ControlTaken}
 use Rattle.scm_model.specs.Changes.{with_moment}
 use Rattle.start_plan.specs.Decided.{aims_at, plan_caller, code_of, decided_if, decided_in, is_callers, is_numbered, without_plan}
 use Rattle.start_plan.specs.Settle.{settle_all, settled, stays}
 use Rattle.start_plan.proofs.Keeps.{Keeps, all_filter, keeps_all}
-use Rattle.scm_rules.specs.Launches.{service_of_process}
+use Rattle.scm_rules.specs.Launches.{current_of, service_of_process, with_fallen}
 use Rattle.scm_rules.specs.Runs.{run_state}
 use Rattle.scm_model.specs.Entries.{Entry}
-use Rattle.scm_rules.specs.Start.{is_caller_of, start_done, start_verdict}
+use Rattle.scm_rules.specs.Start.{is_caller_of, start_done, start_verdict, with_start}
 use Rattle.scm_model.specs.Refused.{answered}
 use Rattle.scm_rules.specs.Steps.{call_answer, answered_by, at_moment, effect_of, finished, left_by, may, step_of}
 use Rattle.scm_rules.specs.Verdicts.{call_of, done_of, told_refused, verdict}
@@ -34,8 +34,14 @@ use Rattle.std.proofs.lemmas.Bool.{and_parts}
 use Rattle.scm_model.proofs.Found.{found_keeps}
 use Rattle.scm_model.specs.Found.{if_found}
 use Rattle.scm_runs.proofs.Founds.{opened_keeps, started_keeps, notify_apart}
-use Rattle.scm_rules.proofs.Dues.{ticked_plans}
-use Rattle.scm_rules.specs.Due.{expired}
+use Rattle.scm_runs.proofs.Failing.{failing_apart}
+use Rattle.scm_rules.specs.Failures.{failed_by}
+use Rattle.scm_model.specs.declared.codes.TheConstants.{ERROR_PROCESS_ABORTED}
+use Rattle.scm_model.specs.Rows.{held_service}
+use Rattle.scm_runs.proofs.Unasked.{expired, raised_by, ticked_by}
+use Rattle.scm_runs.proofs.Handles.{not_nobody}
+use Rattle.scm_runs.proofs.Sound.{Sound}
+use Rattle.scm_model.specs.declared.flat.Service.{Service}
 
 -- a plan has another number or another caller
 abbrev IsOther : ℕ → ℕ → Plan → Type 0
@@ -130,6 +136,9 @@ of_call number caller l f moment by (request.Start handle words) append all not_
 of_call number caller l f moment by (request.OpenService handle name access) append all not_told =
     let g = with_moment f moment in
     change_done number caller l g by (request.OpenService handle name access) append (opened_keeps (λ (h : Flat). h.plans ≡ g.plans) g by name access refl (λ row is. refl)) all
+of_call number caller l f moment by (request.SetStatus handle status) append all not_told =
+    let g = with_moment f moment in
+    change_done number caller l g by (request.SetStatus handle status) append (failing_apart (λ (h : Flat). h.plans ≡ g.plans) (failed_by status (held_service g by handle)) _ refl) all
 of_call number caller l f moment by (request.Notify handle mask) append all not_told =
     let g = with_moment f moment in
     change_done number caller l g by (request.Notify handle mask) append (notify_apart (λ (h : Flat). h.plans ≡ g.plans) g by handle mask (λ rows next. refl)) all
@@ -137,32 +146,50 @@ of_call number caller l f moment by asked append all not_told = change_done numb
 
 -- ## Steps
 
-of_step : (number caller : ℕ) (l : Limits) (f : Flat) (moment : ℕ) (step : Step) → AreOther number caller f.plans → (names_caller caller step && is_it number (plan_made (step_of l f moment step).answer)) ≡ false
+-- a start that no caller asks for is nobody's
+nobodys : (caller : ℕ) (same : Bool) → (caller == 0) ≡ false → (same && 0 == caller) ≡ false
+nobodys caller true somebody = ne_eqb 0 caller (λ e. absurd (let none = eq-eqb caller 0 (sym e) in cc))
+nobodys caller false somebody = refl
+
+start_other : (number caller : ℕ) (g : Flat) (row : Service) → (caller == 0) ≡ false → AreOther number caller g.plans → AreOther number caller (with_start 0 [] row g).plans
+start_other number caller g row somebody all = all_more (IsOther number caller) g.plans _ all (nobodys caller (g.next.plan == number) somebody)
+
+of_step : (number caller : ℕ) (l : Limits) (f : Flat) (moment : ℕ) (step : Step) → (caller == 0) ≡ false → AreOther number caller f.plans → (names_caller caller step && is_it number (plan_made (step_of l f moment step).answer)) ≡ false
     → AreOther number caller (step_of l f moment step).flat.plans
-of_step number caller l f moment (Call by asked append) all not_told = of_call number caller l f moment by asked append all not_told
-of_step number caller l f moment (EndStart by plan) all not_told =
+of_step number caller l f moment (Call by asked append) somebody all not_told = of_call number caller l f moment by asked append all not_told
+of_step number caller l f moment (EndStart by plan) somebody all not_told =
     settles l (effect_of l (with_moment f moment) (EndStart by plan)).flat number caller (all_filter (IsOther number caller) (λ (row : Plan). not (is_numbered plan row)) f.plans all)
-of_step number caller l f moment (Launched process pid) all not_told =
+of_step number caller l f moment (Launched process pid) somebody all not_told =
     settles l (effect_of l (with_moment f moment) (Launched process pid)).flat number caller (starts_decided number caller (service_of_process f process) 0 f.plans all)
-of_step number caller l f moment (LaunchFailed process code) all not_told =
+of_step number caller l f moment (LaunchFailed process code) somebody all not_told =
     settles l (effect_of l (with_moment f moment) (LaunchFailed process code)).flat number caller (starts_decided number caller (service_of_process f process) code f.plans all)
-of_step number caller l f moment LaunchTaken all not_told =
+of_step number caller l f moment LaunchTaken somebody all not_told =
     let done = effect_of l (with_moment f moment) LaunchTaken in
     finishes number caller (settled l done.flat) done.answer (settles l done.flat number caller all)
-of_step number caller l f moment (ControlTaken process) all not_told =
+of_step number caller l f moment (ControlTaken process) somebody all not_told =
     let done = effect_of l (with_moment f moment) (ControlTaken process) in
     finishes number caller (settled l done.flat) done.answer (settles l done.flat number caller all)
-of_step number caller l f moment (Report process status) all not_told =
+of_step number caller l f moment (Report process status) somebody all not_told =
     let done = effect_of l (with_moment f moment) (Report process status) in
-    finishes number caller (settled l done.flat) done.answer (settles l done.flat number caller all)
-of_step number caller l f moment (Ended process) all not_told =
+    finishes number caller (settled l done.flat) done.answer
+    (settles l done.flat number caller (failing_apart (λ (g : Flat). AreOther number caller g.plans) (failed_by status (current_of f process)) _ all))
+of_step number caller l f moment (Ended process) somebody all not_told =
     let done = effect_of l (with_moment f moment) (Ended process) in
-    finishes number caller (settled l done.flat) done.answer (settles l done.flat number caller all)
-of_step number caller l f moment Tick all not_told =
-    settles l (effect_of l (with_moment f moment) Tick).flat number caller (ticked_plans (AreOther number caller) (has_expired number caller) (with_moment f moment) all)
-of_step number caller l f moment (Gone by) all not_told =
+    finishes number caller (settled l done.flat) done.answer
+    (settles l done.flat number caller (failing_apart (λ (g : Flat). AreOther number caller g.plans) (current_of f process) (with_fallen (with_moment f moment) process ERROR_PROCESS_ABORTED) all))
+of_step number caller l f moment Tick somebody all not_told =
+    settles l (effect_of l (with_moment f moment) Tick).flat number caller (ticked_by (λ (g : Flat). AreOther number caller g.plans) l (record {
+      spends = λ g row is other. has_expired number caller g.plans row.kind other;
+      starts = λ g row there can other. start_other number caller g row somebody other;
+      runs = λ g row there can other. other;
+      reboots = λ g other. other;
+    }) (with_moment f moment) all)
+of_step number caller l f moment (Raised by subtype) somebody all not_told =
+    settles l (effect_of l (with_moment f moment) (Raised by subtype)).flat number caller (raised_by (λ (g : Flat). AreOther number caller g.plans) l subtype
+    (record { starts = λ g row there can other. start_other number caller g row somebody other; stops = λ g row action there is stops gets other. other }) (with_moment f moment) by all)
+of_step number caller l f moment (Gone by) somebody all not_told =
     settles l (effect_of l (with_moment f moment) (Gone by)).flat number caller (all_filter (IsOther number caller) (λ (row : Plan). not (is_callers by row)) f.plans all)
-of_step number caller l f moment step all not_told = settles l (effect_of l (at_moment f moment step) step).flat number caller all
+of_step number caller l f moment step somebody all not_told = settles l (effect_of l (at_moment f moment step) step).flat number caller all
 
 -- ## Histories
 
@@ -174,19 +201,20 @@ not_callers number caller (plan ∷ plans) all =
     [ true ↦ λ h. h | false ↦ λ h. not_callers number caller plans all.1 ] all.0
 
 -- a plan that is a caller's in the end, and wasn't in the beginning, was begun by it
-began : (l : Limits) (f : Flat) (number caller : ℕ) (es : List Entry) → AreOther number caller f.plans → is_caller_of (plan_caller (run_state l f es).plans number) caller ≡ true → has_begun l f caller number es ≡ true
-began l f number caller [] all there = absurd (let none = not_callers number caller f.plans all in cc)
-began l f number caller (e ∷ es) all there =
+began : (l : Limits) (f : Flat) (number caller : ℕ) (es : List Entry) → (caller == 0) ≡ false → AreOther number caller f.plans → is_caller_of (plan_caller (run_state l f es).plans number) caller ≡ true → has_begun l f caller number es ≡ true
+began l f number caller [] somebody all there = absurd (let none = not_callers number caller f.plans all in cc)
+began l f number caller (e ∷ es) somebody all there =
     let after = (step_of l f e.0 e.1).flat in
     elim (names_caller caller e.1 && is_it number (plan_made (step_of l f e.0 e.1).answer)) as (λ b. (names_caller caller e.1 && is_it number (plan_made (step_of l f e.0 e.1).answer)) ≡ b
     → (b || has_begun l after caller number es) ≡ true) [
       | true ↦ λ h. refl
-      | false ↦ λ h. began l after number caller es (of_step number caller l f e.0 e.1 all h) there
+      | false ↦ λ h. began l after number caller es somebody (of_step number caller l f e.0 e.1 somebody all h) there
     ] refl
 
-pub answers_own : (l : Limits) (f : Flat) (front : List Entry) (moment : ℕ) (step : Step) → f.plans ≡ [] → IsTrue (may l (run_state l f front) moment step) → AnswersItsOwn l f front step
-answers_own l f front moment (EndStart caller plan) none ok =
+pub answers_own : (l : Limits) (f : Flat) (front : List Entry) (moment : ℕ) (step : Step) → Sound (run_state l f front) → f.plans ≡ [] → IsTrue (may l (run_state l f front) moment step) → AnswersItsOwn l f front step
+answers_own l f front moment (EndStart caller plan) s none ok =
     (let g = run_state l f front in
-    let both = and_parts _ _ (and_parts _ _ ok).0 in
-    began l f plan caller front (subst (AreOther plan caller) (sym none) tt) (and_parts _ _ both.1).0)
-answers_own l f front moment step none ok = tt
+    let all = and_parts _ _ (and_parts _ _ ok).0 in
+    let both = and_parts _ _ all.1 in
+    began l f plan caller front (not_nobody caller g.callers s.handles.callers.positive all.0) (subst (AreOther plan caller) (sym none) tt) both.0)
+answers_own l f front moment step s none ok = tt

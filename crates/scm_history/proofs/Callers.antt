@@ -5,9 +5,8 @@ use Rattle.scm_model.specs.declared.flat.Caller.{Caller}
 use Rattle.scm_model.specs.declared.flat.Flat.{Flat}
 use Rattle.scm_model.specs.declared.flat.Limits.{Limits}
 use Rattle.scm_model.specs.declared.steps.Step.{Step}
-use Rattle.scm_model.specs.declared.steps.Step.TheVariants.{Joined, Call, Gone, Tick}
+use Rattle.scm_model.specs.declared.steps.Step.TheVariants.{Joined, Gone}
 use Rattle.scm_model.specs.Rows.{is_caller}
-use Rattle.scm_model.specs.Changes.{with_moment}
 use Rattle.scm_rules.specs.Runs.{IsLegal, run_state}
 use Rattle.scm_model.specs.Entries.{Entry}
 use Rattle.scm_rules.specs.Steps.{at_moment, effect_of, may, step_of}
@@ -17,14 +16,13 @@ use Rattle.scm_runs.proofs.Handled.{found_still, has_caller, still_found}
 use Rattle.scm_runs.proofs.Sound.{Sound}
 use Rattle.scm_history.specs.Callers.{CallersStay, takes_leave, IsGoneForGood}
 use Rattle.scm_rules.specs.Named.{caller_made}
-use Rattle.scm_history.proofs.Effects.{of_call}
+use Rattle.scm_history.proofs.Effects.{callers_left}
 use Rattle.scm_history.proofs.Finds.{find_push, found_below, none_filter}
 use Rattle.std.proofs.lemmas.Bool.{and_parts}
 use Rattle.scm_runs.proofs.Frames.{framed}
 use Rattle.scm_runs.proofs.Handles.{not_there}
 use Rattle.scm_runs.proofs.Lists.{find_new}
 use Rattle.scm_rules.specs.Histories.{state}
-use Rattle.scm_rules.proofs.Dues.{ticked_apart}
 
 abbrev has : ℕ → Caller → Bool
 has number row = row.number == number
@@ -37,10 +35,8 @@ joined l f moment step = tt
 
 others : (l : Limits) (f : Flat) (moment : ℕ) (step : Step) (number : ℕ) → takes_leave number step ≡ false → is_caller f number ≡ true → is_caller (effect_of l (at_moment f moment step) step).flat number ≡ true
 others l f moment (Joined principal) number other there = ap is_some (still_found f.callers (record { number = f.next.caller; principal = principal }) number there) ∙ there
-others l f moment (Call caller asked append) number other there = ap (λ rows. has_caller rows number) (of_call l (with_moment f moment) caller asked append).callers ∙ there
 others l f moment (Gone caller) number other there = ap is_some (found_still f.callers caller number (ap not other)) ∙ there
-others l f moment Tick number other there = ticked_apart (λ (g : Flat). is_caller g number ≡ true) (λ g plans rows q. q) (with_moment f moment) there
-others l f moment step number other there = there
+others l f moment step number other there = ap (λ rows. has_caller rows number) (callers_left l f moment step refl).rows ∙ there
 
 left : (l : Limits) (f : Flat) (moment : ℕ) (step : Step) (number : ℕ) → takes_leave number step ≡ true → is_caller (effect_of l (at_moment f moment step) step).flat number ≡ false
 left l f moment (Gone caller) number leaves =
@@ -50,15 +46,13 @@ left l f moment step number leaves = absurd cc
 away : (l : Limits) (f : Flat) (moment : ℕ) (step : Step) (number : ℕ) → number < f.next.caller → is_caller f number ≡ false → is_caller (effect_of l (at_moment f moment step) step).flat number ≡ false
 away l f moment (Joined principal) number low none =
     ap is_some (find_push (has number) f.callers (record { number = f.next.caller; principal = principal }) (ne_eqb f.next.caller number (λ e. absurd (omega (arith, e, low))))) ∙ none
-away l f moment (Call caller asked append) number low none = ap (λ rows. has_caller rows number) (of_call l (with_moment f moment) caller asked append).callers ∙ none
 away l f moment (Gone caller) number low none = none_filter (has number) (λ (row : Caller). not (row.number == caller)) f.callers none
-away l f moment Tick number low none = ticked_apart (λ (g : Flat). is_caller g number ≡ false) (λ g plans rows q. q) (with_moment f moment) none
-away l f moment step number low none = none
+away l f moment step number low none = ap (λ rows. has_caller rows number) (callers_left l f moment step refl).rows ∙ none
 
 rises : (l : Limits) (f : Flat) (moment : ℕ) (step : Step) → f.next.caller ≤ (effect_of l (at_moment f moment step) step).flat.next.caller
-rises l f moment (Call caller asked append) = (let e = (of_call l (with_moment f moment) caller asked append).next_caller in omega (arith, e))
-rises l f moment Tick = ticked_apart (λ (g : Flat). f.next.caller ≤ g.next.caller) (λ g plans rows up. up) (with_moment f moment) (omega arith)
-rises l f moment step = omega arith
+rises l f moment (Joined principal) = omega arith
+rises l f moment (Gone caller) = omega arith
+rises l f moment step = (let e = (callers_left l f moment step refl).next in omega (arith, e))
 
 -- ## Steps
 

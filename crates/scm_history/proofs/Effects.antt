@@ -1,5 +1,5 @@
 -- What steps leave of callers, processes, plans and next numbers.
-use Rattle.std.proofs.Common.{ℕ, ◌≡◌, List, map, ap, refl}
+use Rattle.std.proofs.Common.{ℕ, ◌≡◌, ◌∙◌, Bool, true, false, List, map, ap, refl}
 use Rattle.scm_model.specs.declared.flat.Flat.{Flat}
 use Rattle.scm_model.specs.declared.flat.Limits.{Limits}
 use Rattle.scm_model.specs.declared.flat.Process.{Process}
@@ -17,6 +17,16 @@ use Rattle.scm_model.proofs.Found.{found_keeps}
 use Rattle.scm_model.specs.Rows.{held_service}
 use Rattle.scm_runs.proofs.Founds.{opened_keeps, started_keeps, notify_apart}
 use Rattle.scm_model.specs.declared.flat.Service.{Service}
+use Rattle.scm_runs.proofs.Failing.{failing_apart}
+use Rattle.scm_rules.specs.Failures.{failed_by}
+use Rattle.scm_rules.specs.Launches.{current_of, with_fallen, without_process}
+use Rattle.scm_rules.specs.Raise.{raised}
+use Rattle.scm_rules.specs.Steps.{at_moment, effect_of}
+use Rattle.scm_runs.proofs.Unasked.{raised_apart, raised_by, ticked_apart}
+use Rattle.scm_model.specs.Changes.{with_moment}
+use Rattle.scm_model.specs.declared.steps.Step.{Step}
+use Rattle.scm_model.specs.declared.steps.Step.TheVariants.{Joined, Call, Report, Ended, Tick, Raised, Gone}
+use Rattle.scm_model.specs.declared.codes.TheConstants.{ERROR_PROCESS_ABORTED, SERVICE_CONTROL_STOP}
 
 -- a change of the controls alone leaves all else
 pub controls_apart : (change : Process → Process) → IsOfControls change → (rows : List Process) → map apart_from_controls (map change rows) ≡ map apart_from_controls rows
@@ -44,6 +54,8 @@ of_done l f caller (request.Control handle control) = record {
   next_caller = refl;
   next_process = refl;
 }
+of_done l f caller (request.SetStatus handle status) =
+    failing_apart (Spares f) (failed_by status (held_service f caller handle)) _ (record { callers = refl; processes = refl; next_caller = refl; next_process = refl })
 of_done l f caller (request.Notify handle mask) =
     notify_apart (Spares f) f caller handle mask (λ rows next. record { callers = refl; processes = refl; next_caller = refl; next_process = refl })
 of_done l f caller asked = record { callers = refl; processes = refl; next_caller = refl; next_process = refl }
@@ -53,3 +65,41 @@ pub of_call : (l : Limits) (f : Flat) (caller : ℕ) (asked : Request) (append :
 of_call l f caller asked append =
     by_verdict (λ r. Spares f r.flat) (verdict l f caller asked append) (told_refused f caller asked (verdict l f caller asked append)) f (done_of l f caller asked)
     (λ e. of_done l f caller asked) (λ e. spared f)
+
+-- and with a raise: starts begin, and controls wait
+pub of_raise : (l : Limits) (f : Flat) (caller : ℕ) (subtype : List ℕ) → Spares f (raised l f caller subtype)
+of_raise l f caller subtype = raised_by (Spares f) l subtype (record {
+  starts = λ g row there can p. record { callers = p.callers; processes = p.processes; next_caller = p.next_caller; next_process = p.next_process };
+  stops = λ g row action there is stops gets p. record {
+    callers = p.callers;
+    processes = controls_apart (controlled_if l.controls row.process SERVICE_CONTROL_STOP) (controls_more l.controls row.process SERVICE_CONTROL_STOP) g.processes ∙ p.processes;
+    next_caller = p.next_caller;
+    next_process = p.next_process;
+  };
+}) f caller (spared f)
+
+-- ## Callers
+
+-- whether a step lets a caller join or go
+abbrev pub moves_callers : Step → Bool
+moves_callers (Joined principal) = true
+moves_callers (Gone caller) = true
+moves_callers step = false
+
+-- the callers are those that were, and so is the next number of one
+pub record HasCallers (f g : Flat) : Type 0 where
+  pub rows : g.callers ≡ f.callers
+  pub next : g.next.caller ≡ f.next.caller
+
+pub callers_left : (l : Limits) (f : Flat) (moment : ℕ) (step : Step) → moves_callers step ≡ false → HasCallers f (effect_of l (at_moment f moment step) step).flat
+callers_left l f moment (Joined principal) e = absurd cc
+callers_left l f moment (Gone caller) e = absurd cc
+callers_left l f moment (Call caller asked append) e =
+    let spares = of_call l (with_moment f moment) caller asked append in
+    record { rows = spares.callers; next = spares.next_caller }
+callers_left l f moment (Report process status) e = failing_apart (HasCallers f) (failed_by status (current_of f process)) _ (record { rows = refl; next = refl })
+callers_left l f moment (Ended process) e =
+    failing_apart (λ (g : Flat). HasCallers f (without_process g process)) (current_of f process) (with_fallen (with_moment f moment) process ERROR_PROCESS_ABORTED) (record { rows = refl; next = refl })
+callers_left l f moment Tick e = ticked_apart (HasCallers f) l (with_moment f moment) (record { rows = refl; next = refl })
+callers_left l f moment (Raised caller subtype) e = raised_apart (HasCallers f) l (with_moment f moment) caller subtype (record { rows = refl; next = refl })
+callers_left l f moment step e = record { rows = refl; next = refl }

@@ -15,7 +15,7 @@ use Rattle.scm_model.specs.declared.steps.Answer.{Answer}
 use Rattle.scm_model.specs.declared.steps.Answer.TheVariants as answer
 use Rattle.scm_model.specs.declared.steps.Kept.{Kept}
 use Rattle.scm_model.specs.declared.steps.Step.{Step}
-use Rattle.scm_model.specs.declared.steps.Step.TheVariants.{Call, EndStart, Launched, LaunchFailed, Report, Ended, Tick, Gone, LaunchTaken, ControlTaken}
+use Rattle.scm_model.specs.declared.steps.Step.TheVariants.{Call, EndStart, Launched, LaunchFailed, Report, Ended, Tick, Raised, Gone, LaunchTaken, ControlTaken}
 use Rattle.scm_model.specs.Changes.{with_moment}
 use Rattle.start_plan.specs.Decided.{aims_at, code_of, decided_if, decided_in, is_numbered, without_plan, without_plans_of}
 use Rattle.start_plan.specs.Settle.{settle_all, settle_plan, settled, stays}
@@ -31,8 +31,13 @@ use Rattle.scm_model.proofs.Found.{found_keeps}
 use Rattle.scm_model.specs.Found.{if_found}
 use Rattle.scm_runs.proofs.Founds.{opened_keeps, started_keeps, notify_apart}
 use Rattle.scm_rules.specs.Controls.{control_sent, controls_of, first_control}
-use Rattle.scm_rules.proofs.Dues.{ticked_plans}
-use Rattle.scm_rules.specs.Due.{expired}
+use Rattle.scm_runs.proofs.Failing.{failing_apart}
+use Rattle.scm_rules.specs.Failures.{failed_by}
+use Rattle.scm_model.specs.declared.codes.TheConstants.{ERROR_PROCESS_ABORTED}
+use Rattle.scm_model.specs.Rows.{held_service}
+use Rattle.scm_runs.proofs.Unasked.{expired, raised_by, ticked_by}
+use Rattle.scm_rules.specs.Start.{with_start}
+use Rattle.scm_rules.specs.Launches.{with_fallen}
 
 -- a fact of plans that lasts where none with this number begins, and only plans of Over end and only callers of Left leave
 pub record Lasts (number : ℕ) (Over Left : ℕ → Type 0) (P : List Plan → Type 0) : Type 0 where
@@ -66,6 +71,7 @@ starts_decided number Over Left P lasts target code plans p =
 of_done : (number : ℕ) (Over Left : ℕ → Type 0) (P : List Plan → Type 0) → Lasts number Over Left P → (l : Limits) (f : Flat) (caller : ℕ) (asked : Request) → (f.next.plan == number) ≡ false → P f.plans → P (done_of l f caller asked).flat.plans
 of_done number Over Left P lasts l f caller (request.OpenService handle name access) other p = opened_keeps (λ (g : Flat). P g.plans) f caller name access p (λ row is. p)
 of_done number Over Left P lasts l f caller (request.Start handle words) other p = started_keeps (λ (g : Flat). P g.plans) f caller handle words p (λ row is. lasts.begins f.plans _ other p)
+of_done number Over Left P lasts l f caller (request.SetStatus handle status) other p = failing_apart (λ (g : Flat). P g.plans) (failed_by status (held_service f caller handle)) _ p
 of_done number Over Left P lasts l f caller (request.Notify handle mask) other p = notify_apart (λ (g : Flat). P g.plans) f caller handle mask (λ rows next. p)
 of_done number Over Left P lasts l f caller asked other p = p
 
@@ -75,15 +81,36 @@ of_call number Over Left P lasts l f caller asked append other p =
     by_verdict (λ r. P r.flat.plans) (verdict l f caller asked append) (told_refused f caller asked (verdict l f caller asked append)) f (done_of l f caller asked)
     (λ e. of_done number Over Left P lasts l f caller asked other p) (λ e. p)
 
-of_effect : (number : ℕ) (Over Left : ℕ → Type 0) (P : List Plan → Type 0) → Lasts number Over Left P → (l : Limits) (f : Flat) (moment : ℕ) (step : Step) → (f.next.plan == number) ≡ false → Allows Over Left step → P f.plans
+later : (number next : ℕ) → number < next → (next == number) ≡ false
+later number next low = ne_eqb next number (λ e. absurd (omega (arith, e, low)))
+
+-- it lasts, and the number was given
+abbrev LastsIn : ℕ → (List Plan → Type 0) → Flat → Type 0
+LastsIn number P f = (number < f.next.plan) × P f.plans
+
+-- a start that no caller asks for has another number
+start_lasts : (number : ℕ) (Over Left : ℕ → Type 0) (P : List Plan → Type 0) → Lasts number Over Left P → (g : Flat) (row : Service) → LastsIn number P g → LastsIn number P (with_start 0 [] row g)
+start_lasts number Over Left P lasts g row q = ((let low = q.0 in omega (arith, low)), lasts.begins g.plans _ (later number g.next.plan q.0) q.1)
+
+of_effect : (number : ℕ) (Over Left : ℕ → Type 0) (P : List Plan → Type 0) → Lasts number Over Left P → (l : Limits) (f : Flat) (moment : ℕ) (step : Step) → number < f.next.plan → Allows Over Left step → P f.plans
     → P (effect_of l (at_moment f moment step) step).flat.plans
-of_effect number Over Left P lasts l f moment (Call caller asked append) other allowed p = of_call number Over Left P lasts l (with_moment f moment) caller asked append other p
-of_effect number Over Left P lasts l f moment (EndStart caller plan) other allowed p = lasts.ends plan f.plans allowed p
-of_effect number Over Left P lasts l f moment (Launched process pid) other allowed p = starts_decided number Over Left P lasts (service_of_process f process) 0 f.plans p
-of_effect number Over Left P lasts l f moment (LaunchFailed process code) other allowed p = starts_decided number Over Left P lasts (service_of_process f process) code f.plans p
-of_effect number Over Left P lasts l f moment Tick other allowed p = ticked_plans P (expires number Over Left P lasts) (with_moment f moment) p
-of_effect number Over Left P lasts l f moment (Gone caller) other allowed p = lasts.leaves caller f.plans allowed p
-of_effect number Over Left P lasts l f moment step other allowed p = p
+of_effect number Over Left P lasts l f moment (Call caller asked append) low allowed p = of_call number Over Left P lasts l (with_moment f moment) caller asked append (later number f.next.plan low) p
+of_effect number Over Left P lasts l f moment (EndStart caller plan) low allowed p = lasts.ends plan f.plans allowed p
+of_effect number Over Left P lasts l f moment (Launched process pid) low allowed p = starts_decided number Over Left P lasts (service_of_process f process) 0 f.plans p
+of_effect number Over Left P lasts l f moment (LaunchFailed process code) low allowed p = starts_decided number Over Left P lasts (service_of_process f process) code f.plans p
+of_effect number Over Left P lasts l f moment (Report process status) low allowed p = failing_apart (λ (g : Flat). P g.plans) (failed_by status (current_of f process)) _ p
+of_effect number Over Left P lasts l f moment (Ended process) low allowed p =
+    failing_apart (λ (g : Flat). P g.plans) (current_of f process) (with_fallen (with_moment f moment) process ERROR_PROCESS_ABORTED) p
+of_effect number Over Left P lasts l f moment Tick low allowed p = (ticked_by (LastsIn number P) l (record {
+  spends = λ g row is q. (q.0, expires number Over Left P lasts g.plans row.kind q.1);
+  starts = λ g row there can q. start_lasts number Over Left P lasts g row q;
+  runs = λ g row there can q. q;
+  reboots = λ g q. q;
+}) (with_moment f moment) (low, p)).1
+of_effect number Over Left P lasts l f moment (Raised caller subtype) low allowed p =
+    (raised_by (LastsIn number P) l subtype (record { starts = λ g row there can q. start_lasts number Over Left P lasts g row q; stops = λ g row action there is stops gets q. q }) (with_moment f moment) caller (low, p)).1
+of_effect number Over Left P lasts l f moment (Gone caller) low allowed p = lasts.leaves caller f.plans allowed p
+of_effect number Over Left P lasts l f moment step low allowed p = p
 
 -- ## Starts that end in their call
 
@@ -144,7 +171,7 @@ pub of_step : (number : ℕ) (Over Left : ℕ → Type 0) (P : List Plan → Typ
     → P f.plans → P (step_of l f moment step).flat.plans
 of_step number Over Left P lasts l f moment step low last allowed p =
     let done = effect_of l (at_moment f moment step) step in
-    let effect = of_effect number Over Left P lasts l f moment step (ne_eqb f.next.plan number (λ e. absurd (omega (arith, e, low)))) allowed p in
+    let effect = of_effect number Over Left P lasts l f moment step low allowed p in
     finishes number Over Left P lasts (settled l done.flat) done.answer (next_ended Over f.next.plan (plan_made done.answer) (begins_next l f moment step) last)
     (lasts.tidies (settle_all l done.flat done.flat.plans).1 (lasts.settles l done.flat done.flat.plans effect))
 

@@ -9,7 +9,7 @@ use Rattle.scm_model.specs.declared.flat.Phase.{Phase}
 use Rattle.scm_model.specs.declared.flat.Phase.TheVariants as phases
 use Rattle.scm_model.specs.declared.flat.Process.{Process}
 use Rattle.scm_model.specs.declared.steps.Step.{Step}
-use Rattle.scm_model.specs.declared.steps.Step.TheVariants.{Joined, Call, LaunchTaken, Launched, LaunchFailed, Ended, ControlTaken, Gone, Tick}
+use Rattle.scm_model.specs.declared.steps.Step.TheVariants.{Joined, Call, LaunchTaken, Launched, LaunchFailed, Report, Ended, ControlTaken, Gone, Tick, Raised}
 use Rattle.scm_model.specs.Rows.{is_caller}
 use Rattle.scm_model.specs.Changes.{with_moment}
 use Rattle.start_plan.specs.Entered.{wanted_process}
@@ -17,7 +17,7 @@ use Rattle.start_plan.specs.Settle.{settled}
 use Rattle.start_plan.proofs.Enterings.{all_units}
 use Rattle.start_plan.proofs.Keeps.{Keeps, keeps_all}
 use Rattle.scm_rules.specs.Controls.{relieved_if}
-use Rattle.scm_rules.specs.Launches.{first_wanted, is_launched, is_running_phase, is_taken, is_taken_phase, launched_if, process_of, taken_if}
+use Rattle.scm_rules.specs.Launches.{current_of, first_wanted, is_launched, is_running_phase, is_taken, is_taken_phase, launched_if, process_of, taken_if, with_fallen, without_process}
 use Rattle.scm_rules.specs.Opening.{IsOpening}
 use Rattle.scm_rules.specs.Runs.{IsLegal, run_state}
 use Rattle.scm_model.specs.Entries.{Entry}
@@ -32,14 +32,20 @@ use Rattle.scm_history.specs.Names.{has_come_to}
 use Rattle.scm_history.specs.Processes.{apart_from_controls}
 use Rattle.scm_history.proofs.Begun.{answers_own}
 use Rattle.scm_history.proofs.Callers.{caller_after}
-use Rattle.scm_history.proofs.Effects.{controls_apart, of_call}
+use Rattle.scm_history.proofs.Effects.{callers_left, controls_apart, of_call, of_raise}
 use Rattle.scm_history.proofs.Finds.{find_push, none_filter}
 use Rattle.scm_history.proofs.Names.{caller_there, process_there}
 use Rattle.scm_history.proofs.Processes.{has, launches, left_not, others_changed, takes, told_apart}
 use Rattle.std.proofs.lemmas.Bool.{and_parts}
 use Rattle.scm_runs.proofs.Histories.{made_front, may_behind}
 use Rattle.scm_model.proofs.Found.{found_keeps}
-use Rattle.scm_rules.proofs.Dues.{ticked_apart}
+use Rattle.scm_runs.proofs.Failing.{failing_apart}
+use Rattle.scm_rules.specs.Failures.{failed_by}
+use Rattle.scm_runs.proofs.Unasked.{ticked_by}
+use Rattle.scm_model.specs.declared.codes.TheConstants.{ERROR_PROCESS_ABORTED}
+use Rattle.scm_runs.proofs.Sound.{Sound}
+use Rattle.scm_runs.proofs.Calls.{keeps}
+use Rattle.scm_runs.proofs.Along.{at_end}
 
 -- ## Callers
 
@@ -50,10 +56,8 @@ not_same a b other = elim (b == a) as (λ c. (b == a) ≡ c → c ≡ false) [ t
 not_made : (l : Limits) (f : Flat) (moment : ℕ) (step : Step) (number : ℕ) → makes_caller f number step ≡ false → is_caller f number ≡ false → is_caller (effect_of l (at_moment f moment step) step).flat number ≡ false
 not_made l f moment (Joined principal) number other none =
     ap is_some (find_push (λ (row : Caller). row.number == number) f.callers (record { number = f.next.caller; principal = principal }) (not_same number f.next.caller other)) ∙ none
-not_made l f moment (Call caller asked append) number other none = ap (λ rows. has_caller rows number) (of_call l (with_moment f moment) caller asked append).callers ∙ none
 not_made l f moment (Gone caller) number other none = none_filter (λ (row : Caller). row.number == number) (λ (row : Caller). not (row.number == caller)) f.callers none
-not_made l f moment Tick number other none = ticked_apart (λ (g : Flat). is_caller g number ≡ false) (λ g plans rows q. q) (with_moment f moment) none
-not_made l f moment step number other none = none
+not_made l f moment step number other none = ap (λ rows. has_caller rows number) (callers_left l f moment step refl).rows ∙ none
 
 -- who is there in the end and wasn't in the beginning was made
 made : (l : Limits) (f : Flat) (number : ℕ) (es : List Entry) → is_caller f number ≡ false → is_caller (run_state l f es) number ≡ true → has_made l f number es ≡ true
@@ -110,6 +114,13 @@ launched_not number process pid rows taken none =
 abbrev IsNotBegun : ℕ → Flat → Type 0
 IsNotBegun number f = is_begun (process_of f number) ≡ false
 
+-- a process that is wanted is still to be launched
+wanted_not : (number next service : ℕ) (rows : List Process) → is_begun (find (has number) rows) ≡ false → is_begun (find (has number) (rows ++ wanted_process next service ∷ [])) ≡ false
+wanted_not number next service [] none = elim (next == number) as (λ b. is_begun (cond b (Some (wanted_process next service)) None) ≡ false) [ true ↦ refl | false ↦ refl ]
+wanted_not number next service (row ∷ rows) none =
+    elim (row.number == number) as (λ b. is_begun (cond b (Some row) (find (has number) rows)) ≡ false → is_begun (cond b (Some row) (find (has number) (rows ++ wanted_process next service ∷ []))) ≡ false)
+    [ true ↦ λ h. h | false ↦ λ h. wanted_not number next service rows h ] none
+
 -- an effect that takes another process in hand, or none
 not_begun : (l : Limits) (f : Flat) (moment : ℕ) (step : Step) (number : ℕ) → IsTrue (may l f moment step) → takes_process f number step ≡ false → is_begun (process_of f number) ≡ false
     → is_begun (process_of (effect_of l (at_moment f moment step) step).flat number) ≡ false
@@ -119,18 +130,16 @@ not_begun l f moment LaunchTaken number ok other none =
     (λ one is. ap is_begun (others_changed number one (taken_if one) f.processes (takes one) (ap (is_it number) (sym is) ∙ other)) ∙ none)
 not_begun l f moment (Launched process pid) number ok other none = launched_not number process pid f.processes (and_parts _ _ ok).0 none
 not_begun l f moment (LaunchFailed process code) number ok other none = left_not is_begun refl number process f.processes none
-not_begun l f moment (Ended process) number ok other none = left_not is_begun refl number process f.processes none
+not_begun l f moment (Report process status) number ok other none = failing_apart (IsNotBegun number) (failed_by status (current_of f process)) _ none
+not_begun l f moment (Ended process) number ok other none =
+    failing_apart (λ (g : Flat). IsNotBegun number (without_process g process)) (current_of f process) (with_fallen (with_moment f moment) process ERROR_PROCESS_ABORTED) (left_not is_begun refl number process f.processes none)
 not_begun l f moment (ControlTaken process) number ok other none =
     told_apart is_begun begun_apart number f.processes _ (controls_apart (relieved_if process) (controls_fewer process) f.processes) ∙ none
-not_begun l f moment Tick number ok other none = ticked_apart (IsNotBegun number) (λ g plans rows q. q) (with_moment f moment) none
+not_begun l f moment Tick number ok other none =
+    ticked_by (IsNotBegun number) l
+    (record { spends = λ g row is q. q; starts = λ g row there can q. q; runs = λ g row there can q. wanted_not number g.next.process 0 g.processes q; reboots = λ g q. q }) (with_moment f moment) none
+not_begun l f moment (Raised caller subtype) number ok other none = told_apart is_begun begun_apart number f.processes _ (of_raise l (with_moment f moment) caller subtype).processes ∙ none
 not_begun l f moment step number ok other none = none
-
--- a process that is wanted is still to be launched
-wanted_not : (number next service : ℕ) (rows : List Process) → is_begun (find (has number) rows) ≡ false → is_begun (find (has number) (rows ++ wanted_process next service ∷ [])) ≡ false
-wanted_not number next service [] none = elim (next == number) as (λ b. is_begun (cond b (Some (wanted_process next service)) None) ≡ false) [ true ↦ refl | false ↦ refl ]
-wanted_not number next service (row ∷ rows) none =
-    elim (row.number == number) as (λ b. is_begun (cond b (Some row) (find (has number) rows)) ≡ false → is_begun (cond b (Some row) (find (has number) (rows ++ wanted_process next service ∷ []))) ≡ false)
-    [ true ↦ λ h. h | false ↦ λ h. wanted_not number next service rows h ] none
 
 stays_not : (l : Limits) (number : ℕ) → Keeps l (IsNotBegun number) (λ plan. Unit {0})
 stays_not l number = record {
@@ -167,8 +176,8 @@ opened_empty l f o = subst IsEmpty (sym o.is) (record { callers = refl; processe
 pub opened_planless : (l : Limits) (f : Flat) → IsOpening l f → f.plans ≡ []
 opened_planless l f o = ap (λ (g : Flat). g.plans) o.is
 
-pub stands_behind : (l : Limits) (f : Flat) (es : List Entry) → IsEmpty f → f.plans ≡ [] → IsLegal l f es → (front : List Entry) (e : Entry) (rest : List Entry) → es ≡ front ++ e ∷ rest → StandsBehind l f front e
-stands_behind l f es empty none legal front e rest split =
+pub stands_behind : (l : Limits) (f : Flat) (es : List Entry) → Sound f → IsEmpty f → f.plans ≡ [] → IsLegal l f es → (front : List Entry) (e : Entry) (rest : List Entry) → es ≡ front ++ e ∷ rest → StandsBehind l f front e
+stands_behind l f es s empty none legal front e rest split =
     let whole = subst (IsLegal l f) split legal in
     let ok = may_behind l f front e rest whole in
     let before = made_front l f front (e ∷ rest) whole in
@@ -176,5 +185,5 @@ stands_behind l f es empty none legal front e rest split =
       caller = IfSome_then (caller_named e.1) (caller_there l (run_state l f front) e.0 e.1 ok) (λ number there. made l f number front (ap (λ rows. has_caller rows number) empty.callers) there);
       process = IfSome_then (process_named e.1) (process_there l (run_state l f front) e.0 e.1 ok)
           (λ number there. taken l f number front before (ap (λ rows. is_begun (find (has number) rows)) empty.processes) (named_begun e.1 (process_of (run_state l f front) number) there));
-      start = answers_own l f front e.0 e.1 none ok;
+      start = answers_own l f front e.0 e.1 (at_end Sound l (keeps l) f front s before) none ok;
     }

@@ -4,7 +4,7 @@ use Rattle.std.specs.Prelude.{IfSome}
 use Rattle.scm_model.specs.declared.flat.Flat.{Flat}
 use Rattle.scm_model.specs.declared.flat.Limits.{Limits}
 use Rattle.scm_model.specs.declared.steps.Step.{Step}
-use Rattle.scm_model.specs.declared.steps.Step.TheVariants.{Call, EndStart, Launched, LaunchFailed, Report, Ended, Gone, NoMemory}
+use Rattle.scm_model.specs.declared.steps.Step.TheVariants.{Call, EndStart, Launched, LaunchFailed, Report, Ended, Raised, Gone, NoMemory}
 use Rattle.scm_model.specs.Rows.{is_caller}
 use Rattle.scm_rules.specs.Launches.{process_of}
 use Rattle.scm_rules.specs.Steps.{may}
@@ -17,6 +17,7 @@ use Rattle.std.proofs.lemmas.Bool.{and_parts}
 pub caller_there : (l : Limits) (f : Flat) (moment : ℕ) (step : Step) → IsTrue (may l f moment step) → IfSome (caller_named step) (λ number. IsTrue (is_caller f number))
 caller_there l f moment (Call caller asked append) ok = (and_parts _ _ (and_parts _ _ ok).0).0
 caller_there l f moment (EndStart caller plan) ok = (and_parts _ _ (and_parts _ _ ok).0).0
+caller_there l f moment (Raised caller subtype) ok = (and_parts _ _ ok).0
 caller_there l f moment (Gone caller) ok = (and_parts _ _ ok).0
 caller_there l f moment (NoMemory caller) ok = (and_parts _ _ ok).0
 caller_there l f moment step ok = tt

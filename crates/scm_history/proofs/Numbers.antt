@@ -11,7 +11,7 @@ use Rattle.scm_model.specs.declared.steps.Answer.{Answer}
 use Rattle.scm_model.specs.declared.steps.Answer.TheVariants as answer
 use Rattle.scm_model.specs.declared.steps.Kept.{Kept}
 use Rattle.scm_model.specs.declared.steps.Step.{Step}
-use Rattle.scm_model.specs.declared.steps.Step.TheVariants.{Joined, Call, EndStart, Report, Ended, Gone, LaunchTaken, ControlTaken, Tick}
+use Rattle.scm_model.specs.declared.steps.Step.TheVariants.{Joined, Call, EndStart, Report, Ended, Gone, LaunchTaken, ControlTaken, Tick, Raised}
 use Rattle.scm_model.specs.Changes.{with_moment}
 use Rattle.start_plan.specs.Decided.{code_of, is_callers, is_numbered, plan_of}
 use Rattle.start_plan.specs.Settle.{settled, stays}
@@ -33,7 +33,12 @@ use Rattle.scm_model.specs.Found.{if_found}
 use Rattle.scm_runs.proofs.Founds.{opened_keeps, started_keeps, notify_apart}
 use Rattle.scm_rules.specs.Launches.{first_wanted}
 use Rattle.scm_rules.specs.Controls.{controls_of, first_control}
-use Rattle.scm_rules.proofs.Dues.{ticked_apart}
+use Rattle.scm_runs.proofs.Failing.{failing_apart}
+use Rattle.scm_rules.specs.Failures.{failed_by}
+use Rattle.scm_runs.proofs.Unasked.{raised_by, ticked_by}
+use Rattle.scm_rules.specs.Launches.{with_fallen}
+use Rattle.scm_model.specs.declared.codes.TheConstants.{ERROR_PROCESS_ABORTED}
+use Rattle.scm_model.specs.Rows.{held_service}
 
 -- ## Plans
 
@@ -64,6 +69,7 @@ stays_none l f moment step number low none = of_step number (λ plan. Unit {0}) 
 plan_done : (l : Limits) (f : Flat) (caller : ℕ) (asked : Request) → f.next.plan ≤ (done_of l f caller asked).flat.next.plan
 plan_done l f caller (request.OpenService handle name access) = opened_keeps (λ (g : Flat). f.next.plan ≤ g.next.plan) f caller name access (omega arith) (λ row is. omega arith)
 plan_done l f caller (request.Start handle words) = started_keeps (λ (g : Flat). f.next.plan ≤ g.next.plan) f caller handle words (omega arith) (λ row is. omega arith)
+plan_done l f caller (request.SetStatus handle status) = failing_apart (λ (g : Flat). f.next.plan ≤ g.next.plan) (failed_by status (held_service f caller handle)) _ (omega arith)
 plan_done l f caller (request.Notify handle mask) = notify_apart (λ (g : Flat). f.next.plan ≤ g.next.plan) f caller handle mask (λ rows next. omega arith)
 plan_done l f caller asked = omega arith
 
@@ -74,7 +80,13 @@ plan_call l f caller asked append =
 
 plan_effect : (l : Limits) (f : Flat) (moment : ℕ) (step : Step) → f.next.plan ≤ (effect_of l (at_moment f moment step) step).flat.next.plan
 plan_effect l f moment (Call caller asked append) = plan_call l (with_moment f moment) caller asked append
-plan_effect l f moment Tick = ticked_apart (λ (g : Flat). f.next.plan ≤ g.next.plan) (λ g plans rows up. up) (with_moment f moment) (omega arith)
+plan_effect l f moment (Report process status) = failing_apart (λ (g : Flat). f.next.plan ≤ g.next.plan) (failed_by status (current_of f process)) _ (omega arith)
+plan_effect l f moment (Ended process) = failing_apart (λ (g : Flat). f.next.plan ≤ g.next.plan) (current_of f process) (with_fallen (with_moment f moment) process ERROR_PROCESS_ABORTED) (omega arith)
+plan_effect l f moment Tick =
+    ticked_by (λ (g : Flat). f.next.plan ≤ g.next.plan) l
+    (record { spends = λ g row is up. up; starts = λ g row there can up. omega (arith, up); runs = λ g row there can up. up; reboots = λ g up. up }) (with_moment f moment) (omega arith)
+plan_effect l f moment (Raised caller subtype) =
+    raised_by (λ (g : Flat). f.next.plan ≤ g.next.plan) l subtype (record { starts = λ g row there can up. omega (arith, up); stops = λ g row action there is stops gets up. up }) (with_moment f moment) caller (omega arith)
 plan_effect l f moment step = omega arith
 
 plan_after : (l : Limits) (f : Flat) (moment : ℕ) (step : Step) → (step_of l f moment step).flat.next.plan ≡ (effect_of l (at_moment f moment step) step).flat.next.plan
@@ -104,8 +116,9 @@ begun_call l f moment caller asked append = tt
 
 begun_effect : (l : Limits) (f : Flat) (moment : ℕ) (step : Step) → IfSome (plan_made (effect_of l (at_moment f moment step) step).answer) (IsGiven f.next.plan (effect_of l (at_moment f moment step) step).flat.next.plan)
 begun_effect l f moment (Call caller asked append) = begun_call l f moment caller asked append
-begun_effect l f moment (Report process status) = report_none (IsGiven f.next.plan f.next.plan) (current_of f process) status
-begun_effect l f moment (Ended process) = end_none (IsGiven f.next.plan f.next.plan) (current_of f process)
+begun_effect l f moment (Report process status) =
+    report_none (IsGiven f.next.plan (effect_of l (with_moment f moment) (Report process status)).flat.next.plan) (current_of f process) status
+begun_effect l f moment (Ended process) = end_none (IsGiven f.next.plan (effect_of l (with_moment f moment) (Ended process)).flat.next.plan) (current_of f process)
 begun_effect l f moment LaunchTaken = launch_none (IsGiven f.next.plan f.next.plan) (first_wanted f.wanted)
 begun_effect l f moment (ControlTaken process) = control_none (IsGiven f.next.plan f.next.plan) (first_control (controls_of f process))
 begun_effect l f moment step = tt
@@ -150,6 +163,6 @@ gives l f e s ok = record {
   joined = joins_after l f e.0 e.1;
   begun = begun l f e.0 e.1;
   new_caller = λ number none there. not_given f.next.caller number _ _ (λ low. stays_out l f e.0 e.1 number low) none there;
-  new_process = λ number none there. not_given f.next.process number _ _ (λ low before. ap is_some (after_effect l f e.0 e.1 number low) ∙ none_effect l f e.0 e.1 number before) none there;
+  new_process = λ number none there. not_given f.next.process number _ _ (λ low before. ap is_some (after_effect l f e.0 e.1 number low) ∙ none_effect l f e.0 e.1 number low before) none there;
   new_plan = λ number none there. not_given f.next.plan number _ _ (λ low. stays_none l f e.0 e.1 number low) none there;
 }

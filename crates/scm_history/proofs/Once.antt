@@ -1,5 +1,5 @@
 -- No number is given again.
-use Rattle.std.proofs.Common.{ℕ, ◌≡◌, ◌⊎◌, ◌∙◌, ◌<◌, ◌≤◌, ◌==◌, Bool, true, false, cond, IsTrue, List, [], ◌∷◌, ◌++◌, ap, sym, refl, subst, arith, eqb-true, eq-eqb, inl, inr, get_or}
+use Rattle.std.proofs.Common.{ℕ, ◌≡◌, ◌⊎◌, ◌∙◌, ◌<◌, ◌≤◌, ◌==◌, Bool, true, false, cond, not, IsTrue, List, [], ◌∷◌, ◌++◌, Option, ap, sym, refl, subst, arith, eqb-true, eq-eqb, inl, inr, get_or}
 use Rattle.std.specs.Prelude.{All, Contains, is_some, not}
 use Rattle.std.proofs.lemmas.List.Elements.{All-append, All-cons, All-contains_itself, All-filter, All-map, All-nil, All-push, All-weaker}
 use Rattle.std.proofs.lemmas.List.Folds.{list_any_none}
@@ -16,13 +16,12 @@ use Rattle.scm_model.specs.declared.calls.Request.TheVariants as request
 use Rattle.scm_model.specs.declared.steps.Answer.{Answer}
 use Rattle.scm_model.specs.declared.steps.Kept.{Kept}
 use Rattle.scm_model.specs.declared.steps.Step.{Step}
-use Rattle.scm_model.specs.declared.steps.Step.TheVariants.{Call, Tick}
+use Rattle.scm_model.specs.declared.steps.Step.TheVariants.{Call, Report, Ended, Tick, Raised}
 use Rattle.scm_model.specs.Changes.{with_moment}
 use Rattle.scm_model.specs.Entries.{Entry}
 use Rattle.scm_model.specs.Rows.{is_caller}
 use Rattle.start_plan.specs.Decided.{plan_of}
 use Rattle.start_plan.specs.Settle.{is_due_still, settled}
-use Rattle.scm_rules.proofs.Dues.{ticked_apart, ticked_keeps}
 use Rattle.scm_rules.specs.Histories.{state}
 use Rattle.scm_rules.specs.Launches.{process_of}
 use Rattle.scm_rules.specs.Runs.{IsLegal, run_state}
@@ -47,6 +46,17 @@ use Rattle.scm_history.proofs.Registrations.{Stands, watching_row, made_number, 
 use Rattle.scm_model.specs.Notices.{notified, taken_if}
 use Rattle.scm_runs.proofs.Told.{notified_or}
 use Rattle.scm_runs.proofs.Registered.{all_put, taken_or}
+use Rattle.scm_runs.proofs.Failing.{failing_keeps}
+use Rattle.scm_runs.proofs.Unasked.{raised_by, ticked_by}
+use Rattle.scm_rules.specs.Failures.{failed_by, with_failure}
+use Rattle.scm_rules.specs.Due.{beside, is_due_of, with_due}
+use Rattle.scm_rules.specs.Start.{with_start}
+use Rattle.scm_model.specs.Found.{if_found}
+use Rattle.scm_rules.specs.Launches.{current_of, with_fallen}
+use Rattle.scm_model.specs.declared.flat.DueKind.{DueKind}
+use Rattle.scm_model.specs.declared.flat.DueKind.TheVariants as dues
+use Rattle.scm_model.specs.declared.codes.TheConstants.{ERROR_PROCESS_ABORTED}
+use Rattle.scm_model.specs.Rows.{held_service}
 
 -- ## The next numbers
 
@@ -58,11 +68,17 @@ record Rises (f g : Flat) : Type 0 where
 no_rise : (f : Flat) → Rises f f
 no_rise f = record { service = omega arith; registration = omega arith; due = omega arith }
 
+failing_rises : (f : Flat) (found : Option Service) (g : Flat) → Rises f g → Rises f (if_found with_failure found g)
+failing_rises f found g up =
+    failing_keeps (Rises f) found g up (λ row is. record { service = up.service; registration = up.registration; due = up.due })
+    (λ service h moment kind is more. record { service = more.service; registration = more.registration; due = (let least = more.due in omega (arith, least)) })
+
 done_rises : (l : Limits) (f : Flat) (caller : ℕ) (asked : Request) → Rises f (done_of l f caller asked).flat
 done_rises l f caller (request.OpenService handle name access) =
     opened_keeps (Rises f) f caller name access (no_rise f) (λ row is. record { service = omega arith; registration = omega arith; due = omega arith })
 done_rises l f caller (request.Start handle words) =
     started_keeps (Rises f) f caller handle words (no_rise f) (λ row is. record { service = omega arith; registration = omega arith; due = omega arith })
+done_rises l f caller (request.SetStatus handle status) = failing_rises f (failed_by status (held_service f caller handle)) _ (record { service = omega arith; registration = omega arith; due = omega arith })
 done_rises l f caller (request.Notify handle mask) =
     notify_keeps (Rises f) f caller handle mask (record { service = omega arith; registration = omega arith; due = omega arith }) (λ of is. record { service = omega arith; registration = omega arith; due = omega arith })
 done_rises l f caller asked = record { service = omega arith; registration = omega arith; due = omega arith }
@@ -76,9 +92,20 @@ effect_rises : (l : Limits) (f : Flat) (moment : ℕ) (step : Step) → Rises f 
 effect_rises l f moment (Call caller asked append) =
     let up = call_rises l (with_moment f moment) caller asked append in
     record { service = up.service; registration = up.registration; due = up.due }
-effect_rises l f moment Tick =
-    ticked_apart (Rises f) (λ g plans rows up. record { service = up.service; registration = up.registration; due = up.due }) (with_moment f moment)
-    (record { service = omega arith; registration = omega arith; due = omega arith })
+effect_rises l f moment (Report process status) = failing_rises f (failed_by status (current_of f process)) _ (record { service = omega arith; registration = omega arith; due = omega arith })
+effect_rises l f moment (Ended process) =
+    let up = failing_rises f (current_of f process) (with_fallen (with_moment f moment) process ERROR_PROCESS_ABORTED) (record { service = omega arith; registration = omega arith; due = omega arith }) in
+    record { service = up.service; registration = up.registration; due = up.due }
+effect_rises l f moment Tick = ticked_by (Rises f) l (record {
+  spends = λ g row is up. record { service = up.service; registration = up.registration; due = up.due };
+  starts = λ g row there can up. record { service = up.service; registration = up.registration; due = (let least = up.due in omega (arith, least)) };
+  runs = λ g row there can up. record { service = up.service; registration = up.registration; due = up.due };
+  reboots = λ g up. record { service = up.service; registration = up.registration; due = up.due };
+}) (with_moment f moment) (record { service = omega arith; registration = omega arith; due = omega arith })
+effect_rises l f moment (Raised caller subtype) = raised_by (Rises f) l subtype (record {
+  starts = λ g row there can up. record { service = up.service; registration = up.registration; due = (let least = up.due in omega (arith, least)) };
+  stops = λ g row action there is stops gets up. record { service = up.service; registration = up.registration; due = up.due };
+}) (with_moment f moment) caller (record { service = omega arith; registration = omega arith; due = omega arith })
 effect_rises l f moment step = record { service = omega arith; registration = omega arith; due = omega arith }
 
 rises : (l : Limits) (f : Flat) (moment : ℕ) (step : Step) → Rises f (step_of l f moment step).flat
@@ -126,10 +153,31 @@ IsOld f row = Contains f.dues row ⊎ (f.next.due ≤ row.number)
 old_dues : (f : Flat) → All (IsOld f) f.dues
 old_dues f = All-weaker (Contains f.dues) (IsOld f) (λ row has. inl has) f.dues (All-contains_itself f.dues)
 
+-- so is each with the next number
+abbrev AreOld : Flat → Flat → Type 0
+AreOld f g = (f.next.due ≤ g.next.due) × All (IsOld f) g.dues
+
+beside_old : (f : Flat) (kind : DueKind) (rows : List Due) → All (IsOld f) rows → All (IsOld f) (beside kind rows)
+beside_old f (dues.Deadline plan) rows all = all
+beside_old f (dues.Start service) rows all = All-filter (λ (due : Due). not (is_due_of service due.kind)) (IsOld f) rows all
+beside_old f (dues.Command service) rows all = All-filter (λ (due : Due). not (is_due_of service due.kind)) (IsOld f) rows all
+beside_old f (dues.Reboot service) rows all = All-filter (λ (due : Due). not (is_due_of service due.kind)) (IsOld f) rows all
+
+old_push : (f g : Flat) (moment : ℕ) (kind : DueKind) → AreOld f g → AreOld f (with_due g moment kind)
+old_push f g moment kind old = ((let up = old.0 in omega (arith, up)), All-push (IsOld f) (beside kind g.dues) _ (beside_old f kind g.dues old.1) (inr old.0))
+
+failing_old : (f : Flat) (found : Option Service) (g : Flat) → AreOld f g → AreOld f (if_found with_failure found g)
+failing_old f found g old = failing_keeps (AreOld f) found g old (λ row is. old) (λ service h moment kind is more. old_push f h moment kind more)
+
+-- a start brings its deadline
+start_old : (f g : Flat) (row : Service) → AreOld f g → AreOld f (with_start 0 [] row g)
+start_old f g row old = ((let up = old.0 in omega (arith, up)), All-push (IsOld f) g.dues _ old.1 (inr old.0))
+
 done_dues : (l : Limits) (f : Flat) (caller : ℕ) (asked : Request) → All (IsOld f) (done_of l f caller asked).flat.dues
 done_dues l f caller (request.OpenService handle name access) = opened_keeps (λ (g : Flat). All (IsOld f) g.dues) f caller name access (old_dues f) (λ row is. old_dues f)
 done_dues l f caller (request.Start handle words) =
     started_keeps (λ (g : Flat). All (IsOld f) g.dues) f caller handle words (old_dues f) (λ row is. All-push (IsOld f) f.dues _ (old_dues f) (inr (omega arith)))
+done_dues l f caller (request.SetStatus handle status) = (failing_old f (failed_by status (held_service f caller handle)) _ (omega arith, old_dues f)).1
 done_dues l f caller (request.Notify handle mask) = notify_apart (λ (g : Flat). All (IsOld f) g.dues) f caller handle mask (λ rows next. old_dues f)
 done_dues l f caller asked = old_dues f
 
@@ -140,8 +188,16 @@ call_dues l f caller asked append =
 
 effect_dues : (l : Limits) (f : Flat) (moment : ℕ) (step : Step) → All (IsOld f) (effect_of l (at_moment f moment step) step).flat.dues
 effect_dues l f moment (Call caller asked append) = call_dues l (with_moment f moment) caller asked append
-effect_dues l f moment Tick =
-    ticked_keeps (λ (g : Flat). All (IsOld f) g.dues) (λ g row is old. All-filter (λ (due : Due). not (due.number == row.number)) (IsOld f) g.dues old) (with_moment f moment) (old_dues f)
+effect_dues l f moment (Report process status) = (failing_old f (failed_by status (current_of f process)) _ (omega arith, old_dues f)).1
+effect_dues l f moment (Ended process) = (failing_old f (current_of f process) (with_fallen (with_moment f moment) process ERROR_PROCESS_ABORTED) (omega arith, old_dues f)).1
+effect_dues l f moment Tick = (ticked_by (AreOld f) l (record {
+  spends = λ g row is old. (old.0, All-filter (λ (due : Due). not (due.number == row.number)) (IsOld f) g.dues old.1);
+  starts = λ g row there can old. start_old f g row old;
+  runs = λ g row there can old. old;
+  reboots = λ g old. old;
+}) (with_moment f moment) (omega arith, old_dues f)).1
+effect_dues l f moment (Raised caller subtype) =
+    (raised_by (AreOld f) l subtype (record { starts = λ g row there can old. start_old f g row old; stops = λ g row action there is stops gets old. old }) (with_moment f moment) caller (omega arith, old_dues f)).1
 effect_dues l f moment step = old_dues f
 
 dues_once : (l : Limits) (f : Flat) (moment : ℕ) (step : Step) → All (IsOld f) (finished_step l f moment step).flat.dues
@@ -256,7 +312,7 @@ of_processes : (l : Limits) → IsKind l (λ number g. is_some (process_of g num
 of_processes l = record {
   below = λ f n s there. found_below (λ (row : Process). row.number) n f.next.process f.processes s.processes.numbered.below there;
   rising = λ f e s ok. process_rises l f e.0 e.1;
-  away = λ f e n s ok low none. ap is_some (after_effect l f e.0 e.1 n low) ∙ none_effect l f e.0 e.1 n none;
+  away = λ f e n s ok low none. ap is_some (after_effect l f e.0 e.1 n low) ∙ none_effect l f e.0 e.1 n low none;
 }
 
 of_plans : (l : Limits) → IsKind l (λ number g. is_some (plan_of g.plans number)) (λ (g : Flat). g.next.plan)

@@ -6,9 +6,8 @@ use Rattle.scm_model.specs.declared.flat.Caller.{Caller}
 use Rattle.scm_model.specs.declared.flat.Flat.{Flat}
 use Rattle.scm_model.specs.declared.flat.Limits.{Limits}
 use Rattle.scm_model.specs.declared.steps.Step.{Step}
-use Rattle.scm_model.specs.declared.steps.Step.TheVariants.{Joined, Call, Tick}
+use Rattle.scm_model.specs.declared.steps.Step.TheVariants.{Joined, Gone}
 use Rattle.scm_model.specs.Rows.{is_caller}
-use Rattle.scm_model.specs.Changes.{with_moment}
 use Rattle.scm_rules.specs.Runs.{IsLegal}
 use Rattle.scm_model.specs.Entries.{Entry}
 use Rattle.scm_rules.specs.Steps.{at_moment, effect_of, step_of}
@@ -19,12 +18,11 @@ use Rattle.scm_rules.specs.Named.{caller_named, is_it, makes_caller, names_calle
 use Rattle.scm_history.specs.Numbers.{IsGiven}
 use Rattle.scm_history.specs.Own.{BeginsWithJoined, all_named, is_joined}
 use Rattle.scm_history.proofs.Callers.{next_after, rising, stays_out}
-use Rattle.scm_history.proofs.Effects.{of_call}
+use Rattle.scm_history.proofs.Effects.{callers_left}
 use Rattle.scm_history.proofs.Finds.{found_below}
 use Rattle.scm_history.proofs.Made.{IsEmpty}
 use Rattle.scm_history.proofs.Names.{caller_there}
 use Rattle.scm_history.proofs.Numbers.{joins_after}
-use Rattle.scm_rules.proofs.Dues.{ticked_apart}
 
 -- ## Once it has joined
 
@@ -61,9 +59,8 @@ above_effect : (l : Limits) (f : Flat) (moment : ℕ) (step : Step) (caller : �
 above_effect l f moment (Joined principal) caller up other =
     let apart : caller ≢ f.next.caller = λ e. absurd (let same = eq-eqb caller f.next.caller e in cc) in
     omega (arith, up, apart)
-above_effect l f moment (Call by asked append) caller up other = (let e = (of_call l (with_moment f moment) by asked append).next_caller in omega (arith, e, up))
-above_effect l f moment Tick caller up other = ticked_apart (λ (g : Flat). g.next.caller ≤ caller) (λ g plans rows q. q) (with_moment f moment) up
-above_effect l f moment step caller up other = up
+above_effect l f moment (Gone gone) caller up other = up
+above_effect l f moment step caller up other = (let e = (callers_left l f moment step refl).next in omega (arith, e, up))
 
 pub begins : (l : Limits) (f : Flat) (es : List Entry) → Sound f → IsLegal l f es → (caller : ℕ) → f.next.caller ≤ caller → BeginsWithJoined caller es (of_caller l f caller es)
 begins l f [] s legal caller up = refl

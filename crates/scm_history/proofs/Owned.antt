@@ -147,7 +147,7 @@ off_not_of l g moment step process s ok off =
 off_still : (l : Limits) (g : Flat) (moment : ℕ) (step : Step) (process : ℕ) → IsOff g process → IsOff (step_of l g moment step).flat process
 off_still l g moment step process off = record {
   low = (let low = off.low in let up = process_rises l g moment step in omega (arith, low, up));
-  none = ap is_some (after_effect l g moment step process off.low) ∙ none_effect l g moment step process off.none;
+  none = ap is_some (after_effect l g moment step process off.low) ∙ none_effect l g moment step process off.low off.none;
 }
 
 none_of_off : (l : Limits) (g : Flat) (process : ℕ) (es : List Entry) → Sound g → IsLegal l g es → IsOff g process → own l g (names.Process process) es ≡ []

@@ -10,7 +10,7 @@ use Rattle.scm_model.specs.declared.flat.Process.{Process}
 use Rattle.scm_model.specs.declared.flat.Status.{Status}
 use Rattle.scm_model.specs.declared.steps.Step.{Step}
 use Rattle.scm_model.specs.declared.steps.Step.TheVariants.{LaunchTaken, Launched, LaunchFailed, Report, Ended}
-use Rattle.scm_rules.specs.Launches.{is_launched, is_running_phase, is_taken, is_taken_phase, launched_if, process_of}
+use Rattle.scm_rules.specs.Launches.{current_of, is_launched, is_running_phase, is_taken, is_taken_phase, launched_if, process_of, with_fallen, without_process}
 use Rattle.scm_rules.specs.Steps.{may, step_of}
 use Rattle.scm_runs.proofs.Along.{Gives}
 use Rattle.scm_runs.proofs.Lists.{found_passes}
@@ -20,6 +20,10 @@ use Rattle.scm_history.specs.Phases.{LawOfPhases, LeavesSo, RunsAs, RunsOn, IsIn
 use Rattle.scm_history.proofs.Finds.{found_map, is_some-map}
 use Rattle.scm_history.proofs.Processes.{after_effect, has, launches, listed_below, none_left}
 use Rattle.scm_runs.proofs.Processes.{first_of}
+use Rattle.scm_runs.proofs.Failing.{failing_apart}
+use Rattle.scm_rules.specs.Failures.{failed_by}
+use Rattle.scm_model.specs.declared.codes.TheConstants.{ERROR_PROCESS_ABORTED}
+use Rattle.scm_model.specs.Changes.{with_moment}
 
 -- ## Phases
 
@@ -73,7 +77,9 @@ of_launched l f moment process pid s taken =
 of_report : (l : Limits) (f : Flat) (moment process : ℕ) (report : Status) → Sound f → is_launched (process_of f process) ≡ true → RunsOn f (step_of l f moment (Report process report)).flat process
 of_report l f moment process report s running =
     let low = listed_below f process s (runs_listed (process_of f process) running) in
-    let same : process_of (step_of l f moment (Report process report)).flat process ≡ process_of f process = after_effect l f moment (Report process report) process low in
+    let same : process_of (step_of l f moment (Report process report)).flat process ≡ process_of f process =
+    after_effect l f moment (Report process report) process low
+    ∙ failing_apart (λ (g : Flat). process_of g process ≡ process_of f process) (failed_by report (current_of f process)) _ refl in
     record { phase = ap (option_map (λ (row : Process). row.phase)) same ∙ runs (process_of f process) running; same = same }
 
 of_step : (l : Limits) (f : Flat) (moment : ℕ) (step : Step) → Sound f → IsTrue (may l f moment step) → LeavesSo f step (step_of l f moment step).flat
@@ -85,7 +91,8 @@ of_step l f moment (Report process status) s ok = of_report l f moment process s
 of_step l f moment (LaunchFailed process code) s ok =
     after_effect l f moment (LaunchFailed process code) process (listed_below f process s (taken_listed (process_of f process) (and_parts _ _ (and_parts _ _ ok).0).0)) ∙ none_left process f.processes
 of_step l f moment (Ended process) s ok =
-    after_effect l f moment (Ended process) process (listed_below f process s (runs_listed (process_of f process) (and_parts _ _ ok).0)) ∙ none_left process f.processes
+    after_effect l f moment (Ended process) process (listed_below f process s (runs_listed (process_of f process) (and_parts _ _ ok).0))
+    ∙ failing_apart (λ (g : Flat). process_of (without_process g process) process ≡ None) (current_of f process) (with_fallen (with_moment f moment) process ERROR_PROCESS_ABORTED) (none_left process f.processes)
 of_step l f moment step s ok = tt
 
 pub gives : (l : Limits) → Gives Sound LawOfPhases l

@@ -1,33 +1,35 @@
 -- Each process keeps its place in the list.
-use Rattle.std.proofs.Common.{ℕ, ◌≡◌, ◌∙◌, ◌≤◌, ◌==◌, ◌||◌, Bool, true, false, not, cond, List, [], ◌∷◌, ◌++◌, filter, map, ap, sym, refl, arith}
+use Rattle.std.proofs.Common.{ℕ, ◌≡◌, ◌∙◌, ◌≤◌, ◌==◌, ◌||◌, Bool, true, false, not, cond, List, [], ◌∷◌, ◌++◌, filter, map, ap, sym, refl, arith, ◌+◌}
 use Rattle.std.specs.Prelude.{All}
 use Rattle.std.proofs.lemmas.List.Elements.{All-nil, All-push}
 use Rattle.scm_model.specs.declared.flat.Flat.{Flat}
 use Rattle.scm_model.specs.declared.flat.Limits.{Limits}
 use Rattle.scm_model.specs.declared.flat.Process.{Process}
 use Rattle.scm_model.specs.declared.steps.Step.{Step}
-use Rattle.scm_model.specs.declared.steps.Step.TheVariants.{Call, LaunchTaken, Launched, LaunchFailed, Ended, ControlTaken, Tick}
+use Rattle.scm_model.specs.declared.steps.Step.TheVariants.{Call, LaunchTaken, Launched, LaunchFailed, Report, Ended, ControlTaken, Tick, Raised}
 use Rattle.scm_model.specs.Changes.{with_moment}
 use Rattle.start_plan.specs.Entered.{wanted_process}
 use Rattle.start_plan.specs.Settle.{settled}
 use Rattle.start_plan.proofs.Enterings.{all_units}
 use Rattle.start_plan.proofs.Keeps.{Keeps, keeps_all}
 use Rattle.scm_rules.specs.Controls.{relieved_if}
-use Rattle.scm_rules.specs.Launches.{first_wanted, launched_if, taken_if}
+use Rattle.scm_rules.specs.Launches.{current_of, first_wanted, launched_if, taken_if, with_fallen, without_process}
 use Rattle.scm_rules.specs.Steps.{at_moment, effect_of, step_of}
 use Rattle.scm_runs.proofs.Along.{Gives}
-use Rattle.scm_runs.proofs.Effects.{same_process}
 use Rattle.scm_runs.proofs.Frames.{finished_keeps}
 use Rattle.scm_runs.proofs.Lists.{map_same}
 use Rattle.scm_runs.proofs.Sound.{Sound, controls_fewer}
 use Rattle.scm_rules.specs.Named.{names_process, takes_process, is_it}
 use Rattle.scm_history.specs.Places.{PlacesStay, process_numbers, those_not_meant, those_that_stay}
 use Rattle.scm_history.specs.Processes.{apart_from_controls}
-use Rattle.scm_history.proofs.Effects.{controls_apart, of_call}
-use Rattle.scm_history.proofs.Processes.{IsOf, launches, takes}
+use Rattle.scm_history.proofs.Effects.{controls_apart, of_call, of_raise}
+use Rattle.scm_history.proofs.Processes.{IsOf, launches, process_effect, takes}
 use Rattle.std.proofs.lemmas.Bool.{or_left}
 use Rattle.scm_model.proofs.Found.{found_keeps}
-use Rattle.scm_rules.proofs.Dues.{ticked_apart}
+use Rattle.scm_runs.proofs.Failing.{failing_apart}
+use Rattle.scm_rules.specs.Failures.{failed_by}
+use Rattle.scm_model.specs.declared.codes.TheConstants.{ERROR_PROCESS_ABORTED}
+use Rattle.scm_runs.proofs.Unasked.{ticked_by}
 
 -- ## Lists
 
@@ -117,7 +119,12 @@ one_places f step one change is meant stay = record {
 all_stay : (rows : List Process) → process_numbers rows ≡ process_numbers (filter (λ (row : Process). true) rows)
 all_stay rows = ap process_numbers (sym (all_pass rows))
 
-of_effect : (l : Limits) (f : Flat) (moment : ℕ) (step : Step) → HavePlaces f step (effect_of l (at_moment f moment step) step).flat.processes
+-- those that an effect leaves of the processes that were listed; a tick lists more behind them
+abbrev rows_left : Limits → Flat → ℕ → Step → List Process
+rows_left l f moment Tick = f.processes
+rows_left l f moment step = (effect_of l (at_moment f moment step) step).flat.processes
+
+of_effect : (l : Limits) (f : Flat) (moment : ℕ) (step : Step) → HavePlaces f step (rows_left l f moment step)
 of_effect l f moment (Call caller asked append) =
     apart_places f (Call caller asked append) _ (all_stay f.processes) (of_call l (with_moment f moment) caller asked append).processes
 of_effect l f moment LaunchTaken =
@@ -129,14 +136,17 @@ of_effect l f moment (LaunchFailed process code) = record {
   places = refl;
   others = others_left (λ n. names_process n (LaunchFailed process code) || takes_process f n (LaunchFailed process code)) process (λ n e. or_left _ _ e) f.processes;
 }
-of_effect l f moment (Ended process) = record {
-  places = refl;
-  others = others_left (λ n. names_process n (Ended process) || takes_process f n (Ended process)) process (λ n e. or_left _ _ e) f.processes;
-}
+of_effect l f moment (Report process status) =
+    failing_apart (λ (g : Flat). HavePlaces f (Report process status) g.processes) (failed_by status (current_of f process)) _ (record { places = all_stay f.processes; others = refl })
+of_effect l f moment (Ended process) =
+    failing_apart (λ (g : Flat). HavePlaces f (Ended process) (without_process g process).processes) (current_of f process) (with_fallen (with_moment f moment) process ERROR_PROCESS_ABORTED) (record {
+      places = refl;
+      others = others_left (λ n. names_process n (Ended process) || takes_process f n (Ended process)) process (λ n e. or_left _ _ e) f.processes;
+    })
 of_effect l f moment (ControlTaken process) =
     apart_places f (ControlTaken process) _ (all_stay f.processes) (controls_apart (relieved_if process) (controls_fewer process) f.processes)
-of_effect l f moment Tick =
-    ticked_apart (λ (g : Flat). HavePlaces f Tick g.processes) (λ g plans rows have. have) (with_moment f moment) (record { places = all_stay f.processes; others = refl })
+of_effect l f moment (Raised caller subtype) =
+    apart_places f (Raised caller subtype) _ (all_stay f.processes) (of_raise l (with_moment f moment) caller subtype).processes
 of_effect l f moment step = record { places = all_stay f.processes; others = refl }
 
 -- ## Settling
@@ -156,14 +166,18 @@ append_none : (rows : List Process) → rows ≡ rows ++ []
 append_none [] = refl
 append_none (row ∷ rows) = ap (λ rest. row ∷ rest) (append_none rows)
 
+-- one more that is wanted
+one_grown : (bound : ℕ) (old : List Process) (g : Flat) (service : ℕ) → Grown bound old g → (h : Flat) → h.processes ≡ g.processes ++ wanted_process g.next.process service ∷ [] → h.next.process ≡ g.next.process + 1 → Grown bound old h
+one_grown bound old g service is h more next = record {
+  new = is.new ++ wanted_process g.next.process service ∷ [];
+  listed = more ∙ ap (λ rows. rows ++ wanted_process g.next.process service ∷ []) is.listed ∙ append_assoc old is.new (wanted_process g.next.process service ∷ []);
+  given = All-push (λ (row : Process). bound ≤ row.number) is.new (wanted_process g.next.process service) is.given is.up;
+  up = (let up = is.up in omega (arith, up, next));
+}
+
 grows : (l : Limits) (bound : ℕ) (old : List Process) → Keeps l (Grown bound old) (λ plan. Unit {0})
 grows l bound old = record {
-  enters = λ g plan service words entry h. record {
-    new = h.new ++ wanted_process g.next.process service ∷ [];
-    listed = ap (λ rows. rows ++ wanted_process g.next.process service ∷ []) h.listed ∙ append_assoc old h.new (wanted_process g.next.process service ∷ []);
-    given = All-push (λ (row : Process). bound ≤ row.number) h.new (wanted_process g.next.process service) h.given h.up;
-    up = (let up = h.up in omega (arith, up));
-  };
+  enters = λ g plan service words entry is. one_grown bound old g service is _ refl refl;
   tries = λ g plan service entry q. tt;
   drops = λ plan service rest code q. tt;
 }
@@ -171,16 +185,26 @@ grows l bound old = record {
 none_new : (bound : ℕ) (g : Flat) → bound ≤ g.next.process → Grown bound g.processes g
 none_new bound g up = record { new = []; listed = append_none g.processes; given = All-nil (λ (row : Process). bound ≤ row.number); up = up }
 
-settled_grown : (l : Limits) (g : Flat) (bound : ℕ) → bound ≤ g.next.process → Grown bound g.processes (settled l g)
-settled_grown l g bound up =
-    let all = (keeps_all l (Grown bound g.processes) (λ plan. Unit {0}) (grows l bound g.processes) g g.plans (none_new bound g up) (all_units g.plans)).flat in
+settled_grown : (l : Limits) (g : Flat) (bound : ℕ) (old : List Process) → Grown bound old g → Grown bound old (settled l g)
+settled_grown l g bound old grown =
+    let all = (keeps_all l (Grown bound old) (λ plan. Unit {0}) (grows l bound old) g g.plans grown (all_units g.plans)).flat in
     record { new = all.new; listed = all.listed; given = all.given; up = all.up }
 
-step_grown : (l : Limits) (f : Flat) (moment : ℕ) (step : Step) → Grown f.next.process (effect_of l (at_moment f moment step) step).flat.processes (step_of l f moment step).flat
+effect_grown : (l : Limits) (f : Flat) (moment : ℕ) (step : Step) → Grown f.next.process (rows_left l f moment step) (effect_of l (at_moment f moment step) step).flat
+effect_grown l f moment Tick = ticked_by (Grown f.next.process f.processes) l (record {
+  spends = λ g row is h. record { new = h.new; listed = h.listed; given = h.given; up = h.up };
+  starts = λ g row there can h. record { new = h.new; listed = h.listed; given = h.given; up = h.up };
+  runs = λ g row there can h. one_grown f.next.process f.processes g 0 h _ refl refl;
+  reboots = λ g h. record { new = h.new; listed = h.listed; given = h.given; up = h.up };
+}) (with_moment f moment) (none_new f.next.process (with_moment f moment) (omega arith))
+effect_grown l f moment step = none_new f.next.process (effect_of l (at_moment f moment step) step).flat (process_effect l f moment step)
+
+step_grown : (l : Limits) (f : Flat) (moment : ℕ) (step : Step) → Grown f.next.process (rows_left l f moment step) (step_of l f moment step).flat
 step_grown l f moment step =
     let done = effect_of l (at_moment f moment step) step in
-    let before = finished_keeps (Grown f.next.process done.flat.processes) (λ g plans h. record { new = h.new; listed = h.listed; given = h.given; up = h.up }) (settled l done.flat) done.answer
-    (settled_grown l done.flat f.next.process (let e = same_process l f moment step in omega (arith, e))) in
+    let old = rows_left l f moment step in
+    let before = finished_keeps (Grown f.next.process old) (λ g plans h. record { new = h.new; listed = h.listed; given = h.given; up = h.up }) (settled l done.flat) done.answer
+    (settled_grown l done.flat f.next.process old (effect_grown l f moment step)) in
     record { new = before.new; listed = before.listed; given = before.given; up = before.up }
 
 pub gives : (l : Limits) → Gives Sound PlacesStay l
@@ -188,7 +212,7 @@ gives l f e s ok =
     let grown = step_grown l f e.0 e.1 in
     let have = of_effect l f e.0 e.1 in
     record {
-      old = (effect_of l (at_moment f e.0 e.1) e.1).flat.processes;
+      old = rows_left l f e.0 e.1;
       new = grown.new;
       listed = grown.listed;
       places = have.places;

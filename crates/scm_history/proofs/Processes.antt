@@ -7,26 +7,29 @@ use Rattle.scm_model.specs.declared.flat.Phase.TheVariants as phases
 use Rattle.scm_model.specs.declared.flat.Process.{Process}
 use Rattle.scm_model.specs.declared.steps.Answer.{Answer}
 use Rattle.scm_model.specs.declared.steps.Step.{Step}
-use Rattle.scm_model.specs.declared.steps.Step.TheVariants.{Call, LaunchTaken, Launched, LaunchFailed, Ended, ControlTaken, Tick}
+use Rattle.scm_model.specs.declared.steps.Step.TheVariants.{Call, LaunchTaken, Launched, LaunchFailed, Report, Ended, ControlTaken, Tick, Raised}
 use Rattle.scm_model.specs.Changes.{with_moment}
 use Rattle.start_plan.specs.Entered.{wanted_process}
 use Rattle.start_plan.specs.Settle.{settled}
 use Rattle.start_plan.proofs.Enterings.{all_units}
 use Rattle.start_plan.proofs.Keeps.{Keeps, keeps_all}
 use Rattle.scm_rules.specs.Controls.{relieved_if}
-use Rattle.scm_rules.specs.Launches.{first_wanted, launched_if, process_of, taken_if}
+use Rattle.scm_rules.specs.Launches.{current_of, first_wanted, launched_if, process_of, taken_if, with_fallen, without_process}
 use Rattle.scm_rules.specs.Steps.{at_moment, effect_of, finished, step_of}
 use Rattle.scm_runs.proofs.Along.{Gives}
-use Rattle.scm_runs.proofs.Effects.{same_process}
 use Rattle.scm_runs.proofs.Frames.{finished_keeps}
 use Rattle.scm_runs.proofs.Lists.{find_filter}
 use Rattle.scm_runs.proofs.Sound.{Sound, controls_fewer}
 use Rattle.scm_rules.specs.Named.{names_process, takes_process, is_it}
 use Rattle.scm_history.specs.Processes.{OthersStay, apart_from_controls}
-use Rattle.scm_history.proofs.Effects.{controls_apart, of_call}
+use Rattle.scm_history.proofs.Effects.{controls_apart, of_call, of_raise}
 use Rattle.scm_history.proofs.Finds.{find_map, find_push, found_below, found_map, none_filter}
 use Rattle.scm_model.proofs.Found.{found_keeps}
-use Rattle.scm_rules.proofs.Dues.{ticked_apart}
+use Rattle.scm_runs.proofs.Failing.{failing_apart}
+use Rattle.scm_rules.specs.Failures.{failed_by}
+use Rattle.scm_runs.proofs.Unasked.{ticked_by}
+use Rattle.scm_rules.specs.Ticks.{ticked}
+use Rattle.scm_model.specs.declared.codes.TheConstants.{ERROR_PROCESS_ABORTED}
 
 -- whether a process has a number
 abbrev pub has : ℕ → Process → Bool
@@ -107,40 +110,73 @@ others_left : (number process : ℕ) (rows : List Process) → (number == proces
 others_left number process rows other =
     ap (option_map apart_from_controls) (find_filter (has number) (λ (row : Process). not (row.number == process)) (λ row same. ap not (apart number process row other same)) rows)
 
-of_effect : (l : Limits) (f : Flat) (moment : ℕ) (step : Step) (number : ℕ) → names_process number step ≡ false → takes_process f number step ≡ false
+-- numbers that were given have the process that they had
+pub record IsAs (bound number : ℕ) (row : Option Process) (g : Flat) : Type 0 where
+  pub up : bound ≤ g.next.process
+  pub same : process_of g number ≡ row
+
+-- a tick leaves them so
+pub ticked_still : (l : Limits) (f : Flat) (number : ℕ) → number < f.next.process → IsAs f.next.process number (process_of f number) (ticked l f)
+ticked_still l f number low = ticked_by (IsAs f.next.process number (process_of f number)) l (record {
+  spends = λ g row is p. record { up = p.up; same = p.same };
+  starts = λ g row there can p. record { up = p.up; same = p.same };
+  runs = λ g row there can p. record {
+    up = (let up = p.up in omega (arith, up));
+    same = find_push (has number) g.processes (wanted_process g.next.process 0) (ne_eqb g.next.process number (λ e. absurd (let up = p.up in omega (arith, e, up, low)))) ∙ p.same;
+  };
+  reboots = λ g p. record { up = p.up; same = p.same };
+}) f (record { up = omega arith; same = refl })
+
+of_effect : (l : Limits) (f : Flat) (moment : ℕ) (step : Step) (number : ℕ) → number < f.next.process → names_process number step ≡ false → takes_process f number step ≡ false
     → option_map apart_from_controls (process_of (effect_of l (at_moment f moment step) step).flat number) ≡ option_map apart_from_controls (process_of f number)
-of_effect l f moment (Call caller asked append) number named taken = found_apart number f.processes _ (of_call l (with_moment f moment) caller asked append).processes
-of_effect l f moment LaunchTaken number named taken =
+of_effect l f moment (Call caller asked append) number low named taken = found_apart number f.processes _ (of_call l (with_moment f moment) caller asked append).processes
+of_effect l f moment LaunchTaken number low named taken =
     found_keeps (λ (rows : List Process). option_map apart_from_controls (find (has number) rows) ≡ option_map apart_from_controls (find (has number) f.processes)) (λ process. map (taken_if process)) (first_wanted f.wanted) f.processes refl
     (λ one is. ap (option_map apart_from_controls) (others_changed number one (taken_if one) f.processes (takes one) (ap (is_it number) (sym is) ∙ taken)))
-of_effect l f moment (Launched process pid) number named taken =
+of_effect l f moment (Launched process pid) number low named taken =
     ap (option_map apart_from_controls) (others_changed number process (launched_if process pid) f.processes (launches process pid) named)
-of_effect l f moment (LaunchFailed process code) number named taken = others_left number process f.processes named
-of_effect l f moment (Ended process) number named taken = others_left number process f.processes named
-of_effect l f moment (ControlTaken process) number named taken = found_apart number f.processes _ (controls_apart (relieved_if process) (controls_fewer process) f.processes)
-of_effect l f moment Tick number named taken =
-    ticked_apart (λ (g : Flat). option_map apart_from_controls (process_of g number) ≡ option_map apart_from_controls (process_of f number)) (λ g plans rows e. e) (with_moment f moment) refl
-of_effect l f moment step number named taken = refl
+of_effect l f moment (LaunchFailed process code) number low named taken = others_left number process f.processes named
+of_effect l f moment (Report process status) number low named taken =
+    failing_apart (λ (g : Flat). option_map apart_from_controls (process_of g number) ≡ option_map apart_from_controls (process_of f number)) (failed_by status (current_of f process)) _ refl
+of_effect l f moment (Ended process) number low named taken =
+    failing_apart (λ (g : Flat). option_map apart_from_controls (process_of (without_process g process) number) ≡ option_map apart_from_controls (process_of f number)) (current_of f process)
+    (with_fallen (with_moment f moment) process ERROR_PROCESS_ABORTED) (others_left number process f.processes named)
+of_effect l f moment (ControlTaken process) number low named taken = found_apart number f.processes _ (controls_apart (relieved_if process) (controls_fewer process) f.processes)
+of_effect l f moment Tick number low named taken = ap (option_map apart_from_controls) (ticked_still l (with_moment f moment) number low).same
+of_effect l f moment (Raised caller subtype) number low named taken = found_apart number f.processes _ (of_raise l (with_moment f moment) caller subtype).processes
+of_effect l f moment step number low named taken = refl
 
--- an effect lists nobody
-pub none_effect : (l : Limits) (f : Flat) (moment : ℕ) (step : Step) (number : ℕ) → is_some (process_of f number) ≡ false → is_some (process_of (effect_of l (at_moment f moment step) step).flat number) ≡ false
-none_effect l f moment (Call caller asked append) number none = told_apart is_some (is_some-map apart_from_controls) number f.processes _ (of_call l (with_moment f moment) caller asked append).processes ∙ none
-none_effect l f moment LaunchTaken number none =
+-- an effect lists nobody whose number was given
+pub none_effect : (l : Limits) (f : Flat) (moment : ℕ) (step : Step) (number : ℕ) → number < f.next.process → is_some (process_of f number) ≡ false → is_some (process_of (effect_of l (at_moment f moment step) step).flat number) ≡ false
+none_effect l f moment (Call caller asked append) number low none = told_apart is_some (is_some-map apart_from_controls) number f.processes _ (of_call l (with_moment f moment) caller asked append).processes ∙ none
+none_effect l f moment LaunchTaken number low none =
     found_keeps (λ (rows : List Process). is_some (find (has number) rows) ≡ false) (λ process. map (taken_if process)) (first_wanted f.wanted) f.processes none
     (λ one is. none_changed number one (taken_if one) f.processes (takes one) ∙ none)
-none_effect l f moment (Launched process pid) number none = none_changed number process (launched_if process pid) f.processes (launches process pid) ∙ none
-none_effect l f moment (LaunchFailed process code) number none = none_filter (has number) (λ (row : Process). not (row.number == process)) f.processes none
-none_effect l f moment (Ended process) number none = none_filter (has number) (λ (row : Process). not (row.number == process)) f.processes none
-none_effect l f moment (ControlTaken process) number none = told_apart is_some (is_some-map apart_from_controls) number f.processes _ (controls_apart (relieved_if process) (controls_fewer process) f.processes) ∙ none
-none_effect l f moment Tick number none = ticked_apart (λ (g : Flat). is_some (process_of g number) ≡ false) (λ g plans rows q. q) (with_moment f moment) none
-none_effect l f moment step number none = none
+none_effect l f moment (Launched process pid) number low none = none_changed number process (launched_if process pid) f.processes (launches process pid) ∙ none
+none_effect l f moment (LaunchFailed process code) number low none = none_filter (has number) (λ (row : Process). not (row.number == process)) f.processes none
+none_effect l f moment (Report process status) number low none = failing_apart (λ (g : Flat). is_some (process_of g number) ≡ false) (failed_by status (current_of f process)) _ none
+none_effect l f moment (Ended process) number low none =
+    failing_apart (λ (g : Flat). is_some (process_of (without_process g process) number) ≡ false) (current_of f process) (with_fallen (with_moment f moment) process ERROR_PROCESS_ABORTED)
+    (none_filter (has number) (λ (row : Process). not (row.number == process)) f.processes none)
+none_effect l f moment (ControlTaken process) number low none = told_apart is_some (is_some-map apart_from_controls) number f.processes _ (controls_apart (relieved_if process) (controls_fewer process) f.processes) ∙ none
+none_effect l f moment Tick number low none = ap is_some (ticked_still l (with_moment f moment) number low).same ∙ none
+none_effect l f moment (Raised caller subtype) number low none =
+    told_apart is_some (is_some-map apart_from_controls) number f.processes _ (of_raise l (with_moment f moment) caller subtype).processes ∙ none
+none_effect l f moment step number low none = none
+
+-- it gives back no number
+pub process_effect : (l : Limits) (f : Flat) (moment : ℕ) (step : Step) → f.next.process ≤ (effect_of l (at_moment f moment step) step).flat.next.process
+process_effect l f moment (Call caller asked append) = (let e = (of_call l (with_moment f moment) caller asked append).next_process in omega (arith, e))
+process_effect l f moment (Report process status) = failing_apart (λ (g : Flat). f.next.process ≤ g.next.process) (failed_by status (current_of f process)) _ (omega arith)
+process_effect l f moment (Ended process) =
+    failing_apart (λ (g : Flat). f.next.process ≤ g.next.process) (current_of f process) (with_fallen (with_moment f moment) process ERROR_PROCESS_ABORTED) (omega arith)
+process_effect l f moment Tick =
+    ticked_by (λ (g : Flat). f.next.process ≤ g.next.process) l
+    (record { spends = λ g row is up. up; starts = λ g row there can up. up; runs = λ g row there can up. omega (arith, up); reboots = λ g up. up }) (with_moment f moment) (omega arith)
+process_effect l f moment (Raised caller subtype) = (let e = (of_raise l (with_moment f moment) caller subtype).next_process in omega (arith, e))
+process_effect l f moment step = omega arith
 
 -- ## Settling
-
--- numbers that were given have the process that they had
-record IsAs (bound number : ℕ) (row : Option Process) (g : Flat) : Type 0 where
-  up : bound ≤ g.next.process
-  same : process_of g number ≡ row
 
 stays_as : (l : Limits) (bound number : ℕ) (row : Option Process) → number < bound → Keeps l (IsAs bound number row) (λ plan. Unit {0})
 stays_as l bound number row low = record {
@@ -165,7 +201,7 @@ pub after_effect : (l : Limits) (f : Flat) (moment : ℕ) (step : Step) (number 
     → process_of (step_of l f moment step).flat number ≡ process_of (effect_of l (at_moment f moment step) step).flat number
 after_effect l f moment step number low =
     let done = effect_of l (at_moment f moment step) step in
-    finished_as (settled l done.flat) done.answer number ∙ settled_as l done.flat f.next.process number low (let e = same_process l f moment step in omega (arith, e))
+    finished_as (settled l done.flat) done.answer number ∙ settled_as l done.flat f.next.process number low (process_effect l f moment step)
 
 -- ## Steps
 
@@ -174,8 +210,8 @@ listed_below f number s there = found_below (λ (row : Process). row.number) num
 
 pub gives : (l : Limits) → Gives Sound OthersStay l
 gives l f e s ok number named taken = record {
-  listed = λ there. ap (option_map apart_from_controls) (after_effect l f e.0 e.1 number (listed_below f number s there)) ∙ of_effect l f e.0 e.1 number named taken;
-  unlisted = λ none low. ap is_some (after_effect l f e.0 e.1 number low) ∙ none_effect l f e.0 e.1 number none;
+  listed = λ there. (let low = listed_below f number s there in ap (option_map apart_from_controls) (after_effect l f e.0 e.1 number low) ∙ of_effect l f e.0 e.1 number low named taken);
+  unlisted = λ none low. ap is_some (after_effect l f e.0 e.1 number low) ∙ none_effect l f e.0 e.1 number low none;
 }
 
 -- ## The next number
@@ -192,4 +228,4 @@ pub process_rises : (l : Limits) (f : Flat) (moment : ℕ) (step : Step) → f.n
 process_rises l f moment step =
     let done = effect_of l (at_moment f moment step) step in
     finished_keeps (λ g. f.next.process ≤ g.next.process) (λ g plans h. h) (settled l done.flat) done.answer
-    (keeps_all l (λ g. f.next.process ≤ g.next.process) (λ plan. Unit {0}) (up l f.next.process) done.flat done.flat.plans (let e = same_process l f moment step in omega (arith, e)) (all_units done.flat.plans)).flat
+    (keeps_all l (λ g. f.next.process ≤ g.next.process) (λ plan. Unit {0}) (up l f.next.process) done.flat done.flat.plans (process_effect l f moment step) (all_units done.flat.plans)).flat

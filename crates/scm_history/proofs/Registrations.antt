@@ -15,11 +15,10 @@ use Rattle.scm_model.specs.declared.flat.Registration.{Registration}
 use Rattle.scm_model.specs.declared.flat.Service.{Service}
 use Rattle.scm_model.specs.declared.steps.Kept.{Kept}
 use Rattle.scm_model.specs.declared.steps.Step.{Step}
-use Rattle.scm_model.specs.declared.steps.Step.TheVariants.{Call, Ended, Gone, LaunchFailed, Report, Tick}
-use Rattle.scm_rules.proofs.Dues.{ticked_apart}
+use Rattle.scm_model.specs.declared.steps.Step.TheVariants.{Call, Ended, Gone, LaunchFailed, Report, Tick, Raised}
 use Rattle.scm_rules.proofs.Held.{held_is}
 use Rattle.scm_rules.specs.Create.{created_config, new_status}
-use Rattle.scm_rules.specs.Launches.{current_of}
+use Rattle.scm_rules.specs.Launches.{current_of, with_fallen}
 use Rattle.scm_rules.specs.Notify.{notify_of, watched, told_at_once}
 use Rattle.scm_rules.specs.Reports.{reported_if}
 use Rattle.scm_rules.specs.Steps.{at_moment, effect_of, may, step_of}
@@ -32,6 +31,9 @@ use Rattle.scm_runs.proofs.Told.{IsNamed, Tells, creation_proper, fall_tells, ma
 use Rattle.scm_runs.proofs.Rows.{IsChecked}
 use Rattle.std.proofs.lemmas.List.Elements.{All-head, All-tail}
 use Rattle.std.proofs.lemmas.Bool.{and_parts}
+use Rattle.scm_runs.proofs.Failing.{failing_apart}
+use Rattle.scm_rules.specs.Failures.{failed_by}
+use Rattle.scm_runs.proofs.Unasked.{raised_apart, ticked_apart}
 
 -- whether a step may take what a registration was told, or close it
 abbrev pub touches : Flat → Step → Bool
@@ -82,8 +84,9 @@ of_done l P f caller (request.Delete handle) append st s there e =
     found_keeps P (λ (row : Service). noted (event_of_mark (pid_of f.processes row) row)) (held_service f caller handle) f.registrations (st.was refl)
     (λ row is. mark_tells P st.tells f.processes row f.registrations (held_named f caller handle row s is) (st.was refl))
 of_done l P f caller (request.SetStatus handle status) append st s there e =
-    found_keeps P (λ (row : Service). told_of_move (pid_of f.processes (reported_if row.process status row)) row (reported_if row.process status row)) (held_service f caller handle) f.registrations (st.was refl)
-    (λ row is. report_tells P st.tells f.processes status row f.registrations (held_named f caller handle row s is) (st.was refl))
+    failing_apart (λ (g : Flat). P g.registrations) (failed_by status (held_service f caller handle)) _
+    (found_keeps P (λ (row : Service). told_of_move (pid_of f.processes (reported_if row.process status row)) row (reported_if row.process status row)) (held_service f caller handle) f.registrations (st.was refl)
+    (λ row is. report_tells P st.tells f.processes status row f.registrations (held_named f caller handle row s is) (st.was refl)))
 of_done l P f caller (request.Create new) append st s there e =
     st.tells (event_of_creation (created_config f new).name (new_status new.kind)) f.registrations
     (creation_proper (created_config f new) (new_status new.kind) (last_has IsChecked f.services _ (sound_done l f caller (request.Create new) append s there e).services.configs)) (st.was refl)
@@ -139,12 +142,15 @@ of_effect : (l : Limits) (P : List Registration → Type 0) (f : Flat) (moment :
 of_effect l P f moment (Call caller asked append) st s ok =
     of_call l P (with_moment f moment) caller asked append (at_any P f moment (Call caller asked append) st (same_touch f moment caller asked append)) (moved f moment s) (and_parts _ _ (and_parts _ _ ok).0).0
 of_effect l P f moment (LaunchFailed process code) st s ok = fall_tells P st.tells process code f.services f.registrations (are_named f s) (st.was refl)
-of_effect l P f moment (Ended process) st s ok = fall_tells P st.tells process 1067 f.services f.registrations (are_named f s) (st.was refl)
+of_effect l P f moment (Ended process) st s ok =
+    failing_apart (λ (g : Flat). P g.registrations) (current_of f process) (with_fallen (with_moment f moment) process 1067) (fall_tells P st.tells process 1067 f.services f.registrations (are_named f s) (st.was refl))
 of_effect l P f moment (Report process report) st s ok =
-    found_keeps P (λ (row : Service). told_of_move (pid_of f.processes (reported_if row.process report row)) row (reported_if row.process report row)) (current_of f process) f.registrations (st.was refl)
-    (λ row is. report_tells P st.tells f.processes report row f.registrations (found_has IsNamed (λ (r : Service). r.process == process) row f.services (are_named f s) is) (st.was refl))
+    failing_apart (λ (g : Flat). P g.registrations) (failed_by report (current_of f process)) _
+    (found_keeps P (λ (row : Service). told_of_move (pid_of f.processes (reported_if row.process report row)) row (reported_if row.process report row)) (current_of f process) f.registrations (st.was refl)
+    (λ row is. report_tells P st.tells f.processes report row f.registrations (found_has IsNamed (λ (r : Service). r.process == process) row f.services (are_named f s) is) (st.was refl)))
 of_effect l P f moment (Gone caller) st s ok = st.gone caller refl
-of_effect l P f moment Tick st s ok = ticked_apart (λ (g : Flat). P g.registrations) (λ g plans rows p. p) (with_moment f moment) (st.was refl)
+of_effect l P f moment Tick st s ok = ticked_apart (λ (g : Flat). P g.registrations) l (with_moment f moment) (st.was refl)
+of_effect l P f moment (Raised caller subtype) st s ok = raised_apart (λ (g : Flat). P g.registrations) l (with_moment f moment) caller subtype (st.was refl)
 of_effect l P f moment step st s ok = st.was refl
 
 pub of_step : (l : Limits) (P : List Registration → Type 0) (f : Flat) (moment : ℕ) (step : Step) → Stands P f step → Sound f → IsTrue (may l f moment step) → P (step_of l f moment step).flat.registrations

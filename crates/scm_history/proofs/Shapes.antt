@@ -13,7 +13,7 @@ use Rattle.scm_model.specs.declared.steps.Answer.{Answer}
 use Rattle.scm_model.specs.declared.steps.Answer.TheVariants as answer
 use Rattle.scm_model.specs.declared.steps.Kept.{Kept}
 use Rattle.scm_model.specs.declared.steps.Step.{Step}
-use Rattle.scm_model.specs.declared.steps.Step.TheVariants.{Call, EndStart, Report, Ended, ControlTaken, LaunchTaken}
+use Rattle.scm_model.specs.declared.steps.Step.TheVariants.{Call, EndStart, Report, Ended, ControlTaken, LaunchTaken, Raised}
 use Rattle.scm_model.specs.Changes.{with_moment}
 use Rattle.scm_model.specs.Outcomes.{Done}
 use Rattle.start_plan.specs.Decided.{code_of}
@@ -39,6 +39,7 @@ use Rattle.scm_rules.specs.EnumServices.{page_of, services_asked}
 use Rattle.scm_model.specs.declared.flat.Registration.{Registration}
 use Rattle.scm_model.specs.Notices.{registration_of}
 use Rattle.scm_model.specs.Refused.{zero_process_status}
+use Rattle.scm_rules.specs.Raise.{raise_verdict}
 
 -- ## Replies
 
@@ -125,6 +126,7 @@ of_step l f moment LaunchTaken ok =
     let first = first_of f.wanted (and_parts _ _ ok).0 in
     record { process = first.number; first = first.is; is = launch_is (settled l (effect_of l (at_moment f moment LaunchTaken) LaunchTaken).flat) (first_wanted f.wanted) first.number first.is }
 of_step l f moment (ControlTaken process) ok = of_control (settled l (effect_of l (at_moment f moment (ControlTaken process)) (ControlTaken process)).flat) (controls_of f process) (and_parts _ _ ok).0
+of_step l f moment (Raised caller subtype) ok = record { code = raise_verdict (with_moment f moment) caller; is = refl }
 of_step l f moment step ok = refl
 
 pub gives : (l : Limits) → Gives Sound LawOfShapes l

@@ -11,7 +11,7 @@ use Rattle.scm_model.specs.declared.calls.Request.TheVariants as request
 use Rattle.scm_model.specs.declared.steps.Answer.{Answer}
 use Rattle.scm_model.specs.declared.steps.Answer.TheVariants as answer
 use Rattle.scm_model.specs.declared.steps.Step.{Step}
-use Rattle.scm_model.specs.declared.steps.Step.TheVariants.{Joined, Call, EndStart, LaunchTaken, Report, Ended, ControlTaken}
+use Rattle.scm_model.specs.declared.steps.Step.TheVariants.{Joined, Call, EndStart, LaunchTaken, Report, Ended, ControlTaken, Raised}
 use Rattle.scm_model.specs.Entries.{Entry}
 use Rattle.scm_rules.specs.Launches.{first_wanted}
 
@@ -119,7 +119,7 @@ pub record IsStaleOrHeard (before : Flat) (process : ℕ) (told : Answer) : Type
   pub stale : has_current before process ≡ false → told ≡ answer.Stale
   pub heard : has_current before process ≡ true → (told ≡ answer.Done) ⊎ (told ≡ answer.Refused ERROR_INVALID_DATA)
 
--- the code of a start that waited
+-- a code: of a start that waited, or of a raise
 pub record IsEnded (told : Answer) : Type 0 where
   pub code : ℕ
   pub is : told ≡ answer.Reply (reply.Code code)
@@ -143,6 +143,7 @@ HasShape before LaunchTaken told = IsFirstLaunch before told
 HasShape before (Report process status) told = IsStaleOrHeard before process told
 HasShape before (Ended process) told = IsStaleOrDone before process told
 HasShape before (ControlTaken process) told = IsControl told
+HasShape before (Raised caller subtype) told = IsEnded told
 HasShape before step told = told ≡ answer.Done
 
 abbrev pub LawOfShapes : Flat → Entry → Answer → Flat → Type 0

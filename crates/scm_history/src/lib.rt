@@ -122,7 +122,7 @@ pub fn entries_leave_processes_so(limits: &Limits, steps: &Items<(u64, Step)>, o
 {}
 
 /// Behind a Start that waits its plan is there, of the caller that asked and aimed at the service
-/// of its handle; no other step begins a plan.
+/// of its handle; no other step is told a plan.
 pub fn a_plan_is_who_began_its(limits: &Limits, steps: &Items<(u64, Step)>, opening: &Flat)
     requires begins { IsOpening limits.now opening.now }
     requires legal { Legal limits.now opening.now steps.now }

@@ -1,9 +1,9 @@
 -- The law of controls.
-use Rattle.std.proofs.Common.{ℕ, ◌≡◌, ◌∙◌, ◌<◌, ◌≤◌, ◌==◌, ◌&&◌, ◌||◌, true, false, cond, IsTrue, List, [], ◌∷◌, Option, None, Some, drop, find, length, map, ap, sym, refl, subst, arith, eq-eqb, eqb-true, inl, inr, ne_eqb}
+use Rattle.std.proofs.Common.{ℕ, ◌≡◌, ◌∙◌, ◌<◌, ◌≤◌, ◌==◌, ◌&&◌, ◌||◌, true, false, cond, IsTrue, List, [], ◌∷◌, ◌++◌, append_assoc, Option, None, Some, drop, find, length, map, ap, sym, refl, subst, arith, eq-eqb, eqb-true, inl, inr, ne_eqb}
 use Rattle.std.specs.Prelude.{All, is_none, is_some, max, nat_le, nat_lt, option_and_then}
 use Rattle.std.proofs.lemmas.Bool.Decides.{nat_tests}
-use Rattle.std.proofs.lemmas.List.{length-map}
-use Rattle.std.proofs.lemmas.List.Elements.{All-head, All-tail}
+use Rattle.std.proofs.lemmas.List.{append-nil, length-map}
+use Rattle.std.proofs.lemmas.List.Elements.{All-head, All-nil, All-push, All-tail}
 use Rattle.scm_model.specs.declared.flat.Flat.{Flat}
 use Rattle.scm_model.specs.declared.flat.HandleKind.{HandleKind}
 use Rattle.scm_model.specs.declared.flat.HandleKind.TheVariants as kinds
@@ -16,7 +16,7 @@ use Rattle.scm_model.specs.declared.calls.Request.TheVariants as request
 use Rattle.scm_model.specs.declared.steps.Answer.TheVariants as answer
 use Rattle.scm_model.specs.declared.steps.Kept.{Kept}
 use Rattle.scm_model.specs.declared.steps.Step.{Step}
-use Rattle.scm_model.specs.declared.steps.Step.TheVariants.{Call, ControlTaken, Ended, LaunchFailed}
+use Rattle.scm_model.specs.declared.steps.Step.TheVariants.{Call, ControlTaken, Ended, LaunchFailed, Raised}
 use Rattle.scm_model.specs.Changes.{with_moment}
 use Rattle.scm_model.specs.Purge.{purged}
 use Rattle.scm_model.specs.Rows.{handle_of, opened, opened_at, opened_by, service_of, held_service}
@@ -29,12 +29,15 @@ use Rattle.scm_rules.specs.Steps.{may, step_of, finished}
 use Rattle.scm_rules.specs.Valid.{HasListed, IsValid, has_process}
 use Rattle.scm_runs.proofs.Calls.{by_verdict}
 use Rattle.scm_runs.proofs.Lists.{found_has}
-use Rattle.scm_moves.specs.Controls.{FirstIsTaken, IsControlled, IsNeededStill, LawOfControls, OfControls, OneMoreWaits, changes_controls, status_shown, OneMoreWaitsFor}
+use Rattle.scm_moves.specs.Controls.{FirstIsTaken, IsControlled, IsNeededStill, IsStopped, LawOfControls, OfControls, OneMoreWaits, changes_controls, status_shown, OneMoreWaitsFor}
 use Rattle.scm_moves.proofs.Judged.{IsTaken, held, holds_up, is_taken}
 use Rattle.scm_moves.proofs.Known.{Holds, IsBelow, IsOfOne, Known, holds}
 use Rattle.scm_moves.proofs.Needed.{needed_same}
 use Rattle.scm_moves.proofs.Still.{stays_put}
-use Rattle.scm_moves.proofs.Waiting.{controlled, controlled_others, ended_none, found, others_wait, relieved, waiting_settled, waiting_after}
+use Rattle.scm_moves.proofs.Found.{found_mapped}
+use Rattle.scm_rules.specs.Raise.{raised}
+use Rattle.scm_runs.proofs.Unasked.{raised_by}
+use Rattle.scm_moves.proofs.Waiting.{controlled, controlled_number, controlled_others, one_behind, ended_none, found, others_wait, relieved, waiting_settled, waiting_after}
 use Rattle.std.proofs.lemmas.Bool.{and_parts}
 use Rattle.scm_model.proofs.Found.{found_keeps}
 use Rattle.scm_runs.specs.Leaving.{is_process_of}
@@ -166,9 +169,31 @@ taken_first : (l : Limits) (f : Flat) (moment process : ℕ) → waits (controls
 taken_first l f moment process some =
     taken_by f (settled l (with_control_taken (with_moment f moment) process)) _ process (controls_of f process) refl some (waiting_after l f moment (ControlTaken process) process ∙ relieved process f.processes)
 
+-- ## A raise
+
+stopped_behind : (f g : Flat) (limit process number : ℕ) → IsStopped f g number → IsStopped f (record g { processes = map (controlled_if limit process 1) g.processes }) number
+stopped_behind f g limit process number is =
+    elim (one_behind limit process 1 number g.processes) as (λ _. IsStopped f (record g { processes = map (controlled_if limit process 1) g.processes }) number) [
+      | inl same ↦ record { codes = is.codes; only = is.only; behind = same ∙ is.behind }
+      | inr more ↦ record {
+        codes = is.codes ++ 1 ∷ [];
+        only = All-push (λ code. code ≡ 1) is.codes 1 is.only refl;
+        behind = more ∙ ap (λ codes. codes ++ 1 ∷ []) is.behind ∙ append_assoc (controls_of f number) is.codes (1 ∷ []);
+      }
+    ]
+
+stops_raised : (l : Limits) (f : Flat) (moment caller : ℕ) (subtype : List ℕ) (number : ℕ) → IsStopped f (step_of l f moment (Raised caller subtype)).flat number
+stops_raised l f moment caller subtype number =
+    let is = raised_by (λ (g : Flat). IsStopped f g number) l subtype (record {
+      starts = λ g row there can s. record { codes = s.codes; only = s.only; behind = s.behind };
+      stops = λ g row action there is which gets s. stopped_behind f g l.controls row.process number s;
+    }) (with_moment f moment) caller (record { codes = []; only = All-nil (λ code. code ≡ 1); behind = sym (append-nil (controls_of f number)) }) in
+    record { codes = is.codes; only = is.only; behind = waiting_after l f moment (Raised caller subtype) number ∙ is.behind }
+
 of_controls : (l : Limits) (f : Flat) (moment : ℕ) (step : Step) → IsValid l f → Known f → IsTrue (may l f moment step) → OfControls l f step (step_of l f moment step).answer (step_of l f moment step).flat
 of_controls l f moment (Call caller (request.Control handle control) append) v known ok = controlled_call l f moment caller handle control append v known
 of_controls l f moment (ControlTaken process) v known ok = taken_first l f moment process (and_parts _ _ ok).0
+of_controls l f moment (Raised caller subtype) v known ok = λ number. stops_raised l f moment caller subtype number
 of_controls l f moment step v known ok = tt
 
 -- ## Processes that are new
@@ -205,6 +230,27 @@ fresh_control l f moment caller handle control number append (Some row) v known 
 none_taken : (code : ℕ) (codes left : List ℕ) → codes ≡ [] → codes ≡ code ∷ left → left ≡ []
 none_taken code codes left none some = absurd cc
 
+-- who isn't listed isn't stopped
+unlisted_none : (next number : ℕ) (rows : List Process) → All (λ (row : Process). row.number < next) rows → next ≤ number → is_some (found number rows) ≡ false
+unlisted_none next number [] below up = refl
+unlisted_none next number (row ∷ rows) below up =
+    let here = All-head (λ (r : Process). r.number < next) row rows below in
+    let other : (row.number == number) ≡ false = ne_eqb row.number number (λ e. absurd (omega (arith, e, here, up))) in
+    rw other (unlisted_none next number rows (All-tail (λ (r : Process). r.number < next) row rows below) up)
+
+no_controls : (of : Option Process) → is_some of ≡ false → controls_in of ≡ []
+no_controls None none = refl
+no_controls (Some row) none = absurd cc
+
+fresh_raised : (l : Limits) (f : Flat) (moment caller : ℕ) (subtype : List ℕ) (number : ℕ) → IsValid l f → f.next.process ≤ number → controls_of (step_of l f moment (Raised caller subtype)).flat number ≡ []
+fresh_raised l f moment caller subtype number v up =
+    waiting_after l f moment (Raised caller subtype) number
+    ∙ no_controls (process_of (raised l (with_moment f moment) caller subtype) number) (raised_by (λ (g : Flat). is_some (process_of g number) ≡ false) l subtype (record {
+      starts = λ g row there can none. none;
+      stops = λ g row action there is which gets none.
+          found_mapped (λ (r : Process). r.number) (controlled_if l.controls row.process 1) number (controlled_number l.controls row.process 1) g.processes ∙ none;
+    }) (with_moment f moment) caller (unlisted_none f.next.process number f.processes v.processes.below up))
+
 fresh_changed : (l : Limits) (f : Flat) (moment : ℕ) (step : Step) (number : ℕ) → IsValid l f → Known f → IsTrue (may l f moment step) → changes_controls f step number ≡ true → f.next.process ≤ number
     → controls_of (step_of l f moment step).flat number ≡ []
 fresh_changed l f moment (Call caller (request.Control handle control) append) number v known ok changed up =
@@ -216,6 +262,7 @@ fresh_changed l f moment (ControlTaken process) number v known ok changed up =
     (none_taken first.code (controls_of f process) _ (unlisted f.next.process process f.processes v.processes.below (omega (arith, is, up))) first.first)
 fresh_changed l f moment (LaunchFailed process code) number v known ok changed up = ended_none l f moment (LaunchFailed process code) number changed
 fresh_changed l f moment (Ended process) number v known ok changed up = ended_none l f moment (Ended process) number changed
+fresh_changed l f moment (Raised caller subtype) number v known ok changed up = fresh_raised l f moment caller subtype number v up
 fresh_changed l f moment step number v known ok changed up = absurd cc
 
 fresh : (l : Limits) (f : Flat) (moment : ℕ) (step : Step) (number : ℕ) → IsValid l f → Known f → IsTrue (may l f moment step) → f.next.process ≤ number → controls_of (step_of l f moment step).flat number ≡ []

@@ -37,21 +37,21 @@ as_before : (next : ℕ) (rows : List Service) → AllZip (IsSettled next) rows 
 as_before next [] = tt
 as_before next (row ∷ rows) = (inl refl, as_before next rows)
 
-record Grown (g h : Flat) : Type 0 where
-  up : g.next.process ≤ h.next.process
-  rows : AllZip (IsSettled g.next.process) g.services h.services
+record Grown (next : ℕ) (g h : Flat) : Type 0 where
+  up : next ≤ h.next.process
+  rows : AllZip (IsSettled next) g.services h.services
 
-grows : (l : Limits) (g : Flat) → Keeps l (Grown g) (λ plan. Unit {0})
-grows l g = record {
+grows : (l : Limits) (next : ℕ) (g : Flat) → Keeps l (Grown next g) (λ plan. Unit {0})
+grows l next g = record {
   enters = λ h plan n words entry grown. record {
     up = (let up = grown.up in omega arith);
-    rows = all_settled g.next.process n h.next.process g.services h.services grown.up grown.rows;
+    rows = all_settled next n h.next.process g.services h.services grown.up grown.rows;
   };
   tries = λ h plan n entry q. tt;
   drops = λ plan n rest code q. tt;
 }
 
--- each service stays as it is, or is entered
-pub rows_settled : (l : Limits) (g : Flat) → AllZip (IsSettled g.next.process) g.services (settled l g).services
-rows_settled l g =
-    (keeps_all l (Grown g) (λ plan. Unit {0}) (grows l g) g g.plans (record { up = omega arith; rows = as_before g.next.process g.services }) (all_units g.plans)).flat.rows
+-- each service stays as it is, or is entered by a process whose number isn't below this one
+pub rows_settled : (l : Limits) (next : ℕ) (g : Flat) → next ≤ g.next.process → AllZip (IsSettled next) g.services (settled l g).services
+rows_settled l next g up =
+    (keeps_all l (Grown next g) (λ plan. Unit {0}) (grows l next g) g g.plans (record { up = up; rows = as_before next g.services }) (all_units g.plans)).flat.rows

@@ -20,7 +20,7 @@ use Rattle.scm_model.specs.declared.steps.Answer.{Answer}
 use Rattle.scm_model.specs.declared.steps.Answer.TheVariants as answer
 use Rattle.scm_model.specs.declared.steps.Kept.{Kept}
 use Rattle.scm_model.specs.declared.steps.Step.{Step}
-use Rattle.scm_model.specs.declared.steps.Step.TheVariants.{Call, LaunchFailed, Report, Ended, Gone, Tick}
+use Rattle.scm_model.specs.declared.steps.Step.TheVariants.{Call, LaunchFailed, Report, Ended, Gone, Tick, Raised}
 use Rattle.scm_model.specs.Changes.{configured_if, marked_if, with_moment, with_config}
 use Rattle.scm_model.specs.Purge.{leaves}
 use Rattle.scm_model.specs.Rows.{is_of_service, named, held_service}
@@ -31,7 +31,7 @@ use Rattle.start_plan.proofs.Enterings.{all_units}
 use Rattle.start_plan.proofs.Keeps.{Keeps, keeps_all}
 use Rattle.start_plan.proofs.Rows.{same_number, started_or}
 use Rattle.status_machine.specs.Moves.{take_end, take_report}
-use Rattle.scm_rules.specs.Launches.{fallen_if}
+use Rattle.scm_rules.specs.Launches.{current_of, fallen_if, with_fallen}
 use Rattle.scm_rules.specs.Reports.{moved_by, reported_if}
 use Rattle.scm_rules.specs.Steps.{at_moment, effect_of, finished, finished_step, left_by, step_of}
 use Rattle.scm_rules.specs.Valid.{HasListed, IsValid, has_process}
@@ -46,7 +46,10 @@ use Rattle.scm_model.proofs.Found.{found_keeps}
 use Rattle.scm_runs.proofs.Founds.{opened_keeps, started_keeps, notify_apart}
 use Rattle.scm_rules.specs.Change.{new_config}
 use Rattle.scm_rules.specs.Change2.{level_config}
-use Rattle.scm_rules.proofs.Dues.{ticked_apart}
+use Rattle.scm_model.specs.Found.{if_found}
+use Rattle.scm_rules.specs.Failures.{counted_if, failed_by, with_failure}
+use Rattle.scm_runs.proofs.Failing.{counted_or, failing_keeps}
+use Rattle.scm_runs.proofs.Unasked.{raised_by, ticked_by}
 
 -- two services have no process in common
 abbrev pub AreApart : Service → Service → Type 0
@@ -167,6 +170,29 @@ configures_plainly number config = record {
   process = λ row. inl (elim (row.number == number) as (λ b. (cond b (record row { config = config; status = record row.status { kind = config.kind } }) row).process ≡ row.process) [ true ↦ refl | false ↦ refl ]);
 }
 
+counts_plainly : (number moment : ℕ) → IsPlain (counted_if number moment)
+counts_plainly number moment = record {
+  number = λ row. counted_or (λ new. new.number ≡ row.number) number moment row (λ failures last. refl);
+  process = λ row. inl (counted_or (λ new. new.process ≡ row.process) number moment row (λ failures last. refl));
+}
+
+holds_failing : (found : Option Service) (f : Flat) → Holds f → Holds (if_found with_failure found f)
+holds_failing found f h =
+    failing_keeps Holds found f h
+    (λ row is. record {
+      own = own_mapped f.next.process (counted_if row.number f.moment) f.services (counts_plainly row.number f.moment) h.own;
+      opened = opened_mapped (counted_if row.number f.moment) f.services f.handles (counts_plainly row.number f.moment).number h.opened;
+    })
+    (λ service g moment kind is q. record { own = q.own; opened = q.opened })
+
+-- a number of a process is given to no service
+own_later : (next : ℕ) (rows : List Service) → AreOwn next rows → AreOwn (next + 1) rows
+own_later next rows own = record { rising = own.rising; below = All-weaker (IsBelow next) (IsBelow (next + 1)) (one_later next) rows own.below; apart = own.apart }
+  where
+    one_later : (next : ℕ) (row : Service) → IsBelow next row → IsBelow (next + 1) row
+    one_later next row (inl none) = inl none
+    one_later next row (inr below) = inr (omega (arith, below))
+
 -- ## Calls
 
 holds_change : (f : Flat) (number : ℕ) (config : Config) → Holds f → Holds (with_config f number config)
@@ -221,7 +247,7 @@ holds_done l f caller (request.SetStatus handle report) append below h e =
       own = own_mapped f.next.process (reported_if one.process report) f.services (reports_plainly one.process report) h.own;
       opened = opened_mapped (reported_if one.process report) f.services f.handles (reported_number one.process report) h.opened;
     }) in
-    record { own = found.own; opened = found.opened }
+    holds_failing (failed_by report (held_service f caller handle)) _ (record { own = found.own; opened = found.opened })
 holds_done l f caller (request.Change change) append below h e =
     found_keeps (λ (rows : List Service). Holds (record f { services = rows })) (λ (one : Service). map (configured_if one.number (new_config f change one))) (held_service f caller change.handle) f.services h
     (λ one is. holds_change f one.number (new_config f change one) h)
@@ -247,16 +273,28 @@ holds_effect l f moment (LaunchFailed process code) below h = record {
   own = own_mapped f.next.process (fallen_if process code) f.services (falls process code) h.own;
   opened = opened_mapped (fallen_if process code) f.services f.handles (fallen_number process code) h.opened;
 }
-holds_effect l f moment (Ended process) below h = record {
-  own = own_mapped f.next.process (fallen_if process 1067) f.services (falls process 1067) h.own;
-  opened = opened_mapped (fallen_if process 1067) f.services f.handles (fallen_number process 1067) h.opened;
-}
-holds_effect l f moment (Report process report) below h = record {
-  own = own_mapped f.next.process (reported_if process report) f.services (reports_plainly process report) h.own;
-  opened = opened_mapped (reported_if process report) f.services f.handles (reported_number process report) h.opened;
-}
+holds_effect l f moment (Ended process) below h =
+    let ended = holds_failing (current_of (with_moment f moment) process) (with_fallen (with_moment f moment) process 1067) (record {
+      own = own_mapped f.next.process (fallen_if process 1067) f.services (falls process 1067) h.own;
+      opened = opened_mapped (fallen_if process 1067) f.services f.handles (fallen_number process 1067) h.opened;
+    }) in
+    record { own = ended.own; opened = ended.opened }
+holds_effect l f moment (Report process report) below h =
+    holds_failing (failed_by report (current_of (with_moment f moment) process)) _ (record {
+      own = own_mapped f.next.process (reported_if process report) f.services (reports_plainly process report) h.own;
+      opened = opened_mapped (reported_if process report) f.services f.handles (reported_number process report) h.opened;
+    })
 holds_effect l f moment (Gone caller) below h = record { own = h.own; opened = All-filter _ (λ (row : HandleRow). IsOfOne f.services row.kind) f.handles h.opened }
-holds_effect l f moment Tick below h = ticked_apart Holds (λ g plans rows q. record { own = q.own; opened = q.opened }) (with_moment f moment) (record { own = h.own; opened = h.opened })
+holds_effect l f moment Tick below h = ticked_by Holds l (record {
+  spends = λ g row is q. record { own = q.own; opened = q.opened };
+  starts = λ g row there can q. record { own = q.own; opened = q.opened };
+  runs = λ g row there can q. record { own = own_later g.next.process g.services q.own; opened = q.opened };
+  reboots = λ g q. record { own = q.own; opened = q.opened };
+}) (with_moment f moment) (record { own = h.own; opened = h.opened })
+holds_effect l f moment (Raised caller subtype) below h = raised_by Holds l subtype (record {
+  starts = λ g row there can q. record { own = q.own; opened = q.opened };
+  stops = λ g row action there is stops gets q. record { own = q.own; opened = q.opened };
+}) (with_moment f moment) caller (record { own = h.own; opened = h.opened })
 holds_effect l f moment step below h = record { own = h.own; opened = h.opened }
 
 -- ## Settling

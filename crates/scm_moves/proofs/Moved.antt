@@ -14,7 +14,7 @@ use Rattle.start_plan.specs.Decided.{code_of}
 use Rattle.start_plan.specs.Settle.{settled}
 use Rattle.scm_rules.specs.Steps.{at_moment, effect_of, finished, finished_step, left_by, may, step_of}
 use Rattle.scm_rules.specs.Valid.{IsValid}
-use Rattle.scm_runs.proofs.Effects.{same_process}
+use Rattle.scm_runs.proofs.Effects.{process_up}
 use Rattle.scm_moves.specs.Moves.{HasMoved}
 use Rattle.scm_moves.proofs.Entered.{IsSettled, rows_settled}
 use Rattle.scm_moves.proofs.Own.{HasOwn, own_effect}
@@ -52,7 +52,7 @@ finished_services g told = refl
 pub moved : (l : Limits) (f : Flat) (moment : ℕ) (step : Step) → IsValid l f → IsTrue (may l f moment step) → All (HasMoved f step) (step_of l f moment step).flat.services
 moved l f moment step v ok =
     let done = effect_of l (at_moment f moment step) step in
-    let rows = subst (λ n. AllZip (IsSettled n) done.flat.services (settled l done.flat).services) (same_process l f moment step) (rows_settled l done.flat) in
+    let rows = rows_settled l f.next.process done.flat (process_up l f moment step) in
     let is = all_moved f step done.flat.services (settled l done.flat).services (own_effect l f moment step v ok) rows in
     All-filter (λ (row : Service). not (leaves (finished_step l f moment step).flat.handles row)) (HasMoved f step) (finished_step l f moment step).flat.services
     (subst (λ services. All (HasMoved f step) services) (sym (finished_services (settled l done.flat) done.answer)) is)

@@ -13,10 +13,10 @@ use Rattle.scm_model.specs.declared.calls.Request.{Request}
 use Rattle.scm_model.specs.declared.calls.Request.TheVariants as request
 use Rattle.scm_model.specs.declared.steps.Kept.{Kept}
 use Rattle.scm_model.specs.declared.steps.Step.{Step}
-use Rattle.scm_model.specs.declared.steps.Step.TheVariants.{Call, LaunchFailed, Report, Ended, Tick}
+use Rattle.scm_model.specs.declared.steps.Step.TheVariants.{Call, LaunchFailed, Report, Ended, Tick, Raised}
 use Rattle.scm_model.specs.Changes.{configured_if, marked_if, with_moment}
 use Rattle.status_machine.specs.Moves.{take_end, take_report, takes}
-use Rattle.scm_rules.specs.Launches.{fallen_if, is_launched, is_taken, process_of}
+use Rattle.scm_rules.specs.Launches.{current_of, fallen_if, with_fallen, is_launched, is_taken, process_of}
 use Rattle.scm_rules.specs.Reports.{moved_by, reported_if, set_status_verdict}
 use Rattle.scm_rules.specs.Steps.{at_moment, effect_of, may}
 use Rattle.scm_rules.specs.Valid.{IsValid}
@@ -32,7 +32,9 @@ use Rattle.scm_runs.proofs.Founds.{opened_keeps, started_keeps, notify_apart}
 use Rattle.scm_model.specs.Rows.{held_service}
 use Rattle.scm_rules.specs.Change.{new_config}
 use Rattle.scm_rules.specs.Change2.{level_config}
-use Rattle.scm_rules.proofs.Dues.{ticked_apart}
+use Rattle.scm_rules.specs.Failures.{failed_by}
+use Rattle.scm_runs.proofs.Failing.{failing_rows}
+use Rattle.scm_runs.proofs.Unasked.{raised_apart, ticked_apart}
 
 -- ## Rows
 
@@ -142,8 +144,9 @@ own_done l f moment caller (request.Delete handle) append v e =
     (λ one is. own_mapped f step (marked_if one.number) v.services.rising (λ row. refl) (λ k d lt. inl refl))
 own_done l f moment caller (request.SetStatus handle report) append v e =
     let step = Call caller (request.SetStatus handle report) append in
-    found_keeps (All (HasOwn f step)) (λ (row : Service). map (reported_if row.process report)) (held_service f caller handle) f.services (own_same f step v.services.rising)
-    (λ one is. own_reported f step one.process report v.services.rising (set_first l f moment caller handle report one v is e) (λ row h. ap (λ found. is_process_of found row.process) is ∙ h) refl)
+    failing_rows (HasOwn f step) (λ row failures last own. own) (failed_by report (held_service f caller handle)) _
+    (found_keeps (All (HasOwn f step)) (λ (row : Service). map (reported_if row.process report)) (held_service f caller handle) f.services (own_same f step v.services.rising)
+    (λ one is. own_reported f step one.process report v.services.rising (set_first l f moment caller handle report one v is e) (λ row h. ap (λ found. is_process_of found row.process) is ∙ h) refl))
 own_done l f moment caller (request.Change change) append v e =
     let step = Call caller (request.Change change) append in
     let new = new_config (with_moment f moment) change in
@@ -184,8 +187,12 @@ own_effect l f moment (Call caller asked append) v ok = own_call l f moment call
 own_effect l f moment (LaunchFailed process code) v ok =
     own_fallen f _ process code v.services.rising (taken_first l f process (process_of f process) v refl (and_parts _ _ (and_parts _ _ ok).0).0) (ends_with process code)
 own_effect l f moment (Ended process) v ok =
-    own_fallen f _ process 1067 v.services.rising (running_first l f process (process_of f process) v refl (and_parts _ _ ok).0) (ends_with process 1067)
+    failing_rows (HasOwn f (Ended process)) (λ row failures last own. own) (current_of (with_moment f moment) process) (with_fallen (with_moment f moment) process 1067)
+    (own_fallen f _ process 1067 v.services.rising (running_first l f process (process_of f process) v refl (and_parts _ _ ok).0) (ends_with process 1067))
 own_effect l f moment (Report process report) v ok =
-    own_reported f _ process report v.services.rising (running_first l f process (process_of f process) v refl (and_parts _ _ ok).0) (λ row h. h) refl
-own_effect l f moment Tick v ok = ticked_apart (λ (g : Flat). All (HasOwn f Tick) g.services) (λ g plans rows own. own) (with_moment f moment) (own_same f Tick v.services.rising)
+    failing_rows (HasOwn f (Report process report)) (λ row failures last own. own) (failed_by report (current_of (with_moment f moment) process)) _
+    (own_reported f _ process report v.services.rising (running_first l f process (process_of f process) v refl (and_parts _ _ ok).0) (λ row h. h) refl)
+own_effect l f moment Tick v ok = ticked_apart (λ (g : Flat). All (HasOwn f Tick) g.services) l (with_moment f moment) (own_same f Tick v.services.rising)
+own_effect l f moment (Raised caller subtype) v ok =
+    raised_apart (λ (g : Flat). All (HasOwn f (Raised caller subtype)) g.services) l (with_moment f moment) caller subtype (own_same f _ v.services.rising)
 own_effect l f moment step v ok = own_same f _ v.services.rising

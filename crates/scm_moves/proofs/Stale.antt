@@ -1,5 +1,5 @@
 -- A stale step and a report that is refused move no service.
-use Rattle.std.proofs.Common.{ℕ, suc, ◌≡◌, ◌∙◌, ◌≤◌, ◌==◌, Bool, true, false, not, cond, IsTrue, List, [], ◌∷◌, Option, None, Some, Ok, Err, filter, find, map, get_or, ap, sym, refl, subst, arith, eqb-true, eq-eqb}
+use Rattle.std.proofs.Common.{ℕ, suc, ◌≡◌, ◌∙◌, ◌≤◌, ◌==◌, ◌&&◌, Bool, true, false, not, cond, IsTrue, List, [], ◌∷◌, Option, None, Some, Ok, Err, filter, find, map, get_or, ap, sym, refl, subst, arith, eqb-true, eq-eqb}
 use Rattle.std.specs.Prelude.{All, AllPairs, is_some, max}
 use Rattle.std.proofs.lemmas.List.Elements.{All-cons, All-head, All-nil, All-tail, All-weaker}
 use Rattle.scm_model.specs.declared.flat.Flat.{Flat}
@@ -22,7 +22,9 @@ use Rattle.start_plan.specs.Settle.{settled}
 use Rattle.status_machine.specs.Moves.{take_report, takes}
 use Rattle.scm_rules.specs.Launches.{fallen_if, process_of, wanted_of_others, with_fallen, without_process, first_wanted, launch_told, told_of_fall, current_of}
 use Rattle.scm_rules.specs.Reports.{current_of, moved_by, report_answer, report_told, reported_if, set_status_done, set_status_verdict, with_report, told_of_report}
-use Rattle.scm_rules.specs.Ends.{end_told}
+use Rattle.scm_rules.specs.Ends.{end_told, with_end}
+use Rattle.scm_rules.specs.Failures.{failed_by, with_failure}
+use Rattle.scm_model.specs.Found.{if_found}
 use Rattle.scm_rules.specs.Steps.{call_answer, answered_by, at_moment, effect_of, finished, may, step_of, tells_plan}
 use Rattle.scm_rules.specs.Valid.{IsValid}
 use Rattle.scm_rules.specs.Verdicts.{verdict}
@@ -69,12 +71,14 @@ not_taken process report row none =
       | false ↦ λ e. refl
     ] refl
 
--- a report that changes no row
-put_by_report : (l : Limits) (f : Flat) (moment process : ℕ) (report : Status) → IsValid l f → map (reported_if process report) f.services ≡ f.services
+-- a report that changes no row, and is no failure
+put_by_report : (l : Limits) (f : Flat) (moment process : ℕ) (report : Status) → IsValid l f → map (reported_if process report) f.services ≡ f.services → failed_by report (current_of f process) ≡ None
     → (purged (settled l (with_report (with_moment f moment) process report))).services ≡ f.services
-put_by_report l f moment process report v same =
+put_by_report l f moment process report v same fine =
     let told = told_of_report f.processes report (current_of f process) f.registrations in
-    ap (λ (services : List Service). (purged (settled l (record f { services = services; registrations = told; moment = max f.moment moment }))).services) same
+    ap (λ (failed : Option Service). (purged (settled l (if_found with_failure failed
+    (record f { services = map (reported_if process report) f.services; registrations = told; moment = max f.moment moment })))).services) fine
+    ∙ ap (λ (services : List Service). (purged (settled l (record f { services = services; registrations = told; moment = max f.moment moment }))).services) same
     ∙ stays_put l f f.processes f.wanted told (max f.moment moment) v (omega arith)
 
 stale_report : (l : Limits) (f : Flat) (moment process : ℕ) (report : Status) (found : Option Service) → IsValid l f → current_of f process ≡ found
@@ -84,10 +88,19 @@ stale_report l f moment process report None v e told =
     put_by_report l f moment process report v
     (map_still (reported_if process report) f.services
     (All-weaker (λ (row : Service). (row.process == process) ≡ false) (λ (row : Service). reported_if process report row ≡ row) (not_current process report) f.services
-    (none_found (λ (row : Service). row.process == process) f.services (ap (λ (o : Option Service). is_some o) e))))
+    (none_found (λ (row : Service). row.process == process) f.services (ap (λ (o : Option Service). is_some o) e)))) (ap (failed_by report) e)
 stale_report l f moment process report (Some row) v e told =
     let g = settled l (with_report (with_moment f moment) process report) in
     absurd (elim (takes row.status report) as (λ b. (finished g (report_answer (cond b (Ok report) (Err 13)))).answer ≡ answer.Stale → ⊥) [ true ↦ λ h. cc | false ↦ λ h. cc ] told)
+
+-- a report that isn't taken is no failure
+not_failed : (report : Status) (row : Service) → takes row.status report ≡ false → failed_by report (Some row) ≡ None
+not_failed report row none = by_tests row.config.on_exit (report.state == 1) (not (report.win32 == 0)) (takes row.status report) none
+  where
+    by_tests : (on_exit stopped with_error taken : Bool) → taken ≡ false → ◌≡◌ {A = Option Service} (cond (on_exit && taken && stopped && with_error) (Some row) None) None
+    by_tests true stopped with_error true none = absurd cc
+    by_tests true stopped with_error false none = refl
+    by_tests false stopped with_error taken none = refl
 
 -- what is told of a report that is refused
 record IsRefused (row : Service) (report : Status) (code : ℕ) : Type 0 where
@@ -113,7 +126,7 @@ refused_report l f moment process report (Some row) code v known first e told =
     (λ r only. not_taken process report r (λ h. ap (λ (s : Service). takes s.status report) (only h) ∙ is.none)) f.services (found_apart process row f.services first known.apart e)) in (
       is.is,
       subst (λ (told : Answer). (purged (finished g told).flat).services ≡ f.services)
-          (sym (ap (λ (b : Bool). report_answer (cond b (Ok report) (Err 13))) is.none)) (put_by_report l f moment process report v same),
+          (sym (ap (λ (b : Bool). report_answer (cond b (Ok report) (Err 13))) is.none)) (put_by_report l f moment process report v same (ap (failed_by report) e ∙ not_failed report row is.none)),
     )
 
 -- ## An end
@@ -122,12 +135,13 @@ not_fallen : (process code : ℕ) (row : Service) → (row.process == process) �
 not_fallen process code row e = rw e refl
 
 stale_end : (l : Limits) (f : Flat) (moment process : ℕ) (found : Option Service) → IsValid l f → current_of f process ≡ found
-    → (finished (settled l (without_process (with_fallen (with_moment f moment) process 1067) process)) (end_told found)).answer ≡ answer.Stale
-    → (purged (finished (settled l (without_process (with_fallen (with_moment f moment) process 1067) process)) (end_told found)).flat).services ≡ f.services
+    → (finished (settled l (without_process (with_end (with_moment f moment) process) process)) (end_told found)).answer ≡ answer.Stale
+    → (purged (finished (settled l (without_process (with_end (with_moment f moment) process) process)) (end_told found)).flat).services ≡ f.services
 stale_end l f moment process None v e told =
     let others = filter (λ (row : Process). not (row.number == process)) f.processes in
     let told = told_of_fall process 1067 (current_of f process) f.registrations in
-    ap (λ (services : List Service). (purged (settled l (record f { services = services; processes = others; wanted = wanted_of_others process f.wanted; registrations = told; moment = max f.moment moment }))).services)
+    ap (λ (failed : Option Service). (purged (settled l (without_process (if_found with_failure failed (with_fallen (with_moment f moment) process 1067)) process))).services) e
+    ∙ ap (λ (services : List Service). (purged (settled l (record f { services = services; processes = others; wanted = wanted_of_others process f.wanted; registrations = told; moment = max f.moment moment }))).services)
     (map_still (fallen_if process 1067) f.services
     (All-weaker (λ (row : Service). (row.process == process) ≡ false) (λ (row : Service). fallen_if process 1067 row ≡ row) (not_fallen process 1067) f.services
     (none_found (λ (row : Service). row.process == process) f.services (ap (λ (o : Option Service). is_some o) e))))

@@ -1,6 +1,8 @@
 -- Which controls wait after a step.
-use Rattle.std.proofs.Common.{ℕ, ◌≡◌, ◌∙◌, ◌==◌, ◌&&◌, Bool, true, false, not, cond, List, [], ◌∷◌, ◌++◌, Option, None, Some, drop, filter, find, length, map, ap, sym, refl, subst, eq-eqb, eqb-true, ne_eqb}
-use Rattle.std.specs.Prelude.{is_some, nat_lt}
+use Rattle.std.proofs.Common.{ℕ, ◌≡◌, ◌⊎◌, inl, inr, ◌∙◌, ◌==◌, ◌&&◌, Bool, true, false, not, cond, List, [], ◌∷◌, ◌++◌, Option, None, Some, drop, filter, find, length, map, ap, sym, refl, subst, eq-eqb, eqb-true, ne_eqb}
+use Rattle.std.specs.Prelude.{All, Contains, is_some, nat_lt}
+use Rattle.std.specs.List.{list_any}
+use Rattle.std.proofs.lemmas.List.Elements.{All-contains, All-weaker}
 use Rattle.scm_model.specs.declared.flat.Flat.{Flat}
 use Rattle.scm_model.specs.declared.flat.Limits.{Limits}
 use Rattle.scm_model.specs.declared.flat.Phase.TheVariants as phases
@@ -11,7 +13,7 @@ use Rattle.scm_model.specs.declared.steps.Answer.{Answer}
 use Rattle.scm_model.specs.declared.steps.Answer.TheVariants as answer
 use Rattle.scm_model.specs.declared.steps.Kept.{Kept}
 use Rattle.scm_model.specs.declared.steps.Step.{Step}
-use Rattle.scm_model.specs.declared.steps.Step.TheVariants.{Call, LaunchTaken, Launched, LaunchFailed, Ended, ControlTaken, Tick}
+use Rattle.scm_model.specs.declared.steps.Step.TheVariants.{Call, LaunchTaken, Launched, LaunchFailed, Report, Ended, ControlTaken, Tick, Raised}
 use Rattle.scm_model.specs.Changes.{with_moment}
 use Rattle.start_plan.specs.Decided.{code_of}
 use Rattle.start_plan.specs.Entered.{wanted_process}
@@ -19,18 +21,21 @@ use Rattle.start_plan.specs.Settle.{settled}
 use Rattle.start_plan.proofs.Enterings.{all_units}
 use Rattle.start_plan.proofs.Keeps.{Keeps, keeps_all}
 use Rattle.scm_rules.specs.Controls.{controlled_if, controls_in, controls_of, relieved_if}
-use Rattle.scm_rules.specs.Launches.{first_wanted, launched_if, taken_if}
+use Rattle.scm_rules.specs.Launches.{current_of, first_wanted, launched_if, taken_if, without_process}
 use Rattle.scm_rules.specs.Steps.{at_moment, effect_of, finished, left_by, step_of}
 use Rattle.scm_rules.specs.Verdicts.{call_of, done_of, told_refused, verdict}
 use Rattle.scm_runs.proofs.Calls.{by_verdict}
-use Rattle.scm_runs.proofs.Lists.{find_filter}
-use Rattle.scm_moves.specs.Controls.{changes_controls, ends_process}
+use Rattle.scm_runs.proofs.Lists.{find_filter, none_any}
+use Rattle.scm_moves.specs.Controls.{changes_controls, ends_process, is_stopped_at, stops}
 use Rattle.scm_model.proofs.Found.{found_keeps}
 use Rattle.scm_runs.proofs.Founds.{opened_keeps, started_keeps, notify_apart}
 use Rattle.scm_model.specs.Rows.{held_service}
 use Rattle.scm_runs.specs.Leaving.{is_process_of}
 use Rattle.scm_model.specs.declared.flat.Service.{Service}
-use Rattle.scm_rules.proofs.Dues.{ticked_apart}
+use Rattle.scm_rules.specs.Failures.{failed_by}
+use Rattle.scm_rules.specs.Raise.{raised}
+use Rattle.scm_runs.proofs.Failing.{failing_apart}
+use Rattle.scm_runs.proofs.Unasked.{raised_by, ticked_by}
 
 -- the process with a number
 abbrev pub found : ℕ → List Process → Option Process
@@ -79,7 +84,7 @@ relieved_others : (process number : ℕ) (rows : List Process) → (process == n
 relieved_others process number rows other =
     controls_mapped (relieved_if process) (λ codes. codes) number rows (relieved_number process) (λ row e. rw (other_number process number row.number other e) refl) refl
 
-controlled_number : (limit process code : ℕ) (row : Process) → (controlled_if limit process code row).number ≡ row.number
+pub controlled_number : (limit process code : ℕ) (row : Process) → (controlled_if limit process code row).number ≡ row.number
 controlled_number limit process code row =
     elim (row.number == process && nat_lt (length row.controls) limit) as (λ b. (cond b (record row { controls = row.controls ++ code ∷ [] }) row).number ≡ row.number) [ true ↦ refl | false ↦ refl ]
 
@@ -99,6 +104,22 @@ controlled limit process code (row ∷ rows) there few =
       | true ↦ λ t h. rw h refl
       | false ↦ λ t h. controlled limit process code rows t h
     ] there few
+
+-- one control more, or none
+pub one_behind : (limit process code number : ℕ) (rows : List Process)
+    → (controls_in (found number (map (controlled_if limit process code) rows)) ≡ controls_in (found number rows))
+    ⊎ (controls_in (found number (map (controlled_if limit process code) rows)) ≡ controls_in (found number rows) ++ code ∷ [])
+one_behind limit process code number [] = inl refl
+one_behind limit process code number (row ∷ rows) =
+    subst (λ n. (controls_in (cond (n == number) (Some (controlled_if limit process code row)) (found number (map (controlled_if limit process code) rows))) ≡ controls_in (found number (row ∷ rows)))
+    ⊎ (controls_in (cond (n == number) (Some (controlled_if limit process code row)) (found number (map (controlled_if limit process code) rows))) ≡ controls_in (found number (row ∷ rows)) ++ code ∷ []))
+    (sym (controlled_number limit process code row))
+    (elim (row.number == number) as (λ b. (controls_in (cond b (Some (controlled_if limit process code row)) (found number (map (controlled_if limit process code) rows))) ≡ controls_in (cond b (Some row) (found number rows)))
+    ⊎ (controls_in (cond b (Some (controlled_if limit process code row)) (found number (map (controlled_if limit process code) rows))) ≡ controls_in (cond b (Some row) (found number rows)) ++ code ∷ [])) [
+      | true ↦ elim (row.number == process && nat_lt (length row.controls) limit) as (λ b. ((cond b (record row { controls = row.controls ++ code ∷ [] }) row).controls ≡ row.controls)
+          ⊎ ((cond b (record row { controls = row.controls ++ code ∷ [] }) row).controls ≡ row.controls ++ code ∷ [])) [ true ↦ inr refl | false ↦ inl refl ]
+      | false ↦ one_behind limit process code number rows
+    ])
 
 -- ## Processes that leave
 
@@ -130,6 +151,7 @@ waiting_done l f caller (request.Control handle control) append number other =
     (λ row is. controlled_others l.controls row.process control number f.processes (other_process row.process number (ap (λ one. is_process_of one number) (sym is) ∙ other)))
 waiting_done l f caller (request.OpenService handle name access) append number other = opened_keeps (λ (g : Flat). controls_of g number ≡ controls_of f number) f caller name access refl (λ row is. refl)
 waiting_done l f caller (request.Start handle words) append number other = started_keeps (λ (g : Flat). controls_of g number ≡ controls_of f number) f caller handle words refl (λ row is. refl)
+waiting_done l f caller (request.SetStatus handle status) append number other = failing_apart (λ (g : Flat). controls_of g number ≡ controls_of f number) (failed_by status (held_service f caller handle)) _ refl
 waiting_done l f caller (request.Notify handle mask) append number other = notify_apart (λ (g : Flat). controls_of g number ≡ controls_of f number) f caller handle mask (λ rows next. refl)
 waiting_done l f caller asked append number other = refl
 
@@ -153,30 +175,73 @@ some_is : (b : Bool) (code : ℕ) → is_some (cond b (Some code) None) ≡ true
 some_is true code h = refl
 some_is false code h = absurd cc
 
-waiting_effect : (l : Limits) (f : Flat) (moment : ℕ) (step : Step) (number : ℕ) → changes_controls f step number ≡ false → controls_of (effect_of l (at_moment f moment step) step).flat number ≡ controls_of f number
-waiting_effect l f moment (Call caller asked append) number other = waiting_call l f moment caller asked append number other
-waiting_effect l f moment LaunchTaken number other =
-    found_keeps (WaitsSo number f.processes) (λ process. map (taken_if process)) (first_wanted f.wanted) f.processes refl (λ process is. taken_same process number f.processes)
-waiting_effect l f moment (Launched process pid) number other = launched_same process pid number f.processes
-waiting_effect l f moment (LaunchFailed process code) number other = left_others process number f.processes (some_not (process == number) code other)
-waiting_effect l f moment (Ended process) number other = left_others process number f.processes (some_not (process == number) 1067 other)
-waiting_effect l f moment (ControlTaken process) number other = relieved_others process number f.processes other
-waiting_effect l f moment Tick number other = ticked_apart (λ (g : Flat). controls_of g number ≡ controls_of f number) (λ g plans rows e. e) (with_moment f moment) refl
-waiting_effect l f moment step number other = refl
-
-ended_effect : (l : Limits) (f : Flat) (moment : ℕ) (step : Step) (number : ℕ) → ends_process step number ≡ true → controls_of (effect_of l (at_moment f moment step) step).flat number ≡ []
-ended_effect l f moment (LaunchFailed process code) number is = left_none process number f.processes (eqb-true process number (some_is (process == number) code is))
-ended_effect l f moment (Ended process) number is = left_none process number f.processes (eqb-true process number (some_is (process == number) 1067 is))
-ended_effect l f moment step number is = absurd cc
-
--- ## The end of a step
-
 -- a process that is new has no controls
 new_none : (process service number : ℕ) (rows : List Process) → controls_in (found number (rows ++ wanted_process process service ∷ [])) ≡ controls_in (found number rows)
 new_none process service number [] = elim (process == number) as (λ b. controls_in (cond b (Some (wanted_process process service)) None) ≡ []) [ true ↦ refl | false ↦ refl ]
 new_none process service number (row ∷ rows) =
     elim (row.number == number) as (λ b. controls_in (cond b (Some row) (found number (rows ++ wanted_process process service ∷ []))) ≡ controls_in (cond b (Some row) (found number rows)))
     [ true ↦ refl | false ↦ new_none process service number rows ]
+
+-- a service that a raise doesn't stop
+spared_at : (subtype : List ℕ) (number : ℕ) (rows : List Service) → list_any (λ (row : Service). row.process == number && is_stopped_at subtype row) rows ≡ false
+    → All (λ (row : Service). is_stopped_at subtype row ≡ true → (row.process == number) ≡ false) rows
+spared_at subtype number rows none =
+    All-weaker (λ (row : Service). (row.process == number && is_stopped_at subtype row) ≡ false) (λ (row : Service). is_stopped_at subtype row ≡ true → (row.process == number) ≡ false)
+    (λ row e is. first_false (row.process == number) (is_stopped_at subtype row) e is) rows (none_any (λ (row : Service). row.process == number && is_stopped_at subtype row) rows none)
+  where
+    first_false : (a b : Bool) → (a && b) ≡ false → b ≡ true → a ≡ false
+    first_false true b e is = absurd cc
+    first_false false b e is = refl
+
+-- with the services of another state
+record WaitsAmong (f : Flat) (number : ℕ) (g : Flat) : Type 0 where
+  services : g.services ≡ f.services
+  same : controls_of g number ≡ controls_of f number
+
+waiting_raised : (l : Limits) (f : Flat) (caller : ℕ) (subtype : List ℕ) (number : ℕ) → changes_controls f (Raised caller subtype) number ≡ false → controls_of (raised l f caller subtype) number ≡ controls_of f number
+waiting_raised l f caller subtype number other =
+    let spared = spared_at subtype number f.services other in
+    (raised_by (WaitsAmong f number) l subtype (record {
+      starts = λ g row there can w. record { services = w.services; same = w.same };
+      stops = λ g row action there is which gets w. record {
+        services = w.services;
+        same = (
+            let stopped : is_stopped_at subtype row ≡ true = ap stops is ∙ ap not which in
+            let other : (row.process == number) ≡ false = All-contains (λ (r : Service). is_stopped_at subtype r ≡ true → (r.process == number) ≡ false) f.services row spared
+            (subst (λ (rows : List Service). Contains rows row) w.services there) stopped in
+            controlled_others l.controls row.process 1 number g.processes other ∙ w.same);
+      };
+    }) f caller (record { services = refl; same = refl })).same
+
+waiting_effect : (l : Limits) (f : Flat) (moment : ℕ) (step : Step) (number : ℕ) → changes_controls f step number ≡ false → controls_of (effect_of l (at_moment f moment step) step).flat number ≡ controls_of f number
+waiting_effect l f moment (Call caller asked append) number other = waiting_call l f moment caller asked append number other
+waiting_effect l f moment LaunchTaken number other =
+    found_keeps (WaitsSo number f.processes) (λ process. map (taken_if process)) (first_wanted f.wanted) f.processes refl (λ process is. taken_same process number f.processes)
+waiting_effect l f moment (Launched process pid) number other = launched_same process pid number f.processes
+waiting_effect l f moment (LaunchFailed process code) number other = left_others process number f.processes (some_not (process == number) code other)
+waiting_effect l f moment (Report process status) number other =
+    failing_apart (λ (g : Flat). controls_of g number ≡ controls_of f number) (failed_by status (current_of (with_moment f moment) process)) _ refl
+waiting_effect l f moment (Ended process) number other =
+    failing_apart (λ (g : Flat). controls_of (without_process g process) number ≡ controls_of f number) (current_of (with_moment f moment) process) _
+    (left_others process number f.processes (some_not (process == number) 1067 other))
+waiting_effect l f moment (ControlTaken process) number other = relieved_others process number f.processes other
+waiting_effect l f moment Tick number other = ticked_by (λ (g : Flat). controls_of g number ≡ controls_of f number) l (record {
+  spends = λ g row is e. e;
+  starts = λ g row there can e. e;
+  runs = λ g row there can e. new_none g.next.process 0 number g.processes ∙ e;
+  reboots = λ g e. e;
+}) (with_moment f moment) refl
+waiting_effect l f moment (Raised caller subtype) number other = waiting_raised l (with_moment f moment) caller subtype number other
+waiting_effect l f moment step number other = refl
+
+ended_effect : (l : Limits) (f : Flat) (moment : ℕ) (step : Step) (number : ℕ) → ends_process step number ≡ true → controls_of (effect_of l (at_moment f moment step) step).flat number ≡ []
+ended_effect l f moment (LaunchFailed process code) number is = left_none process number f.processes (eqb-true process number (some_is (process == number) code is))
+ended_effect l f moment (Ended process) number is =
+    failing_apart (λ (g : Flat). controls_of (without_process g process) number ≡ []) (current_of (with_moment f moment) process) _
+    (left_none process number f.processes (eqb-true process number (some_is (process == number) 1067 is)))
+ended_effect l f moment step number is = absurd cc
+
+-- ## The end of a step
 
 waits_on : (l : Limits) (f : Flat) (number : ℕ) → Keeps l (λ (g : Flat). controls_of g number ≡ controls_of f number) (λ plan. Unit {0})
 waits_on l f number = record {

@@ -1,5 +1,5 @@
 -- Which controls services get, and which wait for their processes.
-use Rattle.std.specs.Prelude.{ℕ, Bool, ◌≡◌, ◌↔◌, ◌≤◌, true, false, not, ◌&&◌, ◌||◌, ◌==◌, ◌++◌, List, [], ◌∷◌, Option, None, Some, is_some, if◌then◌else◌}
+use Rattle.std.specs.Prelude.{ℕ, Bool, ◌≡◌, ◌↔◌, ◌≤◌, true, false, not, ◌&&◌, ◌||◌, ◌==◌, ◌++◌, All, List, [], ◌∷◌, Option, None, Some, is_some, if◌then◌else◌}
 use Rattle.std.specs.List.{list_any}
 use Rattle.scm_model.specs.declared.flat.Flat.{Flat}
 use Rattle.scm_model.specs.declared.flat.Limits.{Limits}
@@ -10,16 +10,17 @@ use Rattle.scm_model.specs.declared.calls.Request.TheVariants as request
 use Rattle.scm_model.specs.declared.steps.Answer.{Answer}
 use Rattle.scm_model.specs.declared.steps.Answer.TheVariants as answer
 use Rattle.scm_model.specs.declared.steps.Step.{Step}
-use Rattle.scm_model.specs.declared.steps.Step.TheVariants.{Call, ControlTaken}
+use Rattle.scm_model.specs.declared.steps.Step.TheVariants.{Call, ControlTaken, Raised}
 use Rattle.scm_model.specs.Refused.{zero_status}
 use Rattle.scm_model.specs.Rows.{held_service, opened}
 use Rattle.control_dispatch.specs.Judging.{judge}
 use Rattle.dependency_index.specs.Naming.{is_named}
+use Rattle.start_triggers.specs.Triggers.{matching}
 use Rattle.scm_rules.specs.Controls.{control_verdict, controls_of, granted_in}
 use Rattle.scm_rules.specs.Query.{status_in}
 use Rattle.scm_runs.specs.Leaving.{is_process_of}
 use Rattle.scm_model.specs.Entries.{Entry}
-use Rattle.scm_model.specs.declared.codes.TheConstants.{ERROR_DEPENDENT_SERVICES_RUNNING, ERROR_INVALID_SERVICE_CONTROL, ERROR_SERVICE_CANNOT_ACCEPT_CTRL, ERROR_SERVICE_NOT_ACTIVE, SERVICE_CONTROL_STOP, SERVICE_STOPPED}
+use Rattle.scm_model.specs.declared.codes.TheConstants.{ERROR_DEPENDENT_SERVICES_RUNNING, ERROR_INVALID_SERVICE_CONTROL, ERROR_SERVICE_CANNOT_ACCEPT_CTRL, ERROR_SERVICE_NOT_ACTIVE, SERVICE_CONTROL_STOP, SERVICE_STOPPED, SERVICE_TRIGGER_ACTION_SERVICE_START}
 use Rattle.scm_moves.specs.Moves.{code_of_end}
 
 -- ## What a Control is told
@@ -65,7 +66,7 @@ abbrev pub OneMoreWaitsFor : Flat → Flat → Option Service → ℕ → Type 0
 OneMoreWaitsFor before after None control = ⊥
 OneMoreWaitsFor before after (Some row) control = OneMoreWaits before after row.process control
 
--- ## A Control, and a control that is taken in hand
+-- ## A Control, a raise, and a control that is taken in hand
 
 -- a Control is told its verdict in the state before, whatever the moment, and moves no service; where the verdict is 0 the control comes to
 -- wait for the service's process, and else nothing does; a STOP is refused with 1051 where the service is needed still, and only there
@@ -84,9 +85,16 @@ pub record FirstIsTaken (before : Flat) (process : ℕ) (told : Answer) (after :
   pub answers : told ≡ answer.Control code
   pub first : controls_of before process ≡ code ∷ controls_of after process
 
+-- STOPs alone come to wait for this process, behind what waited
+pub record IsStopped (before after : Flat) (number : ℕ) : Type 0 where
+  pub codes : List ℕ
+  pub only : All (λ code. code ≡ SERVICE_CONTROL_STOP) codes
+  pub behind : controls_of after number ≡ controls_of before number ++ codes
+
 abbrev pub OfControls : Limits → Flat → Step → Answer → Flat → Type 0
 OfControls l before (Call caller (request.Control handle control) append) told after = IsControlled l before caller handle control told after
 OfControls l before (ControlTaken process) told after = FirstIsTaken before process told after
+OfControls l before (Raised caller subtype) told after = (number : ℕ) → IsStopped before after number
 OfControls l before step told after = Unit {0}
 
 -- ## The law
@@ -95,13 +103,23 @@ OfControls l before step told after = Unit {0}
 abbrev pub ends_process : Step → ℕ → Bool
 ends_process step process = is_some (code_of_end step process)
 
+-- whether an action is not to start a service
+abbrev pub stops : Option ℕ → Bool
+stops None = false
+stops (Some action) = not (action == SERVICE_TRIGGER_ACTION_SERVICE_START)
+
+-- whether a trigger of a service stops it
+abbrev pub is_stopped_at : List ℕ → Service → Bool
+is_stopped_at subtype row = stops (matching row.config subtype)
+
 -- whether a step may change what waits for this process
 abbrev pub changes_controls : Flat → Step → ℕ → Bool
 changes_controls f (Call caller (request.Control handle control) append) number = is_process_of (held_service f caller handle) number
 changes_controls f (ControlTaken process) number = process == number
+changes_controls f (Raised caller subtype) number = list_any (λ (row : Service). row.process == number && is_stopped_at subtype row) f.services
 changes_controls f step number = ends_process step number
 
--- a Control puts a control behind those that wait, which are taken from the front; a process that ends has none, nor has one that is new,
+-- a Control puts a control behind those that wait, a raise STOPs, and they are taken from the front; a process that ends has none, nor has one that is new,
 -- and no other step changes what waits
 pub record LawOfControls (l : Limits) (before : Flat) (e : Entry) (told : Answer) (after : Flat) : Type 0 where
   pub controls : OfControls l before e.1 told after

@@ -27,7 +27,8 @@ pub fn law_of_moves(limits: &Limits, steps: &Items<(u64, Step)>, opening: &Flat)
 /// The law of controls: a Control is told its verdict on the state before, whatever the moment, and
 /// changes no service. At code 0 the control waits behind those that waited for the service's
 /// process, and at any other nothing more waits. A STOP gets 1051 exactly where no earlier code
-/// applies and a service that isn't STOPPED names this one as a need. What waits is taken from the
+/// applies and a service that isn't STOPPED names this one as a need. A raise puts STOPs alone
+/// behind what waits, for the services that have such a trigger. What waits is taken from the
 /// front; a process that ends has none, nor has one that is new, and no other step changes what
 /// waits for a process.
 pub fn law_of_controls(limits: &Limits, steps: &Items<(u64, Step)>, opening: &Flat)

@@ -135,6 +135,7 @@ moving_reaches f old s known there = record {
       (told_by_one f row 0 (fallen_if row.process code) known is first (λ other away. rw away refl));
   configures = λ row config is. moved_by_map f old (configured_if row.number config) f.registrations s there (number_kept row.number config)
       (stays_so f (configured_if row.number config) f.registrations (state_kept row.number config));
+  counts = λ rows row failures last told. told;
   creates = λ config status. All-push (λ (row : Service). has_moved old row ≡ true → NobodyWaits row.number (state_mask row.status.state) (noted (event_of_creation config.name status) f.registrations)) f.services _
       (nobody_is (moving old) f.services _ (nobody_moved f old s there))
       (λ yes. absurd (let other = not_number f old s there in
@@ -185,6 +186,7 @@ marking_reaches f old s there = record {
       (same_marked old (fallen_if row.process code) (fallen_number row.process code) (λ r. fallen_or (λ new. new.marked ≡ r.marked) row.process code r (λ e. refl) refl)) (nobody_marked f old s there);
   configures = λ row config is. nobody_comes (marking old) f.services f.registrations (configured_if row.number config)
       (same_marked old (configured_if row.number config) (number_kept row.number config) (mark_kept row.number config)) (nobody_marked f old s there);
+  counts = λ rows row failures last told. told;
   creates = λ config status. All-push (λ (row : Service). was_marked old row ≡ true → NobodyWaits row.number 512 (noted (event_of_creation config.name status) f.registrations)) f.services _
       (nobody_is (marking old) f.services _ (nobody_marked f old s there))
       (λ yes. absurd (let other = not_number f old s there in
@@ -209,6 +211,7 @@ creating_reaches f s = record {
   reports = λ row report is first. nobody_comes (creating f.next.service) f.services _ (reported_if row.process report) (λ r. ap (nat_le f.next.service) (reported_number row.process report r)) (nobody_created f s);
   falls = λ row code is first. nobody_comes (creating f.next.service) f.services _ (fallen_if row.process code) (λ r. ap (nat_le f.next.service) (fallen_number row.process code r)) (nobody_created f s);
   configures = λ row config is. nobody_comes (creating f.next.service) f.services f.registrations (configured_if row.number config) (λ r. ap (nat_le f.next.service) (number_kept row.number config r)) (nobody_created f s);
+  counts = λ rows row failures last told. told;
   creates = λ config status. All-push (λ (row : Service). nat_le f.next.service row.number ≡ true → NobodyWaits 0 128 (noted (event_of_creation config.name status) f.registrations)) f.services _
       (nobody_is (creating f.next.service) f.services _ (nobody_created f s)) (λ yes. noted_none (event_of_creation config.name status) f.registrations);
 }

@@ -14,7 +14,7 @@ use Rattle.scm_model.specs.declared.flat.Config.{Config}
 use Rattle.scm_model.specs.declared.flat.Process.{Process}
 use Rattle.scm_model.specs.declared.flat.Status.{Status}
 use Rattle.scm_model.specs.declared.steps.Kept.{Kept}
-use Rattle.scm_model.specs.declared.steps.Step.TheVariants.{Call, Ended, LaunchFailed, Report, Tick}
+use Rattle.scm_model.specs.declared.steps.Step.TheVariants.{Call, Ended, LaunchFailed, Report, Tick, Raised}
 use Rattle.scm_model.specs.declared.flat.Flat.{Flat}
 use Rattle.scm_model.specs.declared.flat.Limits.{Limits}
 use Rattle.scm_model.specs.declared.flat.Registration.{Registration}
@@ -24,11 +24,14 @@ use Rattle.start_plan.proofs.Enterings.{all_units}
 use Rattle.start_plan.proofs.Keeps.{Keeps, keeps_all}
 use Rattle.start_plan.specs.Entered.{started_if, starting_in, with_entered, told_of_start}
 use Rattle.start_plan.specs.Settle.{settled}
-use Rattle.scm_rules.proofs.Dues.{ticked_apart}
+use Rattle.scm_model.specs.Found.{if_found}
+use Rattle.scm_rules.specs.Failures.{failed_by, with_failure}
+use Rattle.scm_runs.proofs.Failing.{IsAsideCounts, all_counted, failing_keeps}
+use Rattle.scm_runs.proofs.Unasked.{raised_apart, ticked_apart}
 use Rattle.scm_rules.specs.Change.{configured_in, new_config}
 use Rattle.scm_rules.specs.Change2.{level_config}
 use Rattle.scm_rules.specs.Delete.{marked_in, told_of_mark}
-use Rattle.scm_rules.specs.Launches.{current_of, fallen_if, is_taken, process_of, told_of_fall}
+use Rattle.scm_rules.specs.Launches.{current_of, fallen_if, is_taken, process_of, told_of_fall, with_fallen}
 use Rattle.scm_rules.specs.Reports.{reported_if, reported_in, told_of_report}
 use Rattle.scm_rules.specs.Steps.{at_moment, effect_of, finished_step, may, step_of}
 use Rattle.scm_rules.specs.Verdicts.{call_of, done_of, told_refused, verdict}
@@ -129,6 +132,7 @@ pub record Reaches (kind : Kind) (f : Flat) : Type 0 where
   pub falls : (row : Service) (code : ℕ) → Contains f.services row → 1 ≤ row.process
       → Told kind (map (fallen_if row.process code) f.services) (told_of_fall row.process code (Some row) f.registrations)
   pub configures : (row : Service) (config : Config) → Contains f.services row → Told kind (map (configured_if row.number config) f.services) f.registrations
+  pub counts : (rows : List Registration) → IsAsideCounts (λ (row : Service). kind.is row ≡ true → NobodyWaits (kind.who row) (kind.bit row) rows)
   pub creates : (config : Config) (status : Status) → Told kind (f.services ++ new_service f.next.service config status ∷ []) (noted (event_of_creation config.name status) f.registrations)
 
 map_same_rows : (change : Service → Service) (rows : List Service) → All (λ row. change row ≡ row) rows → map change rows ≡ rows
@@ -164,6 +168,13 @@ told_fall kind f process code r first =
           (r.falls row code (is_there (λ (s : Service). s.process == process) row f.services e) (subst (λ n. 1 ≤ n) (sym same) first)))
     ] refl
 
+-- a failure is counted, and a row may become due
+told_failing : (kind : Kind) (f : Flat) → Reaches kind f → (found : Option Service) (g : Flat) → ToldIn kind g → ToldIn kind (if_found with_failure found g)
+told_failing kind f r found g told =
+    failing_keeps (ToldIn kind) found g told
+    (λ row is. all_counted (λ (other : Service). kind.is other ≡ true → NobodyWaits (kind.who other) (kind.bit other) g.registrations) (r.counts g.registrations) row.number g.moment g.services told)
+    (λ service h moment of is q. q)
+
 -- the service that a handle is of
 held_there : (f : Flat) (caller handle : ℕ) (row : Service) → held_service f caller handle ≡ Some row → Contains f.services row
 held_there f caller handle row is = is_there (λ (r : Service). r.number == row.number) row f.services (held_is f caller handle row is)
@@ -173,9 +184,11 @@ of_done l kind f caller (request.Delete handle) append r s e =
     found_all (λ found. Told kind (marked_in found f.services) (told_of_mark f.processes found f.registrations)) (held_service f caller handle) (nobody_is kind f.services f.registrations r.none)
     (λ row is. r.marks row (held_there f caller handle row is))
 of_done l kind f caller (request.SetStatus handle status) append r s e =
-    found_all (λ found. Told kind (reported_in status found f.services) (told_of_report f.processes status found f.registrations)) (held_service f caller handle) (nobody_is kind f.services f.registrations r.none)
+    let held = held_service f caller handle in
+    told_failing kind f r (failed_by status held) (record f { services = reported_in status held f.services; registrations = told_of_report f.processes status held f.registrations })
+    (found_all (λ found. Told kind (reported_in status found f.services) (told_of_report f.processes status found f.registrations)) held (nobody_is kind f.services f.registrations r.none)
     (λ row is. r.reports row status (held_there f caller handle row is)
-    (running_first f.next.process row.process f.processes (process_of f row.process) s.processes.numbered refl (set_status_runs f caller handle status row is e)))
+    (running_first f.next.process row.process f.processes (process_of f row.process) s.processes.numbered refl (set_status_runs f caller handle status row is e))))
 of_done l kind f caller (request.Change change) append r s e =
     found_all (λ found. Told kind (configured_in (new_config f change) found f.services) f.registrations) (held_service f caller change.handle) (nobody_is kind f.services f.registrations r.none)
     (λ row is. r.configures row (new_config f change row) (held_there f caller change.handle row is))
@@ -206,11 +219,18 @@ taken_first f process (Some row) s e taken =
 of_effect : (l : Limits) (kind : Kind) (f : Flat) (moment : ℕ) (step : Step) → Reaches kind f → Sound f → IsTrue (may l f moment step) → ToldIn kind (effect_of l (at_moment f moment step) step).flat
 of_effect l kind f moment (Call caller asked append) r s ok =
     of_call l kind (with_moment f moment) caller asked append
-    (record { none = r.none; marks = r.marks; reports = r.reports; falls = r.falls; configures = r.configures; creates = r.creates }) (moved f moment s)
+    (record { none = r.none; marks = r.marks; reports = r.reports; falls = r.falls; configures = r.configures; counts = r.counts; creates = r.creates }) (moved f moment s)
 of_effect l kind f moment (LaunchFailed process code) r s ok = told_fall kind f process code r (taken_first f process (process_of f process) s refl (and_parts _ _ (and_parts _ _ ok).0).0)
-of_effect l kind f moment (Report process report) r s ok = told_report kind f process report r (running_first f.next.process process f.processes (process_of f process) s.processes.numbered refl (and_parts _ _ ok).0)
-of_effect l kind f moment (Ended process) r s ok = told_fall kind f process 1067 r (running_first f.next.process process f.processes (process_of f process) s.processes.numbered refl (and_parts _ _ ok).0)
-of_effect l kind f moment Tick r s ok = ticked_apart (ToldIn kind) (λ g plans rows q. q) (with_moment f moment) (nobody_is kind f.services f.registrations r.none)
+of_effect l kind f moment (Report process report) r s ok =
+    let found = current_of f process in
+    told_failing kind f r (failed_by report found)
+    (record (with_moment f moment) { services = map (reported_if process report) f.services; registrations = told_of_report f.processes report found f.registrations })
+    (told_report kind f process report r (running_first f.next.process process f.processes (process_of f process) s.processes.numbered refl (and_parts _ _ ok).0))
+of_effect l kind f moment (Ended process) r s ok =
+    told_failing kind f r (current_of f process) (with_fallen (with_moment f moment) process 1067)
+    (told_fall kind f process 1067 r (running_first f.next.process process f.processes (process_of f process) s.processes.numbered refl (and_parts _ _ ok).0))
+of_effect l kind f moment Tick r s ok = ticked_apart (ToldIn kind) l (with_moment f moment) (nobody_is kind f.services f.registrations r.none)
+of_effect l kind f moment (Raised caller subtype) r s ok = raised_apart (ToldIn kind) l (with_moment f moment) caller subtype (nobody_is kind f.services f.registrations r.none)
 of_effect l kind f moment step r s ok = nobody_is kind f.services (effect_of l (at_moment f moment step) step).flat.registrations r.none
 
 pub of_step : (l : Limits) (kind : Kind) (f : Flat) (moment : ℕ) (step : Step) → Enters kind → Reaches kind f → Sound f → IsTrue (may l f moment step) → ToldIn kind (step_of l f moment step).flat

@@ -7,8 +7,6 @@ use Rattle.scm_model.specs.Entries.{Entry, text_in}
 use Rattle.scm_rules.specs.Steps.{may, step_of}
 use Rattle.scm_model.specs.Texts.{text_of}
 use Rattle.scm_runs.proofs.Along.{at_end}
-use Rattle.scm_runs.proofs.Calls.{keeps}
-use Rattle.scm_runs.proofs.Sound.{Sound}
 use Rattle.scm_owed.specs.Legal.{LawOfLegal, StaysLegal}
 use Rattle.scm_rules.specs.Histories.{FitsOwed, Legal, state}
 use Rattle.scm_rules.specs.Owed.{owed}
@@ -16,6 +14,7 @@ use Rattle.scm_owed.specs.Paying.{FoundRoom}
 use Rattle.scm_owed.proofs.Whole.{fits_more, room_kept}
 use Rattle.scm_runs.proofs.Histories.{state_none, state_more, made_front, made_more, legal_made, may_behind}
 use Rattle.std.proofs.lemmas.List.{append_assoc, append-nil}
+use Rattle.scm_runs.proofs.Clear.{Clear, clear_keeps}
 
 -- ## States and answers
 
@@ -97,14 +96,14 @@ law_of_legal l f = record {
 
 -- ## Room
 
-sound_at : (l : Limits) (f : Flat) (es : List Entry) → Sound f → Legal l f es → Sound (state l f es)
+clear_at : (l : Limits) (f : Flat) (es : List Entry) → Clear l f → Legal l f es → Clear l (state l f es)
 unfolding state
-sound_at l f es s legal = at_end Sound l (keeps l) f es s (legal_made l f es legal)
+clear_at l f es c legal = at_end (Clear l) l (clear_keeps l) f es c (legal_made l f es legal)
 
-pub stays_legal : (l : Limits) (f : Flat) (es : List Entry) → Sound f → Legal l f es → StaysLegal l f es
-stays_legal l f es s legal e ok room =
+pub stays_legal : (l : Limits) (f : Flat) (es : List Entry) → Clear l f → Legal l f es → StaysLegal l f es
+stays_legal l f es c legal e ok room =
     let before = state l f es in
-    let now = fits_more l before (length es) (text_in es) e (sound_at l f es s legal) ok (legal_fits l f es legal) room in
+    let now = fits_more l before (length es) (text_in es) e (clear_at l f es c legal) ok (legal_fits l f es legal) room in
     let same = ap owed (state_more l f es e) in
     let longer = length-append es (e ∷ []) in
     legal_more l f es e legal ok (omega (arith, now, same, longer))
@@ -113,13 +112,13 @@ room_front : (l : Limits) (f : Flat) (steps text : ℕ) (front rest : List Entry
 room_front l f steps text [] rest room = tt
 room_front l f steps text (e ∷ front) rest room = (room.0, room_front l (step_of l f e.0 e.1).flat (steps + 1) (text + text_of e.1) front rest room.1)
 
-found_fits : (l : Limits) (f : Flat) (front : List Entry) → Sound f → owed f ≤ l.steps → IsLegal l f front → FoundRoom l f 0 0 front → FitsOwed l f front
+found_fits : (l : Limits) (f : Flat) (front : List Entry) → Clear l f → owed f ≤ l.steps → IsLegal l f front → FoundRoom l f 0 0 front → FitsOwed l f front
 unfolding state
-found_fits l f front s fits legal room = let kept = room_kept l f 0 0 front s (omega (arith, fits)) legal room in omega (arith, kept)
+found_fits l f front c fits legal room = let kept = room_kept l f 0 0 front c (omega (arith, fits)) legal room in omega (arith, kept)
 
-pub found_legal : (l : Limits) (f : Flat) (es : List Entry) → Sound f → owed f ≤ l.steps → IsLegal l f es → FoundRoom l f 0 0 es → Legal l f es
+pub found_legal : (l : Limits) (f : Flat) (es : List Entry) → Clear l f → owed f ≤ l.steps → IsLegal l f es → FoundRoom l f 0 0 es → Legal l f es
 unfolding Legal
-found_legal l f es s fits legal room = record {
+found_legal l f es c fits legal room = record {
   made = legal;
-  fits = λ front rest is. found_fits l f front s fits (made_front l f front rest (subst (IsLegal l f) is legal)) (room_front l f 0 0 front rest (subst (FoundRoom l f 0 0) is room));
+  fits = λ front rest is. found_fits l f front c fits (made_front l f front rest (subst (IsLegal l f) is legal)) (room_front l f 0 0 front rest (subst (FoundRoom l f 0 0) is room));
 }

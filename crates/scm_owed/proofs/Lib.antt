@@ -1,5 +1,9 @@
 pub mod Settling
 pub mod Fewer
+pub mod Sums
+pub mod Starts
+pub mod Ticking
+pub mod Raising
 pub mod Effects
 pub mod Payments
 pub mod Whole

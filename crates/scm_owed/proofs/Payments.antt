@@ -11,10 +11,10 @@ use Rattle.scm_model.specs.declared.flat.Plan.{Plan}
 use Rattle.scm_model.specs.declared.flat.Process.{Process}
 use Rattle.scm_model.specs.declared.flat.Wanted.{Wanted}
 use Rattle.scm_model.specs.declared.steps.Step.{Step}
-use Rattle.scm_model.specs.declared.steps.Step.TheVariants.{EndStart, LaunchTaken, Launched, LaunchFailed, Report, Ended, ControlTaken, Gone, Joined, Call, Tick, NoMemory}
+use Rattle.scm_model.specs.declared.steps.Step.TheVariants.{EndStart, LaunchTaken, Launched, LaunchFailed, Report, Ended, ControlTaken, Gone, Joined, Call, Tick, Raised, NoMemory}
 use Rattle.scm_model.specs.Rows.{is_caller}
 use Rattle.start_plan.specs.Decided.{plan_caller, code_of, is_numbered, without_plan}
-use Rattle.scm_rules.specs.Launches.{first_wanted, is_launched, is_taken, launched_if, process_of, service_of_process, taken_if}
+use Rattle.scm_rules.specs.Launches.{current_of, first_wanted, is_launched, is_taken, launched_if, process_of, service_of_process, taken_if, with_fallen, without_process}
 use Rattle.scm_rules.specs.Start.{can_end, is_caller_of}
 use Rattle.scm_rules.specs.Steps.{at_moment, effect_of, wants_launch, may}
 use Rattle.scm_rules.specs.Valid.{AreNumbered, has_process, is_to_launch}
@@ -27,7 +27,10 @@ use Rattle.scm_owed.proofs.Settling.{kept_owes}
 use Rattle.std.proofs.lemmas.Bool.{and_parts}
 use Rattle.scm_runs.proofs.Wanted.{taken_listed}
 use Rattle.scm_model.specs.Found.{if_found}
-use Rattle.scm_owed.proofs.Effects.{starts_owe}
+use Rattle.scm_owed.proofs.Starts.{starts_owe}
+use Rattle.scm_runs.proofs.Failing.{failing_apart}
+use Rattle.scm_model.specs.declared.codes.TheConstants.{ERROR_PROCESS_ABORTED}
+use Rattle.scm_model.specs.Changes.{with_moment}
 
 -- ## A launch that is taken
 
@@ -213,7 +216,8 @@ owed_steps_pay l f moment (LaunchFailed process code) s ok e =
     omega (arith, pays, decided)
 owed_steps_pay l f moment (Ended process) s ok e =
     let pays = left_pays process f.processes (running_listed (process_of f process) (and_parts _ _ ok).0) in
-    omega (arith, pays)
+    let same = failing_apart (λ (g : Flat). owed (without_process g process) ≡ owed (without_process f process)) (current_of f process) (with_fallen (with_moment f moment) process ERROR_PROCESS_ABORTED) refl in
+    omega (arith, pays, same)
 owed_steps_pay l f moment (Gone caller) s ok e =
     let pays = gone_pays caller f.callers (and_parts _ _ ok).0 in
     let plans = kept_owes (λ (plan : Plan). not (plan.caller == caller)) f.plans in
@@ -223,4 +227,5 @@ owed_steps_pay l f moment (Call caller asked append) s ok e = absurd cc
 owed_steps_pay l f moment (Report process status) s ok e = absurd cc
 owed_steps_pay l f moment (ControlTaken process) s ok e = absurd cc
 owed_steps_pay l f moment Tick s ok e = absurd cc
+owed_steps_pay l f moment (Raised caller subtype) s ok e = absurd cc
 owed_steps_pay l f moment (NoMemory caller) s ok e = absurd cc

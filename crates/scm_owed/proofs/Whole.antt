@@ -6,7 +6,7 @@ use Rattle.scm_model.specs.declared.flat.Plan.{Plan}
 use Rattle.scm_model.specs.declared.steps.Answer.{Answer}
 use Rattle.scm_model.specs.declared.steps.Answer.TheVariants as answer
 use Rattle.scm_model.specs.declared.steps.Step.{Step}
-use Rattle.scm_model.specs.declared.steps.Step.TheVariants.{Joined, Call, EndStart, LaunchTaken, Launched, LaunchFailed, Report, Ended, ControlTaken, Tick, Gone, NoMemory}
+use Rattle.scm_model.specs.declared.steps.Step.TheVariants.{Joined, Call, EndStart, LaunchTaken, Launched, LaunchFailed, Report, Ended, ControlTaken, Tick, Raised, Gone, NoMemory}
 use Rattle.start_plan.specs.Decided.{code_of, is_numbered}
 use Rattle.start_plan.specs.Settle.{settled}
 use Rattle.scm_rules.specs.Runs.{IsLegal, run_state}
@@ -14,7 +14,6 @@ use Rattle.scm_model.specs.Entries.{Entry}
 use Rattle.scm_rules.specs.Steps.{at_moment, effect_of, finished, left_by, may, step_of}
 use Rattle.scm_model.specs.Texts.{text_of}
 use Rattle.scm_runs.proofs.Along.{Gives}
-use Rattle.scm_runs.proofs.Calls.{keeps}
 use Rattle.scm_runs.proofs.Sound.{Sound}
 use Rattle.scm_rules.specs.Owed.{owed}
 use Rattle.scm_owed.specs.Paying.{FoundRoom, LawOfOwed}
@@ -24,6 +23,7 @@ use Rattle.std.proofs.lemmas.Bool.{leb-true, and_parts}
 use Rattle.scm_owed.proofs.Effects.{debt_most, debt_owed, effects_owe}
 use Rattle.scm_owed.proofs.Payments.{owed_steps_pay}
 use Rattle.scm_owed.proofs.Settling.{kept_owes, settles_owed}
+use Rattle.scm_runs.proofs.Clear.{Clear, clear_keeps}
 
 left_owes : (f : Flat) (plan : ℕ) (code : Option ℕ) → owed (left_by f plan code) ≤ owed f
 left_owes f plan None = omega arith
@@ -60,6 +60,7 @@ same_at f moment (Report process status) = (refl, refl)
 same_at f moment (Ended process) = (refl, refl)
 same_at f moment (ControlTaken process) = (refl, refl)
 same_at f moment Tick = (refl, refl)
+same_at f moment (Raised caller subtype) = (refl, refl)
 same_at f moment (Gone caller) = (refl, refl)
 
 pub step_pays : (l : Limits) (f : Flat) (moment : ℕ) (step : Step) → Sound f → may l f moment step ≡ true → owed (step_of l f moment step).flat + 1 ≤ owed f + debt f step
@@ -71,27 +72,27 @@ step_pays l f moment step s ok =
       | false ↦ λ e. let owes = effects_owe l (at_moment f moment step) step e in let a = same.0 in let b = same.1 in omega (arith, rest, owes, a, b)
     ] refl
 
-pub gives : (l : Limits) → Gives Sound LawOfOwed l
-gives l f e s ok = record { pays = step_pays l f e.0 e.1 s ok }
+pub gives : (l : Limits) → Gives (Clear l) LawOfOwed l
+gives l f e c ok = record { pays = step_pays l f e.0 e.1 c.sound ok; fits = λ asked. debt_most f e.1 c.bounded.once }
 
 -- nothing is owed in the beginning
 pub opened_owes : (l : Limits) (f : Flat) → IsOpening l f → owed f ≡ 0
 opened_owes l f o = ap owed o.is
 
 -- where an entry that is owed comes, or one that finds room, the limit has room for it and all that is owed then
-pub fits_more : (l : Limits) (f : Flat) (steps text : ℕ) (e : Entry) → Sound f → IsTrue (may l f e.0 e.1) → steps + owed f ≤ l.steps
+pub fits_more : (l : Limits) (f : Flat) (steps text : ℕ) (e : Entry) → Clear l f → IsTrue (may l f e.0 e.1) → steps + owed f ≤ l.steps
     → (is_owed e.1 ≡ true) ⊎ IsTrue (has_room l f steps text e.1) → (steps + 1) + owed (step_of l f e.0 e.1).flat ≤ l.steps
-fits_more l f steps text e s ok fits (inl paid) = let pays = step_pays l f e.0 e.1 s ok in let none = debt_owed f e.1 paid in omega (arith, pays, none, fits)
-fits_more l f steps text e s ok fits (inr has) =
-    let pays = step_pays l f e.0 e.1 s ok in
-    let most = debt_most f e.1 in
+fits_more l f steps text e c ok fits (inl paid) = let pays = step_pays l f e.0 e.1 c.sound ok in let none = debt_owed f e.1 paid in omega (arith, pays, none, fits)
+fits_more l f steps text e c ok fits (inr has) =
+    let pays = step_pays l f e.0 e.1 c.sound ok in
+    let most = debt_most f e.1 c.bounded.once in
     let counted = leb-true (steps + owed f + need f e.1) l.steps (and_parts _ _ has).0 in
     omega (arith, pays, most, counted)
 
-pub room_kept : (l : Limits) (f : Flat) (steps text : ℕ) (es : List Entry) → Sound f → steps + owed f ≤ l.steps → IsLegal l f es → FoundRoom l f steps text es
+pub room_kept : (l : Limits) (f : Flat) (steps text : ℕ) (es : List Entry) → Clear l f → steps + owed f ≤ l.steps → IsLegal l f es → FoundRoom l f steps text es
     → steps + length es + owed (run_state l f es) ≤ l.steps
-room_kept l f steps text [] s fits legal room = omega (arith, fits)
-room_kept l f steps text (e ∷ es) s fits legal room =
-    let now = fits_more l f steps text e s legal.0 fits room.0 in
-    let rest = room_kept l (step_of l f e.0 e.1).flat (steps + 1) (text + text_of e.1) es (keeps l f e s legal.0) now legal.1 room.1 in
+room_kept l f steps text [] c fits legal room = omega (arith, fits)
+room_kept l f steps text (e ∷ es) c fits legal room =
+    let now = fits_more l f steps text e c legal.0 fits room.0 in
+    let rest = room_kept l (step_of l f e.0 e.1).flat (steps + 1) (text + text_of e.1) es (clear_keeps l f e c legal.0) now legal.1 room.1 in
     omega (arith, rest)

@@ -14,7 +14,7 @@ use scm_model::{Flat, Limits, Step};
 use scm_text::Items;
 
 /// The effect of a step that isn't owed makes less owed than the entries that it may add and leave
-/// owed, in any state: no more than it needs room for.
+/// owed, in any state; in a valid state these are no more than it needs room for.
 pub fn effects_owe_less_than_their_need()
     ensures { EffectsOwe }
 {}
@@ -24,8 +24,8 @@ pub fn settling_makes_nothing_owed()
     ensures { SettlingOwesNothing }
 {}
 
-/// The law of owed steps: in each step of a run an owed step lowers what is owed by at least 1, a
-/// tick doesn't raise it, and another raises it by less than its need.
+/// The law of owed steps: in each step of a run an owed step lowers what is owed by at least 1, and
+/// another raises it by less than its need, a tick and a raise by no more than what they begin.
 pub fn law_of_owed_steps(limits: &Limits, steps: &Items<(u64, Step)>, opening: &Flat)
     requires begins { IsOpening limits.now opening.now }
     requires legal { IsLegal limits.now opening.now steps.now }
@@ -67,8 +67,8 @@ pub fn law_of_found_room(limits: &Limits, steps: &Items<(u64, Step)>, opening: &
 {}
 
 /// The law of owed entries: each entry of a legal history, with the states before and behind it,
-/// lowers what is owed by at least 1 where it is owed, a tick doesn't raise it, and another raises
-/// it by less than its need.
+/// lowers what is owed by at least 1 where it is owed, and another raises it by less than its need,
+/// a tick and a raise by no more than what they begin.
 pub fn law_of_owed_entries(limits: &Limits, steps: &Items<(u64, Step)>, opening: &Flat)
     requires begins { IsOpening limits.now opening.now }
     requires legal { Legal limits.now opening.now steps.now }

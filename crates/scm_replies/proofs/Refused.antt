@@ -26,7 +26,7 @@ closed l done =
 -- ## Refusals
 
 -- a settled state that nobody is to leave stays so when the moment moves
-stays_told : (l : Limits) (f : Flat) (moment : ℕ) (told : Reply) → settled l f ≡ f → purged f ≡ f
+pub stays_told : (l : Limits) (f : Flat) (moment : ℕ) (told : Reply) → settled l f ≡ f → purged f ≡ f
     → closed l (leaving (answer.Reply told) (with_moment f moment)) ≡ leaving (answer.Reply told) (with_moment f moment)
 stays_told l f moment told rest clear =
     ap (λ (g : Flat). leaving (answer.Reply told) (purged g)) (settled_moved l f moment rest) ∙ ap (λ (g : Flat). leaving (answer.Reply told) (with_moment g moment)) clear

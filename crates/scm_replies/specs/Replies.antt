@@ -11,11 +11,12 @@ use Rattle.scm_model.specs.declared.steps.Answer.{Answer}
 use Rattle.scm_model.specs.declared.steps.Answer.TheVariants as answer
 use Rattle.scm_model.specs.declared.steps.Kept.{Kept}
 use Rattle.scm_model.specs.declared.steps.Step.{Step}
-use Rattle.scm_model.specs.declared.steps.Step.TheVariants.{Call, EndStart}
+use Rattle.scm_model.specs.declared.steps.Step.TheVariants.{Call, EndStart, Raised}
 use Rattle.scm_model.specs.Changes.{with_moment}
 use Rattle.start_plan.specs.Decided.{code_of}
 use Rattle.start_plan.specs.Settle.{is_undecided, settled}
 use Rattle.scm_model.specs.Entries.{Entry}
+use Rattle.scm_rules.specs.Raise.{raise_verdict}
 use Rattle.scm_rules.specs.Steps.{effect_of}
 use Rattle.scm_rules.specs.Verdicts.{told_refused, verdict}
 
@@ -90,11 +91,17 @@ pub record Ends (before : Flat) (plan : ℕ) (told : Answer) : Type 0 where
   pub decided : code_of before.plans plan ≡ Some code
   pub ended : told ≡ answer.Reply (reply.Code code)
 
+-- a raise is told its verdict in the state before; where it is refused nothing changes but the moment
+pub record IsRaised (before : Flat) (moment caller : ℕ) (told : Answer) (after : Flat) : Type 0 where
+  pub reply : told ≡ answer.Reply (reply.Code (raise_verdict before caller))
+  pub refused : raise_verdict before caller ≢ 0 → after ≡ with_moment before moment
+
 abbrev pub IsToldRightly : Limits → Flat → ℕ → Step → Answer → Flat → Type 0
 IsToldRightly l before moment (Call caller asked append) told after = ComesTo l before moment caller asked append told after
 IsToldRightly l before moment (EndStart caller plan) told after = Ends before plan told
+IsToldRightly l before moment (Raised caller subtype) told after = IsRaised before moment caller told after
 IsToldRightly l before moment step told after = code_told told ≡ None
 
--- each reply tells the verdict or what was decided, in a call or at the end of a start, and no other step has a reply
+-- each reply tells the verdict or what was decided, in a call, a raise or at the end of a start, and no other step has a reply
 abbrev pub LawOfReplies : Limits → Flat → Entry → Answer → Flat → Type 0
 LawOfReplies l before e told after = IsToldRightly l before e.0 e.1 told after

@@ -19,7 +19,7 @@ use Rattle.scm_model.specs.declared.steps.Answer.{Answer}
 use Rattle.scm_model.specs.declared.steps.Answer.TheVariants as answer
 use Rattle.scm_model.specs.declared.steps.Kept.{Kept}
 use Rattle.scm_model.specs.declared.steps.Step.{Step}
-use Rattle.scm_model.specs.declared.steps.Step.TheVariants.{Joined, Call, EndStart, LaunchTaken, Launched, LaunchFailed, Report, Ended, ControlTaken, Tick, Gone, NoMemory}
+use Rattle.scm_model.specs.declared.steps.Step.TheVariants.{Joined, Call, EndStart, LaunchTaken, Launched, LaunchFailed, Report, Ended, ControlTaken, Tick, Raised, Gone, NoMemory}
 use Rattle.scm_model.specs.Refused.{answered, first_refusal}
 use Rattle.scm_model.specs.Rows.{handle_of, is_caller, manager_mask, principal_of, held_service, service_of}
 use Rattle.scm_model.specs.Changes.{configured_if, with_moment, with_service, with_config, with_mark}
@@ -28,6 +28,7 @@ use Rattle.service_record.specs.Checks.{check_new, has_bad_names, has_bad_number
 use Rattle.scm_rules.specs.Change.{change_done, change_refusals, change_verdict, checked, loops, new_config, tags_no_group, takes_name}
 use Rattle.scm_rules.specs.Change2.{change2_done, change2_refusals, change2_verdict, has_bad_trigger, is_refused, level_config}
 use Rattle.scm_rules.specs.Close.{close_refusals}
+use Rattle.scm_rules.specs.Failures.{failed_by}
 use Rattle.scm_rules.specs.Launches.{is_launched, process_of}
 use Rattle.scm_rules.specs.Locks.{lock_refusals}
 use Rattle.scm_rules.specs.Needs.{are_unreadable, makes_cycle, start_order}
@@ -51,8 +52,8 @@ use Rattle.scm_runs.proofs.Masks.{granted_within}
 use Rattle.scm_rules.proofs.Needed.{rows_added, rows_configured, tested}
 use Rattle.scm_runs.proofs.Ordered.{order_below}
 use Rattle.scm_runs.proofs.Settling.{settles}
-use Rattle.scm_runs.proofs.Sound.{Sound, moved, joined, left, handed, taken, given_back, closed, added, marked, cleared, planned, over, due, in_hand, running, not_running, reported, no_more, control_waits, control_sent, are_named, retold, watching, reported_by, told}
-use Rattle.std.proofs.lemmas.Bool.{or_parts, not-false, and_parts}
+use Rattle.scm_runs.proofs.Sound.{Sound, moved, joined, left, handed, taken, given_back, closed, added, marked, cleared, planned, over, due, in_hand, running, not_running, reported, no_more, control_waits, control_sent, are_named, retold, watching, reported_by, told, failing, triggers}
+use Rattle.std.proofs.lemmas.Bool.{or_parts, or_right, not-false, and_parts}
 use Rattle.scm_model.proofs.Found.{found_keeps}
 use Rattle.scm_runs.proofs.Founds.{opened_keeps, started_keeps, IsHeld, stopped_there, found_all, notify_keeps}
 use Rattle.scm_rules.specs.Controls.{controlled_if}
@@ -165,7 +166,7 @@ change2_done_sound f caller handle asked append s e =
 started : (f : Flat) (caller handle : ℕ) (words : Option (List (List ℕ))) → Sound f → is_caller f caller ≡ true → Sound (start_done f caller handle words).flat
 started f caller handle words s there =
     started_keeps Sound f caller handle words s
-    (λ row is. planned f caller row.number (start_order f row.number) (unwrap_or words []) s there (order_below f f.next.service row.number s.services.numbered.below
+    (λ row is. planned f caller row.number (start_order f row.number) (unwrap_or words []) s (or_right (caller == 0) (is_caller f caller) there) (order_below f f.next.service row.number s.services.numbered.below
     (found_has (λ (r : Service). r.number < f.next.service) (λ (r : Service). r.number == row.number) row f.services s.services.numbered.below (held_is f caller handle row is))))
 
 -- a Start with verdict 0 is of a service that is there
@@ -222,8 +223,9 @@ of_done l f caller (request.Lock handle) append s there e =
     let p = all_pass (lock_refusals l f caller handle) (refl, (refl, (refl, (refl, tt)))) e in
     taken f caller s there p.1.1.0
 of_done l f caller (request.SetStatus handle status) append s there e =
-    found_all (λ found. Sound (record f { services = reported_in status found f.services; registrations = told_of_report f.processes status found f.registrations })) (held_service f caller handle) s
-    (λ row is. reported_by f status row (held_named f caller handle row s is) (set_status_runs f caller handle status row is e) s)
+    failing (failed_by status (held_service f caller handle)) _
+    (found_all (λ found. Sound (record f { services = reported_in status found f.services; registrations = told_of_report f.processes status found f.registrations })) (held_service f caller handle) s
+    (λ row is. reported_by f status row (held_named f caller handle row s is) (set_status_runs f caller handle status row is e) s))
 of_done l f caller (request.Unlock handle) append s there e = given_back f handle s
 of_done l f caller (request.Change change) append s there e = change_done_sound f caller change append s e
 of_done l f caller (request.Change2 handle asked) append s there e = change2_done_sound f caller handle asked append s e
@@ -270,7 +272,8 @@ of_effect l f moment (LaunchFailed process code) s ok = not_running (with_moment
 of_effect l f moment (Report process status) s ok = reported (with_moment f moment) process status (and_parts _ _ ok).0 (moved f moment s)
 of_effect l f moment (Ended process) s ok = no_more (with_moment f moment) process (moved f moment s)
 of_effect l f moment (ControlTaken process) s ok = control_sent (with_moment f moment) process (moved f moment s)
-of_effect l f moment Tick s ok = due (with_moment f moment) (moved f moment s)
+of_effect l f moment Tick s ok = due l (with_moment f moment) (moved f moment s)
+of_effect l f moment (Raised caller subtype) s ok = triggers l (with_moment f moment) caller subtype (moved f moment s)
 of_effect l f moment (Gone caller) s ok = left (with_moment f moment) caller (moved f moment s)
 of_effect l f moment (NoMemory caller) s ok = s
 

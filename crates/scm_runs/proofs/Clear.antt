@@ -1,7 +1,7 @@
 -- Every state that a run reaches is sound, nobody in it is to leave, and its decided plans and its deadlines are in order.
-use Rattle.std.proofs.Common.{ℕ, ◌≡◌, true, List, [], Option, None, Some, ap, sym, refl, subst, map, ◌∷◌, ◌∙◌}
+use Rattle.std.proofs.Common.{ℕ, ◌+◌, ◌≡◌, true, List, [], Option, None, Some, ap, sym, refl, subst, map, ◌∷◌, ◌∙◌}
 use Rattle.std.specs.Prelude.{All}
-use Rattle.std.proofs.lemmas.List.Elements.{All-filter, All-from_recursion, All-nil, All-weaker, filter_passes}
+use Rattle.std.proofs.lemmas.List.Elements.{All-cons, All-filter, All-from_recursion, All-nil, All-weaker, filter_passes}
 use Rattle.scm_model.specs.declared.flat.Config.{Config}
 use Rattle.scm_model.specs.declared.flat.Due.{Due}
 use Rattle.scm_model.specs.declared.flat.Flat.{Flat}
@@ -13,7 +13,9 @@ use Rattle.scm_model.specs.declared.steps.Answer.TheVariants as answer
 use Rattle.scm_model.specs.Purge.{purged, leaving}
 use Rattle.start_plan.specs.Decided.{code_of, plan_of}
 use Rattle.start_plan.specs.Settle.{is_due_still, settle_all, settled, stays}
-use Rattle.scm_rules.specs.Opening.{IsOpening, opening}
+use Rattle.scm_rules.specs.Opening.{IsOpening, automatic_at, opening, services_from, starts_from}
+use Rattle.start_triggers.specs.Order.{auto_rows}
+use Rattle.scm_model.specs.declared.flat.DueKind.TheVariants as dues
 use Rattle.scm_rules.specs.Steps.{at_moment, effect_of, finished, left_by, step_of}
 use Rattle.scm_rules.specs.Valid.{IsValid}
 use Rattle.scm_runs.specs.Leaving.{before_leaving}
@@ -21,7 +23,7 @@ use Rattle.scm_runs.proofs.Along.{Keeps}
 use Rattle.scm_runs.proofs.Calls.{keeps, of_effect}
 use Rattle.scm_runs.proofs.Deadlines.{AreStill, ended_still}
 use Rattle.scm_runs.proofs.Opened.{opened_stay}
-use Rattle.scm_runs.proofs.Plain.{IsPlain, commands_short, dues_once, plain_opened, plain_step}
+use Rattle.scm_runs.proofs.Bounded.{IsBounded, bounded_opened, bounded_step}
 use Rattle.scm_runs.proofs.Plans.{IsKnown, IsPlan, numbered, tried_once}
 use Rattle.scm_runs.proofs.Handled.{HasRightsIn}
 use Rattle.scm_runs.specs.Handles.{AreRights}
@@ -62,7 +64,7 @@ pub record Clear (l : Limits) (f : Flat) : Type 0 where
   pub purged : purged f ≡ f
   pub tidy : AreTidy f
   pub settled : settled l f ≡ f
-  pub plain : IsPlain f
+  pub bounded : IsBounded f
 
 -- without registrations nobody is told anything
 nobody_told : (events : List Event) → all_noted events [] ≡ []
@@ -75,16 +77,28 @@ opened_purged l groups configs moment =
     ap (λ (rows : List Registration). record (purged f) { registrations = rows }) (nobody_told (map event_of_leaving (leaving f)))
     ∙ ap (λ (services : List Service). record f { services = services }) (opened_stay [] 1 configs)
 
+-- a start that is due is no deadline
+starts_still : (number moment : ℕ) (rows : List Service) → AreStill [] (starts_from number moment rows)
+starts_still number moment [] = All-nil (λ (due : Due). is_due_still [] due.kind ≡ true)
+starts_still number moment (row ∷ rows) =
+    All-cons (λ (due : Due). is_due_still [] due.kind ≡ true) (record { moment = automatic_at moment row; number = number; kind = dues.Start row.number }) (starts_from (number + 1) moment rows) refl
+    (starts_still (number + 1) moment rows)
+
 opened_tidy : (l : Limits) (groups : List (List ℕ)) (configs : List Config) (moment : ℕ) → AreTidy (opening l groups configs moment)
-opened_tidy l groups configs moment = record { still = All-nil (λ (due : Due). is_due_still [] due.kind ≡ true); stay = All-nil (λ (plan : Plan). stays plan ≡ true) }
+opened_tidy l groups configs moment = record { still = starts_still 1 moment (auto_rows (services_from 1 configs) groups); stay = All-nil (λ (plan : Plan). stays plan ≡ true) }
+
+opened_settled : (l : Limits) (groups : List (List ℕ)) (configs : List Config) (moment : ℕ) → settled l (opening l groups configs moment) ≡ opening l groups configs moment
+opened_settled l groups configs moment =
+    let tidy = opened_tidy l groups configs moment in
+    is_settled l (opening l groups configs moment) tt tidy.still tidy.stay
 
 pub clear_begun : (l : Limits) (f : Flat) → IsOpening l f → Clear l f
 clear_begun l f o = record {
   sound = begun l f o;
   purged = subst (λ (g : Flat). purged g ≡ g) (sym o.is) (opened_purged l o.groups o.configs o.moment);
   tidy = subst AreTidy (sym o.is) (opened_tidy l o.groups o.configs o.moment);
-  settled = subst (λ (g : Flat). settled l g ≡ g) (sym o.is) refl;
-  plain = subst IsPlain (sym o.is) (plain_opened l o.groups o.configs o.moment);
+  settled = subst (λ (g : Flat). settled l g ≡ g) (sym o.is) (opened_settled l o.groups o.configs o.moment);
+  bounded = subst IsBounded (sym o.is) (bounded_opened l o.groups o.configs o.moment o.can);
 }
 
 pub clear_keeps : (l : Limits) → Keeps (Clear l) l
@@ -97,7 +111,7 @@ clear_keeps l f e c ok =
       purged = purged_twice (before_leaving l f e);
       tidy = record { still = tidy.still; stay = tidy.stay };
       settled = is_settled l (step_of l f e.0 e.1).flat rests tidy.still tidy.stay;
-      plain = plain_step l f e.0 e.1 c.plain;
+      bounded = bounded_step l f e.0 e.1 c.sound c.bounded;
     }
 
 -- ## What it says
@@ -135,10 +149,10 @@ is_valid_clear l f c = record {
   locks = c.sound.handles.lock.locks;
   holder = c.sound.handles.lock.holder;
   masks = All-weaker (HasRightsIn f.callers) (λ (row : HandleRow). HasPlainMask row.kind row.granted) (λ row rights. plain_mask _ row.kind row.granted rights) f.handles c.sound.handles.rights;
-  commands = commands_short f c.plain;
+  commands = c.bounded.commands;
   registered = c.sound.registrations.held;
   told = c.sound.registrations.told;
-  due_once = dues_once f c.plain;
+  due_once = c.bounded.once;
   settled = c.settled;
   purged = c.purged;
 }

@@ -4,7 +4,7 @@ use Rattle.std.specs.Prelude.{All, is_none, is_some}
 use Rattle.std.specs.List.{AllZip, list_any}
 use Rattle.std.proofs.lemmas.List.{append-nil}
 use Rattle.std.proofs.lemmas.List.Folds.{list_any_none}
-use Rattle.std.proofs.lemmas.List.Elements.{All-filter, All-head, All-map, All-tail, All-weaker, filter-append}
+use Rattle.std.proofs.lemmas.List.Elements.{All-filter, All-map, All-weaker, filter-append}
 use Rattle.scm_model.specs.declared.flat.Flat.{Flat}
 use Rattle.scm_model.specs.declared.flat.Limits.{Limits}
 use Rattle.scm_model.specs.declared.flat.Service.{Service}
@@ -28,7 +28,7 @@ use Rattle.scm_runs.proofs.Along.{Gives}
 use Rattle.scm_runs.proofs.Calls.{by_verdict}
 use Rattle.scm_runs.proofs.Effects.{step_settled}
 use Rattle.scm_runs.proofs.Leaving.{gives as gives_leaving, settled_numbers}
-use Rattle.scm_runs.proofs.Lists.{each_number, has_own, is_some-find}
+use Rattle.scm_runs.proofs.Lists.{each_number, has_own, is_some-find, none_pass}
 use Rattle.scm_runs.proofs.Settling.{AreSettled, IsSettled}
 use Rattle.scm_runs.proofs.Sound.{Sound}
 
@@ -65,10 +65,6 @@ next_new f row s e =
     none_yet (find here f.services) (is_some-find here f.services ∙ list_any_none here f.services
     (All-weaker (λ (old : Service). old.number < f.next.service) (λ (old : Service). (old.number == row.number) ≡ false)
     (λ old below. ne_eqb old.number row.number (λ same. absurd (omega (arith, below, same, e)))) f.services s.services.numbered.below))
-
-none_pass : {X : Type 0} (p : X → Bool) (xs : List X) → All (λ x. p x ≡ false) xs → filter p xs ≡ []
-none_pass p [] none = refl
-none_pass p (x ∷ xs) none = rw (All-head (λ y. p y ≡ false) x xs none) (none_pass p xs (All-tail (λ y. p y ≡ false) x xs none))
 
 -- those that stay are no newer
 none_stay : (f : Flat) (p : Service → Bool) (rows : List Service) → numbers rows ≡ numbers f.services → filter (is_new f) (filter p rows) ≡ []

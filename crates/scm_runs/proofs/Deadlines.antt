@@ -16,7 +16,8 @@ use Rattle.start_plan.proofs.Keeps.{Keeps, all_filter, keeps_all}
 use Rattle.scm_rules.specs.Valid.{HasDeadline, is_deadline_of}
 use Rattle.scm_runs.proofs.Lists.{any_at, any_filter, found_only}
 use Rattle.scm_runs.proofs.Plans.{all_more, all_weaker}
-use Rattle.scm_rules.specs.Due.{expired}
+use Rattle.scm_rules.specs.Due.{beside, is_due_of}
+use Rattle.scm_runs.proofs.Unasked.{expired}
 
 -- ## Facts of undecided plans
 
@@ -57,7 +58,7 @@ abbrev count : ℕ → List Due → ℕ
 count plan rows = length (filter (λ (due : Due). is_deadline_of plan due.kind) rows)
 
 -- a deadline is of a plan below the next one
-abbrev IsBelow : ℕ → DueKind → Type 0
+abbrev pub IsBelow : ℕ → DueKind → Type 0
 IsBelow next (dues.Deadline plan) = plan < next
 IsBelow next kind = Unit {0}
 
@@ -66,8 +67,9 @@ pub record AreDeadlines (next : ℕ) (plans : List Plan) (rows : List Due) : Typ
   pub below : AllByRecursion (λ (due : Due). IsBelow next due.kind) rows
   pub each : AllByRecursion (HasDeadline rows) plans
 
-pub no_deadlines : AreDeadlines 1 [] []
-no_deadlines = record { below = tt; each = tt }
+-- before any plan begins
+pub no_plans_yet : (rows : List Due) → AllByRecursion (λ (due : Due). IsBelow 1 due.kind) rows → AreDeadlines 1 [] rows
+no_plans_yet rows below = record { below = below; each = tt }
 
 pub plans_fewer : (next : ℕ) (p : Plan → Bool) (plans : List Plan) (rows : List Due) → AreDeadlines next plans rows → AreDeadlines next (filter p plans) rows
 plans_fewer next p plans rows s = record { below = s.below; each = all_filter (HasDeadline rows) p plans s.each }
@@ -197,6 +199,68 @@ fired next plans rows row only s =
     (all_weaker (Undecided (λ n. is_deadline_of n row.kind ≡ true → ⊥)) (Undecided (Spares (λ (due : Due). not (due.number == row.number)) rows))
     (λ plan none undecided. spares_others row plan.number rows (none undecided) only) (expired plans row.kind) (spent row.kind ⊥ plans))
     (record { below = s.below; each = has_expired (λ n. count n rows ≡ 1) plans row.kind s.each })
+
+-- ## A row more of a service
+
+each_free : (F : ℕ → Type 0) → ((n : ℕ) → F n) → (plans : List Plan) → AllByRecursion (Undecided F) plans
+each_free F each [] = tt
+each_free F each (plan ∷ plans) = ((λ undecided. each plan.number), each_free F each plans)
+
+no_service : (service plan : ℕ) (kind : DueKind) → is_deadline_of plan kind ≡ true → not (is_due_of service kind) ≡ true
+no_service service plan (dues.Deadline number) is = refl
+no_service service plan (dues.Start number) is = absurd cc
+no_service service plan (dues.Command number) is = absurd cc
+no_service service plan (dues.Reboot number) is = absurd cc
+
+spares_deadlines : (service plan : ℕ) (rows : List Due) → Spares (λ (due : Due). not (is_due_of service due.kind)) rows plan
+spares_deadlines service plan [] = tt
+spares_deadlines service plan (due ∷ rows) = ((λ is. no_service service plan due.kind is), spares_deadlines service plan rows)
+
+others_stay : (next service : ℕ) (plans : List Plan) (rows : List Due) → AreDeadlines next plans rows → AreDeadlines next plans (filter (λ (due : Due). not (is_due_of service due.kind)) rows)
+others_stay next service plans rows s =
+    rows_fewer next (λ (due : Due). not (is_due_of service due.kind)) plans rows
+    (each_free (Spares (λ (due : Due). not (is_due_of service due.kind)) rows) (λ plan. spares_deadlines service plan rows) plans) s
+
+beside_stay : (next : ℕ) (kind : DueKind) (plans : List Plan) (rows : List Due) → AreDeadlines next plans rows → AreDeadlines next plans (beside kind rows)
+beside_stay next (dues.Deadline plan) plans rows s = s
+beside_stay next (dues.Start service) plans rows s = others_stay next service plans rows s
+beside_stay next (dues.Command service) plans rows s = others_stay next service plans rows s
+beside_stay next (dues.Reboot service) plans rows s = others_stay next service plans rows s
+
+not_deadline : (service plan : ℕ) (kind : DueKind) → is_due_of service kind ≡ true → is_deadline_of plan kind ≡ false
+not_deadline service plan (dues.Deadline number) is = absurd cc
+not_deadline service plan (dues.Start number) is = refl
+not_deadline service plan (dues.Command number) is = refl
+not_deadline service plan (dues.Reboot number) is = refl
+
+any_below : (next service : ℕ) (kind : DueKind) → is_due_of service kind ≡ true → IsBelow next kind
+any_below next service (dues.Deadline number) is = absurd cc
+any_below next service (dues.Start number) is = tt
+any_below next service (dues.Command number) is = tt
+any_below next service (dues.Reboot number) is = tt
+
+below_push : (next : ℕ) (rows : List Due) (new : Due) → IsBelow next new.kind → AllByRecursion (λ (due : Due). IsBelow next due.kind) rows → AllByRecursion (λ (due : Due). IsBelow next due.kind) (rows ++ new ∷ [])
+below_push next [] new here all = (here, tt)
+below_push next (due ∷ rows) new here all = (all.0, below_push next rows new here all.1)
+
+all_as_many : (plans : List Plan) (rows : List Due) (new : Due) → ((plan : ℕ) → is_deadline_of plan new.kind ≡ false) → AllByRecursion (HasDeadline rows) plans → AllByRecursion (HasDeadline (rows ++ new ∷ [])) plans
+all_as_many [] rows new none all = tt
+all_as_many (plan ∷ plans) rows new none all = (
+  (λ undecided.
+      ap length (filter-append (λ (due : Due). is_deadline_of plan.number due.kind) rows (new ∷ []))
+      ∙ ap (λ (b : Bool). length (filter (λ (due : Due). is_deadline_of plan.number due.kind) rows ++ cond b (new ∷ []) [])) (none plan.number)
+      ∙ ap length (append-nil (filter (λ (due : Due). is_deadline_of plan.number due.kind) rows)) ∙ all.0 undecided),
+  all_as_many plans rows new none all.1,
+)
+
+-- a row of a service takes the place of an earlier one
+pub service_more : (next service : ℕ) (plans : List Plan) (rows : List Due) (new : Due) → is_due_of service new.kind ≡ true → AreDeadlines next plans rows → AreDeadlines next plans (beside new.kind rows ++ new ∷ [])
+service_more next service plans rows new is s =
+    let others = beside_stay next new.kind plans rows s in
+    record {
+      below = below_push next (beside new.kind rows) new (any_below next service new.kind is) others.below;
+      each = all_as_many plans (beside new.kind rows) new (λ plan. not_deadline service plan new.kind is) others.each;
+    }
 
 -- ## Settling
 

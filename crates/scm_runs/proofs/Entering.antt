@@ -24,7 +24,7 @@ use Rattle.scm_runs.specs.Entering.{IsTriedAnew, LawOfEntering, TriesAnew}
 use Rattle.scm_runs.specs.Plans.{GoesOn}
 use Rattle.scm_runs.proofs.Along.{Gives}
 use Rattle.scm_runs.proofs.Calls.{of_effect}
-use Rattle.scm_runs.proofs.Effects.{same_process}
+use Rattle.scm_runs.proofs.Effects.{processes_low}
 use Rattle.scm_runs.proofs.Going.{AllWent, Went, of_effect as plans_of_effect}
 use Rattle.scm_runs.proofs.Lists.{found_only}
 use Rattle.scm_runs.proofs.Plans.{numbered}
@@ -222,7 +222,7 @@ step_tried : (l : Limits) (f : Flat) (moment : ℕ) (step : Step) → Sound f �
 step_tried l f moment step s ok =
     let done = effect_of l (at_moment f moment step) step in
     let sound = of_effect l f moment step s ok in
-    let small = subst (λ n. All (λ (row : Service). row.process < n) done.flat.services) (same_process l f moment step) sound.services.current in
+    let small = processes_low l f moment step s ok in
     finished_tried f.next.process f.plans (settled l done.flat) done.answer (settles l done.flat sound)
     (settled_tried l f.next.process f.plans done.flat small (plans_of_effect l f moment step s))
 

@@ -1,5 +1,5 @@
 -- The law of plans.
-use Rattle.std.proofs.Common.{ℕ, ◌≡◌, ◌<◌, ◌∙◌, Bool, not, List, [], ◌∷◌, ◌++◌, Option, None, Some, map, ap, sym, refl, arith, append_assoc}
+use Rattle.std.proofs.Common.{ℕ, ◌≡◌, ◌<◌, ◌+◌, ◌∙◌, Bool, not, List, [], ◌∷◌, ◌++◌, Option, None, Some, map, ap, sym, refl, arith, append_assoc}
 use Rattle.std.specs.List.{AllByRecursion}
 use Rattle.std.proofs.lemmas.List.{append-nil}
 use Rattle.std.proofs.lemmas.List.Elements.{All-from_recursion, All-weaker}
@@ -14,13 +14,13 @@ use Rattle.scm_model.specs.declared.steps.Answer.{Answer}
 use Rattle.scm_model.specs.declared.steps.Answer.TheVariants as answer
 use Rattle.scm_model.specs.declared.steps.Kept.{Kept}
 use Rattle.scm_model.specs.declared.steps.Step.{Step}
-use Rattle.scm_model.specs.declared.steps.Step.TheVariants.{Call, EndStart, Launched, LaunchFailed, Tick, Gone}
+use Rattle.scm_model.specs.declared.steps.Step.TheVariants.{Call, EndStart, Launched, LaunchFailed, Report, Ended, Tick, Raised, Gone}
 use Rattle.scm_model.specs.Changes.{with_moment}
 use Rattle.start_plan.specs.Decided.{aims_at, code_of, decided_if, decided_in, is_callers, is_numbered}
 use Rattle.start_plan.specs.Planned.{IsRising, plan_numbers}
 use Rattle.start_plan.specs.Settle.{settle_all, settled, stays, with_tried, dropped}
 use Rattle.start_plan.proofs.Keeps.{Keeps, all_filter, keeps_all}
-use Rattle.scm_rules.specs.Launches.{service_of_process}
+use Rattle.scm_rules.specs.Launches.{current_of, service_of_process}
 use Rattle.scm_rules.specs.Steps.{at_moment, effect_of, finished, left_by, step_of}
 use Rattle.scm_rules.specs.Verdicts.{call_of, done_of, told_refused, verdict}
 use Rattle.scm_runs.specs.Plans.{GoesOn, LawOfPlans, WentOn}
@@ -31,8 +31,12 @@ use Rattle.scm_runs.proofs.Sound.{Sound, moved}
 use Rattle.scm_model.proofs.Found.{found_keeps}
 use Rattle.scm_model.specs.Found.{if_found}
 use Rattle.scm_runs.proofs.Founds.{started_keeps, opened_keeps, notify_apart}
-use Rattle.scm_rules.specs.Due.{expired}
-use Rattle.scm_rules.proofs.Dues.{ticked_plans}
+use Rattle.scm_rules.specs.Failures.{failed_by}
+use Rattle.scm_rules.specs.Start.{with_start}
+use Rattle.scm_model.specs.Rows.{held_service}
+use Rattle.scm_model.specs.declared.flat.Service.{Service}
+use Rattle.scm_runs.proofs.Failing.{failing_apart}
+use Rattle.scm_runs.proofs.Unasked.{expired, raised_by, ticked_by}
 
 -- the plan with the same number before, if there was one, goes on in this one
 abbrev pub Went : List Plan → Plan → Type 0
@@ -98,6 +102,7 @@ of_done l f caller (request.Start handle words) s =
     started_keeps (λ (g : Flat). AllWent f.plans g.plans) f caller handle words (all_same f.plans s.plans.rising)
     (λ row is. all_more (Went f.plans) f.plans _ (all_same f.plans s.plans.rising)
     (went_above f.plans _ (all_weaker (IsPlan f.next.plan f.next.service f.callers) (λ (plan : Plan). plan.number < f.next.plan) (λ plan is. is.below) f.plans s.plans.each)))
+of_done l f caller (request.SetStatus handle status) s = failing_apart (λ (g : Flat). AllWent f.plans g.plans) (failed_by status (held_service f caller handle)) _ (all_same f.plans s.plans.rising)
 of_done l f caller (request.Notify handle mask) s = notify_apart (λ (g : Flat). AllWent f.plans g.plans) f caller handle mask (λ rows next. all_same f.plans s.plans.rising)
 of_done l f caller asked s = all_same f.plans s.plans.rising
 
@@ -107,12 +112,42 @@ of_call l f moment caller asked append s =
     by_verdict (λ r. AllWent f.plans r.flat.plans) (verdict l g caller asked append) (told_refused g caller asked (verdict l g caller asked append)) g (done_of l g caller asked)
     (λ e. of_done l g caller asked s) (λ e. all_same f.plans s.plans.rising)
 
+-- all go on, with numbers below the next one
+record GoesFrom (f g : Flat) : Type 0 where
+  plans : AllWent f.plans g.plans
+  up : AllByRecursion (λ (plan : Plan). plan.number < g.next.plan) f.plans
+
+all_go : (f : Flat) (moment : ℕ) → Sound f → GoesFrom f (with_moment f moment)
+all_go f moment s = record {
+  plans = all_same f.plans s.plans.rising;
+  up = all_weaker (IsPlan f.next.plan f.next.service f.callers) (λ (plan : Plan). plan.number < f.next.plan) (λ plan is. is.below) f.plans s.plans.each;
+}
+
+started_goes : (f g : Flat) (row : Service) → GoesFrom f g → GoesFrom f (with_start 0 [] row g)
+started_goes f g row goes = record {
+  plans = all_more (Went f.plans) g.plans _ goes.plans (went_above f.plans _ goes.up);
+  up = all_weaker (λ (plan : Plan). plan.number < g.next.plan) (λ (plan : Plan). plan.number < g.next.plan + 1) (λ plan below. omega (arith, below)) f.plans goes.up;
+}
+
 pub of_effect : (l : Limits) (f : Flat) (moment : ℕ) (step : Step) → Sound f → AllWent f.plans (effect_of l (at_moment f moment step) step).flat.plans
 of_effect l f moment (Call caller asked append) s = of_call l f moment caller asked append (moved f moment s)
 of_effect l f moment (EndStart caller plan) s = all_filter (Went f.plans) (λ (row : Plan). not (is_numbered plan row)) f.plans (all_same f.plans s.plans.rising)
 of_effect l f moment (Launched process pid) s = starts_decided f.plans (service_of_process f process) 0 f.plans (all_same f.plans s.plans.rising)
 of_effect l f moment (LaunchFailed process code) s = starts_decided f.plans (service_of_process f process) code f.plans (all_same f.plans s.plans.rising)
-of_effect l f moment Tick s = ticked_plans (AllWent f.plans) (has_expired f.plans) (with_moment f moment) (all_same f.plans s.plans.rising)
+of_effect l f moment (Report process status) s =
+    failing_apart (λ (g : Flat). AllWent f.plans g.plans) (failed_by status (current_of (with_moment f moment) process)) _ (all_same f.plans s.plans.rising)
+of_effect l f moment (Ended process) s =
+    failing_apart (λ (g : Flat). AllWent f.plans g.plans) (current_of (with_moment f moment) process) _ (all_same f.plans s.plans.rising)
+of_effect l f moment Tick s = (ticked_by (GoesFrom f) l (record {
+  spends = λ g row is goes. record { plans = has_expired f.plans g.plans row.kind goes.plans; up = goes.up };
+  starts = λ g row there can goes. started_goes f g row goes;
+  runs = λ g row there can goes. record { plans = goes.plans; up = goes.up };
+  reboots = λ g goes. record { plans = goes.plans; up = goes.up };
+}) (with_moment f moment) (all_go f moment s)).plans
+of_effect l f moment (Raised caller subtype) s = (raised_by (GoesFrom f) l subtype (record {
+  starts = λ g row there can goes. started_goes f g row goes;
+  stops = λ g row action there is stops gets goes. record { plans = goes.plans; up = goes.up };
+}) (with_moment f moment) caller (all_go f moment s)).plans
 of_effect l f moment (Gone caller) s = all_filter (Went f.plans) (λ (row : Plan). not (is_callers caller row)) f.plans (all_same f.plans s.plans.rising)
 of_effect l f moment step s = all_same f.plans s.plans.rising
 

@@ -13,7 +13,8 @@ use Rattle.scm_model.specs.declared.calls.Request.{Request}
 use Rattle.scm_model.specs.declared.calls.Request.TheVariants as request
 use Rattle.scm_model.specs.declared.steps.Kept.{Kept}
 use Rattle.scm_model.specs.declared.steps.Step.{Step}
-use Rattle.scm_model.specs.declared.steps.Step.TheVariants.{Call, Gone, Tick}
+use Rattle.scm_model.specs.declared.steps.Step.TheVariants.{Call, Report, Ended, Tick, Raised, Gone}
+use Rattle.scm_model.specs.Rows.{held_service}
 use Rattle.scm_model.specs.Changes.{with_moment}
 use Rattle.scm_rules.specs.Steps.{at_moment, effect_of, finished_step, may, step_of}
 use Rattle.scm_rules.specs.Valid.{AreNumbered}
@@ -28,7 +29,10 @@ use Rattle.scm_runs.proofs.Plans.{IsKnown, IsPlan}
 use Rattle.scm_runs.proofs.Sound.{Sound}
 use Rattle.std.proofs.lemmas.Bool.{and_parts}
 use Rattle.scm_runs.proofs.Founds.{opened_keeps, started_keeps, notify_apart}
-use Rattle.scm_rules.proofs.Dues.{ticked_apart}
+use Rattle.scm_rules.specs.Failures.{failed_by}
+use Rattle.scm_rules.specs.Launches.{current_of, without_process}
+use Rattle.scm_runs.proofs.Failing.{failing_apart}
+use Rattle.scm_runs.proofs.Unasked.{raised_apart, ticked_apart}
 use Rattle.scm_runs.proofs.Told.{Tells, notified_or}
 use Rattle.scm_runs.proofs.Telling.{step_tells}
 use Rattle.scm_model.specs.Notices.{notified}
@@ -50,7 +54,8 @@ of_done l f caller (request.Close handle) = record { rows = All-filter _ (StoodO
 of_done l f caller (request.Control handle control) = record { rows = all_stood f; rising = omega arith }
 of_done l f caller (request.Delete handle) = record { rows = all_stood f; rising = omega arith }
 of_done l f caller (request.Lock handle) = record { rows = All-push (StoodOrIsNew f) f.handles _ (all_stood f) (inr (omega arith)); rising = omega arith }
-of_done l f caller (request.SetStatus handle status) = record { rows = all_stood f; rising = omega arith }
+of_done l f caller (request.SetStatus handle status) =
+    failing_apart (Once f) (failed_by status (held_service f caller handle)) _ (record { rows = all_stood f; rising = omega arith })
 of_done l f caller (request.Unlock handle) = record { rows = All-filter _ (StoodOrIsNew f) f.handles (all_stood f); rising = omega arith }
 of_done l f caller (request.Change change) = record { rows = all_stood f; rising = omega arith }
 of_done l f caller (request.Change2 handle asked) = record { rows = all_stood f; rising = omega arith }
@@ -76,8 +81,12 @@ of_effect l f moment (Call caller asked append) =
     let once = of_call l f moment caller asked append in
     record { rows = once.rows; rising = once.rising }
 of_effect l f moment (Gone caller) = record { rows = All-filter _ (StoodOrIsNew f) f.handles (all_stood f); rising = omega arith }
-of_effect l f moment Tick =
-    ticked_apart (Once f) (λ g plans rows once. record { rows = once.rows; rising = once.rising }) (with_moment f moment) (record { rows = all_stood f; rising = omega arith })
+of_effect l f moment (Report process status) =
+    failing_apart (Once f) (failed_by status (current_of (with_moment f moment) process)) _ (record { rows = all_stood f; rising = omega arith })
+of_effect l f moment (Ended process) =
+    failing_apart (λ (g : Flat). Once f (without_process g process)) (current_of (with_moment f moment) process) _ (record { rows = all_stood f; rising = omega arith })
+of_effect l f moment Tick = ticked_apart (Once f) l (with_moment f moment) (record { rows = all_stood f; rising = omega arith })
+of_effect l f moment (Raised caller subtype) = raised_apart (Once f) l (with_moment f moment) caller subtype (record { rows = all_stood f; rising = omega arith })
 of_effect l f moment step = record { rows = all_stood f; rising = omega arith }
 
 -- what settling leaves, and answering

@@ -1,5 +1,5 @@
 -- The law of leaving.
-use Rattle.std.proofs.Common.{ℕ, zero, suc, ◌≡◌, ◌<◌, ◌≤◌, ◌∙◌, ◌==◌, ◌||◌, ◌&&◌, Bool, true, false, cond, IsTrue, List, [], ◌∷◌, ◌++◌, Option, None, Some, find, length, map, take, drop, ap, sym, refl, subst, arith, eqb-true, inl, inr}
+use Rattle.std.proofs.Common.{ℕ, zero, suc, ◌≡◌, ◌<◌, ◌≤◌, ◌∙◌, ◌==◌, ◌||◌, ◌&&◌, Bool, true, false, cond, IsTrue, List, [], ◌∷◌, ◌++◌, Option, None, Some, find, length, map, take, drop, ap, sym, refl, subst, arith, eq-eqb, eqb-true, get_or, ne_eqb, inl, inr}
 use Rattle.std.specs.Prelude.{All}
 use Rattle.std.specs.List.{AllZip}
 use Rattle.std.proofs.lemmas.List.{append-nil, drop_all, drop_at, length-map, map-append, map-id, take-append-le, take_all}
@@ -18,27 +18,27 @@ use Rattle.scm_model.specs.declared.steps.Answer.{Answer}
 use Rattle.scm_model.specs.declared.steps.Answer.TheVariants as answer
 use Rattle.scm_model.specs.declared.steps.Kept.{Kept}
 use Rattle.scm_model.specs.declared.steps.Step.{Step}
-use Rattle.scm_model.specs.declared.steps.Step.TheVariants.{Call, LaunchFailed, Report, Ended, Tick}
+use Rattle.scm_model.specs.declared.steps.Step.TheVariants.{Call, LaunchFailed, Report, Ended, Tick, Raised}
 use Rattle.scm_model.specs.Changes.{configured_if, marked_if, with_moment}
 use Rattle.scm_model.specs.Purge.{leaves}
-use Rattle.start_plan.specs.Entered.{starting_in, starting}
+use Rattle.start_plan.specs.Entered.{starting_in}
 use Rattle.start_plan.specs.Settle.{settled}
 use Rattle.status_machine.specs.Moves.{take_end}
 use Rattle.scm_rules.specs.Change.{new_config, configured_in}
 use Rattle.scm_rules.specs.Change2.{level_config}
 use Rattle.scm_rules.specs.Delete.{delete_done}
-use Rattle.scm_rules.specs.Launches.{fallen_if, is_taken, process_of}
-use Rattle.scm_rules.specs.Reports.{process_in_state, reported_if}
+use Rattle.scm_rules.specs.Launches.{current_of, fallen_if, is_taken, process_of, with_fallen}
+use Rattle.scm_rules.specs.Reports.{process_in_state, reported_if, reported_in, told_of_report, with_report, with_report_of}
 use Rattle.scm_rules.specs.Steps.{at_moment, effect_of, may, step_of}
 use Rattle.scm_rules.specs.Verdicts.{call_of, done_of, told_refused, verdict}
-use Rattle.scm_runs.specs.Leaving.{IsFresh, IsSameService, LawOfLeaving, before_leaving, configures, created, marks, numbers, reports, is_handle_of, is_number_of, is_process_of}
+use Rattle.scm_runs.specs.Leaving.{IsFresh, IsSameService, LawOfLeaving, before_leaving, configures, created, fails, marks, numbers, reports, is_handle_of, is_number_of, is_process_of}
 use Rattle.scm_runs.proofs.Along.{Gives}
 use Rattle.scm_runs.proofs.Calls.{by_verdict}
 use Rattle.scm_runs.proofs.Configured.{HasText, name, name_kept, names_found, number_kept}
 use Rattle.scm_runs.proofs.Effects.{step_settled}
 use Rattle.scm_runs.proofs.Frames.{finished_keeps}
 use Rattle.scm_runs.proofs.Levels.{name_left}
-use Rattle.scm_runs.proofs.Lists.{found_has, found_passes, map_same, passes_not}
+use Rattle.scm_runs.proofs.Lists.{alone, found_has, found_passes, map_both, map_same, passes_not}
 use Rattle.scm_runs.proofs.Processes.{running_first}
 use Rattle.scm_runs.proofs.Rows.{fallen_or, kind_taken, reported_or}
 use Rattle.scm_runs.proofs.Settling.{AreSettled, IsSettled}
@@ -49,7 +49,11 @@ use Rattle.scm_model.proofs.Found.{found_keeps, found_either}
 use Rattle.scm_runs.proofs.Founds.{opened_keeps, started_keeps, notify_apart}
 use Rattle.scm_model.specs.Rows.{held_service}
 use Rattle.scm_rules.proofs.Held.{held_is}
-use Rattle.scm_rules.proofs.Dues.{ticked_apart}
+use Rattle.failure_actions.specs.Failing.{on_failure}
+use Rattle.scm_rules.specs.Ends.{with_end}
+use Rattle.scm_rules.specs.Failures.{counted_if, failed_by}
+use Rattle.scm_runs.proofs.Failing.{counted_or, failed_is, failing_keeps}
+use Rattle.scm_runs.proofs.Unasked.{raised_apart, ticked_apart}
 
 -- what the law says of the services before some of them leave
 record Stood (f : Flat) (step : Step) (told : Answer) (after : List Service) : Type 0 where
@@ -79,6 +83,7 @@ same_row f step told row unmarked = record {
   state = λ same quiet. refl;
   config = λ other. (refl, refl);
   name = refl;
+  failures = λ fine. (refl, refl);
 }
 
 -- a step that changes rows one by one
@@ -129,6 +134,8 @@ configured_row f step told caller handle config one row does is has =
         config = (cond b (replaced config row) row).config;
         status = (cond b (replaced config row) row).status;
         process = (cond b (replaced config row) row).process;
+        failures = (cond b (replaced config row) row).failures;
+        last_failure = (cond b (replaced config row) row).last_failure;
         marked = row.marked || marks f step told row.number;
       }) [
         | true ↦ ap (λ (marked : Bool). record (replaced config row) { marked = marked }) stays
@@ -140,6 +147,8 @@ configured_row f step told caller handle config one row does is has =
           × ((cond b (replaced config row) row).status.kind ≡ row.status.kind))
           [ true ↦ λ e. absurd (cc) | false ↦ λ e. (refl, refl) ] (ap (λ found. is_number_of found row.number) (sym is) ∙ sym (does.which row.number) ∙ other);
       name = name_kept number config row has;
+      failures = λ fine. elim (row.number == number) as (λ b. ((cond b (replaced config row) row).failures ≡ row.failures) × ((cond b (replaced config row) row).last_failure ≡ row.last_failure))
+          [ true ↦ (refl, refl) | false ↦ (refl, refl) ];
     }
 
 stood_configured : (f : Flat) (step : Step) (told : Answer) (caller handle : ℕ) (new : Service → Config) → Configures f step told caller handle → ((row : Service) → (new row).name ≡ row.config.name)
@@ -161,13 +170,57 @@ reported_row f step told process report row unmarked other =
       state = λ same quiet. absurd (let isnt = other quiet in cc);
       config = λ kept. (refl, kind_taken row.status report taken);
       name = refl;
+      failures = λ fine. (refl, refl);
     }) (same_row f step told row (unmarked row.number))
+
+number_told : (process : ℕ) (report : Status) (row : Service) → (reported_if process report row).number ≡ row.number
+number_told process report row = reported_or (λ new. new.number ≡ row.number) process report row (λ e t. refl) refl
 
 stood_reported : (f : Flat) (step : Step) (told : Answer) (process : ℕ) (report : Status) → created f step told ≡ [] → ((number : ℕ) → marks f step told number ≡ false)
     → ((row : Service) → reports f step row ≡ false → (row.process == process) ≡ false) → Stood f step told (map (reported_if process report) f.services)
 stood_reported f step told process report none unmarked other =
-    stood_mapped f step told (reported_if process report) (λ row. reported_or (λ new. new.number ≡ row.number) process report row (λ e t. refl) refl) none
+    stood_mapped f step told (reported_if process report) (number_told process report) none
     (λ k d lt. reported_row f step told process report _ unmarked (other _))
+
+-- ## Failures
+
+-- no row but that of a service that fails has its number
+abbrev IsSpared : Flat → Step → ℕ → Service → Type 0
+IsSpared f step number row = fails f step row ≡ false → (row.number == number) ≡ false
+
+all_spared : (f : Flat) (step : Step) (one : Service) → All (λ (row : Service). row.number ≡ one.number → row ≡ one) f.services → fails f step one ≡ true → All (IsSpared f step one.number) f.services
+all_spared f step one only failing k d lt fine =
+    ne_eqb (get_or f.services k d).number one.number (λ same. absurd (let is = only k d lt same in let too : fails f step (get_or f.services k d) ≡ true = ap (fails f step) is ∙ failing in cc))
+
+-- a failure is counted behind another change
+counted_row : (f : Flat) (step : Step) (told : Answer) (number moment : ℕ) (old mid : Service) → IsSpared f step number old → mid.number ≡ old.number → IsSameService f step told old mid
+    → IsSameService f step told old (counted_if number moment mid)
+counted_row f step told number moment old mid spared same is =
+    let new = record mid { failures = (on_failure mid.config mid.failures mid.last_failure moment).failures; last_failure = moment } in
+    elim (mid.number == number) as (λ b. (mid.number == number) ≡ b → IsSameService f step told old (cond b new mid)) [
+      | true ↦ λ e. record {
+        row = ap (λ (r : Service). record r { failures = (on_failure mid.config mid.failures mid.last_failure moment).failures; last_failure = moment }) is.row;
+        state = is.state;
+        config = is.config;
+        name = is.name;
+        failures = λ fine. absurd (let other = spared fine in let here : (old.number == number) ≡ true = ap (λ n. n == number) (sym same) ∙ e in cc);
+      }
+      | false ↦ λ e. is
+    ] refl
+
+stood_counted : (f : Flat) (step : Step) (told : Answer) (one : Service) (moment : ℕ) (g : Service → Service) → created f step told ≡ [] → All (λ (row : Service). row.number ≡ one.number → row ≡ one) f.services
+    → fails f step one ≡ true → ((row : Service) → (g row).number ≡ row.number) → All (λ row. IsSameService f step told row (g row)) f.services
+    → Stood f step told (map (counted_if one.number moment) (map g f.services))
+stood_counted f step told one moment g none only failing same each =
+    let spared = all_spared f step one only failing in
+    subst (λ rows. Stood f step told rows) (sym (map_both (counted_if one.number moment) g f.services))
+    (stood_mapped f step told (λ row. counted_if one.number moment (g row)) (λ row. counted_or (λ new. new.number ≡ row.number) one.number moment (g row) (λ failures last. same row)) none
+    (λ k d lt. (let row = get_or f.services k d in counted_row f step told one.number moment row (g row) (spared k d lt) (same row) (each k d lt))))
+
+-- no other service has the number of one that is found
+found_alone : (f : Flat) (p : Service → Bool) (one : Service) → Sound f → find p f.services ≡ Some one → All (λ (row : Service). row.number ≡ one.number → row ≡ one) f.services
+found_alone f p one s is =
+    found_has (λ (row : Service). All (λ (other : Service). other.number ≡ row.number → other ≡ row) f.services) p one f.services (alone (λ (row : Service). row.number) f.services s.services.numbered.rising) is
 
 -- ## Calls
 
@@ -178,6 +231,7 @@ marked_row f caller handle append one row is = record {
   state = λ same quiet. refl;
   config = λ other. (refl, refl);
   name = refl;
+  failures = λ fine. (refl, refl);
 }
 
 stood_marked : (f : Flat) (moment caller handle : ℕ) (append : Kept) → Stood f (Call caller (request.Delete handle) append) (answer.Reply (reply.Code 0)) (delete_done (with_moment f moment) caller handle).flat.services
@@ -194,6 +248,25 @@ not_marked f caller handle append code e = stood_same f _ _ refl (λ number. ap 
 
 not_added : (f : Flat) (caller : ℕ) (new : NewService) (append : Kept) (tag : Option ℕ) (handle code : ℕ) → (code == 0) ≡ false → Stood f (Call caller (request.Create new) append) (answer.Reply (reply.Made tag handle code)) f.services
 not_added f caller new append tag handle code e = stood_same f _ _ (ap (λ b. cond b (f.next.service ∷ []) []) e) (λ number. refl)
+
+-- a report by a call
+stood_told : (f : Flat) (moment caller handle : ℕ) (status : Status) (append : Kept) → Sound f
+    → Stood f (Call caller (request.SetStatus handle status) append) (answer.Reply (reply.Code 0)) (with_report_of (with_moment f moment) (held_service f caller handle) status).services
+stood_told f moment caller handle status append s =
+    let step = Call caller (request.SetStatus handle status) append in
+    let told = answer.Reply (reply.Code 0) in
+    let held = held_service f caller handle in
+    let g = record (with_moment f moment) { services = reported_in status held f.services; registrations = told_of_report f.processes status held f.registrations } in
+    let other = λ (one : Service) (is : held ≡ Some one) (row : Service) (quiet : reports f step row ≡ false). ap (λ found. is_process_of found row.process) (sym is) ∙ quiet in
+    failing_keeps (λ (h : Flat). Stood f step told h.services) (failed_by status held) g
+    (found_keeps (Stood f step told) (λ (one : Service). map (reported_if one.process status)) held f.services
+    (stood_same f _ _ refl (λ number. refl))
+    (λ one is. stood_reported f _ _ one.process status refl (λ number. refl) (other one is)))
+    (λ one failed. (let is = failed_is status held one failed in
+    subst (λ found. Stood f step told (map (counted_if one.number g.moment) (reported_in status found f.services))) (sym is.0)
+    (stood_counted f step told one g.moment (reported_if one.process status) refl (found_alone f (λ (row : Service). row.number == one.number) one s (held_is f caller handle one is.0))
+    (rw (is.0, eq-eqb one.process one.process refl) is.1) (number_told one.process status) (λ k d lt. reported_row f step told one.process status (get_or f.services k d) (λ number. refl) (other one is.0 (get_or f.services k d))))))
+    (λ service h at kind is stood. stood)
 
 stood_call : (l : Limits) (f : Flat) (moment caller : ℕ) (asked : Request) (append : Kept) → Sound f
     → Stood f (Call caller asked append) (step_of l f moment (Call caller asked append)).answer (call_of l (with_moment f moment) caller asked append).flat.services
@@ -228,9 +301,7 @@ stood_call l f moment caller (request.SetStatus handle status) append s =
     let asked = request.SetStatus handle status in
     let code = verdict l g caller asked append in
     by_verdict (λ r. Stood f (Call caller asked append) (answer.Reply r.reply) r.flat.services) code (told_refused g caller asked code) g (done_of l g caller asked)
-    (λ e. found_keeps (Stood f (Call caller asked append) (answer.Reply (reply.Code 0))) (λ (one : Service). map (reported_if one.process status)) (held_service f caller handle) f.services
-    (stood_same f _ _ refl (λ number. refl))
-    (λ one is. stood_reported f _ _ one.process status refl (λ number. refl) (λ row quiet. ap (λ found. is_process_of found row.process) (sym is) ∙ quiet))) (λ e. stood_same f _ _ refl (λ number. refl))
+    (λ e. stood_told f moment caller handle status append s) (λ e. stood_same f _ _ refl (λ number. refl))
 stood_call l f moment caller (request.OpenService handle name access) append s =
     let g = with_moment f moment in
     let asked = request.OpenService handle name access in
@@ -271,6 +342,7 @@ fallen_row f step told process code row unmarked first =
       state = λ none quiet. absurd (let e = eqb-true row.process process is in omega (arith, none, e, first));
       config = λ other. (refl, refl);
       name = refl;
+      failures = λ fine. (refl, refl);
     }) (same_row f step told row (unmarked row.number))
 
 -- a process that is in hand has a number
@@ -280,20 +352,51 @@ in_hand_first f process (Some row) s e taken =
     let is = eqb-true row.number process (found_passes (λ (r : Process). r.number == process) row f.processes e) in
     subst (λ n. 1 ≤ n) is (found_has (λ (r : Process). 1 ≤ r.number) (λ (r : Process). r.number == process) row f.processes s.processes.numbered.positive e)
 
+-- ## Reports and ends of processes
+
+number_fallen : (process code : ℕ) (row : Service) → (fallen_if process code row).number ≡ row.number
+number_fallen process code row = fallen_or (λ new. new.number ≡ row.number) process code row (λ e. refl) refl
+
+stood_own : (f : Flat) (moment process : ℕ) (status : Status) (told : Answer) → Sound f → Stood f (Report process status) told (with_report (with_moment f moment) process status).services
+stood_own f moment process status told s =
+    let step = Report process status in
+    let found = current_of f process in
+    let g = record (with_moment f moment) { services = map (reported_if process status) f.services; registrations = told_of_report f.processes status found f.registrations } in
+    failing_keeps (λ (h : Flat). Stood f step told h.services) (failed_by status found) g
+    (stood_reported f step told process status refl (λ number. refl) (λ row quiet. quiet))
+    (λ one failed. (let is = failed_is status found one failed in
+    stood_counted f step told one g.moment (reported_if process status) refl (found_alone f (λ (row : Service). row.process == process) one s is.0)
+    (rw (found_passes (λ (row : Service). row.process == process) one f.services is.0) is.1) (number_told process status)
+    (λ k d lt. reported_row f step told process status (get_or f.services k d) (λ number. refl) (λ quiet. quiet))))
+    (λ service h at kind is stood. stood)
+
+stood_ended : (f : Flat) (moment process : ℕ) (told : Answer) → Sound f → 1 ≤ process → Stood f (Ended process) told (with_end (with_moment f moment) process).services
+stood_ended f moment process told s first =
+    let step = Ended process in
+    let each : All (λ row. IsSameService f step told row (fallen_if process 1067 row)) f.services = λ k d lt. fallen_row f step told process 1067 _ (λ number. refl) first in
+    failing_keeps (λ (h : Flat). Stood f step told h.services) (current_of f process) (with_fallen (with_moment f moment) process 1067)
+    (stood_mapped f step told (fallen_if process 1067) (number_fallen process 1067) refl each)
+    (λ one is. stood_counted f step told one _ (fallen_if process 1067) refl (found_alone f (λ (row : Service). row.process == process) one s is)
+    (found_passes (λ (row : Service). row.process == process) one f.services is) (number_fallen process 1067) each)
+    (λ service h at kind is stood. stood)
+
 -- ## Effects
 
 stood_effect : (l : Limits) (f : Flat) (moment : ℕ) (step : Step) → Sound f → IsTrue (may l f moment step) → Stood f step (step_of l f moment step).answer (effect_of l (at_moment f moment step) step).flat.services
 stood_effect l f moment (Call caller asked append) s ok = stood_call l f moment caller asked append s
 stood_effect l f moment (LaunchFailed process code) s ok =
-    stood_mapped f _ _ (fallen_if process code) (λ row. fallen_or (λ new. new.number ≡ row.number) process code row (λ e. refl) refl) refl
+    stood_mapped f _ _ (fallen_if process code) (number_fallen process code) refl
     (λ k d lt. fallen_row f _ _ process code _ (λ number. refl) (in_hand_first f process (process_of f process) s refl (and_parts _ _ (and_parts _ _ ok).0).0))
-stood_effect l f moment (Report process status) s ok = stood_reported f _ _ process status refl (λ number. refl) (λ row quiet. quiet)
+stood_effect l f moment (Report process status) s ok = stood_own f moment process status (step_of l f moment (Report process status)).answer s
 stood_effect l f moment (Ended process) s ok =
-    stood_mapped f _ _ (fallen_if process 1067) (λ row. fallen_or (λ new. new.number ≡ row.number) process 1067 row (λ e. refl) refl) refl
-    (λ k d lt. fallen_row f _ _ process 1067 _ (λ number. refl) (running_first f.next.process process f.processes (process_of f process) s.processes.numbered refl (and_parts _ _ ok).0))
+    stood_ended f moment process (step_of l f moment (Ended process)).answer s (running_first f.next.process process f.processes (process_of f process) s.processes.numbered refl (and_parts _ _ ok).0)
 stood_effect l f moment Tick s ok =
     let told = (step_of l f moment Tick).answer in
-    ticked_apart (λ (g : Flat). Stood f Tick told g.services) (λ g plans rows stood. stood) (with_moment f moment) (stood_same f Tick told refl (λ number. refl))
+    ticked_apart (λ (g : Flat). Stood f Tick told g.services) l (with_moment f moment) (stood_same f Tick told refl (λ number. refl))
+stood_effect l f moment (Raised caller subtype) s ok =
+    let step = Raised caller subtype in
+    let told = (step_of l f moment step).answer in
+    raised_apart (λ (g : Flat). Stood f step told g.services) l (with_moment f moment) caller subtype (stood_same f step told refl (λ number. refl))
 stood_effect l f moment step s ok = stood_same f _ _ refl (λ number. refl)
 
 -- ## Settling
@@ -348,11 +451,18 @@ settled_row f step told next bound old mid new small is (inr entered) =
     let kind : new.status.kind ≡ mid.status.kind = ap (λ (r : Service). r.status.kind) e in
     record {
       row = e ∙ ap (starting_in new.process) is.row
-          ∙ ap (λ (c : Config). record old { config = c; status = starting mid.status; process = new.process; marked = old.marked || marks f step told old.number }) (sym config)
-          ∙ ap (λ (st : Status). record old { config = new.config; status = st; process = new.process; marked = old.marked || marks f step told old.number }) (sym (ap (λ (r : Service). r.status) e));
+          ∙ ap (λ (r : Service). record old {
+            config = r.config;
+            status = r.status;
+            process = new.process;
+            failures = r.failures;
+            last_failure = r.last_failure;
+            marked = old.marked || marks f step told old.number;
+          }) (sym e);
       state = λ same quiet. absurd (let up = entered.process in omega (arith, up, same, small));
       config = λ other. (let was = is.config other in (config ∙ was.0, kind ∙ was.1));
       name = ap (λ (c : Config). c.name) config ∙ is.name;
+      failures = λ fine. (let was = is.failures fine in (ap (λ (r : Service). r.failures) e ∙ was.0, ap (λ (r : Service). r.last_failure) e ∙ was.1));
     }
 
 -- a service that was just added isn't entered

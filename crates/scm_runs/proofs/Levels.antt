@@ -1,5 +1,5 @@
 -- A level of a configuration changes nothing by which services are known, started or needed.
-use Rattle.std.proofs.Common.{ℕ, ◌≡◌, ◌∙◌, ◌==◌, true, false, cond, List, [], ◌∷◌, Option, None, Some, map, ap, sym, refl, subst}
+use Rattle.std.proofs.Common.{ℕ, ◌≡◌, ◌∙◌, ◌==◌, true, false, cond, List, [], ◌∷◌, None, Some, map, ap, sym, refl, subst}
 use Rattle.std.specs.Prelude.{All}
 use Rattle.std.proofs.lemmas.List.Elements.{All-head, All-tail, All-weaker}
 use Rattle.scm_model.specs.declared.flat.Config.{Config}
@@ -11,7 +11,7 @@ use Rattle.scm_model.specs.declared.calls.Info.TheVariants as info
 use Rattle.scm_model.specs.Changes.{configured_if}
 use Rattle.scm_rules.specs.Change2.{config_at, level_config}
 use Rattle.scm_rules.specs.Needs.{need_row, need_row_of, need_rows}
-use Rattle.scm_rules.proofs.Needed.{HasNoCycle, replaced, same_graph}
+use Rattle.scm_rules.proofs.Needed.{HasNoCycle, replaced}
 use Rattle.scm_model.specs.Needs.{needs_of}
 use Rattle.scm_model.specs.Walks.{IsAcyclic}
 use Rattle.scm_runs.proofs.Configured.{IsFound}

@@ -6,6 +6,8 @@ pub mod Locked
 pub mod Numbers
 pub mod Founds
 pub mod Rows
+pub mod Unasked
+pub mod Failing
 pub mod Told
 pub mod Processes
 pub mod Opened
@@ -21,7 +23,7 @@ pub mod Ordered
 pub mod Calls
 pub mod Frames
 pub mod Telling
-pub mod Plain
+pub mod Bounded
 pub mod Wanted
 pub mod Effects
 pub mod Leaving

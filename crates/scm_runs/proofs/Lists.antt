@@ -125,6 +125,11 @@ pub map_same : {X Y : Type 0} (f : X → X) (g : X → Y) → ((x : X) → g (f 
 map_same f g same [] = refl
 map_same f g same (x ∷ xs) = ap (λ y. y ∷ map g (map f xs)) (same x) ∙ ap (λ ys. g x ∷ ys) (map_same f g same xs)
 
+-- one map behind another
+pub map_both : {X : Type 0} (f g : X → X) (xs : List X) → map f (map g xs) ≡ map (λ x. f (g x)) xs
+map_both f g [] = refl
+map_both f g (x ∷ xs) = ap (λ ys. f (g x) ∷ ys) (map_both f g xs)
+
 -- a filter leaves what it kept
 pub filter_twice : {A : Type 0} (p : A → Bool) (xs : List A) → filter p (filter p xs) ≡ filter p xs
 filter_twice p [] = refl
@@ -187,3 +192,17 @@ alone number (x ∷ xs) rising =
     (λ k d lt. All-cons (λ other. number other ≡ number (get_or xs k d) → other ≡ get_or xs k d) x xs
     (λ e. absurd (let up : number x < number (get_or xs k d) = rising 0 (suc k) d (omega arith) (omega arith) in omega arith))
     (alone number xs (λ i j c lt within. rising (suc i) (suc j) c (omega arith) (omega arith)) k d lt))
+
+-- two filters leave no more than the one
+pub filter_fewer : {X : Type 0} (p q : X → Bool) (xs : List X) → length (filter p (filter q xs)) ≤ length (filter p xs)
+filter_fewer p q [] = omega arith
+filter_fewer p q (x ∷ xs) =
+    let rest = filter_fewer p q xs in
+    elim (q x) as (λ b. length (filter p (cond b (x ∷ filter q xs) (filter q xs))) ≤ length (filter p (x ∷ xs))) [
+      | true ↦ elim (p x) as (λ b. length (cond b (x ∷ filter p (filter q xs)) (filter p (filter q xs))) ≤ length (cond b (x ∷ filter p xs) (filter p xs))) [ true ↦ omega (arith, rest) | false ↦ rest ]
+      | false ↦ elim (p x) as (λ b. length (filter p (filter q xs)) ≤ length (cond b (x ∷ filter p xs) (filter p xs))) [ true ↦ omega (arith, rest) | false ↦ rest ]
+    ]
+
+pub none_pass : {X : Type 0} (p : X → Bool) (xs : List X) → All (λ x. p x ≡ false) xs → filter p xs ≡ []
+none_pass p [] none = refl
+none_pass p (x ∷ xs) none = rw (All-head (λ y. p y ≡ false) x xs none) (none_pass p xs (All-tail (λ y. p y ≡ false) x xs none))

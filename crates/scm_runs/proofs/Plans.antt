@@ -15,7 +15,7 @@ use Rattle.start_plan.proofs.Keeps.{all_filter}
 use Rattle.start_plan.proofs.Rising.{rising_decided, rising_filter}
 use Rattle.scm_rules.specs.Valid.{AreNumbered}
 use Rattle.scm_runs.proofs.Handled.{found_still, has_caller, still_found}
-use Rattle.scm_rules.specs.Due.{expired}
+use Rattle.scm_runs.proofs.Unasked.{expired}
 
 -- each is below a number
 abbrev pub AreBelow : ℕ → List ℕ → Type 0

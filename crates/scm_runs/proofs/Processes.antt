@@ -20,6 +20,7 @@ use Rattle.status_machine.specs.Moves.{take_end}
 use Rattle.scm_rules.specs.Launches.{fallen_if, first_wanted, is_launched, is_running_phase, is_taken, launched_if, taken_if, wanted_of_others}
 use Rattle.scm_rules.specs.Reports.{reported_if}
 use Rattle.scm_rules.specs.Steps.{wants_launch}
+use Rattle.scm_rules.specs.Ticks.{wanted_command}
 use Rattle.scm_rules.specs.Valid.{AreNumbered, HasListed, HasStarting, has_process, is_started_by, is_to_launch, is_wanted_phase}
 use Rattle.scm_runs.proofs.Lists.{any_filter, found_has, found_only, found_owns, found_passes}
 use Rattle.scm_runs.proofs.Numbers.{numbered_filter, numbered_map, numbered_none, numbered_push}
@@ -376,6 +377,11 @@ listed_new rows row =
     list_any-append (λ (r : Process). r.number == row.number) rows (row ∷ [])
     ∙ or_right (has_process rows row.number) (has_process (row ∷ []) row.number) (rw (eq-eqb row.number row.number refl) refl)
 
+one_listed : (processes : List Process) (new : Process) (row : Service) → HasListed processes row → HasListed (processes ++ new ∷ []) row
+one_listed processes new row h =
+    elim (row.process == 0) as (λ b. (b || has_process processes row.process) ≡ true → (b || has_process (processes ++ new ∷ []) row.process) ≡ true)
+    [ true ↦ λ g. refl | false ↦ λ g. listed_more row.process processes new g ] h
+
 -- who is START_PENDING isn't started again
 started_still : (service next : ℕ) (process : Process) (row : Service) → is_started_by process row ≡ true → is_started_by process (started_if service next row) ≡ true
 started_still service next process row is =
@@ -409,16 +415,24 @@ more next service words processes wanted services first there s =
       listed = All-map (HasListed (processes ++ new ∷ [])) (started_if service next) services
           (λ k d lt. started_or (HasListed (processes ++ new ∷ [])) service next (get_or services k d)
           (λ e. or_right (next == 0) (has_process (processes ++ new ∷ []) next) (listed_new processes new))
-          (one_listed (get_or services k d) (s.listed k d lt)));
+          (one_listed processes new (get_or services k d) (s.listed k d lt)));
       starting = All-push (HasStarting (map (started_if service next) services)) processes new
           (starts_kept processes (started_if service next) services (started_still service next) s.starting)
           (or_last (service == 0) false (list_any (is_started_by new) (map (started_if service next) services)) (newly_started service next services there));
     }
-  where
-    one_listed : (row : Service) → HasListed processes row → HasListed (processes ++ wanted_process next service ∷ []) row
-    one_listed row h =
-        elim (row.process == 0) as (λ b. (b || has_process processes row.process) ≡ true → (b || has_process (processes ++ wanted_process next service ∷ []) row.process) ≡ true)
-        [ true ↦ λ g. refl | false ↦ λ g. listed_more row.process processes (wanted_process next service) g ] h
+
+-- a process more that is of no service
+pub command_more : (next : ℕ) (command : List ℕ) (processes : List Process) (wanted : List Wanted) (services : List Service) → 1 ≤ next → AreProcesses next processes wanted services
+    → AreProcesses (next + 1) (processes ++ wanted_process next 0 ∷ []) (wanted ++ wanted_command next command ∷ []) services
+command_more next command processes wanted services first s =
+    let new = wanted_process next 0 in
+    record {
+      numbered = numbered_push number_of next processes new s.numbered first refl;
+      wanted = map-append process_in wanted (wanted_command next command ∷ []) ∙ ap (λ ns. ns ++ next ∷ []) s.wanted
+          ∙ sym (map-append number_of (filter is_to_launch processes) (new ∷ [])) ∙ ap (map number_of) (sym (filter-append is_to_launch processes (new ∷ [])));
+      listed = All-weaker (HasListed processes) (HasListed (processes ++ new ∷ [])) (one_listed processes new) services s.listed;
+      starting = All-push (HasStarting services) processes new s.starting refl;
+    }
 
 -- ## Services that change beside
 

@@ -1,7 +1,7 @@
 -- What is true of the services of every state, and what each change of them keeps.
 use Rattle.std.proofs.Common.{ℕ, ◌≡◌, ◌∙◌, ◌+◌, ◌<◌, ◌≤◌, ◌==◌, Bool, true, false, cond, List, [], ◌∷◌, ◌++◌, None, filter, map, get_or, ap, sym, refl, subst, arith, eqb-true, ne_eqb}
 use Rattle.std.specs.Prelude.{All, AllPairs, Ok, Err}
-use Rattle.std.proofs.lemmas.List.Elements.{All-filter, All-push, All-map}
+use Rattle.std.proofs.lemmas.List.Elements.{All-filter, All-push, All-map, All-weaker}
 use Rattle.std.proofs.lemmas.List.Kept.{AllPairs-filter}
 use Rattle.std.proofs.lemmas.List.Quantifiers.{all_pairs_push}
 use Rattle.scm_text.specs.Fold.{same_text}
@@ -62,7 +62,7 @@ pub record IsMild (change : Service → Service) : Type 0 where
 mild_row : (change : Service → Service) → IsMild change → (row : Service) → need_row (change row) ≡ need_row row
 mild_row change mild row = rw (mild.number row, mild.config row) refl
 
-mildly : (next process later : ℕ) (change : Service → Service) (rows : List Service) → IsMild change → AreServices next process rows
+pub mildly : (next process later : ℕ) (change : Service → Service) (rows : List Service) → IsMild change → AreServices next process rows
     → process ≤ later → All IsStoppedWithout (map change rows) → All (λ (row : Service). row.process < later) (map change rows) → AreServices next later (map change rows)
 mildly next process later change rows mild s up stopped current = record {
   numbered = numbered_map (λ (row : Service). row.number) next change mild.number rows s.numbered;
@@ -157,6 +157,21 @@ reported next process number report rows there s =
     (All-map (λ (row : Service). row.process < process) (reported_if number report) rows
     (λ k d lt. (let row = get_or rows k d in reported_or (λ (row : Service). row.process < process) number report row
     (λ e t. below_still process report.state row.process s.first_process (s.current k d lt)) (s.current k d lt))))
+
+-- with a number of a process given to no service
+pub later : (next process : ℕ) (rows : List Service) → AreServices next process rows → AreServices next (process + 1) rows
+later next process rows s = record {
+  numbered = s.numbered;
+  first = s.first;
+  first_process = omega arith;
+  names = s.names;
+  displays = s.displays;
+  configs = s.configs;
+  kinds = s.kinds;
+  stopped = s.stopped;
+  current = All-weaker (λ (row : Service). row.process < process) (λ (row : Service). row.process < process + 1) (λ row below. omega (arith, below)) rows s.current;
+  acyclic = s.acyclic;
+}
 
 -- ## A service more, and services fewer
 

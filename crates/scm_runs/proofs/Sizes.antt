@@ -1,7 +1,8 @@
 -- No text of a configuration that is accepted is too long to be told of.
-use Rattle.std.proofs.Common.{◌≡◌, ◌≤◌, ◌==◌, ◌||◌, false, not, List, [], ◌∷◌, length, None, refl, arith, ltb-false}
+use Rattle.std.proofs.Common.{ℕ, ◌≡◌, ◌≤◌, ◌==◌, ◌||◌, ◌&&◌, true, false, not, eqb-true, List, [], ◌∷◌, length, None, refl, arith, ltb-false}
 use Rattle.std.specs.Prelude.{All, codes, nat_lt}
 use Rattle.std.specs.List.{list_any}
+use Rattle.std.specs.Char.Utf16.{has_unpaired_surrogate}
 use Rattle.std.proofs.lemmas.List.{length-append}
 use Rattle.std.proofs.lemmas.List.Concat.{length-flat_map}
 use Rattle.std.proofs.lemmas.List.Elements.{All-weaker}
@@ -41,27 +42,38 @@ pub record AreShort (config : Config) : Type 0 where
   pub path : length config.path ≤ 2048
   pub group : length config.group ≤ 256
   pub needs : length (shown_needs config.needs) ≤ 132096
+  pub command : length config.command ≤ 2048
 
-are_short : (config : Config) → check_new config None ≡ 0 → AreShort config
+line_short : (line : List ℕ) → is_bad_line line ≡ false → length line ≤ 2048
+line_short line fine =
+    ltb-false 2048 (length line) (or_parts (not (has_word line)) (is_longer 2048 line) (or_parts (not (has_word line) || is_longer 2048 line) (has_unpaired_surrogate line) fine).0).1
+
+-- a line that may be empty
+short_or_none : (line : List ℕ) → (not (length line == 0) && is_bad_line line) ≡ false → length line ≤ 2048
+short_or_none line fine =
+    elim (length line == 0) as (λ b. (length line == 0) ≡ b → (not b && is_bad_line line) ≡ false → length line ≤ 2048)
+    [ true ↦ λ e h. (let none = eqb-true (length line) 0 e in omega (arith, none)) | false ↦ λ e h. line_short line h ] refl fine
+
+pub are_short : (config : Config) → check_new config None ≡ 0 → AreShort config
 unfolding check_new
 are_short config e =
     let p = all_pass ((has_bad_names config, 123) ∷ (has_bad_numbers config || has_bad_texts config || has_bad_lists config, 87) ∷ (is_bad_account None, 1057) ∷ []) (refl, (refl, (refl, tt))) e in
     let names = or_parts (is_bad_name config.name) (is_longer 256 config.display) p.0 in
     let name = or_parts (length config.name == 0) (is_longer 256 config.name) (or_parts (length config.name == 0 || is_longer 256 config.name) _ names.0).0 in
     let parts = or_parts (has_bad_numbers config || has_bad_texts config) (has_bad_lists config) p.1.0 in
-    let texts = or_parts (is_bad_line config.path || is_longer 256 config.group) (is_longer 2048 config.description)
-    (or_parts (is_bad_line config.path || is_longer 256 config.group || is_longer 2048 config.description) _ (or_parts (has_bad_numbers config) (has_bad_texts config) parts.0).1).0 in
+    let lines = or_parts (is_bad_line config.path || is_longer 256 config.group || is_longer 2048 config.description) _ (or_parts (has_bad_numbers config) (has_bad_texts config) parts.0).1 in
+    let texts = or_parts (is_bad_line config.path || is_longer 256 config.group) (is_longer 2048 config.description) lines.0 in
     let line = or_parts (is_bad_line config.path) (is_longer 256 config.group) texts.0 in
-    let path = or_parts (not (has_word config.path)) (is_longer 2048 config.path) (or_parts (not (has_word config.path) || is_longer 2048 config.path) _ line.0).0 in
     let lists = or_parts (nat_lt 512 (length config.needs) || list_any (λ need. is_longer 256 (name_of_need need)) config.needs) (nat_lt 64 (length config.actions))
     (or_parts _ (list_any (λ (action : Action). nat_lt 3 action.what) config.actions) (or_parts _ (nat_lt 64 (length config.triggers)) parts.1).0).0 in
     let many = or_parts (nat_lt 512 (length config.needs)) (list_any (λ need. is_longer 256 (name_of_need need)) config.needs) lists.0 in
     record {
       name = ltb-false 256 (length config.name) name.1;
       display = ltb-false 256 (length config.display) names.1;
-      path = ltb-false 2048 (length config.path) path.1;
+      path = line_short config.path line.0;
       group = ltb-false 256 (length config.group) line.1;
       needs = needs_short config.needs (ltb-false 512 (length config.needs) many.0) many.1;
+      command = short_or_none config.command lines.1;
     }
 
 pub all_short : (f : Flat) → Sound f → All (λ (row : Service). AreShort row.config) f.services

@@ -1,11 +1,14 @@
 -- What is true of every state, before and after services leave, and that each change keeps it.
-use Rattle.std.proofs.Common.{ℕ, ◌≡◌, ◌<◌, ◌≤◌, ◌==◌, ◌&&◌, true, false, not, cond, List, [], ◌∷◌, ◌++◌, Option, None, drop, length, map, ap, sym, refl, subst, arith, eqb, ◌+◌, filter, eqb-true, Some, Bool, ◌∙◌}
-use Rattle.std.specs.Prelude.{All, is_some, nat_lt}
-use Rattle.std.proofs.lemmas.List.Elements.{All-filter, All-map, All-push, recursion_from_All}
-use Rattle.std.specs.List.{IsDistinct}
+use Rattle.std.proofs.Common.{ℕ, zero, suc, get_or, ◌≡◌, ◌<◌, ◌≤◌, ◌==◌, ◌&&◌, true, false, not, cond, List, [], ◌∷◌, ◌++◌, Option, None, drop, length, map, ap, sym, refl, subst, arith, eqb, ◌+◌, filter, eqb-true, Some, Bool, ◌∙◌}
+use Rattle.std.specs.Prelude.{All, Contains, is_some, nat_lt}
+use Rattle.std.proofs.lemmas.List.Elements.{All-contains, All-filter, All-map, All-push, recursion_from_All}
+use Rattle.std.specs.List.{AllByRecursion, IsDistinct}
 use Rattle.scm_text.specs.Fold.{same_text}
 use Rattle.scm_model.specs.declared.flat.Config.{Config}
 use Rattle.scm_model.specs.declared.flat.Due.{Due}
+use Rattle.scm_model.specs.declared.flat.DueKind.{DueKind}
+use Rattle.scm_model.specs.declared.flat.DueKind.TheVariants as dues
+use Rattle.scm_model.specs.declared.codes.TheConstants.{SERVICE_CONTROL_STOP}
 use Rattle.scm_model.specs.declared.flat.Flat.{Flat}
 use Rattle.scm_model.specs.declared.flat.HandleKind.{HandleKind}
 use Rattle.scm_model.specs.declared.flat.HandleKind.TheVariants as kinds
@@ -22,40 +25,47 @@ use Rattle.scm_model.specs.Changes.{marked_if, with_caller, with_handle, with_ma
 use Rattle.scm_model.specs.Purge.{leaves, leaving, purged}
 use Rattle.scm_model.specs.Notices.{Event, all_noted, event_of_leaving, noted, pid_of, told_of_move, with_noted, with_registration}
 use Rattle.scm_rules.specs.Valid.{HasShortName}
-use Rattle.scm_rules.specs.Launches.{current_of, told_of_fall}
+use Rattle.scm_rules.specs.Launches.{current_of, told_of_fall, with_fallen, without_process}
 use Rattle.scm_rules.specs.Reports.{reported_if, told_of_report}
 use Rattle.scm_runs.proofs.Lists.{found_has}
 use Rattle.scm_runs.proofs.Registered.{AreRegistered, IsOfCaller, events_keep, no_registrations, one_registered, who_joined, who_left}
 use Rattle.scm_runs.proofs.Told.{IsNamed, IsProper, all_named, fall_tells, leaving_tells, report_tells}
 use Rattle.database_lock.specs.Locking.{unlocked}
-use Rattle.dependency_index.proofs.Lists.{or_right}
 use Rattle.service_record.specs.Checks.{check_new}
 use Rattle.start_plan.specs.Decided.{aims_at, is_callers, is_numbered, decided_in}
 use Rattle.scm_rules.specs.Controls.{controlled_if, relieved_if, with_control, with_control_taken}
 use Rattle.scm_rules.specs.Launches.{is_launched, launch_failed, launch_taken, launched, process_of, service_of_process}
 use Rattle.scm_rules.specs.Locks.{lock_done, unlock_done}
-use Rattle.scm_rules.specs.Opening.{CanOpen, IsOpening, opening, services_from}
+use Rattle.scm_rules.specs.Opening.{CanOpen, IsOpening, automatic_starts, opening, services_from, starts_from}
 use Rattle.scm_rules.specs.Reports.{with_report}
 use Rattle.scm_rules.specs.Ends.{process_ended}
-use Rattle.scm_rules.specs.Due.{fired, next_due, ticked}
-use Rattle.scm_rules.specs.Start.{ended, new_plan, with_plan}
+use Rattle.scm_rules.specs.Due.{beside, is_due_of, next_due, with_due}
+use Rattle.scm_rules.specs.Failures.{counted_if, failed_by, with_failure}
+use Rattle.scm_rules.specs.Raise.{raised}
+use Rattle.scm_rules.specs.Ticks.{ticked, with_reboot, with_wanted_command}
+use Rattle.start_triggers.specs.Order.{auto_rows}
+use Rattle.scm_rules.specs.Start.{ended, new_plan, with_plan, with_start}
+use Rattle.scm_rules.specs.Needs.{start_order}
+use Rattle.scm_runs.proofs.Ordered.{order_below}
 use Rattle.scm_rules.specs.Steps.{gone, wants_launch}
 use Rattle.scm_rules.specs.Valid.{AreNumbered, HasListed}
 use Rattle.scm_runs.specs.Handles.{AreRights}
-use Rattle.scm_runs.proofs.Deadlines.{AreDeadlines, no_deadlines, plan_more, plans_decided, plans_fewer, fired as deadlines_fired}
+use Rattle.scm_runs.proofs.Deadlines.{AreDeadlines, IsBelow, no_plans_yet, plan_more, plans_decided, plans_fewer, fired as deadlines_fired, service_more as service_due}
 use Rattle.scm_runs.proofs.Handled.{AreHandled, caller_joined, caller_left as handles_left, handle_given, handle_left, no_handles}
 use Rattle.scm_runs.proofs.Lists.{filter_twice, alone}
 use Rattle.scm_runs.proofs.Locked.{Locked, one_holds, one_more}
 use Rattle.scm_rules.proofs.Needed.{HasNoCycle}
 use Rattle.scm_runs.proofs.Opened.{opened_listed, opened_services}
-use Rattle.scm_runs.proofs.Numbers.{numbered_filter, numbered_none, numbered_push}
-use Rattle.scm_runs.proofs.Plans.{AreBelow, ArePlans, IsPlan, all_weaker, caller_left as plans_left, caller_more, decided, fewer, more, no_plans, service_more, has_expired}
-use Rattle.scm_runs.proofs.Processes.{AreProcesses, IsOfControls, beside, controlled, failed, first_taken, no_processes, one_launched, reported as processes_reported, running_first, running_launched, starts_kept, starts_more, starts_stay}
-use Rattle.scm_runs.proofs.Rows.{AreServices, added as row_added, cleared as rows_cleared, fallen, marked as rows_marked, reported as rows_reported}
+use Rattle.scm_runs.proofs.Numbers.{numbered_filter, numbered_push}
+use Rattle.scm_runs.proofs.Plans.{AreBelow, ArePlans, IsKnown, IsPlan, all_weaker, caller_left as plans_left, caller_more, decided, fewer, more, no_plans, service_more, has_expired}
+use Rattle.scm_runs.proofs.Processes.{AreProcesses, IsOfControls, beside as processes_beside, command_more, controlled, failed, first_taken, no_processes, one_launched, reported as processes_reported, running_first, running_launched, starts_kept, starts_more, starts_stay}
+use Rattle.scm_runs.proofs.Rows.{AreServices, added as row_added, cleared as rows_cleared, fallen, later, marked as rows_marked, reported as rows_reported}
 use Rattle.scm_model.specs.Found.{if_found}
 use Rattle.scm_model.proofs.Found.{found_keeps}
 use Rattle.scm_model.specs.declared.flat.Caller.{Caller}
-use Rattle.scm_rules.proofs.Dues.{next_has, ticked_keeps}
+use Rattle.scm_rules.proofs.Dues.{next_has}
+use Rattle.scm_runs.proofs.Unasked.{raised_by, spent, ticked_by}
+use Rattle.scm_runs.proofs.Failing.{counted, failing_keeps, processes_counted}
 
 -- rows that become due have numbers
 pub record AreDues (next : ℕ) (rows : List Due) : Type 0 where
@@ -73,14 +83,40 @@ pub record Sound (f : Flat) : Type 0 where
 
 -- ## Changes
 
+-- the starts that become due have numbers from this one on
+start_at : (number moment : ℕ) (rows : List Service) (k : ℕ) (d : Due) → k < length rows → (get_or (starts_from number moment rows) k d).number ≡ number + k
+start_at number moment [] k d lt = absurd (omega (arith, lt))
+start_at number moment (row ∷ rows) zero d lt = omega arith
+start_at number moment (row ∷ rows) (suc k) d lt = (let rest = start_at (number + 1) moment rows k d (omega (arith, lt)) in omega (arith, rest))
+
+as_many_starts : (number moment : ℕ) (rows : List Service) → length (starts_from number moment rows) ≡ length rows
+as_many_starts number moment [] = refl
+as_many_starts number moment (row ∷ rows) = (let rest = as_many_starts (number + 1) moment rows in omega (arith, rest))
+
+opened_dues : (moment : ℕ) (rows : List Service) → AreNumbered (λ (row : Due). row.number) (length (starts_from 1 moment rows) + 1) (starts_from 1 moment rows)
+opened_dues moment rows =
+    let many = as_many_starts 1 moment rows in
+    record {
+      positive = λ k d lt. (let e = start_at 1 moment rows k d (omega (arith, lt, many)) in omega (arith, e));
+      below = λ k d lt. (let e = start_at 1 moment rows k d (omega (arith, lt, many)) in omega (arith, e, lt));
+      rising = λ i j d lt within. (
+          let one = start_at 1 moment rows i d (omega (arith, lt, within, many)) in
+          let other = start_at 1 moment rows j d (omega (arith, within, many)) in
+          omega (arith, one, other, lt));
+    }
+
+opened_below : (moment number : ℕ) (rows : List Service) → AllByRecursion (λ (due : Due). IsBelow 1 due.kind) (starts_from number moment rows)
+opened_below moment number [] = tt
+opened_below moment number (row ∷ rows) = (tt, opened_below moment (number + 1) rows)
+
 opened : (l : Limits) (groups : List (List ℕ)) (configs : List Config) (moment : ℕ) → CanOpen l configs → Sound (opening l groups configs moment)
 opened l groups configs moment can = record {
   services = opened_services l configs can;
   handles = no_handles;
   processes = no_processes (services_from 1 configs) (opened_listed configs);
   plans = no_plans (length configs + 1);
-  dues = record { numbered = numbered_none (λ (row : Due). row.number) 1; first = omega arith };
-  deadlines = no_deadlines;
+  dues = record { numbered = opened_dues moment (auto_rows (services_from 1 configs) groups); first = omega arith };
+  deadlines = no_plans_yet (automatic_starts groups configs moment) (opened_below moment 1 (auto_rows (services_from 1 configs) groups));
   registrations = no_registrations [];
 }
 
@@ -192,7 +228,7 @@ pub added : (f : Flat) (config : Config) (status : Status) → Sound f
 added f config status s names displays checked kind state free = record {
   services = row_added f.next.service f.next.process f.services _ s.services refl names displays checked kind state refl free;
   handles = s.handles;
-  processes = beside f.next.process f.processes f.wanted f.services _ s.processes (All-push (HasListed f.processes) f.services _ s.processes.listed refl)
+  processes = processes_beside f.next.process f.processes f.wanted f.services _ s.processes (All-push (HasListed f.processes) f.services _ s.processes.listed refl)
       (starts_more f.processes f.services _ s.processes.starting);
   plans = service_more f.next.plan f.next.service f.callers f.plans s.plans;
   dues = s.dues;
@@ -204,7 +240,7 @@ pub marked : (f : Flat) (number : ℕ) → Sound f → Sound (with_mark f number
 marked f number s = record {
   services = rows_marked f.next.service f.next.process number f.services s.services;
   handles = s.handles;
-  processes = beside f.next.process f.processes f.wanted f.services _ s.processes (All-map (HasListed f.processes) (marked_if number) f.services s.processes.listed)
+  processes = processes_beside f.next.process f.processes f.wanted f.services _ s.processes (All-map (HasListed f.processes) (marked_if number) f.services s.processes.listed)
       (starts_kept f.processes (marked_if number) f.services (λ process row is. is) s.processes.starting);
   plans = s.plans;
   dues = s.dues;
@@ -218,7 +254,7 @@ cleared f s =
     record {
       services = rows_cleared f.next.service f.next.process p f.services s.services;
       handles = s.handles;
-      processes = beside f.next.process f.processes f.wanted f.services _ s.processes (All-filter p (HasListed f.processes) f.services s.processes.listed)
+      processes = processes_beside f.next.process f.processes f.wanted f.services _ s.processes (All-filter p (HasListed f.processes) f.services s.processes.listed)
           (starts_stay f.handles f.processes f.services s.processes.starting);
       plans = s.plans;
       dues = s.dues;
@@ -233,15 +269,15 @@ none_tried : IsDistinct eqb []
 unfolding IsDistinct
 none_tried = tt
 
-pub planned : (f : Flat) (caller target : ℕ) (entries : List ℕ) (words : List (List ℕ)) → Sound f → is_caller f caller ≡ true → AreBelow f.next.service entries → Sound (with_plan f (new_plan f caller target entries words))
-planned f caller target entries words s there below = record {
+pub planned : (f : Flat) (caller target : ℕ) (entries : List ℕ) (words : List (List ℕ)) → Sound f → IsKnown f.callers (new_plan f caller target entries words) → AreBelow f.next.service entries → Sound (with_plan f (new_plan f caller target entries words))
+planned f caller target entries words s known below = record {
   services = s.services;
   handles = s.handles;
   processes = s.processes;
   plans = more f.next.plan f.next.service f.callers f.plans (new_plan f caller target entries words) s.plans refl (record {
     positive = s.plans.first;
     below = omega arith;
-    known = or_right (caller == 0) (is_caller f caller) there;
+    known = known;
     once = none_tried;
     within = below;
   });
@@ -265,8 +301,8 @@ over f plan s = record {
   registrations = s.registrations;
 }
 
-one_due : (f : Flat) (row : Due) → next_due f ≡ Some row → Sound f → Sound (fired row f)
-one_due f row is s =
+one_spent : (f : Flat) (row : Due) → next_due f ≡ Some row → Sound f → Sound (spent row f)
+one_spent f row is s =
     let only = next_has (λ (row : Due). All (λ (due : Due). (due.number == row.number) ≡ true → due ≡ row) f.dues) f row
     (λ k d lt j c within same. alone (λ (due : Due). due.number) f.dues s.dues.numbered.rising k d lt j c within (eqb-true _ _ same)) is in
     record {
@@ -278,9 +314,6 @@ one_due f row is s =
       deadlines = deadlines_fired f.next.plan f.plans f.dues row (recursion_from_All (λ (due : Due). (due.number == row.number) ≡ true → due ≡ row) f.dues only) s.deadlines;
       registrations = s.registrations;
     }
-
-pub due : (f : Flat) → Sound f → Sound (ticked f)
-due f s = ticked_keeps Sound one_due f s
 
 -- ## Processes
 
@@ -315,6 +348,46 @@ running f number pid s = record {
   deadlines = deadlines_decided f.next.plan (service_of_process f number) 0 f.plans f.dues s.deadlines;
   registrations = s.registrations;
 }
+
+-- ## Failures
+
+-- a failure is counted
+pub counts : (f : Flat) (number moment : ℕ) → Sound f → Sound (record f { services = map (counted_if number moment) f.services })
+counts f number moment s = record {
+  services = counted f.next.service f.next.process number moment f.services s.services;
+  handles = s.handles;
+  processes = processes_counted f.next.process number moment f.processes f.wanted f.services s.processes;
+  plans = s.plans;
+  dues = s.dues;
+  deadlines = s.deadlines;
+  registrations = s.registrations;
+}
+
+beside_numbered : (next : ℕ) (kind : DueKind) (rows : List Due) → AreNumbered (λ (row : Due). row.number) next rows → AreNumbered (λ (row : Due). row.number) next (beside kind rows)
+beside_numbered next (dues.Deadline plan) rows s = s
+beside_numbered next (dues.Start service) rows s = numbered_filter (λ (row : Due). row.number) next (λ (due : Due). not (is_due_of service due.kind)) rows s
+beside_numbered next (dues.Command service) rows s = numbered_filter (λ (row : Due). row.number) next (λ (due : Due). not (is_due_of service due.kind)) rows s
+beside_numbered next (dues.Reboot service) rows s = numbered_filter (λ (row : Due). row.number) next (λ (due : Due). not (is_due_of service due.kind)) rows s
+
+-- a row becomes due for a service
+pub due_more : (f : Flat) (moment service : ℕ) (kind : DueKind) → is_due_of service kind ≡ true → Sound f → Sound (with_due f moment kind)
+due_more f moment service kind is s = record {
+  services = s.services;
+  handles = s.handles;
+  processes = s.processes;
+  plans = s.plans;
+  dues = record {
+    numbered = numbered_push (λ (row : Due). row.number) f.next.due (beside kind f.dues) (record { moment = moment; number = f.next.due; kind = kind })
+        (beside_numbered f.next.due kind f.dues s.dues.numbered) s.dues.first refl;
+    first = (let first = s.dues.first in omega arith);
+  };
+  deadlines = service_due f.next.plan service f.plans f.dues (record { moment = moment; number = f.next.due; kind = kind }) is s.deadlines;
+  registrations = s.registrations;
+}
+
+-- a service that was found, if any was, fails
+pub failing : (found : Option Service) (f : Flat) → Sound f → Sound (if_found with_failure found f)
+failing found f s = failing_keeps Sound found f s (λ row is. counts f row.number f.moment s) (λ service g moment kind is t. due_more g moment service kind is t)
 
 -- a service falls
 registrations_fallen : (f : Flat) (number code : ℕ) → Sound f → AreRegistered f.next.registration f.callers (told_of_fall number code (current_of f number) f.registrations)
@@ -354,22 +427,30 @@ reported_by f report row is runs s =
 
 pub reported : (f : Flat) (number : ℕ) (report : Status) → is_launched (process_of f number) ≡ true → Sound f → Sound (with_report f number report)
 reported f number report runs s =
-    retold_report f number report (told_of_report f.processes report (current_of f number) f.registrations) runs s
+    failing (failed_by report (current_of f number)) _
+    (retold_report f number report (told_of_report f.processes report (current_of f number) f.registrations) runs s
     (found_keeps (AreRegistered f.next.registration f.callers) (λ (row : Service). told_of_move (pid_of f.processes (reported_if row.process report row)) row (reported_if row.process report row))
     (current_of f number) f.registrations s.registrations
     (λ row is. report_tells (AreRegistered f.next.registration f.callers) (events_keep f.next.registration f.callers) f.processes report row f.registrations
-    (found_has IsNamed (λ (row : Service). row.process == number) row f.services (are_named f s) is) s.registrations))
+    (found_has IsNamed (λ (row : Service). row.process == number) row f.services (are_named f s) is) s.registrations)))
 
-pub no_more : (f : Flat) (number : ℕ) → Sound f → Sound (process_ended f number).flat
-no_more f number s = record {
-  services = fallen f.next.service f.next.process number 1067 f.services s.services;
+-- a process leaves, and its service falls
+pub gone_with : (f : Flat) (number code : ℕ) → Sound f → Sound (without_process (with_fallen f number code) number)
+gone_with f number code s = record {
+  services = fallen f.next.service f.next.process number code f.services s.services;
   handles = s.handles;
-  processes = failed f.next.process number 1067 f.processes f.wanted f.services s.processes;
+  processes = failed f.next.process number code f.processes f.wanted f.services s.processes;
   plans = s.plans;
   dues = s.dues;
   deadlines = s.deadlines;
-  registrations = registrations_fallen f number 1067 s;
+  registrations = registrations_fallen f number code s;
 }
+
+pub no_more : (f : Flat) (number : ℕ) → Sound f → Sound (process_ended f number).flat
+no_more f number s =
+    failing_keeps (λ (g : Flat). Sound (without_process g number)) (current_of f number) (with_fallen f number 1067) (gone_with f number 1067 s)
+    (λ row is. counts (without_process (with_fallen f number 1067) number) row.number f.moment (gone_with f number 1067 s))
+    (λ service g moment kind is t. due_more (without_process g number) moment service kind is t)
 
 -- ## Controls
 
@@ -395,6 +476,44 @@ controls_fewer number row =
 
 pub control_waits : (l : Limits) (f : Flat) (number code : ℕ) → Sound f → Sound (with_control l f number code)
 control_waits l f number code s = of_controls f (controlled_if l.controls number code) (controls_more l.controls number code) s
+
+-- ## Starts and commands that begin unasked
+
+-- a process more that is of no service
+pub command_begins : (f : Flat) (command : List ℕ) → Sound f → Sound (with_wanted_command command f)
+command_begins f command s = record {
+  services = later f.next.service f.next.process f.services s.services;
+  handles = s.handles;
+  processes = command_more f.next.process command f.processes f.wanted f.services s.services.first_process s.processes;
+  plans = s.plans;
+  dues = s.dues;
+  deadlines = s.deadlines;
+  registrations = s.registrations;
+}
+
+pub rebooted : (f : Flat) → Sound f → Sound (with_reboot f)
+rebooted f s =
+    record { services = s.services; handles = s.handles; processes = s.processes; plans = s.plans; dues = s.dues; deadlines = s.deadlines; registrations = s.registrations }
+
+-- a start that no caller asks for
+pub start_begins : (f : Flat) (row : Service) → Contains f.services row → Sound f → Sound (with_start 0 [] row f)
+start_begins f row there s =
+    planned f 0 row.number (start_order f row.number) [] s refl
+    (order_below f f.next.service row.number s.services.numbered.below (All-contains (λ (r : Service). r.number < f.next.service) f.services row s.services.numbered.below there))
+
+pub due : (l : Limits) (f : Flat) → Sound f → Sound (ticked l f)
+due l f s = ticked_by Sound l (record {
+  spends = one_spent;
+  starts = λ g row there can t. start_begins g row there t;
+  runs = λ g row there can t. command_begins g row.config.command t;
+  reboots = rebooted;
+}) f s
+
+pub triggers : (l : Limits) (f : Flat) (caller : ℕ) (subtype : List ℕ) → Sound f → Sound (raised l f caller subtype)
+triggers l f caller subtype s = raised_by Sound l subtype (record {
+  starts = λ g row there can t. start_begins g row there t;
+  stops = λ g row action there is stops gets t. of_controls g (controlled_if l.controls row.process SERVICE_CONTROL_STOP) (controls_more l.controls row.process SERVICE_CONTROL_STOP) t;
+}) f caller s
 
 pub control_sent : (f : Flat) (number : ℕ) → Sound f → Sound (with_control_taken f number)
 control_sent f number s = of_controls f (relieved_if number) (controls_fewer number) s

@@ -17,21 +17,21 @@ use Rattle.scm_model.specs.declared.calls.Request.{Request}
 use Rattle.scm_model.specs.declared.calls.Request.TheVariants as request
 use Rattle.scm_model.specs.declared.steps.Kept.{Kept}
 use Rattle.scm_model.specs.declared.steps.Step.{Step}
-use Rattle.scm_model.specs.declared.steps.Step.TheVariants.{Call, LaunchFailed, Report, Ended, Tick}
+use Rattle.scm_model.specs.declared.steps.Step.TheVariants.{Call, LaunchFailed, Report, Ended, Tick, Raised}
 use Rattle.scm_model.specs.Changes.{configured_if, marked_if, with_moment}
 use Rattle.scm_model.specs.Purge.{leaves, purged}
 use Rattle.scm_model.specs.Ready.{is_fulfilled, is_running, is_up}
 use Rattle.start_plan.specs.Settle.{settled}
 use Rattle.start_plan.specs.Started.{IsOnce, IsStarted}
 use Rattle.start_plan.proofs.Enterings.{enters_the_ready}
-use Rattle.scm_rules.specs.Launches.{fallen_if}
+use Rattle.scm_rules.specs.Launches.{current_of, fallen_if, with_fallen}
 use Rattle.scm_rules.specs.Reports.{reported_if}
 use Rattle.scm_rules.specs.Steps.{at_moment, effect_of, finished_step, may}
 use Rattle.scm_rules.specs.Verdicts.{call_of, done_of, told_refused, verdict}
 use Rattle.scm_runs.specs.Starts.{IsStarting, LawOfStarts}
 use Rattle.scm_runs.proofs.Along.{Gives}
 use Rattle.scm_runs.proofs.Calls.{by_verdict, of_effect}
-use Rattle.scm_runs.proofs.Effects.{same_process, step_settled}
+use Rattle.scm_runs.proofs.Effects.{processes_low, step_settled}
 use Rattle.scm_runs.proofs.Frames.{finished_keeps}
 use Rattle.scm_runs.proofs.Lists.{any_at}
 use Rattle.scm_runs.proofs.Rows.{fallen_or, reported_or}
@@ -42,8 +42,10 @@ use Rattle.scm_model.proofs.Found.{found_keeps}
 use Rattle.scm_runs.proofs.Founds.{opened_keeps, started_keeps, notify_apart}
 use Rattle.scm_model.specs.Rows.{held_service}
 use Rattle.scm_rules.specs.Change.{new_config}
+use Rattle.scm_rules.specs.Failures.{failed_by}
+use Rattle.scm_runs.proofs.Failing.{failing_rows}
+use Rattle.scm_runs.proofs.Unasked.{raised_apart, ticked_apart}
 use Rattle.scm_rules.specs.Change2.{level_config}
-use Rattle.scm_rules.proofs.Dues.{ticked_apart}
 
 -- ## What effects leave of processes
 
@@ -79,7 +81,8 @@ old_done l f caller (request.Delete handle) =
     found_keeps (All (HasOld f.services)) (λ (row : Service). map (marked_if row.number)) (held_service f caller handle) f.services (all_old f.services)
     (λ row is. All-map (HasOld f.services) (marked_if row.number) f.services (all_old f.services))
 old_done l f caller (request.SetStatus handle status) =
-    found_keeps (All (HasOld f.services)) (λ (row : Service). map (reported_if row.process status)) (held_service f caller handle) f.services (all_old f.services) (λ row is. old_reported f row.process status)
+    failing_rows (HasOld f.services) (λ row failures last has. has) (failed_by status (held_service f caller handle)) _
+    (found_keeps (All (HasOld f.services)) (λ (row : Service). map (reported_if row.process status)) (held_service f caller handle) f.services (all_old f.services) (λ row is. old_reported f row.process status))
 old_done l f caller (request.Change change) =
     found_keeps (All (HasOld f.services)) (λ (row : Service). map (configured_if row.number (new_config f change row))) (held_service f caller change.handle) f.services (all_old f.services)
     (λ row is. old_change f row.number (new_config f change row))
@@ -103,9 +106,12 @@ old_call l f caller asked append =
 old_effect : (l : Limits) (f : Flat) (moment : ℕ) (step : Step) → All (HasOld f.services) (effect_of l (at_moment f moment step) step).flat.services
 old_effect l f moment (Call caller asked append) = old_call l (with_moment f moment) caller asked append
 old_effect l f moment (LaunchFailed process code) = old_fallen f process code
-old_effect l f moment (Report process status) = old_reported f process status
-old_effect l f moment (Ended process) = old_fallen f process 1067
-old_effect l f moment Tick = ticked_apart (λ (g : Flat). All (HasOld f.services) g.services) (λ g plans rows old. old) (with_moment f moment) (all_old f.services)
+old_effect l f moment (Report process status) =
+    failing_rows (HasOld f.services) (λ row failures last has. has) (failed_by status (current_of (with_moment f moment) process)) _ (old_reported f process status)
+old_effect l f moment (Ended process) =
+    failing_rows (HasOld f.services) (λ row failures last has. has) (current_of (with_moment f moment) process) (with_fallen (with_moment f moment) process 1067) (old_fallen f process 1067)
+old_effect l f moment Tick = ticked_apart (λ (g : Flat). All (HasOld f.services) g.services) l (with_moment f moment) (all_old f.services)
+old_effect l f moment (Raised caller subtype) = raised_apart (λ (g : Flat). All (HasOld f.services) g.services) l (with_moment f moment) caller subtype (all_old f.services)
 old_effect l f moment step = all_old f.services
 
 -- ## What settling makes of them
@@ -165,7 +171,7 @@ settled_right l f moment step s ok =
     let g = (effect_of l (at_moment f moment step) step).flat in
     let sound : Sound g = of_effect l f moment step s ok in
     all_right f.services (settled l g) f.next.process f.next.service g.services (settled l g).services (old_effect l f moment step)
-    (subst (λ n. All (λ (row : Service). row.process < n) g.services) (same_process l f moment step) sound.services.current)
+    (processes_low l f moment step s ok)
     (step_settled l f moment step s ok) (enters_the_ready l g (is_once g.services sound.services.numbered.rising))
 
 -- ## Readiness when services leave

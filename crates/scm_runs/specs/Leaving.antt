@@ -10,9 +10,10 @@ use Rattle.scm_model.specs.declared.calls.Request.TheVariants as request
 use Rattle.scm_model.specs.declared.steps.Answer.{Answer}
 use Rattle.scm_model.specs.declared.steps.Answer.TheVariants as answer
 use Rattle.scm_model.specs.declared.steps.Step.{Step}
-use Rattle.scm_model.specs.declared.steps.Step.TheVariants.{Call, Report}
+use Rattle.scm_model.specs.declared.steps.Step.TheVariants.{Call, Report, Ended}
 use Rattle.scm_model.specs.Rows.{held_service}
 use Rattle.scm_model.specs.Purge.{leaves}
+use Rattle.scm_rules.specs.Failures.{is_failure}
 use Rattle.scm_rules.specs.Steps.{finished_step}
 use Rattle.scm_model.specs.Entries.{Entry}
 use Rattle.scm_model.specs.declared.codes.TheConstants.{SERVICE_STOPPED}
@@ -88,19 +89,29 @@ reports f (Report process status) row = row.process == process
 reports f (Call caller (request.SetStatus handle status) append) row = is_process_of (held_service f caller handle) row.process
 reports f step row = false
 
+-- whether a step is a failure of the service: its current process ends, or a report that counts as one stops it, its own or by a call
+abbrev pub fails : Flat → Step → Service → Bool
+fails f (Ended process) row = row.process == process
+fails f (Report process status) row = row.process == process && is_failure status row
+fails f (Call caller (request.SetStatus handle status) append) row = is_process_of (held_service f caller handle) row.process && is_failure status row
+fails f step row = false
+
 -- a service after a step is the one before it: only its Delete marks it, and only its changes give it another configuration, with another
 -- type in its status, under the same name; as long as its current process is the same and reports nothing, so is its status but for the
--- type
+-- type; and only its failures are counted
 pub record IsSameService (f : Flat) (step : Step) (told : Answer) (old new : Service) : Type 0 where
   pub row : new ≡ record old {
     config = new.config;
     status = new.status;
     process = new.process;
+    failures = new.failures;
+    last_failure = new.last_failure;
     marked = old.marked || marks f step told old.number;
   }
   pub state : new.process ≡ old.process → reports f step old ≡ false → new.status ≡ record old.status { kind = new.status.kind }
   pub config : configures f step told old.number ≡ false → (new.config ≡ old.config) × (new.status.kind ≡ old.status.kind)
   pub name : new.config.name ≡ old.config.name
+  pub failures : fails f step old ≡ false → (new.failures ≡ old.failures) × (new.last_failure ≡ old.last_failure)
 
 -- never run, and not marked
 pub record IsFresh (row : Service) : Type 0 where

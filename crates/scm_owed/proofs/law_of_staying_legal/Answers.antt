@@ -1,5 +1,5 @@
 use Rattle.std.proofs.Common.{arith}
-use Rattle.scm_runs.proofs.Sound.{begun}
+use Rattle.scm_runs.proofs.Clear.{clear_begun}
 use Rattle.scm_owed.proofs.Whole.{opened_owes}
 use Rattle.scm_owed.proofs.Histories.{legal_none, stays_legal}
 use Rattle.scm_owed.proofs.law_of_staying_legal.Goals as goal
@@ -11,4 +11,4 @@ returns-clause-nothing c =
 
 pub returns-clause-stays : goal.returns-clause-stays
 returns-clause-stays c =
-    stays_legal c.args.limits.now c.args.opening.now c.args.steps.now (begun c.args.limits.now c.args.opening.now c.requires.begins) c.requires.legal
+    stays_legal c.args.limits.now c.args.opening.now c.args.steps.now (clear_begun c.args.limits.now c.args.opening.now c.requires.begins) c.requires.legal
