@@ -126,7 +126,7 @@ fn end_of(ended: CallEnd) -> Result<Told, MakeFault> {
 }
 
 /// Makes a call of a caller by its request.
-fn call<R: Wait>(
+pub fn call<R: Wait>(
     rt: &R,
     book: &Book<MemoryKeeper>,
     pass: &mut Pass,
@@ -141,6 +141,22 @@ fn call<R: Wait>(
     ensures caller { pass.new.caller ≢ 0 }
 {
     end_of(book.call(rt, pass, moment, request))
+}
+
+/// Raises the triggers with a subtype, in the name of a caller.
+pub fn raise<R: Wait>(
+    rt: &R,
+    book: &Book<MemoryKeeper>,
+    pass: &mut Pass,
+    moment: u64,
+    subtype: [u8; 16],
+) -> Result<Told, MakeFault>
+    requires book { IsOf book.now pass.old }
+    requires caller { pass.old.caller ≢ 0 }
+    ensures book { IsOf book.now pass.new }
+    ensures caller { pass.new.caller ≢ 0 }
+{
+    end_of(book.raise(rt, pass, moment, subtype))
 }
 
 /// Makes a call of a caller.

@@ -6,6 +6,6 @@ mod asking;
 mod books;
 mod remaking;
 
-pub use asking::{Asked, Told, ask, request_of, told_by};
+pub use asking::{Asked, Told, ask, call, raise, request_of, told_by};
 pub use books::{guest, leaves, limits, new_book, new_manager, runner};
 pub use remaking::make;

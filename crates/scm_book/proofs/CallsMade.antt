@@ -12,7 +12,7 @@ use Rattle.scm_model.specs.declared.steps.Kept.{Kept}
 use Rattle.scm_model.specs.declared.steps.Kept.TheVariants as appended
 use Rattle.scm_model.specs.declared.steps.Step.{Step}
 use Rattle.scm_model.specs.declared.steps.Step.TheVariants.{Call, NoMemory}
-use Rattle.scm_model.specs.Entries.{Entry}
+use Rattle.scm_model.specs.Entries.{Entry, with_kept}
 use Rattle.scm_model.specs.Refused.{refused}
 use Rattle.start_plan.specs.Decided.{plan_caller}
 use Rattle.scm_rules.specs.Histories.{state}
@@ -31,8 +31,9 @@ use Rattle.scm_book.specs.declared.answers.StartEnd.{StartEnd}
 use Rattle.scm_book.specs.declared.answers.StartEnd.TheVariants as starts
 use Rattle.scm_book.specs.declared.fault.MakeFault.{MakeFault}
 use Rattle.scm_book.specs.declared.fault.MakeFault.TheVariants as makes
-use Rattle.scm_book.specs.Called.{CallTold, Calls, IfTold, IsBegun, IsReply, StartTold, Starts, WantsMemory, called, is_start, refusal_of}
+use Rattle.scm_book.specs.Called.{CallTold, Calls, IfTold, IsBegun, IsReply, LeavesWhose, StartTold, Starts, WantsMemory, called, is_start, refusal_of}
 use Rattle.scm_book.specs.Holds.{Opens}
+use Rattle.scm_book.specs.Naming.{whose_after}
 use Rattle.scm_book.specs.Passes.{Known, MadeSo, room_behind}
 use Rattle.scm_book.specs.Turns.{CallEnds}
 use Rattle.scm_book.proofs.Coming.{shaped}
@@ -110,6 +111,19 @@ module _ (o : Opening) (opens : Opens o) (k k' : Known) (moment : ℕ) (asked : 
   starts_so some start (Ok None) end none said = subst (Starts o k moment asked k') (sym said) (inr (wants none.0 none.1 none.2))
   starts_so some start (Err makes.Full) end ends said = subst (Starts o k moment asked k') (sym said) (record { learnt = ends.0; full = ends.1 })
   starts_so some start (Err makes.OutOfMemory) end ends said = subst (Starts o k moment asked k') (sym said) (record { learnt = ends.0; free = ends.1 })
+
+-- ## Whose the pass is
+
+whose_kept : (f : Flat) (caller : ℕ) (step : Step) (now : Kept) → whose_after f caller (with_kept step now) ≡ whose_after f caller step
+whose_kept f caller (Call by asked append) now = refl
+whose_kept f caller step now = refl
+
+-- a step by which nobody joins or goes leaves the pass whose it was
+pub caller_still : (o : Opening) (k k' : Known) (moment caller : ℕ) (step : Step) → LeavesWhose step → (r : Result (Option Answer) MakeFault) → CallEnds o k moment caller step r k' → k'.caller ≡ k.caller
+caller_still o k k' moment caller step stays (Ok (Some told)) made =
+    let f = state o.limits o.first made.made.before in made.made.caller ∙ (whose_kept f k.caller step made.append ∙ stays f k.caller)
+caller_still o k k' moment caller step stays (Ok None) none = none.1.made.caller
+caller_still o k k' moment caller step stays (Err fault) ends = ends.0.caller
 
 -- ## As a book makes it, whose turn and pass lie within what contracts see
 

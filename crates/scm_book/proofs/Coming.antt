@@ -1,5 +1,5 @@
 -- Steps that may come behind each history that goes on from what a pass has seen, and the shapes of what they are told.
-use Rattle.std.proofs.Common.{◌≡◌, ◌≢◌, ℕ, inl, inr, true, IsTrue, List, [], ◌∷◌, ◌++◌, length, Some, sym, ap, ◌∙◌, subst, arith}
+use Rattle.std.proofs.Common.{◌≡◌, ◌≢◌, ℕ, inl, inr, true, IsTrue, List, [], ◌∷◌, ◌++◌, length, Some, refl, sym, ap, ◌∙◌, subst, arith}
 use Rattle.scm_model.specs.declared.calls.Request.{Request}
 use Rattle.scm_model.specs.declared.flat.Flat.{Flat}
 use Rattle.scm_model.specs.declared.steps.Answer.{Answer}
@@ -8,7 +8,7 @@ use Rattle.scm_model.specs.declared.steps.Kept.TheVariants as appended
 use Rattle.scm_model.specs.declared.steps.Name.{Name}
 use Rattle.scm_model.specs.declared.steps.Name.TheVariants as names
 use Rattle.scm_model.specs.declared.steps.Step.{Step}
-use Rattle.scm_model.specs.declared.steps.Step.TheVariants.{Call, Gone, NoMemory}
+use Rattle.scm_model.specs.declared.steps.Step.TheVariants.{Call, Gone, NoMemory, Raised}
 use Rattle.scm_model.specs.Entries.{Entry}
 use Rattle.scm_model.specs.Ranges.{in_range}
 use Rattle.scm_model.specs.Rows.{is_caller}
@@ -22,6 +22,7 @@ use Rattle.scm_history.specs.Shapes.{HasShape, LawOfShapes}
 use Rattle.scm_history.proofs.Shapes.{gives}
 use Rattle.book_rule.specs.declared.view.Opening.{Opening}
 use Rattle.book_rule.specs.Ways.{Has}
+use Rattle.scm_book.specs.Called.{called, raised_by}
 use Rattle.scm_book.specs.Holds.{Opens}
 use Rattle.scm_book.specs.Passes.{Known, Made}
 use Rattle.scm_book.specs.Turns.{AlwaysMay}
@@ -63,18 +64,23 @@ always_gone o k moment caller some_one same log longer runs claims = record {
   own = λ n has. one_is caller k.names n (subst (λ (c : ℕ). Has (names.Caller c) k.names) (sym same) (claims.caller some_one)) has;
 }
 
+pub always_raise : (o : Opening) (k : Known) (moment caller : ℕ) (subtype : List ℕ) → k.caller ≢ 0 → caller ≡ k.caller → AlwaysMay o k moment (Raised caller subtype)
+always_raise o k moment caller subtype some_one same log longer runs claims =
+    let may = always_gone o k moment caller some_one same log longer runs claims in record { may = may.may; own = may.own }
+
 pub always_none : (o : Opening) (k : Known) (moment caller : ℕ) → k.caller ≢ 0 → caller ≡ k.caller → AlwaysMay o k moment (NoMemory caller)
 always_none o k moment caller some_one same log longer runs claims =
     let may = always_gone o k moment caller some_one same log longer runs claims in record { may = may.may; own = may.own }
 
 -- ## As a book's call asks it
 
-module _ (o : Opening) (k from : Known) (same : from ≡ k) (moment caller : ℕ) (whose : caller ≡ from.caller) (some : k.caller ≢ 0) where
-  some_caller : from.caller ≢ 0
-  some_caller none = some (ap (λ (x : Known). x.caller) (sym same) ∙ none)
+module _ (o : Opening) (k : Known) (moment : ℕ) (some : k.caller ≢ 0) where
+  pub may_call : (asked : Request) (step : Step) → step ≡ called k asked → in_range asked ≡ true → AlwaysMay o k moment step
+  may_call asked step is ranged = subst (AlwaysMay o k moment) (sym is) (always_call o k moment k.caller asked appended.NotAsked some refl ranged)
 
-  pub may_call : (asked : Request) (step : Step) → step ≡ Call caller asked appended.NotAsked → in_range asked ≡ true → AlwaysMay o from moment step
-  may_call asked step is ranged = subst (AlwaysMay o from moment) (sym is) (always_call o from moment caller asked appended.NotAsked some_caller whose ranged)
+  pub may_raise : (subtype : List ℕ) (step : Step) → step ≡ raised_by k subtype → AlwaysMay o k moment step
+  may_raise subtype step is = subst (AlwaysMay o k moment) (sym is) (always_raise o k moment k.caller subtype some refl)
 
-  pub may_lack : AlwaysMay o from moment (NoMemory caller)
-  may_lack = always_none o from moment caller some_caller whose
+-- of a pass as its token tells of it
+pub may_lack : (o : Opening) (k from : Known) → from ≡ k → (moment caller : ℕ) → caller ≡ from.caller → k.caller ≢ 0 → AlwaysMay o from moment (NoMemory caller)
+may_lack o k from same moment caller whose some = always_none o from moment caller (λ none. some (ap (λ (x : Known). x.caller) (sym same) ∙ none)) whose

@@ -8,7 +8,7 @@ use Rattle.scm_model.specs.declared.steps.Answer.{Answer}
 use Rattle.scm_model.specs.declared.steps.Answer.TheVariants as answers
 use Rattle.scm_model.specs.declared.steps.Name.TheVariants as names
 use Rattle.scm_model.specs.declared.steps.Step.{Step}
-use Rattle.scm_model.specs.declared.steps.Step.TheVariants.{Call, EndStart, Joined, NoMemory}
+use Rattle.scm_model.specs.declared.steps.Step.TheVariants.{Call, EndStart, Joined, NoMemory, Raised}
 use Rattle.scm_model.specs.Entries.{Entry}
 use Rattle.start_plan.specs.Decided.{plan_caller, plan_of}
 use Rattle.scm_rules.specs.Histories.{Legal, state}
@@ -26,7 +26,7 @@ use Rattle.scm_book.specs.declared.answers.CallEnd.{CallEnd}
 use Rattle.scm_book.specs.declared.answers.CallEnd.TheVariants as calls
 use Rattle.scm_book.specs.declared.answers.StartEnd.{StartEnd}
 use Rattle.scm_book.specs.declared.answers.StartEnd.TheVariants as starts
-use Rattle.scm_book.specs.Called.{AnsweredSo, Calls, Starts}
+use Rattle.scm_book.specs.Called.{AnsweredSo, Calls, Raises, Starts}
 use Rattle.scm_book.specs.Holds.{Opens}
 use Rattle.scm_book.specs.Joins.{JoinsAs}
 use Rattle.scm_book.specs.Naming.{named_in}
@@ -99,6 +99,12 @@ module _ (o : Opening) (opens : Opens o) where
     calls_keep moment asked (calls.Answered reply) ends = answered_keeps moment asked reply ends
     calls_keep moment asked calls.Full ends = learnt_keeps ends.learnt
     calls_keep moment asked calls.OutOfMemory ends = learnt_keeps ends.learnt
+
+    pub raises_keep : (moment : ℕ) (subtype : List ℕ) (end : CallEnd) → Raises o k moment subtype k' end → KeepsAll o k k'
+    raises_keep moment subtype (calls.Answered reply) (inl so) = made_keeps moment (Raised k.caller subtype) _ so.made.made so.made.made.caller refl (λ plan. refl) (no_process k.caller)
+    raises_keep moment subtype (calls.Answered reply) (inr none) = made_keeps moment (NoMemory k.caller) _ none.made.made none.made.made.caller refl (λ plan. refl) (no_process k.caller)
+    raises_keep moment subtype calls.Full ends = learnt_keeps ends.learnt
+    raises_keep moment subtype calls.OutOfMemory ends = learnt_keeps ends.learnt
 
     pub starts_keep : (moment : ℕ) (asked : Request) (end : StartEnd) → Starts o k moment asked k' end → KeepsAll o k k'
     starts_keep moment asked (starts.Answered reply) ends = answered_keeps moment asked reply ends

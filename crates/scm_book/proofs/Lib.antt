@@ -19,4 +19,5 @@ mod InHandStill
 mod Firsts
 mod InHand
 mod StartsMade
+mod RaisesMade
 mod ReportsMade

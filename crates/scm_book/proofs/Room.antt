@@ -1,5 +1,5 @@
 -- What the room of a step comes to, and what doesn't hang on what it tells of its change.
-use Rattle.std.proofs.Common.{ℕ, ◌≡◌, ◌+◌, ◌≤◌, ◌&&◌, Bool, true, false, not, Option, None, Some, refl, ap, arith}
+use Rattle.std.proofs.Common.{ℕ, ◌≡◌, ◌+◌, ◌≤◌, ◌&&◌, Bool, true, false, not, Option, None, Some, refl, ap}
 use Rattle.std.specs.Prelude.{is_some}
 use Rattle.std.proofs.lemmas.Bool.{and_parts, leb-true}
 use Rattle.scm_model.specs.declared.flat.Flat.{Flat}
@@ -8,8 +8,7 @@ use Rattle.scm_model.specs.declared.steps.Change.{Change}
 use Rattle.scm_model.specs.declared.steps.Kept.{Kept}
 use Rattle.scm_model.specs.declared.steps.Kept.TheVariants as appended
 use Rattle.scm_model.specs.declared.steps.Step.{Step}
-use Rattle.scm_model.specs.declared.calls.Request.TheVariants as request
-use Rattle.scm_model.specs.declared.steps.Step.TheVariants.{Joined, Call, Tick}
+use Rattle.scm_model.specs.declared.steps.Step.TheVariants.{Joined, Call, Raised, Tick}
 use Rattle.scm_model.specs.Entries.{unkept, with_kept}
 use Rattle.scm_model.specs.Texts.{text_of}
 use Rattle.scm_rules.specs.Owed.{owed}
@@ -35,14 +34,6 @@ pub and_both : (a b : Bool) → a ≡ true → b ≡ true → (a && b) ≡ true
 and_both true b is there = there
 and_both false b is there = absurd cc
 
--- each step needs room for itself
-pub need_some : (f : Flat) (step : Step) → 1 ≤ need f step
-need_some f (Joined principal) = omega arith
-need_some f (Call caller (request.Start handle words) append) = omega arith
-need_some f (Call caller asked append) = omega arith
-need_some f Tick = omega arith
-need_some f step = omega arith
-
 -- ## With what became of its change
 
 pub text_kept : (step : Step) (now : Kept) → text_of (with_kept step now) ≡ text_of step
@@ -64,11 +55,15 @@ named_kept step now = refl
 pub made_kept : (room : Option Step) (step : Step) (now : Kept) → WasMadeFor room step → WasMadeFor room (with_kept step now)
 made_kept room (Call caller asked append) now made = made
 made_kept room (Joined principal) now made = made
+made_kept room Tick now made = made
+made_kept room (Raised caller subtype) now made = made
 made_kept room step now made = tt
 
 pub made_for : (room : Option Step) (step : Step) → room ≡ Some (unkept step) → WasMadeFor room step
 made_for room (Call caller asked append) is = is
 made_for room (Joined principal) is = is
+made_for room Tick is = is
+made_for room (Raised caller subtype) is = is
 made_for room step is = tt
 
 -- a step that makes no change tells of none

@@ -1,16 +1,16 @@
 -- What a caller's calls come to.
-use Rattle.std.specs.Prelude.{ℕ, ◌≡◌, ◌⊎◌, Bool, true, false, IsTrue, Option, None, Some, Result, Ok, Err}
+use Rattle.std.specs.Prelude.{ℕ, ◌≡◌, ◌⊎◌, Bool, true, false, List, Option, None, Some, Result, Ok, Err}
 use Rattle.scm_model.specs.declared.codes.TheConstants.{ERROR_NOT_ENOUGH_MEMORY}
 use Rattle.scm_model.specs.declared.calls.Reply.{Reply}
 use Rattle.scm_model.specs.declared.calls.Reply.TheVariants as replies
 use Rattle.scm_model.specs.declared.calls.Request.{Request}
 use Rattle.scm_model.specs.declared.calls.Request.TheVariants as request
+use Rattle.scm_model.specs.declared.flat.Flat.{Flat}
 use Rattle.scm_model.specs.declared.steps.Answer.{Answer}
 use Rattle.scm_model.specs.declared.steps.Answer.TheVariants as answers
 use Rattle.scm_model.specs.declared.steps.Kept.TheVariants as appended
 use Rattle.scm_model.specs.declared.steps.Step.{Step}
-use Rattle.scm_model.specs.declared.steps.Step.TheVariants.{Call, NoMemory}
-use Rattle.scm_model.specs.Ranges.{in_range}
+use Rattle.scm_model.specs.declared.steps.Step.TheVariants.{Call, NoMemory, Raised}
 use Rattle.scm_model.specs.Refused.{refused}
 use Rattle.book_rule.specs.declared.view.Opening.{Opening}
 use Rattle.scm_book.specs.declared.answers.CallEnd.{CallEnd}
@@ -19,11 +19,16 @@ use Rattle.scm_book.specs.declared.answers.StartEnd.{StartEnd}
 use Rattle.scm_book.specs.declared.answers.StartEnd.TheVariants as starts
 use Rattle.scm_book.specs.declared.fault.MakeFault.{MakeFault}
 use Rattle.scm_book.specs.declared.fault.MakeFault.TheVariants as makes
+use Rattle.scm_book.specs.Naming.{whose_after}
 use Rattle.scm_book.specs.Passes.{FindsNoMemory, FindsNoRoom, HasPlan, Known, MadeSo, room_behind}
 
 -- a pass's call, as it is asked for
 abbrev pub called : Known → Request → Step
 called k asked = Call k.caller asked appended.NotAsked
+
+-- whoever makes the step is afterwards whose it was: nobody joins or goes by it
+abbrev pub LeavesWhose : Step → Type 0
+LeavesWhose step = (f : Flat) (caller : ℕ) → whose_after f caller step ≡ caller
 
 abbrev pub is_start : Request → Bool
 is_start (request.Start handle words) = true
@@ -41,10 +46,6 @@ pub record WantsMemory (o : Opening) (k : Known) (moment : ℕ) (asked : Request
 abbrev pub AnsweredSo : Opening → Known → ℕ → Request → Reply → Known → Type 0
 AnsweredSo o k moment asked reply k' = MadeSo o k moment (called k asked) (answers.Reply reply) k' ⊎ WantsMemory o k moment asked reply k'
 
--- the step is a call of this pass
-abbrev pub IsCallOf : Known → Step → Type 0
-IsCallOf k step = (asked : Request) × (step ≡ called k asked) × IsTrue (in_range asked)
-
 -- the refusal of a call with 8
 abbrev pub refusal_of : Step → Reply
 refusal_of (Call caller asked append) = refused asked ERROR_NOT_ENOUGH_MEMORY
@@ -56,6 +57,29 @@ abbrev pub Calls : Opening → Known → ℕ → Request → Known → CallEnd �
 Calls o k moment asked k' (calls.Answered reply) = AnsweredSo o k moment asked reply k'
 Calls o k moment asked k' calls.Full = FindsNoRoom o k (called k asked) k'
 Calls o k moment asked k' calls.OutOfMemory = FindsNoMemory o k (called k asked) k'
+
+-- ## raise
+
+-- what a pass raises
+abbrev pub raised_by : Known → List ℕ → Step
+raised_by k subtype = Raised k.caller subtype
+
+-- there was no memory for what it does, though there was room for it: that stands in its place, and it is refused with 8
+pub record RaiseWants (o : Opening) (k : Known) (moment : ℕ) (subtype : List ℕ) (reply : Reply) (k' : Known) : Type 0 where
+  pub made : MadeSo o k moment (NoMemory k.caller) answers.Done k'
+  pub room : room_behind o made.made.before (raised_by k subtype) ≡ true
+  pub refused : reply ≡ replies.Code ERROR_NOT_ENOUGH_MEMORY
+
+-- it was made and told this code
+pub record RaisedSo (o : Opening) (k : Known) (moment : ℕ) (subtype : List ℕ) (reply : Reply) (k' : Known) : Type 0 where
+  pub made : MadeSo o k moment (raised_by k subtype) (answers.Reply reply) k'
+  pub code : ℕ
+  pub is : reply ≡ replies.Code code
+
+abbrev pub Raises : Opening → Known → ℕ → List ℕ → Known → CallEnd → Type 0
+Raises o k moment subtype k' (calls.Answered reply) = RaisedSo o k moment subtype reply k' ⊎ RaiseWants o k moment subtype reply k'
+Raises o k moment subtype k' calls.Full = FindsNoRoom o k (raised_by k subtype) k'
+Raises o k moment subtype k' calls.OutOfMemory = FindsNoMemory o k (raised_by k subtype) k'
 
 -- ## begin_start
 

@@ -62,6 +62,7 @@ impl Bell {
 
     /// An entry was made. It costs a load where nobody asked, and the lock is taken only where
     /// somebody sleeps.
+    #[inline(always)]
     pub(crate) fn ring<R: Wait>(&self, rt: &R) {
         if !self.is_asked.load(Ordering::SeqCst) {
             return;

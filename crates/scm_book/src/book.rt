@@ -4,14 +4,14 @@ ghost use Rattle.scm_model.specs.Ranges.{in_range};
 ghost use Rattle.scm_rules.specs.Opening.{IsOpening};
 ghost use Rattle.scm_core.specs.Managed.{AreSmall};
 ghost use Rattle.record_journal.specs.Bearing.{Bears};
-ghost use Rattle.scm_book.specs.Called.{Calls, IsCallOf, Starts, is_start};
+ghost use Rattle.scm_book.specs.Called.{Calls, LeavesWhose, Raises, Starts, is_start};
 ghost use Rattle.scm_book.specs.Calls.{BeginsWith, Closes, Goes};
 ghost use Rattle.scm_book.specs.Holds.{Opens};
 ghost use Rattle.scm_book.specs.Joins.{BecomesCaller, JoinCause, Joins, TakesIn, Watches};
 ghost use Rattle.scm_book.specs.Joins.{accompanied, fresh};
 ghost use Rattle.scm_book.specs.Passes.{HasPlan, IsOf, KeepsAll, Learnt};
 ghost use Rattle.scm_book.specs.Starts.{EndKeeps, EndLooks};
-ghost use Rattle.scm_book.specs.Turns.{CallEnds};
+ghost use Rattle.scm_book.specs.Turns.{AlwaysMay, CallEnds};
 
 use crate::answers::{CallEnd, EndLook, JoinFault, NotJoined, StartEnd};
 use crate::bell::Bell;
@@ -213,7 +213,8 @@ impl<K: Keeper> Book<K> {
     ) -> Result<Option<Answer>, MakeFault>
         requires book { IsOf self.now pass.old }
         requires caller { pass.old.caller ≢ 0 }
-        requires call { IsCallOf pass.old call.old.step }
+        requires may { AlwaysMay self.now.opening pass.old moment call.old.step }
+        requires stays { LeavesWhose call.old.step }
         ensures book { IsOf self.now pass.new }
         ensures opens { Opens self.now.opening }
         ensures asks { CallEnds self.now.opening pass.old moment pass.old.caller call.old.step result pass.new }
@@ -246,6 +247,21 @@ impl<K: Keeper> Book<K> {
         call.write(self.shared.alloc);
         let ended = self.ask(rt, pass, moment, &mut call);
         call_end(self.shared.alloc, &call.step, ended)
+    }
+
+    /// Raises the triggers with a subtype, a UUID as it lies in memory. What it is told is the code
+    /// that its entry was answered, as with `call`.
+    pub fn raise<R: Wait>(&self, rt: &R, pass: &mut Pass, moment: u64, subtype: [u8; 16]) -> CallEnd
+        requires book { IsOf self.now pass.old }
+        requires caller { pass.old.caller ≢ 0 }
+        ensures book { IsOf self.now pass.new }
+        ensures raises { Raises self.now.opening pass.old moment subtype pass.new result }
+        ensures keeps { KeepsAll self.now.opening pass.old pass.new }
+    {
+        let caller = pass.caller;
+        let mut raise = Doubled::new(self.shared.alloc, Step::Raised { caller, subtype });
+        let ended = self.ask(rt, pass, moment, &mut raise);
+        call_end(self.shared.alloc, &raise.step, ended)
     }
 
     /// Begins a start. What it is told is the answer of its entry, as with `call`.

@@ -1,10 +1,10 @@
 // What the holder of the turn has, and the steps that it makes.
 ghost use Rattle.std.specs.Prelude.{◌≡◌, ◌≤◌, ◌<◌, ◌+◌, ◌^◌, [], true, IsSome, IsTrue};
-ghost use Rattle.std.specs.Prelude.{IfErr, IfOk, OnErr, OnOk};
+ghost use Rattle.std.specs.Prelude.{IfErr, IfOk, IfSome, OnErr, OnOk};
 ghost use Rattle.scm_model.specs.Entries.{with_kept};
 ghost use Rattle.scm_model.specs.Texts.{text_of};
 ghost use Rattle.scm_rules.specs.Owed.{owed};
-ghost use Rattle.scm_rules.specs.Room.{debt, need};
+ghost use Rattle.scm_rules.specs.Room.{debt};
 ghost use Rattle.scm_core.specs.Managed.{AreSmall, WasMadeFor};
 ghost use Rattle.scm_book.specs.Steps.{Adds, Grows, HasMemory, IsAsItWas, IsPrepared, KeepsAs};
 ghost use Rattle.scm_book.specs.Steps.{Makes, TellsRight, Why, has_room_in, may_come_in, may_in};
@@ -78,20 +78,17 @@ impl<K: Keeper> Held<K> {
         keeper
     }
 
-    /// How many entries a step may add and leave owed, or more.
-    #[tactic(auto, using(crate::proofs::Room::need_some))]
-    fn debt(&self, step: &Step) -> u64
-        requires room { has_room_in self.now step.now ≡ true }
-        requires small { AreSmall self.now.manager.limits }
-        ensures least { debt self.now.manager.flat step.now ≤ result }
-        ensures most { result ≤ need self.now.manager.flat step.now }
-        ensures one { 1 ≤ result }
+    /// How many entries a step may add and leave owed, if they can be counted, and one at least.
+    #[inline(always)]
+    fn debt(&self, step: &Step) -> Option<u64>
+        ensures least { IfSome result (λ entries. debt self.now.manager.flat step.now ≤ entries) }
+        ensures one { IfSome result (λ entries. 1 ≤ entries) }
     {
-        if matches!(step, Step::Tick) {
-            1
-        } else {
-            self.manager.need(step)
+        let debt = self.manager.debt(step);
+        if debt == u64::MAX {
+            return None;
         }
+        Some(debt.max(1))
     }
 
     /// Makes all memory that a step and the entries which come to be owed can use.
@@ -106,12 +103,18 @@ impl<K: Keeper> Held<K> {
         ensures one { OnOk result (1 ≤ self.new.trail.room) }
         ensures text { OnOk result (text_of step.now ≤ self.new.trail.text_room) }
     {
-        let entries = owing + self.debt(step);
+        let Some(debt) = self.debt(step) else {
+            return Err(OutOfMemory);
+        };
+        let Some(entries) = owing.checked_add(debt) else {
+            return Err(OutOfMemory);
+        };
         self.trail.reserve(entries, step.text() as u64)?;
         self.manager.reserve_for(step)
     }
 
     /// Appends the change that a step makes, where it makes one, and says what became of it.
+    #[inline(always)]
     fn keep(&mut self, step: &Step) -> Result<Kept, OutOfMemory>
         requires { WasMadeFor self.old.manager.room step.now }
         ensures manager { self.new.manager ≡ self.old.manager }
@@ -180,6 +183,7 @@ impl<K: Keeper> Held<K> {
     /// Makes a step that isn't owed, with a note of it that was made before, and uses both up. What it tells of what
     /// became of its change plays no part: that is told by what the append of the change came to.
     /// All memory is made first.
+    #[inline(always)]
     pub fn make_doubled(&mut self, moment: u64, doubled: &mut Doubled) -> Result<Answer, MakeFault>
         requires may { IsTrue (may_come_in self.old moment doubled.old.step) }
         requires small { AreSmall self.old.manager.limits }

@@ -1,5 +1,5 @@
 -- A manager over what a keeper has.
-use Rattle.std.specs.Prelude.{ℕ, ◌≡◌, Bool, List, [], Option, Result, Ok, Err, IfSome}
+use Rattle.std.specs.Prelude.{ℕ, ◌≡◌, Bool, List, Option, Result, Ok, Err, IfSome}
 use Rattle.scm_model.specs.declared.flat.Limits.{Limits}
 use Rattle.scm_rules.specs.Opening.{opening}
 use Rattle.scm_core.specs.Managed.{Managed}
@@ -17,17 +17,17 @@ pub record IsUnmoved (limits : Limits) (m : Managed) : Type 0 where
 
 -- a manager opens with the configurations of a journal that was read, unless there was no memory
 -- for it; why the journal was not read is told
-abbrev pub Manages : Limits → (moment : ℕ) → Result Restored JournalFault → Result Opened JournalFault → Type 0
-Manages limits moment (Ok journal) (Ok opened) =
-    (opened.manager.flat ≡ opening limits [] journal.configs moment) × (opened.journal ≡ journal.journal)
-Manages limits moment (Ok journal) (Err faults.OutOfMemory) = Unit {0}
-Manages limits moment (Ok journal) (Err fault) = ⊥
-Manages limits moment (Err fault) (Ok opened) = ⊥
-Manages limits moment (Err fault) (Err told) = told ≡ fault
+abbrev pub Manages : Limits → (groups : List (List ℕ)) (moment : ℕ) → Result Restored JournalFault → Result Opened JournalFault → Type 0
+Manages limits groups moment (Ok journal) (Ok opened) =
+    (opened.manager.flat ≡ opening limits groups journal.configs moment) × (opened.journal ≡ journal.journal)
+Manages limits groups moment (Ok journal) (Err faults.OutOfMemory) = Unit {0}
+Manages limits groups moment (Ok journal) (Err fault) = ⊥
+Manages limits groups moment (Err fault) (Ok opened) = ⊥
+Manages limits groups moment (Err fault) (Err told) = told ≡ fault
 
 -- the journal of the bytes that stood is opened, and a manager over what it comes to
-pub record Comes (limits : Limits) (moment : ℕ) (path : Bool) (old now : Option (List ℕ)) (result : Result Opened JournalFault) : Type 0 where
+pub record Comes (limits : Limits) (groups : List (List ℕ)) (moment : ℕ) (path : Bool) (old now : Option (List ℕ)) (result : Result Opened JournalFault) : Type 0 where
   pub restored : Result Restored JournalFault
   pub answer : IfSome (standing path old) (λ bytes. Answers bytes restored)
   pub leaves : Leaves path old now restored
-  pub manages : Manages limits moment restored result
+  pub manages : Manages limits groups moment restored result

@@ -12,7 +12,7 @@ ghost use Rattle.scm_restored.specs.Restored.{Comes, IsUnmoved};
 use record_journal::{Journal, JournalFault, Keeper, Restored, open_journal};
 use scm_core::Manager;
 use scm_model::Limits;
-use scm_text::Items;
+use scm_text::{Items, WText};
 use std::alloc::Global;
 
 /// A manager that made no step, and the journal of its configurations.
@@ -23,18 +23,20 @@ pub struct Opened {
 }
 
 /// Opens a keeper, and makes a manager whose services have the configurations that its journal
-/// comes to: each is stopped, and never ran. Where there was no memory for the manager, the keeper
+/// comes to: each is stopped, and never ran. Those that start by themselves are due, in the order of
+/// these groups. Where there was no memory for the manager, the keeper
 /// stays as the opening of its journal left it.
 pub fn open_manager<K: Keeper>(
     alloc: Global,
     limits: Limits,
+    groups: Items<WText>,
     keeper: &mut K,
     path: Option<&str>,
     moment: u64,
 ) -> Result<Opened, JournalFault>
     requires places { 512 ≤ limits.services }
     requires small { AreSmall limits }
-    ensures comes { Comes limits moment (has_path path.entry)
+    ensures comes { Comes limits groups moment (has_path path.entry)
         (K.held keeper.old) (K.held keeper.new) result }
     ensures opens { IfOk result (λ opened. IsOpening limits opened.manager.flat) }
     ensures unmoved { IfOk result (λ opened. IsUnmoved limits opened.manager) }
@@ -46,7 +48,7 @@ pub fn open_manager<K: Keeper>(
     ensures kept { OnOk result (K.faults keeper.new ≡ K.faults keeper.old) }
 {
     let Restored { journal, configs } = open_journal(alloc, keeper, path)?;
-    match Manager::new(alloc, limits, Items::new(alloc), configs, moment) {
+    match Manager::new(alloc, limits, groups, configs, moment) {
         Ok(manager) => Ok(Opened { manager, journal }),
         Err(_) => Err(JournalFault::OutOfMemory),
     }

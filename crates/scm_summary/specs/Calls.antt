@@ -1,7 +1,7 @@
--- How many callers joined in a history, and how many calls each of them made.
+-- How many callers joined in a history, and how many calls each of them made, raises among them.
 use Rattle.std.specs.Prelude.{ℕ, zero, suc, ◌+◌, ◌==◌, List, [], ◌∷◌, Option, None, Some, if◌then◌else◌}
 use Rattle.scm_model.specs.declared.steps.Step.{Step}
-use Rattle.scm_model.specs.declared.steps.Step.TheVariants.{Call, Joined, NoMemory}
+use Rattle.scm_model.specs.declared.steps.Step.TheVariants.{Call, Joined, NoMemory, Raised}
 use Rattle.scm_model.specs.Entries.{Entry}
 
 -- 1 where a step joins a caller
@@ -13,9 +13,10 @@ abbrev pub joined_in : List Entry → ℕ
 joined_in [] = 0
 joined_in (e ∷ es) = one_joined e.1 + joined_in es
 
--- the caller whose call a step is, whether or not there was memory for it
+-- the caller whose call or raise a step is, whether or not there was memory for it
 abbrev pub calling : Step → Option ℕ
 calling (Call caller request append) = Some caller
+calling (Raised caller subtype) = Some caller
 calling (NoMemory caller) = Some caller
 calling step = None
 

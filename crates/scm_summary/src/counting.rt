@@ -18,7 +18,7 @@ fn one_joined(step: &Step) -> u64
     }
 }
 
-/// The caller whose call a step is.
+/// The caller whose call or raise a step is.
 fn calling(step: &Step) -> Option<u64>
     ensures { result ≡ calling step.now }
 {
@@ -28,6 +28,7 @@ fn calling(step: &Step) -> Option<u64>
             request: _,
             kept: _,
         } => Some(*caller),
+        Step::Raised { caller, subtype: _ } => Some(*caller),
         Step::NoMemory { caller } => Some(*caller),
         _ => None,
     }

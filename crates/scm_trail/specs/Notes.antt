@@ -40,4 +40,5 @@ step_by (writes.Whole step) = step.value
 abbrev pub is_brief : Step → Bool
 is_brief (steps.Call caller asked append) = false
 is_brief (steps.Report process status) = false
+is_brief (steps.Raised caller subtype) = false
 is_brief step = true

@@ -34,7 +34,7 @@ pub struct ByHandle {
     pub handle: u64,
 }
 
-/// A step. A report, and a call with texts or with more than a number, doesn't lie in place.
+/// A step. A report, a raise, and a call with texts or with more than a number, don't lie in place.
 #[derive(Drop)]
 pub enum Written {
     Joined(Principal),
@@ -75,8 +75,8 @@ pub enum Written {
     Whole(Box<Step>),
 }
 
-/// A step as a trail keeps it. It has 24 bytes, where a step has 240; a report, and a call with texts
-/// or with more than a number, has memory of its own beside them. Contracts see the step.
+/// A step as a trail keeps it. It has 24 bytes, where a step has 240; a report, a raise, and a call with
+/// texts or with more than a number, have memory of their own beside them. Contracts see the step.
 #[derive(Drop)]
 pub struct Note {
     written: Written,
@@ -188,7 +188,7 @@ fn call_in_place(caller: u64, request: &Request, kept: Kept) -> Option<Written>
     })
 }
 
-/// A step in place, where it is no report, and no call but by a handle.
+/// A step in place, where it is no report, no raise, and no call but by a handle.
 fn in_place(step: &Step) -> Option<Written>
     ensures step { IfSome result (λ written. step_by written ≡ step.now) }
     ensures some { is_brief step.now ≡ true → IsSome result }
@@ -213,7 +213,7 @@ fn in_place(step: &Step) -> Option<Written>
             code: *code,
             process: *process,
         }),
-        Step::Report { .. } => None,
+        Step::Report { .. } | Step::Raised { .. } => None,
         Step::Ended { process } => Some(Written::Ended { process: *process }),
         Step::ControlTaken { process } => Some(Written::ControlTaken { process: *process }),
         Step::Tick => Some(Written::Tick),
@@ -253,8 +253,8 @@ impl Note {
         Ok(Note { written })
     }
 
-    /// The note of a step that takes no memory. There is one of each step that is no call and no
-    /// report.
+    /// The note of a step that takes no memory. There is one of each step that is no call, no
+    /// report and no raise.
     pub fn brief(step: &Step) -> Option<Note>
         ensures note { IfSome result (λ note. note ≡ step.now) }
         ensures some { is_brief step.now ≡ true → IsSome result }

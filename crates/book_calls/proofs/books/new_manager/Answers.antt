@@ -1,7 +1,5 @@
-use Rattle.std.proofs.Common.{[], Result, Ok, Err, subst, sym}
-use Rattle.std.specs.Prelude.{IfOk}
-use Rattle.scm_model.specs.declared.flat.Limits.{Limits}
-use Rattle.scm_rules.specs.Opening.{CanOpen, IsOpening}
+use Rattle.std.proofs.Common.{subst, sym}
+use Rattle.scm_rules.specs.Opening.{CanOpen}
 use Rattle.scm_core.proofs.Opened.{opens_with_nothing}
 use Rattle.book_calls.proofs.Coming.{opens_new}
 use Rattle.book_calls.proofs.books.new_manager.Goals as goal

@@ -1,24 +1,26 @@
-use Rattle.std.proofs.Common.{ℕ, ap, subst, sym, ◌∙◌}
-use Rattle.scm_model.specs.declared.steps.Kept.TheVariants as appended
-use Rattle.scm_model.specs.declared.steps.Step.{Step}
-use Rattle.scm_model.specs.declared.steps.Step.TheVariants.{Call}
+use Rattle.std.proofs.Common.{subst, sym, ◌∙◌}
 use Rattle.book_rule.specs.Seats.{Identity}
 use Rattle.scm_book.specs.Holds.{Opens}
 use Rattle.scm_book.specs.Passes.{Known}
-use Rattle.scm_book.specs.Turns.{of_badge}
-use Rattle.scm_book.proofs.CallsMade.{asks_so}
-use Rattle.scm_book.proofs.Coming.{may_call, may_lack}
+use Rattle.scm_book.specs.Turns.{AlwaysMay, of_badge}
+use Rattle.scm_book.proofs.CallsMade.{asks_so, caller_still}
+use Rattle.scm_book.proofs.Coming.{may_lack}
+use Rattle.scm_book.proofs.InHand.{seen_outside}
 use Rattle.scm_book.proofs.book.Book.ask.Goals as goal
 
 pub call_by-requires-clause-may : goal.call_by-requires-clause-may
 call_by-requires-clause-may g c =
-    let whose = c.pass.invariant.whose ∙ ap (λ (x : Known). x.caller) c.pass.view_is in
-    may_call c.self.inside.shared.turn.opening c.args.pass.now (of_badge c.pass.inside.badge) c.pass.view_is c.args.moment c.pass.inside.caller c.pass.invariant.whose c.requires.caller c.requires.call.0 c.args.call.now.step
-    (c.requires.call.1 ∙ ap (λ (n : ℕ). Call n c.requires.call.0 appended.NotAsked) (sym whose)) c.requires.call.2
+    seen_outside (λ (x : Identity) (y : Known). AlwaysMay x.opening y c.args.moment c.args.call.now.step) c.args.self.now c.self.inside.shared.turn c.args.pass.now (of_badge c.pass.inside.badge)
+    (sym c.self.view_is) (sym c.pass.view_is) c.requires.may
 
 pub call_by-requires-clause-none : goal.call_by-requires-clause-none
 call_by-requires-clause-none g c =
     may_lack c.self.inside.shared.turn.opening c.args.pass.now (of_badge c.pass.inside.badge) c.pass.view_is c.args.moment c.pass.inside.caller c.pass.invariant.whose c.requires.caller
+
+pub invariant_of-pass : goal.invariant_of-pass
+invariant_of-pass g c =
+    let same = caller_still c.self.inside.shared.turn.opening (of_badge c.pass.inside.badge) (of_badge c.call_by.new.badge) c.args.moment c.pass.inside.caller c.args.call.now.step c.requires.stays c.call_by.result c.call_by.ensures.ends in
+    record { rests = c.call_by.ensures.badge.rests; whose = c.pass.invariant.whose ∙ sym same }
 
 pub returns-clause-opens : goal.returns-clause-opens
 returns-clause-opens g c = subst (λ (b : Identity). Opens b.opening) c.self.view_is c.self.invariant

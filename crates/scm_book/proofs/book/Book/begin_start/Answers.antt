@@ -1,13 +1,21 @@
-use Rattle.std.proofs.Common.{ap, subst}
+use Rattle.std.proofs.Common.{ap, refl, subst, sym}
 use Rattle.scm_model.specs.declared.steps.Step.{Step}
+use Rattle.scm_book.specs.Called.{LeavesWhose}
 use Rattle.scm_book.specs.Turns.{CallEnds, of_badge}
 use Rattle.scm_book.proofs.CallsMade.{call_is, start_comes, told_begun}
+use Rattle.scm_book.proofs.Coming.{may_call}
 use Rattle.scm_book.proofs.InHandStill.{starts_keep}
 use Rattle.scm_book.proofs.book.Book.begin_start.Goals as goal
 
-pub ask-ended-requires-clause-call : goal.ask-ended-requires-clause-call
-ask-ended-requires-clause-call g c =
-    (c.args.request, call_is (of_badge c.pass.inside.badge) c.args.pass.now c.pass.view_is c.pass.inside.caller c.pass.invariant.whose c.args.request c.write.new.self.step c.write.ensures, c.requires.ranged)
+pub ask-ended-requires-clause-may : goal.ask-ended-requires-clause-may
+ask-ended-requires-clause-may g c =
+    may_call c.args.self.now.opening c.args.pass.now c.args.moment c.requires.caller c.args.request c.write.new.self.step
+    (call_is (of_badge c.pass.inside.badge) c.args.pass.now c.pass.view_is c.pass.inside.caller c.pass.invariant.whose c.args.request c.write.new.self.step c.write.ensures) c.requires.ranged
+
+pub ask-ended-requires-clause-stays : goal.ask-ended-requires-clause-stays
+ask-ended-requires-clause-stays g c =
+    subst LeavesWhose
+    (sym (call_is (of_badge c.pass.inside.badge) c.args.pass.now c.pass.view_is c.pass.inside.caller c.pass.invariant.whose c.args.request c.write.new.self.step c.write.ensures)) (λ f n. refl)
 
 pub start_end-requires : goal.start_end-requires
 start_end-requires g c =
