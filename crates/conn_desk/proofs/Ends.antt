@@ -3,7 +3,7 @@ use Rattle.std.proofs.Common.{ℕ, ◌≡◌, ◌+◌, ◌<◌, ◌≤◌, ◌^�
 use Rattle.std.specs.Io.KnownBytes.{Consumes, IsAtEnd}
 use Rattle.feed_loop.specs.declared.fed.Fed.TheVariants as fed_to
 use Rattle.outside.specs.Written.{Begins}
-use Rattle.scm_model.specs.declared.calls.Request.{Request as Call}
+use Rattle.conn_desk.specs.declared.asked.Asked.{Asked}
 use Rattle.scm_model.specs.declared.calls.Reply.{Reply}
 use Rattle.rpc_session.specs.declared.state.Incoming.{Incoming}
 use Rattle.rpc_session.specs.Items.{Seen, StreamEnd, AtRest, Unfinished, BadPdu, TooLong, Gave, IsOpen, Told, items, before, open_end, is_at_rest, unbound, to_come, told_of_pdus}
@@ -20,7 +20,7 @@ use Rattle.conn_desk.proofs.Talking.{answers_append, answers_none, cut_both}
 use Rattle.conn_desk.proofs.Walking.{front_less}
 
 -- all items of what was read so far are answered
-pub record SoFar {D : Type 0} (called : D → D → Call → Option Reply → Type 0) (d : D) (held : Option (List ℕ)) (m : Point D) (read : List ℕ) : Type 0 where
+pub record SoFar {D : Type 0} (called : D → D → Asked → Option Reply → Type 0) (d : D) (held : Option (List ℕ)) (m : Point D) (read : List ℕ) : Type 0 where
   pub given : List Incoming
   pub gave : Gave read given m.session
   pub waits : IsOpen m.session
@@ -49,7 +49,7 @@ end_if false = tt
 rest_end : (s : Seen) (b : Bool) → is_at_rest s ≡ b → open_end s ≡ cond b AtRest Unfinished
 rest_end s b e = ap (λ x. cond x AtRest Unfinished) e
 
-module _ {D : Type 0} (called : D → D → Call → Option Reply → Type 0) (rests : D → D → Type 0) (full : D → Call → Type 0) (d : D) (held : Option (List ℕ)) where
+module _ {D : Type 0} (called : D → D → Asked → Option Reply → Type 0) (rests : D → D → Type 0) (full : D → Asked → Type 0) (d : D) (held : Option (List ℕ)) where
   -- one more read
   pub read_more : (m b : Point D) (read more : List ℕ) → SoFar called d held m read → GoesOn called (fed more) m b → SoFar called d held b (read ++ more)
   read_more m b read more on next = record {
@@ -204,7 +204,7 @@ unfolding to_come told_of_pdus pdus_behind
 waits_fresh s e = rw e refl
 
 -- nothing was read
-pub begins : {D : Type 0} (called : D → D → Call → Option Reply → Type 0) (d : D) (held : Option (List ℕ)) (s : Seen) → s ≡ record { state = unbound; held = record { place = 0; rest = [] } } → Gave [] [] s
+pub begins : {D : Type 0} (called : D → D → Asked → Option Reply → Type 0) (d : D) (held : Option (List ℕ)) (s : Seen) → s ≡ record { state = unbound; held = record { place = 0; rest = [] } } → Gave [] [] s
     → SoFar called d held (record { session = s; desk = d; held = held }) []
 begins called d held s e gave = record {
   given = [];

@@ -8,7 +8,7 @@ use Rattle.std.specs.Io.KnownBytes.{Appends}
 use Rattle.std.proofs.KnownBytes.{Appends-nil, Appends-trans}
 use Rattle.outside.specs.declared.Failed.{Failed}
 use Rattle.outside.specs.Written.{Begins, Writes}
-use Rattle.scm_model.specs.declared.calls.Request.{Request as Call}
+use Rattle.conn_desk.specs.declared.asked.Asked.{Asked}
 use Rattle.scm_model.specs.declared.calls.Reply.{Reply}
 use Rattle.rpc_session.specs.Replies.{reply_fragments as fragments_of}
 use Rattle.rpc_session.specs.declared.state.Terms.{Terms}
@@ -22,7 +22,7 @@ use Rattle.conn_desk.specs.Along.{Answered, write_stopped}
 
 -- ## What is spoken, one after another
 
-request_spoken : (r : RequestItem) (o : Result Call ℕ) (is js : List Incoming) (rs qs : List (Option Reply))
+request_spoken : (r : RequestItem) (o : Result Asked ℕ) (is js : List Incoming) (rs qs : List (Option Reply))
     → ((ts : List (Option Reply)) → AsMany (asked is) ts → spoken (is ++ js) (ts ++ qs) ≡ spoken is ts ++ spoken js qs)
     → AsMany (cons_option (call_in o) (asked is)) rs
     → answer_to r o (rs ++ qs) ++ spoken (is ++ js) (replies_behind (call_in o) (rs ++ qs)) ≡ (answer_to r o rs ++ spoken is (replies_behind (call_in o) rs)) ++ spoken js qs
@@ -44,14 +44,14 @@ spoken_append (Request r ∷ is) js rs qs h =
 
 -- ## Chains
 
-module _ {D : Type 0} (called : D → D → Call → Option Reply → Type 0) where
-  pub chain_as_many : (d e : D) (requests : List Call) (heard : List (Option Reply)) → Chain called d e requests heard → AsMany requests heard
+module _ {D : Type 0} (called : D → D → Asked → Option Reply → Type 0) where
+  pub chain_as_many : (d e : D) (requests : List Asked) (heard : List (Option Reply)) → Chain called d e requests heard → AsMany requests heard
   chain_as_many d e [] [] c = tt
   chain_as_many d e (r ∷ rs) (h ∷ hs) c = chain_as_many c.0 e rs hs c.2
   chain_as_many d e [] (h ∷ hs) c = absurd c
   chain_as_many d e (r ∷ rs) [] c = absurd c
 
-  pub chain_append : (d m e : D) (rs qs : List Call) (hs ks : List (Option Reply)) → Chain called d m rs hs → Chain called m e qs ks → Chain called d e (rs ++ qs) (hs ++ ks)
+  pub chain_append : (d m e : D) (rs qs : List Asked) (hs ks : List (Option Reply)) → Chain called d m rs hs → Chain called m e qs ks → Chain called d e (rs ++ qs) (hs ++ ks)
   chain_append d m e [] qs [] ks p q = subst (λ (x : D). Chain called x e qs ks) p q
   chain_append d m e (r ∷ rs) qs (h ∷ hs) ks p q = (p.0, p.1, chain_append p.0 m e rs qs hs ks p.2 q)
   chain_append d m e [] qs (h ∷ hs) ks p q = absurd p
@@ -78,16 +78,16 @@ module _ {D : Type 0} (called : D → D → Call → Option Reply → Type 0) wh
 
 -- ## One request
 
-pub fault_said : (r : RequestItem) (o : Result Call ℕ) (status : ℕ) → o ≡ Err status → answer_to r o [] ++ [] ≡ fault r status
+pub fault_said : (r : RequestItem) (o : Result Asked ℕ) (status : ℕ) → o ≡ Err status → answer_to r o [] ++ [] ≡ fault r status
 fault_said r o status e = rw e (append-nil (fault r status))
 
-pub reply_said : (r : RequestItem) (o : Result Call ℕ) (x : Call) (heard : Option Reply) (reply : Reply)
+pub reply_said : (r : RequestItem) (o : Result Asked ℕ) (x : Asked) (heard : Option Reply) (reply : Reply)
     → o ≡ Ok x → reply_to x heard ≡ reply
     → answer_to r o (heard ∷ []) ++ [] ≡ response r reply
 reply_said r o x heard reply e p = rw (e, p) (append-nil (response r reply))
 
-module _ {D : Type 0} (called : D → D → Call → Option Reply → Type 0) where
-  pub none_asked : (d : D) (o : Result Call ℕ) (status : ℕ) → o ≡ Err status → Chain called d d (cons_option (call_in o) []) []
+module _ {D : Type 0} (called : D → D → Asked → Option Reply → Type 0) where
+  pub none_asked : (d : D) (o : Result Asked ℕ) (status : ℕ) → o ≡ Err status → Chain called d d (cons_option (call_in o) []) []
   none_asked d o status e = rw e refl
 
   abbrev pub talks_fault : (d : D) (r : RequestItem) (status : ℕ) → asked_of r ≡ Err status → Talks called d d (Request r ∷ []) (fault r status)
@@ -97,10 +97,10 @@ module _ {D : Type 0} (called : D → D → Call → Option Reply → Type 0) wh
     answered = fault_said r (asked_of r) status e;
   }
 
-  pub one_asked : (d e : D) (o : Result Call ℕ) (x : Call) (heard : Option Reply) → o ≡ Ok x → called d e x heard → Chain called d e (cons_option (call_in o) []) (heard ∷ [])
+  pub one_asked : (d e : D) (o : Result Asked ℕ) (x : Asked) (heard : Option Reply) → o ≡ Ok x → called d e x heard → Chain called d e (cons_option (call_in o) []) (heard ∷ [])
   one_asked d e o x heard is made = rw is (e, made, refl)
 
-  abbrev pub talks_call : (d e : D) (r : RequestItem) (x : Call) (reply : Reply) → asked_of r ≡ Ok x → CallAnswered called d e x reply
+  abbrev pub talks_call : (d e : D) (r : RequestItem) (x : Asked) (reply : Reply) → asked_of r ≡ Ok x → CallAnswered called d e x reply
       → Talks called d e (Request r ∷ []) (response r reply)
   talks_call d e r x reply is told = record {
     heard = told.heard ∷ [];
@@ -113,7 +113,7 @@ module _ {D : Type 0} (called : D → D → Call → Option Reply → Type 0) wh
 front_append : {A : Type 0} (x a b : List A) → Begins a b → Begins (x ++ a) (x ++ b)
 front_append x a b h = (h.0, ap (λ t. x ++ t) h.1 ∙ sym (append_assoc x a h.0))
 
-module _ {D : Type 0} (called : D → D → Call → Option Reply → Type 0) where
+module _ {D : Type 0} (called : D → D → Asked → Option Reply → Type 0) where
   pub answers_none : (d : D) (held : Option (List ℕ)) → AreAnswered called d d held held []
   answers_none d held = record { text = []; talks = talks_none called d; written = Appends-nil held }
 
@@ -161,7 +161,7 @@ module _ {D : Type 0} (called : D → D → Call → Option Reply → Type 0) wh
   )
 
   -- an item whose text was written, or a front of it
-  pub answered_by : (rests : D → D → Type 0) (full : D → Call → Type 0) (d e : D) (o p : Option (List ℕ)) (item : Incoming) (text : List ℕ) (w : Result (Unit {0}) Failed)
+  pub answered_by : (rests : D → D → Type 0) (full : D → Asked → Type 0) (d e : D) (o p : Option (List ℕ)) (item : Incoming) (text : List ℕ) (w : Result (Unit {0}) Failed)
       → Talks called d e (item ∷ []) text → Writes o p w text → Answered called rests full d e o p item (write_stopped w)
   answered_by rests full d e o p item text (Ok done) t h = record { text = text; talks = t; written = h }
   answered_by rests full d e o p item text (Err fault) t h = cut_one d e o p item text h.front t h.held h.begins

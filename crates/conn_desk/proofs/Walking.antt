@@ -2,7 +2,7 @@
 use Rattle.std.proofs.Common.{ℕ, ◌≡◌, ◌<◌, List, [], ◌∷◌, ◌++◌, Option, Some, Result, Ok, Err, inl, refl, sym, ap, ◌∙◌, subst, append_assoc, append-nil}
 use Rattle.std.specs.Prelude.{IfSome}
 use Rattle.outside.specs.Written.{Begins}
-use Rattle.scm_model.specs.declared.calls.Request.{Request as Call}
+use Rattle.conn_desk.specs.declared.asked.Asked.{Asked}
 use Rattle.scm_model.specs.declared.calls.Reply.{Reply}
 use Rattle.rpc_session.specs.declared.state.Incoming.{Incoming}
 use Rattle.rpc_session.specs.Items.{Seen, StreamEnd, Told, given_by, BadPdu, TooLong, Gave, Says, IsOpen, items, to_come}
@@ -18,7 +18,7 @@ use Rattle.conn_desk.specs.Serves.{fed}
 use Rattle.conn_desk.proofs.Talking.{answers_none, answers_append, cut_both}
 
 -- a stretch on which all items that were given are answered
-pub record Stretch {D : Type 0} (called : D → D → Call → Option Reply → Type 0) (a b : Point D) : Type 0 where
+pub record Stretch {D : Type 0} (called : D → D → Asked → Option Reply → Type 0) (a b : Point D) : Type 0 where
   pub given : List Incoming
   pub gave : GaveMore (λ stream. stream) a.session b.session given
   pub answers : AreAnswered called a.desk b.desk a.held b.held given
@@ -60,7 +60,7 @@ gave_item s t o item e h = subst (λ x. (stream : List ℕ) (given : List Incomi
 pub shorter_item : (o : Option Incoming) (item : Incoming) (a b : ℕ) → o ≡ Some item → IfSome o (λ _. a < b) → a < b
 shorter_item o item a b e h = subst (λ x. IfSome x (λ _. a < b)) e h
 
-module _ {D : Type 0} (called : D → D → Call → Option Reply → Type 0) (rests : D → D → Type 0) (full : D → Call → Type 0) (a : Point D) where
+module _ {D : Type 0} (called : D → D → Asked → Option Reply → Type 0) (rests : D → D → Type 0) (full : D → Asked → Type 0) (a : Point D) where
   -- nothing yet
   pub begins : Stretch called a a
   begins = record { given = []; gave = gave_nothing a.session; answers = answers_none called a.desk a.held }
@@ -95,7 +95,7 @@ module _ {D : Type 0} (called : D → D → Call → Option Reply → Type 0) (r
   }
 
   -- there is no room for the request of an item
-  one_full : (m b : Point D) (item : Incoming) (request : Call) → Stretch called a m → GaveMore (λ stream. stream) m.session b.session (item ∷ [])
+  one_full : (m b : Point D) (item : Incoming) (request : Asked) → Stretch called a m → GaveMore (λ stream. stream) m.session b.session (item ∷ [])
       → b.held ≡ m.held → asked_by item ≡ Some request → rests m.desk b.desk → full b.desk request → MeetsFull called rests full (λ stream. stream) a b
   one_full m b item request on gave held asks left met = record {
     given = on.given;
@@ -157,7 +157,7 @@ module _ {D : Type 0} (called : D → D → Call → Option Reply → Type 0) (r
 
 -- ## A piece, and the items that it makes whole
 
-module _ {D : Type 0} (called : D → D → Call → Option Reply → Type 0) (rests : D → D → Type 0) (full : D → Call → Type 0) (piece : List ℕ) (a : Point D) where
+module _ {D : Type 0} (called : D → D → Asked → Option Reply → Type 0) (rests : D → D → Type 0) (full : D → Asked → Type 0) (piece : List ℕ) (a : Point D) where
   module _ (s : Seen) (took : (stream : List ℕ) (given : List Incoming) → Gave stream given a.session → Gave (stream ++ piece) given s) where
     abbrev taken : Point D
     taken = record { session = s; desk = a.desk; held = a.held }

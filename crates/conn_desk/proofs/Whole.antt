@@ -3,7 +3,7 @@ use Rattle.std.proofs.Common.{ℕ, ◌≡◌, ◌≤◌, ◌^◌, Bool, List, []
 use Rattle.feed_loop.specs.declared.fed.Fed.{Fed}
 use Rattle.feed_loop.specs.declared.fed.Fed.TheVariants as fed_to
 use Rattle.feed_loop.specs.Feeding.{AllEaten, At, Chain as EatenChain, Feeds, IsFedFor, bytes_of}
-use Rattle.scm_model.specs.declared.calls.Request.{Request as Call}
+use Rattle.conn_desk.specs.declared.asked.Asked.{Asked}
 use Rattle.scm_model.specs.declared.calls.Reply.{Reply}
 use Rattle.rpc_session.specs.Items.{is_at_rest}
 use Rattle.conn_desk.specs.declared.stop.Stop.{Stop}
@@ -23,7 +23,7 @@ served_for stop.WriteFault rest source source_now sink sink_now same cause = (sa
 served_for stop.Full rest source source_now sink sink_now same cause = (same, cause.caused)
 served_for stop.OutOfMemory rest source source_now sink sink_now same cause = (same, cause.caused)
 
-module _ {D O : Type 0} (called : D → D → Call → Option Reply → Type 0) (rests : D → D → Type 0) (full : D → Call → Type 0) (held : O → Option (List ℕ)) (faults : O → ℕ) where
+module _ {D O : Type 0} (called : D → D → Asked → Option Reply → Type 0) (rests : D → D → Type 0) (full : D → Asked → Type 0) (held : O → Option (List ℕ)) (faults : O → ℕ) where
   abbrev eats : At Talker D O → At Talker D O → List ℕ → Type 0
   eats a b piece = Eaten called (point_of held a) (point_of held b) (faults a.output) (faults b.output) piece
 

@@ -3,7 +3,7 @@ use Rattle.std.specs.Prelude.{ℕ, ◌≡◌, ◌≤◌, ◌<◌, ◌^◌, ◌++
 use Rattle.feed_loop.specs.Feeding.{At}
 use Rattle.outside.specs.Causes.{Rose}
 use Rattle.outside.specs.Written.{Begins}
-use Rattle.scm_model.specs.declared.calls.Request.{Request as Call}
+use Rattle.conn_desk.specs.declared.asked.Asked.{Asked}
 use Rattle.scm_model.specs.declared.calls.Reply.{Reply}
 use Rattle.rpc_session.specs.declared.state.Incoming.{Incoming}
 use Rattle.rpc_session.specs.Items.{Seen, StreamEnd, BadPdu, TooLong, Gave, IsOpen, items}
@@ -45,26 +45,26 @@ IsFront grown s given = (stream : List ℕ) (before : List Incoming) → Gave st
 -- ## A stretch
 
 -- all whole items are answered, and the stream may go on
-pub record GoesOn {D : Type 0} (called : D → D → Call → Option Reply → Type 0) (grown : List ℕ → List ℕ) (a b : Point D) : Type 0 where
+pub record GoesOn {D : Type 0} (called : D → D → Asked → Option Reply → Type 0) (grown : List ℕ → List ℕ) (a b : Point D) : Type 0 where
   pub given : List Incoming
   pub gave : GaveMore grown a.session b.session given
   pub waits : IsOpen b.session
   pub answers : AreAnswered called a.desk b.desk a.held b.held given
 
 -- all items before a bad end are answered
-pub record GoesBad {D : Type 0} (called : D → D → Call → Option Reply → Type 0) (grown : List ℕ → List ℕ) (a b : Point D) (ending : StreamEnd) : Type 0 where
+pub record GoesBad {D : Type 0} (called : D → D → Asked → Option Reply → Type 0) (grown : List ℕ → List ℕ) (a b : Point D) (ending : StreamEnd) : Type 0 where
   pub given : List Incoming
   pub ends : EndsWith grown a.session given ending
   pub answers : AreAnswered called a.desk b.desk a.held b.held given
 
 -- the first items are answered, but for a rest of the last one's text
-pub record Breaks {D : Type 0} (called : D → D → Call → Option Reply → Type 0) (grown : List ℕ → List ℕ) (a b : Point D) : Type 0 where
+pub record Breaks {D : Type 0} (called : D → D → Asked → Option Reply → Type 0) (grown : List ℕ → List ℕ) (a b : Point D) : Type 0 where
   pub given : List Incoming
   pub front : IsFront grown a.session given
   pub answers : CutsShort called a.desk b.desk a.held b.held given
 
 -- the first items are answered, and there is no memory for what comes next
-pub record Wants {D : Type 0} (called : D → D → Call → Option Reply → Type 0) (rests : D → D → Type 0) (grown : List ℕ → List ℕ) (a b : Point D) : Type 0 where
+pub record Wants {D : Type 0} (called : D → D → Asked → Option Reply → Type 0) (rests : D → D → Type 0) (grown : List ℕ → List ℕ) (a b : Point D) : Type 0 where
   pub given : List Incoming
   pub front : IsFront grown a.session given
   pub last : D
@@ -72,18 +72,18 @@ pub record Wants {D : Type 0} (called : D → D → Call → Option Reply → Ty
   pub left : IsLeft rests last b.desk
 
 -- the first items are answered, and the desk has no room for the request of the next one
-pub record MeetsFull {D : Type 0} (called : D → D → Call → Option Reply → Type 0) (rests : D → D → Type 0) (full : D → Call → Type 0) (grown : List ℕ → List ℕ) (a b : Point D) : Type 0 where
+pub record MeetsFull {D : Type 0} (called : D → D → Asked → Option Reply → Type 0) (rests : D → D → Type 0) (full : D → Asked → Type 0) (grown : List ℕ → List ℕ) (a b : Point D) : Type 0 where
   pub given : List Incoming
   pub next : Incoming
   pub front : IsFront grown a.session (given ++ next ∷ [])
-  pub request : Call
+  pub request : Asked
   pub asks : asked_by next ≡ Some request
   pub last : D
   pub answers : AreAnswered called a.desk last a.held b.held given
   pub left : rests last b.desk
   pub met : full b.desk request
 
-abbrev pub FedOn : {D T : Type 0} → (called : D → D → Call → Option Reply → Type 0) → (rests : D → D → Type 0) → (full : D → Call → Type 0) → (List ℕ → List ℕ) → (a b : Point D) → Result T Stop → Type 0
+abbrev pub FedOn : {D T : Type 0} → (called : D → D → Asked → Option Reply → Type 0) → (rests : D → D → Type 0) → (full : D → Asked → Type 0) → (List ℕ → List ℕ) → (a b : Point D) → Result T Stop → Type 0
 FedOn called rests full grown a b (Ok done) = GoesOn called grown a b
 FedOn called rests full grown a b (Err (stop.Bad place kind)) = GoesBad called grown a b (BadPdu place kind)
 FedOn called rests full grown a b (Err (stop.TooLong length)) = GoesBad called grown a b (TooLong length)
@@ -110,19 +110,19 @@ write_stopped (Ok done) = Ok done
 write_stopped (Err fault) = Err stop.WriteFault
 
 -- a request was made, and this is the body of its reply
-pub record Replied {D : Type 0} (called : D → D → Call → Option Reply → Type 0) (d e : D) (request : Call) (body : List ℕ) : Type 0 where
+pub record Replied {D : Type 0} (called : D → D → Asked → Option Reply → Type 0) (d e : D) (request : Asked) (body : List ℕ) : Type 0 where
   pub reply : Reply
   pub answered : CallAnswered called d e request reply
   pub written : body ≡ body_of reply
   pub small : length body < 2 ^ 32
 
 -- what became of one item
-abbrev pub Answered : {D T : Type 0} → (called : D → D → Call → Option Reply → Type 0) → (rests : D → D → Type 0) → (full : D → Call → Type 0) → (d e : D) (before now : Option (List ℕ)) → Incoming → Result T Stop → Type 0
+abbrev pub Answered : {D T : Type 0} → (called : D → D → Asked → Option Reply → Type 0) → (rests : D → D → Type 0) → (full : D → Asked → Type 0) → (d e : D) (before now : Option (List ℕ)) → Incoming → Result T Stop → Type 0
 Answered called rests full d e before now item (Ok done) = AreAnswered called d e before now (item ∷ [])
 Answered called rests full d e before now item (Err (stop.Bad place _)) = ⊥
 Answered called rests full d e before now item (Err (stop.TooLong length)) = ⊥
 Answered called rests full d e before now item (Err stop.WriteFault) = CutsShort called d e before now (item ∷ [])
-Answered called rests full d e before now item (Err stop.Full) = (now ≡ before) × (request : Call) × (asked_by item ≡ Some request) × rests d e × full e request
+Answered called rests full d e before now item (Err stop.Full) = (now ≡ before) × (request : Asked) × (asked_by item ≡ Some request) × rests d e × full e request
 Answered called rests full d e before now item (Err stop.OutOfMemory) = (now ≡ before) × IsLeft rests d e
 
 -- the sink's count of faults rose where it is said to have failed, and is the same elsewhere

@@ -3,7 +3,7 @@ use Rattle.std.specs.Prelude.{ℕ, ◌≡◌, ◌<◌, ◌≤◌, ◌^◌, ◌++
 use Rattle.std.specs.Io.KnownBytes.{IsAtEnd}
 use Rattle.outside.specs.Causes.{NeitherFailed, ReadFailed, WriteFailed}
 use Rattle.outside.specs.Written.{Begins}
-use Rattle.scm_model.specs.declared.calls.Request.{Request as Call}
+use Rattle.conn_desk.specs.declared.asked.Asked.{Asked}
 use Rattle.scm_model.specs.declared.calls.Reply.{Reply}
 use Rattle.rpc_session.specs.declared.state.Incoming.{Incoming}
 use Rattle.rpc_session.specs.Items.{StreamEnd, AtRest, Unfinished, BadPdu, TooLong, items}
@@ -66,15 +66,15 @@ pub record CutShort (read : List ℕ) (done : List Incoming) (told : List (Optio
   pub ahead : IsAhead read earlier
 
 -- the next item asks what the desk has no room for
-pub record HasNoRoom {D : Type 0} (full : D → Call → Type 0) (desk : D) (read : List ℕ) (done : List Incoming) : Type 0 where
+pub record HasNoRoom {D : Type 0} (full : D → Asked → Type 0) (desk : D) (read : List ℕ) (done : List Incoming) : Type 0 where
   pub next : Incoming
   pub follows : Begins (done ++ next ∷ []) (items read).items
-  pub request : Call
+  pub request : Asked
   pub asks : asked_by next ≡ Some request
   pub met : full desk request
 
 -- How far a connection came, by what it answered, with its desk behind it.
-abbrev pub Reached : {D : Type 0} → (full : D → Call → Type 0) → (desk : D) → Served → (read : List ℕ) → (left : Option (List ℕ)) → List Incoming → List (Option Reply) → (written : List ℕ) → Type 0
+abbrev pub Reached : {D : Type 0} → (full : D → Asked → Type 0) → (desk : D) → Served → (read : List ℕ) → (left : Option (List ℕ)) → List Incoming → List (Option Reply) → (written : List ℕ) → Type 0
 Reached full desk served.Ended read left done told written = IsAtEnd left × (length read < 2 ^ 40) × AllServed read done AtRest told written
 Reached full desk served.Truncated read left done told written = IsAtEnd left × (length read < 2 ^ 40) × AllServed read done Unfinished told written
 Reached full desk (served.BadPdu place kind) read left done told written = AllBefore read done (BadPdu place kind) told written

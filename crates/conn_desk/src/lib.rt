@@ -2,6 +2,7 @@
 #![tactic(auto)]
 
 mod answering;
+mod asked;
 mod asking;
 mod desk;
 mod feeding;
@@ -10,6 +11,7 @@ mod serving;
 mod stop;
 mod talker;
 
+pub use asked::Asked;
 pub use desk::{Desk, Lacks};
 pub use served::Served;
 pub use serving::serve;

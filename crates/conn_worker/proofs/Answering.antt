@@ -1,13 +1,14 @@
 -- What a pass's requests are told answers them.
-use Rattle.std.proofs.Common.{◌≡◌, ◌∙◌, ℕ, List, [], Option, None, Some, true, false, inl, inr, refl, sym, subst}
+use Rattle.std.proofs.Common.{◌≡◌, ◌∙◌, ◌⊎◌, ℕ, List, [], Option, None, Some, true, false, inl, inr, refl, sym, subst}
 use Rattle.scm_model.specs.declared.calls.Reply.{Reply}
+use Rattle.scm_model.specs.declared.calls.Reply.TheVariants as replies
 use Rattle.scm_model.specs.declared.calls.Request.{Request}
 use Rattle.scm_model.specs.declared.calls.Request.TheVariants as request
 use Rattle.scm_model.specs.declared.steps.Answer.{Answer}
 use Rattle.scm_model.specs.declared.steps.Answer.TheVariants as answers
 use Rattle.scm_model.specs.declared.steps.Kept.TheVariants as appended
 use Rattle.scm_model.specs.declared.steps.Step.{Step}
-use Rattle.scm_model.specs.declared.steps.Step.TheVariants.{Call, EndStart}
+use Rattle.scm_model.specs.declared.steps.Step.TheVariants.{Call, EndStart, Raised}
 use Rattle.scm_bodies.specs.Replies.{Answers}
 use Rattle.scm_runs.proofs.Along.{along}
 use Rattle.scm_runs.proofs.Calls.{keeps}
@@ -17,11 +18,12 @@ use Rattle.scm_answers.specs.Answering.{LawOfAnswering, RepliesRightly}
 use Rattle.scm_answers.proofs.Calls.{of_refused}
 use Rattle.scm_answers.proofs.Steps.{gives}
 use Rattle.book_rule.specs.declared.view.Opening.{Opening}
-use Rattle.scm_book.specs.Called.{AnsweredSo, WantsMemory, called, is_start}
+use Rattle.scm_book.specs.Called.{AnsweredSo, RaiseWants, RaisedSo, WantsMemory, called, is_start, raised_by}
 use Rattle.scm_book.specs.Holds.{Opens}
 use Rattle.scm_book.specs.Passes.{FindsNoRoom, Known, Made, MadeSo, room_behind}
+use Rattle.conn_desk.specs.declared.asked.Asked.TheVariants as asks
 use Rattle.conn_desk.specs.Desks.{CallAnswered}
-use Rattle.conn_worker.specs.Serving.{IsServed}
+use Rattle.conn_worker.specs.Serving.{IsCode, IsServed}
 use Rattle.conn_worker.specs.Waiting.{WaitsAndEnds}
 use Rattle.conn_worker.proofs.Waiting.{waits_caller}
 
@@ -44,7 +46,7 @@ module _ (o : Opening) (opens : Opens o) where
 
   module _ (tells : ℕ → Type 0) (k : Known) (moment : ℕ) (told : tells moment) (asked : Request) where
     -- a request that was answered at once
-    pub at_once : (k' : Known) (reply : Reply) → AnsweredSo o k moment asked reply k' → CallAnswered (IsServed tells o) k k' asked reply
+    pub at_once : (k' : Known) (reply : Reply) → AnsweredSo o k moment asked reply k' → CallAnswered (IsServed tells o) k k' (asks.Call asked) reply
     at_once k' reply (inl made) = record {
       heard = Some reply;
       made = inl (record { moment = moment; told = told; made = made });
@@ -60,13 +62,50 @@ module _ (o : Opening) (opens : Opens o) where
 
     -- a start that waited
     pub waited_for : (begun k' : Known) (plan : ℕ) (reply : Reply) → is_start asked ≡ true → MadeSo o k moment (called k asked) (answers.Begun plan) begun → WaitsAndEnds tells o plan begun reply k'
-        → CallAnswered (IsServed tells o) k k' asked reply
+        → CallAnswered (IsServed tells o) k k' (asks.Call asked) reply
     waited_for begun k' plan reply start made ends = record {
       heard = Some reply;
       made = inr (record { moment = moment; told = told; plan = plan; begun = begun; made = made; ends = ends });
       told = refl;
       answers = of_end ends.waited k' ends.ends.moment ends.waited.caller plan asked reply start ends.ends.made;
     }
+
+-- ## Raises
+
+-- what a raise was told is a code
+pub a_code : (o : Opening) (k k' : Known) (moment : ℕ) (subtype : List ℕ) (reply : Reply) → RaisedSo o k moment subtype reply k' ⊎ RaiseWants o k moment subtype reply k' → IsCode reply
+a_code o k k' moment subtype reply (inl made) = (made.code, made.is)
+a_code o k k' moment subtype reply (inr wants) = (8, wants.refused)
+
+raise_at_once : (tells : ℕ → Type 0) (o : Opening) (k k' : Known) (moment : ℕ) → tells moment → (subtype : List ℕ) (code : ℕ)
+    → RaisedSo o k moment subtype (replies.Code code) k' ⊎ RaiseWants o k moment subtype (replies.Code code) k' → CallAnswered (IsServed tells o) k k' (asks.Raise subtype) (replies.Code code)
+raise_at_once tells o k k' moment told subtype code (inl made) = record {
+  heard = Some (replies.Code code);
+  made = record { moment = moment; told = told; made = made };
+  told = refl;
+  answers = (code, refl);
+}
+raise_at_once tells o k k' moment told subtype code (inr wants) = record {
+  heard = None;
+  made = record { moment = moment; told = told; wants = subst (λ (r : Reply). RaiseWants o k moment subtype r k') wants.refused wants };
+  told = sym wants.refused;
+  answers = (code, refl);
+}
+
+-- a raise, whose reply is this code
+pub raise_answered : (tells : ℕ → Type 0) (o : Opening) (k k' : Known) (moment : ℕ) → tells moment → (subtype : List ℕ) (reply : Reply) (code : ℕ) → reply ≡ replies.Code code
+    → RaisedSo o k moment subtype reply k' ⊎ RaiseWants o k moment subtype reply k' → CallAnswered (IsServed tells o) k k' (asks.Raise subtype) (replies.Code code)
+raise_answered tells o k k' moment told subtype reply code is raised =
+    raise_at_once tells o k k' moment told subtype code
+    (subst (λ (r : Reply). RaisedSo o k moment subtype r k' ⊎ RaiseWants o k moment subtype r k') is raised)
+
+pub raised_caller : (o : Opening) (k k' : Known) (moment : ℕ) (subtype : List ℕ) (reply : Reply) → RaisedSo o k moment subtype reply k' ⊎ RaiseWants o k moment subtype reply k' → k'.caller ≡ k.caller
+raised_caller o k k' moment subtype reply (inl raised) = raised.made.made.caller
+raised_caller o k k' moment subtype reply (inr wants) = wants.made.made.caller
+
+-- there is no room for the raise as the pass is now
+pub raise_full : (o : Opening) (k k' : Known) (subtype : List ℕ) → FindsNoRoom o k (raised_by k subtype) k' → room_behind o k'.seen (raised_by k' subtype) ≡ false
+raise_full o k k' subtype finds = subst (λ (c : ℕ). room_behind o k'.seen (Raised c subtype) ≡ false) (sym finds.learnt.caller) finds.full
 
 -- ## The caller stays
 

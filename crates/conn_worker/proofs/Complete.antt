@@ -5,11 +5,11 @@ use Rattle.std.specs.Io.KnownBytes.{Consumes, IsAtEnd}
 use Rattle.outside.specs.Causes.{Rose}
 use Rattle.outside.specs.Written.{Begins}
 use Rattle.scm_model.specs.declared.calls.Reply.{Reply}
-use Rattle.scm_model.specs.declared.calls.Request.{Request}
 use Rattle.rpc_session.specs.declared.state.Incoming.{Incoming}
 use Rattle.rpc_session.specs.Items.{StreamEnd, AtRest, Unfinished, BadPdu, TooLong, Told, items}
 use Rattle.book_rule.specs.declared.view.Opening.{Opening}
 use Rattle.scm_book.specs.Passes.{Known, Learnt}
+use Rattle.conn_desk.specs.declared.asked.Asked.{Asked}
 use Rattle.conn_desk.specs.declared.served.Served.{Served}
 use Rattle.conn_desk.specs.declared.served.Served.TheVariants as served
 use Rattle.conn_desk.specs.Connection.{HasNoRoom, IsOpenEnd, IsServedFor, Reached}
@@ -81,7 +81,7 @@ pub lacks : (bytes : List ℕ) → EndsAs bytes served.OutOfMemory
 lacks bytes = record { whole = λ _. inr refl; worn = λ _ _ _ _. inr refl }
 
 -- Whatever a connection is full for: where there was room it ends as its input does.
-module _ {D : Type 0} (full : D → Request → Type 0) (at : D) (bytes read : List ℕ) (done : List Incoming) (heard : List (Option Reply)) (written : List ℕ) (left_now : Option (List ℕ))
+module _ {D : Type 0} (full : D → Asked → Type 0) (at : D) (bytes read : List ℕ) (done : List Incoming) (heard : List (Option Reply)) (written : List ℕ) (left_now : Option (List ℕ))
     (consumed : Consumes (Some bytes) left_now read) (most : length read ≤ 2 ^ 40) (source source_now sink sink_now : ℕ) where
   pub ends_as : (how : Served) → Reached full at how read left_now done heard written → IsServedFor how source source_now sink sink_now
       → (Rose source source_now → ⊥) → (Rose sink sink_now → ⊥) → (how ≡ served.Full → HasNoRoom full at read done → ⊥) → EndsAs bytes how

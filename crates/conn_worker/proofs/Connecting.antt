@@ -1,7 +1,6 @@
 -- From a desk to its pass, and the going behind the last request.
 use Rattle.std.proofs.Common.{◌≡◌, ◌≢◌, ◌∙◌, ℕ, List, [], ◌∷◌, ◌++◌, Option, inl, inr, refl, sym, ap, subst, append-nil}
 use Rattle.scm_model.specs.declared.calls.Reply.{Reply}
-use Rattle.scm_model.specs.declared.calls.Request.{Request}
 use Rattle.scm_model.specs.declared.steps.Answer.TheVariants as answers
 use Rattle.scm_model.specs.declared.steps.Step.TheVariants.{Gone}
 use Rattle.scm_history.specs.Owned.{Made as Told, made_of}
@@ -10,6 +9,7 @@ use Rattle.book_rule.specs.declared.view.Opening.{Opening}
 use Rattle.book_rule.specs.Seats.{Identity}
 use Rattle.scm_book.specs.Calls.{Goes}
 use Rattle.scm_book.specs.Passes.{IsOf, Known, Learnt, Made}
+use Rattle.conn_desk.specs.declared.asked.Asked.{Asked}
 use Rattle.conn_desk.specs.declared.served.Served.{Served}
 use Rattle.conn_desk.specs.declared.served.Served.TheVariants as served
 use Rattle.conn_desk.specs.Bodies.{asked}
@@ -22,20 +22,20 @@ use Rattle.conn_worker.proofs.Owning.{DidAll, Makes, adds_made, adds_then, makes
 
 -- a desk that has a pass, a book and a clock
 module _ {D Ck : Type 0} (pass : D → Known) (book : D → Identity) (clock : D → Ck) (tells_at : Ck → ℕ → Type 0) where
-  abbrev pub called : D → D → Request → Option Reply → Type 0
+  abbrev pub called : D → D → Asked → Option Reply → Type 0
   called d e request heard = (book e ≡ book d) × (clock e ≡ clock d) × IsServed (tells_at (clock d)) (book d).opening (pass d) (pass e) request heard
 
   abbrev pub rests : D → D → Type 0
   rests d e = (book e ≡ book d) × (clock e ≡ clock d) × Learnt (book d).opening (pass d) (pass e)
 
-  abbrev pub full : D → Request → Type 0
+  abbrev pub full : D → Asked → Type 0
   full d request = HasNoRoomFor (book d).opening (pass d) request
 
   module _ (b : Identity) (k : Ck) where
     abbrev Is : D → Type 0
     Is d = (book d ≡ b) × (clock d ≡ k)
 
-    calls : (d e : D) (r : Request) (h : Option Reply) → Is d → called d e r h → Is e × IsServed (tells_at k) b.opening (pass d) (pass e) r h
+    calls : (d e : D) (r : Asked) (h : Option Reply) → Is d → called d e r h → Is e × IsServed (tells_at k) b.opening (pass d) (pass e) r h
     calls d e r h is made = (
       (made.0 ∙ is.0, made.1 ∙ is.1),
       subst (λ (x : Identity). IsServed (tells_at k) x.opening (pass d) (pass e) r h) is.0 (subst (λ (x : Ck). IsServed (tells_at x) (book d).opening (pass d) (pass e) r h) is.1 made.2),
@@ -44,10 +44,10 @@ module _ {D Ck : Type 0} (pass : D → Known) (book : D → Identity) (clock : D
     left : (d e : D) → Is d → rests d e → Is e × Learnt b.opening (pass d) (pass e)
     left d e is rested = ((rested.0 ∙ is.0, rested.1 ∙ is.1), subst (λ (x : Identity). Learnt x.opening (pass d) (pass e)) is.0 rested.2)
 
-    fills : (d : D) (r : Request) → Is d → full d r → HasNoRoomFor b.opening (pass d) r
+    fills : (d : D) (r : Asked) → Is d → full d r → HasNoRoomFor b.opening (pass d) r
     fills d r is none = subst (λ (x : Identity). HasNoRoomFor x.opening (pass d) r) is.0 none
 
-    chain_on : (d e : D) (rs : List Request) (hs : List (Option Reply)) → Is d → Chain called d e rs hs → Is e × Chain (IsServed (tells_at k) b.opening) (pass d) (pass e) rs hs
+    chain_on : (d e : D) (rs : List Asked) (hs : List (Option Reply)) → Is d → Chain called d e rs hs → Is e × Chain (IsServed (tells_at k) b.opening) (pass d) (pass e) rs hs
     chain_on d e [] [] is same = (subst Is (sym same) is, ap pass same)
     chain_on d e (r ∷ rs) (h ∷ hs) is chain =
         let one = calls d chain.0 r h is chain.1 in

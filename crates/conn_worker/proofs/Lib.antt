@@ -1,6 +1,6 @@
 mod Waiting
 mod Answering
-mod Owning
+pub mod Owning
 mod Connecting
 pub mod Fronts
 pub mod Complete

@@ -4,11 +4,10 @@ use Rattle.std.specs.Prelude.{All}
 use Rattle.std.proofs.lemmas.List.Elements.{All-append, All-cons, All-head, All-nil, All-tail}
 use mathlib.Core.List.{IsPrefix, map-append}
 use Rattle.scm_model.specs.declared.calls.Reply.{Reply}
-use Rattle.scm_model.specs.declared.calls.Request.{Request}
 use Rattle.scm_model.specs.declared.steps.Answer.{Answer}
 use Rattle.scm_model.specs.declared.steps.Answer.TheVariants as answers
 use Rattle.scm_model.specs.declared.steps.Step.{Step}
-use Rattle.scm_model.specs.declared.steps.Step.TheVariants.{Call, EndStart, LaunchFailed, LaunchTaken, NoMemory}
+use Rattle.scm_model.specs.declared.steps.Step.TheVariants.{Call, EndStart, LaunchFailed, LaunchTaken, NoMemory, Raised}
 use Rattle.scm_model.specs.Entries.{Entry}
 use Rattle.scm_rules.specs.Histories.{answer, state}
 use Rattle.scm_rules.specs.Steps.{step_of}
@@ -16,10 +15,13 @@ use Rattle.scm_runs.proofs.Histories.{told}
 use Rattle.scm_history.specs.Owned.{Made as Told, made_of}
 use Rattle.book_rule.specs.declared.view.Opening.{Opening}
 use Rattle.book_rule.proofs.Prefixes.{prefix_self, prefix_snoc, prefix_trans}
-use Rattle.scm_book.specs.Passes.{Known, Learnt, Made}
+use Rattle.scm_book.specs.Called.{RaisedSo}
+use Rattle.scm_book.specs.Passes.{Known, Learnt, Made, MadeSo}
+use Rattle.conn_desk.specs.declared.asked.Asked.{Asked}
+use Rattle.conn_desk.specs.declared.asked.Asked.TheVariants as asks
 use Rattle.conn_desk.specs.Desks.{Chain}
 use Rattle.conn_worker.specs.Owning.{Adds, AreFailures, AreOf, AreOfAll, AreTold, Owns, StandAt, StandsAt}
-use Rattle.conn_worker.specs.Serving.{IsServed}
+use Rattle.conn_worker.specs.Serving.{IsServed, Wants}
 use Rattle.conn_worker.specs.Waiting.{Turns, Waits, WaitsOnce}
 
 -- ## Places stay
@@ -101,6 +103,11 @@ adds_then o k m k' xs ys first then = record {
   };
 }
 
+-- a want of memory stands in the request's place
+pub want_made : (o : Opening) (k k' : Known) (moment : ℕ) (asked : Asked) → Wants o k moment asked k' → MadeSo o k moment (NoMemory k.caller) answers.Done k'
+want_made o k k' moment (asks.Call request) wants = wants.made
+want_made o k k' moment (asks.Raise subtype) wants = wants.made
+
 -- ## At moments that the clock tells, by the same caller
 
 pub record Makes (tells : ℕ → Type 0) (o : Opening) (k : Known) (entries : List Told) (k' : Known) : Type 0 where
@@ -167,25 +174,33 @@ module _ (tells : ℕ → Type 0) (o : Opening) where
 
   -- ## Requests
 
-  pub record Did (k k' : Known) (asked : Request) (heard : Option Reply) : Type 0 where
+  pub record Did (k k' : Known) (asked : Asked) (heard : Option Reply) : Type 0 where
     pub entries : List Told
     pub makes : Makes tells o k entries k'
     pub of : AreOf k.caller asked heard entries
 
-  of_served : (k k' : Known) (asked : Request) (heard : Option Reply) → IsServed tells o k k' asked heard → Did k k' asked heard
-  of_served k k' asked None wanted = record {
-    entries = made_of (wanted.moment, NoMemory k.caller) answers.Done ∷ [];
-    makes = makes_one k k' wanted.moment (NoMemory k.caller) answers.Done wanted.told wanted.wants.made.made wanted.wants.made.made.caller;
-    of = (wanted.moment, refl);
-  }
-  of_served k k' asked (Some reply) (inl at_once) =
+  of_served : (k k' : Known) (asked : Asked) (heard : Option Reply) → IsServed tells o k k' asked heard → Did k k' asked heard
+  of_served k k' asked None wanted =
+      let want = want_made o k k' wanted.moment asked wanted.wants in record {
+        entries = made_of (wanted.moment, NoMemory k.caller) answers.Done ∷ [];
+        makes = makes_one k k' wanted.moment (NoMemory k.caller) answers.Done wanted.told want.made want.made.caller;
+        of = (wanted.moment, refl);
+      }
+  of_served k k' (asks.Raise subtype) (Some reply) raised =
+      let made : RaisedSo o k raised.moment subtype reply k' = raised.made in
+      let step : Made o k raised.moment (Raised k.caller subtype) (answers.Reply reply) k' = made.made.made in record {
+        entries = made_of (raised.moment, Raised k.caller subtype) (answers.Reply reply) ∷ [];
+        makes = makes_one k k' raised.moment (Raised k.caller subtype) (answers.Reply reply) raised.told step step.caller;
+        of = record { moment = raised.moment; code = made.code; is_code = made.is; is = refl };
+      }
+  of_served k k' (asks.Call asked) (Some reply) (inl at_once) =
       let made = at_once.made in
       let one : Told = made_of (at_once.moment, Call k.caller asked made.append) (answers.Reply reply) in record {
         entries = one ∷ [];
         makes = makes_one k k' at_once.moment (Call k.caller asked made.append) (answers.Reply reply) at_once.told made.made made.made.caller;
         of = inl (one, record { moment = at_once.moment; append = made.append; is = refl }, refl);
       }
-  of_served k k' asked (Some reply) (inr waited) =
+  of_served k k' (asks.Call asked) (Some reply) (inr waited) =
       let made = waited.made in
       let ends = waited.ends in
       let last = ends.ends in
@@ -211,12 +226,12 @@ module _ (tells : ℕ → Type 0) (o : Opening) where
         });
       }
 
-  pub record DidAll (k k' : Known) (requests : List Request) (heard : List (Option Reply)) : Type 0 where
+  pub record DidAll (k k' : Known) (requests : List Asked) (heard : List (Option Reply)) : Type 0 where
     pub entries : List Told
     pub makes : Makes tells o k entries k'
     pub of : AreOfAll k.caller requests heard entries
 
-  pub of_chain : (k k' : Known) (requests : List Request) (heard : List (Option Reply)) → Chain (IsServed tells o) k k' requests heard → DidAll k k' requests heard
+  pub of_chain : (k k' : Known) (requests : List Asked) (heard : List (Option Reply)) → Chain (IsServed tells o) k k' requests heard → DidAll k k' requests heard
   of_chain k k' [] [] same = record { entries = []; makes = makes_none k k' same; of = refl }
   of_chain k k' (asked ∷ requests) (told ∷ heard) chain =
       let first : Did k chain.0 asked told = of_served k chain.0 asked told chain.1 in

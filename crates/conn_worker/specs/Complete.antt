@@ -3,18 +3,17 @@ use Rattle.std.specs.Prelude.{ℕ, ◌≡◌, ◌⊎◌, ◌<◌, ◌^◌, ◌++
 use Rattle.outside.specs.Causes.{Rose}
 use Rattle.outside.specs.Written.{Begins}
 use Rattle.scm_model.specs.declared.calls.Reply.{Reply}
-use Rattle.scm_model.specs.declared.calls.Request.{Request}
 use Rattle.rpc_session.specs.declared.state.Incoming.{Incoming}
 use Rattle.rpc_session.specs.Items.{StreamEnd, AtRest, Unfinished, BadPdu, TooLong, items}
 use Rattle.book_rule.specs.declared.view.Opening.{Opening}
-use Rattle.scm_book.specs.Called.{called}
 use Rattle.scm_book.specs.Passes.{Known, Learnt, room_behind}
+use Rattle.conn_desk.specs.declared.asked.Asked.{Asked}
 use Rattle.conn_desk.specs.declared.served.Served.{Served}
 use Rattle.conn_desk.specs.declared.served.Served.TheVariants as served
 use Rattle.conn_desk.specs.Bodies.{asked, asked_by}
 use Rattle.conn_desk.specs.Connection.{IsOpenEnd}
 use Rattle.conn_desk.specs.Desks.{Chain}
-use Rattle.conn_worker.specs.Serving.{IsServed}
+use Rattle.conn_worker.specs.Serving.{IsServed, step_for}
 
 -- ## The input's end
 
@@ -44,6 +43,6 @@ IsComplete room left source source_now sink sink_now how =
 -- behind whatever a pass may come to by the first requests of these bytes, the limits have room for the next one
 abbrev pub HasRoomForAll : (tells : ℕ → Type 0) → Opening → Known → List ℕ → Type 0
 HasRoomForAll tells o k bytes =
-    (done : List Incoming) (next : Incoming) (request : Request) → Begins (done ++ next ∷ []) (items bytes).items → asked_by next ≡ Some request
+    (done : List Incoming) (next : Incoming) (request : Asked) → Begins (done ++ next ∷ []) (items bytes).items → asked_by next ≡ Some request
     → (heard : List (Option Reply)) (last now : Known) → Chain (IsServed tells o) k last (asked done) heard → Learnt o last now
-    → room_behind o now.seen (called now request) ≡ true
+    → room_behind o now.seen (step_for now.caller request) ≡ true

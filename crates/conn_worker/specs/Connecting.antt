@@ -2,25 +2,24 @@
 use Rattle.std.specs.Prelude.{◌^◌, ℕ, ◌≡◌, ◌≤◌, ◌++◌, false, List, [], ◌∷◌, length, Option}
 use Rattle.std.specs.Io.KnownBytes.{Appends, Consumes}
 use Rattle.scm_model.specs.declared.calls.Reply.{Reply}
-use Rattle.scm_model.specs.declared.calls.Request.{Request}
 use Rattle.scm_model.specs.declared.steps.Answer.TheVariants as answers
 use Rattle.scm_model.specs.declared.steps.Step.TheVariants.{Gone}
 use Rattle.scm_history.specs.Owned.{Made as Told, made_of}
 use Rattle.rpc_session.specs.declared.state.Incoming.{Incoming}
 use Rattle.book_rule.specs.declared.view.Opening.{Opening}
-use Rattle.scm_book.specs.Called.{called}
 use Rattle.scm_book.specs.Passes.{Known, Learnt, Made, room_behind}
+use Rattle.conn_desk.specs.declared.asked.Asked.{Asked}
 use Rattle.conn_desk.specs.declared.served.Served.{Served}
 use Rattle.conn_desk.specs.Bodies.{asked}
 use Rattle.conn_desk.specs.Connection.{Reached}
 use Rattle.conn_desk.specs.Desks.{Chain}
 use Rattle.conn_desk.specs.Serves.{Leaves}
 use Rattle.conn_worker.specs.Owning.{Adds, AreOfAll, AreTold}
-use Rattle.conn_worker.specs.Serving.{IsServed}
+use Rattle.conn_worker.specs.Serving.{IsServed, step_for}
 
--- the limits have no room for a call behind what the pass has seen
-abbrev pub HasNoRoomFor : Opening → Known → Request → Type 0
-HasNoRoomFor o k asked = room_behind o k.seen (called k asked) ≡ false
+-- the limits have no room for a request behind what the pass has seen
+abbrev pub HasNoRoomFor : Opening → Known → Asked → Type 0
+HasNoRoomFor o k asked = room_behind o k.seen (step_for k.caller asked) ≡ false
 
 pub record Connects (tells : ℕ → Type 0) (o : Opening) (k k' : Known) (left left_now held held_now : Option (List ℕ)) (how : Served) : Type 0 where
   -- what was read and written, the items that were answered, and what was heard of their requests

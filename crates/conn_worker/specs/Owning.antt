@@ -3,16 +3,19 @@ use Rattle.std.specs.Prelude.{ℕ, ◌≡◌, ◌⊎◌, ◌++◌, All, true, Li
 use mathlib.Core.List.{IsPrefix}
 use Rattle.scm_model.specs.declared.codes.TheConstants.{ERROR_SERVICE_NO_THREAD}
 use Rattle.scm_model.specs.declared.calls.Reply.{Reply}
+use Rattle.scm_model.specs.declared.calls.Reply.TheVariants as replies
 use Rattle.scm_model.specs.declared.calls.Request.{Request}
 use Rattle.scm_model.specs.declared.steps.Answer.{Answer}
 use Rattle.scm_model.specs.declared.steps.Answer.TheVariants as answers
 use Rattle.scm_model.specs.declared.steps.Kept.{Kept}
-use Rattle.scm_model.specs.declared.steps.Step.TheVariants.{Call, EndStart, LaunchFailed, LaunchTaken, NoMemory}
+use Rattle.scm_model.specs.declared.steps.Step.TheVariants.{Call, EndStart, LaunchFailed, LaunchTaken, NoMemory, Raised}
 use Rattle.scm_model.specs.Entries.{Entry}
 use Rattle.scm_rules.specs.Histories.{answer}
 use Rattle.scm_history.specs.Owned.{Made as Told, made_of}
 use Rattle.book_rule.specs.declared.view.Opening.{Opening}
 use Rattle.scm_book.specs.Passes.{IsSame, Known}
+use Rattle.conn_desk.specs.declared.asked.Asked.{Asked}
+use Rattle.conn_desk.specs.declared.asked.Asked.TheVariants as asks
 
 -- ## Places
 
@@ -81,13 +84,25 @@ pub record HasWaited (caller : ℕ) (asked : Request) (reply : Reply) (entries :
   pub moment : ℕ
   pub is : entries ≡ call ∷ turns ++ made_of (moment, EndStart caller plan) (answers.Reply reply) ∷ []
 
+-- the raise alone, told a code, which is the reply
+pub record IsRaise (caller : ℕ) (subtype : List ℕ) (reply : Reply) (entries : List Told) : Type 0 where
+  pub moment : ℕ
+  pub code : ℕ
+  pub is_code : reply ≡ replies.Code code
+  pub is : entries ≡ made_of (moment, Raised caller subtype) (answers.Reply reply) ∷ []
+
+-- the entries of a request that was told a reply
+abbrev pub AreOfTold : ℕ → Asked → Reply → List Told → Type 0
+AreOfTold caller (asks.Call request) reply entries = IsAtOnce caller request reply entries ⊎ HasWaited caller request reply entries
+AreOfTold caller (asks.Raise subtype) reply entries = IsRaise caller subtype reply entries
+
 -- the entries of a caller's request, by what was heard of it
-abbrev pub AreOf : ℕ → Request → Option Reply → List Told → Type 0
-AreOf caller asked (Some reply) entries = IsAtOnce caller asked reply entries ⊎ HasWaited caller asked reply entries
+abbrev pub AreOf : ℕ → Asked → Option Reply → List Told → Type 0
+AreOf caller asked (Some reply) entries = AreOfTold caller asked reply entries
 AreOf caller asked None entries = (moment : ℕ) × (entries ≡ made_of (moment, NoMemory caller) answers.Done ∷ [])
 
 -- those of its requests, one after another
-abbrev pub AreOfAll : ℕ → List Request → List (Option Reply) → List Told → Type 0
+abbrev pub AreOfAll : ℕ → List Asked → List (Option Reply) → List Told → Type 0
 AreOfAll caller [] [] entries = entries ≡ []
 AreOfAll caller (asked ∷ more) (heard ∷ others) entries =
     (first : List Told) × (rest : List Told) × (entries ≡ first ++ rest) × AreOf caller asked heard first × AreOfAll caller more others rest

@@ -1,8 +1,9 @@
-// One request at the book.
+// One call at the book.
 ghost use Rattle.std.specs.Prelude.{◌≡◌, ◌≢◌, IfOk, IsErrOf, IsTrue, OnErr};
 ghost use Rattle.scm_model.specs.Ranges.{in_range};
 ghost use Rattle.scm_book.specs.Called.{is_start};
 ghost use Rattle.scm_book.specs.Passes.{HasPlan, IsOf, Learnt};
+ghost use Rattle.conn_desk.specs.declared.asked.Asked.TheVariants.{Call};
 ghost use Rattle.conn_desk.specs.Desks.{CallAnswered};
 ghost use Rattle.conn_worker.specs.Connecting.{HasNoRoomFor};
 ghost use Rattle.conn_worker.specs.Serving.{IsServed};
@@ -75,7 +76,7 @@ fn wait<R: Wait, K: Keeper, C: Clock, W: Waiter<K>>(
     unreachable!()
 }
 
-/// Makes a request. A start that waits is answered once it is decided.
+/// Makes a call. A start that waits is answered once it is decided.
 pub fn ask<R: Wait, K: Keeper, C: Clock, W: Waiter<K>>(
     rt: &R,
     book: &Book<K>,
@@ -91,9 +92,10 @@ pub fn ask<R: Wait, K: Keeper, C: Clock, W: Waiter<K>>(
     ensures caller { pass.new.caller ≡ pass.old.caller }
     ensures answered { IfOk result (λ reply.
         CallAnswered (IsServed (C.tells clock.now) book.now.opening) pass.old pass.new
-        request reply) }
+        (Call request) reply) }
     ensures left { OnErr result (Learnt book.now.opening pass.old pass.new) }
-    ensures full { IsErrOf result Lacks.Full → HasNoRoomFor book.now.opening pass.new request }
+    ensures full { IsErrOf result Lacks.Full →
+        HasNoRoomFor book.now.opening pass.new (Call request) }
 {
     book.opens();
     let moment = clock.now();

@@ -1,5 +1,6 @@
 // A connection's place at the book.
 use crate::asking::ask;
+use crate::raising::raise;
 use crate::waiter::Waiter;
 use conn_desk::{Desk, Lacks};
 use outside::Clock;
@@ -27,13 +28,13 @@ impl<'a, R: Wait, K: Keeper, C: Clock, W: Waiter<K>> Desk for BookDesk<'a, R, K,
 
     ghost ready = { λ d. IsOf d.book.now d.pass × (d.pass.caller ≢ 0) };
 
-    ghost called = { λ d e request heard. (e.book.now ≡ d.book.now) × (e.clock.now ≡ d.clock.now)
-        × IsServed (C.tells d.clock.now) d.book.now.opening d.pass e.pass request heard };
+    ghost called = { λ d e asked heard. (e.book.now ≡ d.book.now) × (e.clock.now ≡ d.clock.now)
+        × IsServed (C.tells d.clock.now) d.book.now.opening d.pass e.pass asked heard };
 
     ghost rests = { λ d e. (e.book.now ≡ d.book.now) × (e.clock.now ≡ d.clock.now)
         × Learnt d.book.now.opening d.pass e.pass };
 
-    ghost full = { λ d request. HasNoRoomFor d.book.now.opening d.pass request };
+    ghost full = { λ d asked. HasNoRoomFor d.book.now.opening d.pass asked };
 
     fn call(&mut self, request: Request) -> Result<Reply, Lacks> {
         ask(
@@ -44,5 +45,9 @@ impl<'a, R: Wait, K: Keeper, C: Clock, W: Waiter<K>> Desk for BookDesk<'a, R, K,
             self.waiter,
             request,
         )
+    }
+
+    fn raise(&mut self, subtype: [u8; 16]) -> Result<u32, Lacks> {
+        raise(self.rt, self.book, &mut self.pass, self.clock, subtype)
     }
 }

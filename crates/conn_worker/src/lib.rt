@@ -1,10 +1,11 @@
-//! One connection over the book: each request is a step of the connection's pass, and a start that
-//! waits is looked after until it is decided.
+//! One connection over the book: each request, a call or a raise, is a step of the connection's
+//! pass, and a start that waits is looked after until it is decided.
 #![tactic(auto)]
 
 mod asking;
 mod connection;
 mod desk;
+mod raising;
 mod waiter;
 
 pub use connection::{Ended, serve_connection};

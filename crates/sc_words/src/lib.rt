@@ -19,5 +19,6 @@ pub use fault::WordsFault;
 pub use reading::read_words;
 pub use settings::{Key, Settings};
 pub use showing::{is_refused, show_reply};
+pub use texts::word_text;
 pub use values::StartType;
 pub use verb::Verb;

@@ -11,7 +11,7 @@ use Rattle.scm_model.specs.declared.calls.Request.{Request}
 use Rattle.scm_model.specs.declared.calls.Request.TheVariants as request
 use Rattle.scm_model.specs.declared.steps.Kept.{Kept}
 use Rattle.scm_model.specs.declared.steps.Step.{Step}
-use Rattle.scm_model.specs.declared.steps.Step.TheVariants.{Call, EndStart, LaunchTaken, Report, Ended, ControlTaken}
+use Rattle.scm_model.specs.declared.steps.Step.TheVariants.{Call, EndStart, LaunchTaken, Report, Ended, ControlTaken, Raised}
 use Rattle.scm_model.specs.Changes.{with_moment}
 use Rattle.scm_model.specs.Outcomes.{Done}
 use Rattle.scm_model.specs.Ranges.{in_range}
@@ -25,6 +25,7 @@ use Rattle.status_machine.specs.Moves.{take_report}
 use Rattle.scm_rules.specs.Controls.{control_sent, control_taken, controls_of, first_control}
 use Rattle.scm_rules.specs.Launches.{first_wanted, launch_taken, launch_told}
 use Rattle.scm_rules.specs.Ends.{end_told, process_ended}
+use Rattle.scm_rules.specs.Raise.{raise_verdict}
 use Rattle.scm_rules.specs.Reports.{current_of, report_answer, report_told, reported}
 use Rattle.scm_rules.specs.Start.{start_done, start_verdict}
 use Rattle.scm_rules.specs.Valid.{HasShortName}
@@ -93,6 +94,7 @@ answers_step l f moment LaunchTaken s ok = launch_untold (settled l (launch_take
 answers_step l f moment (ControlTaken process) s ok = control_untold (settled l (control_taken (with_moment f moment) process).flat) (first_control (controls_of f process))
 answers_step l f moment (Report process status) s ok = report_untold (settled l (reported (with_moment f moment) process status).flat) (current_of f process) status
 answers_step l f moment (Ended process) s ok = end_untold (settled l (process_ended (with_moment f moment) process).flat) (current_of f process)
+answers_step l f moment (Raised caller subtype) s ok = (raise_verdict f caller, refl)
 answers_step l f moment step s ok = tt
 
 pub gives : (l : Limits) → Gives Sound LawOfAnswering l

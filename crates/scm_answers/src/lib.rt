@@ -10,9 +10,9 @@ use scm_model::{Flat, Limits, Step};
 use scm_text::Items;
 
 /// Every reply of a legal history answers its request: that of a call its own, and that of the end
-/// of a start whatever started it; no other entry has a reply. So does every refusal that tells no
-/// more than its code, as that of a call that found no memory. So the bytes of a reply are at most
-/// `reply_bound` of its request.
+/// of a start whatever started it; a raise is told a code, and no other entry has a reply. So does
+/// every refusal that tells no more than its code, as that of a call that found no memory. So the
+/// bytes of a reply are at most `reply_bound` of its request.
 pub fn replies_answer_their_requests(limits: &Limits, steps: &Items<(u64, Step)>, opening: &Flat)
     requires begins { IsOpening limits.now opening.now }
     requires legal { Legal limits.now opening.now steps.now }

@@ -9,7 +9,7 @@ use Rattle.scm_model.specs.declared.calls.Request.{Request}
 use Rattle.scm_model.specs.declared.steps.Answer.{Answer}
 use Rattle.scm_model.specs.declared.steps.Answer.TheVariants as answers
 use Rattle.scm_model.specs.declared.steps.Kept.{Kept}
-use Rattle.scm_model.specs.declared.steps.Step.TheVariants.{Call, EndStart, Gone, Joined, LaunchFailed, LaunchTaken, NoMemory}
+use Rattle.scm_model.specs.declared.steps.Step.TheVariants.{Call, EndStart, Gone, Joined, LaunchFailed, LaunchTaken, NoMemory, Raised}
 use Rattle.scm_model.specs.Changes.{with_moment}
 use Rattle.scm_model.specs.Entries.{Entry}
 use Rattle.start_plan.specs.Settle.{settled}
@@ -45,6 +45,12 @@ pub begun_tells : (l : Limits) (f : Flat) (m c : ℕ) (asked : Request) (append 
     → heard_by c (Call c asked append) (step_of l f m (Call c asked append)).answer ≡ None
 begun_tells l f m c asked append plan is =
     subst (λ (a : Answer). heard_by c (Call c asked append) a ≡ None) is (rw (same_number c) refl)
+
+-- a raise that was told a reply
+pub raise_tells : (l : Limits) (f : Flat) (m c : ℕ) (subtype : List ℕ) (reply : Reply) → answers.Reply reply ≡ (step_of l f m (Raised c subtype)).answer
+    → heard_by c (Raised c subtype) (step_of l f m (Raised c subtype)).answer ≡ Some (Some reply)
+raise_tells l f m c subtype reply is =
+    subst (λ (a : Answer). heard_by c (Raised c subtype) a ≡ Some (Some reply)) is (rw (same_number c) refl)
 
 -- the end of a start tells its reply
 pub end_tells : (l : Limits) (f : Flat) (m c plan : ℕ) (reply : Reply) → answers.Reply reply ≡ (step_of l f m (EndStart c plan)).answer

@@ -8,9 +8,7 @@ use Rattle.scm_model.specs.declared.flat.Flat.{Flat}
 use Rattle.scm_model.specs.declared.flat.Limits.{Limits}
 use Rattle.scm_model.specs.declared.flat.Principal.{Principal}
 use Rattle.scm_model.specs.declared.calls.Reply.{Reply}
-use Rattle.scm_model.specs.declared.calls.Request.{Request}
-use Rattle.scm_model.specs.declared.steps.Kept.TheVariants.{NotAsked}
-use Rattle.scm_model.specs.declared.steps.Step.TheVariants.{Call, Gone, Joined}
+use Rattle.scm_model.specs.declared.steps.Step.TheVariants.{Gone, Joined}
 use Rattle.scm_model.specs.Entries.{Entry, text_in}
 use Rattle.scm_rules.specs.Histories.{Legal, state}
 use Rattle.scm_rules.specs.Room.{has_room}
@@ -25,6 +23,7 @@ use Rattle.scm_book.specs.declared.book.Closed.{Closed}
 use Rattle.scm_book.specs.Calls.{Closes}
 use Rattle.scm_book.specs.Holds.{RoseBy, failures_in}
 use Rattle.scm_book.specs.Passes.{Known, Learnt}
+use Rattle.conn_desk.specs.declared.asked.Asked.{Asked}
 use Rattle.conn_desk.specs.declared.served.Served.{Served}
 use Rattle.conn_desk.specs.declared.served.Served.TheVariants as served
 use Rattle.conn_desk.specs.Bodies.{asked}
@@ -34,7 +33,7 @@ use Rattle.conn_desk.specs.Serves.{Leaves}
 use Rattle.conn_desk.proofs.Talking.{chain_as_many}
 use Rattle.conn_worker.specs.Complete.{EndsAs, IsComplete}
 use Rattle.conn_worker.specs.Connecting.{Connects, HasNoRoomFor}
-use Rattle.conn_worker.specs.Serving.{IsServed}
+use Rattle.conn_worker.specs.Serving.{IsServed, step_for}
 use Rattle.conn_worker.proofs.Complete.{ends_as, lacks, rest_of}
 use Rattle.conn_worker.proofs.Fronts.{front_of_all}
 use Rattle.scm_pipe.specs.declared.alone.Piped.{Piped}
@@ -69,9 +68,9 @@ sees_no_more o served.OutOfMemory last stood alone (inr learnt) = sees_learnt o 
 sees_no_more o how last stood alone leaves = sees_same last stood leaves
 
 -- no room for a request of caller 1 behind what the pass has seen
-no_room : (o : Opening) (stood : Known) (request : Request) → stood.caller ≡ the_caller → HasNoRoomFor o stood request → HasNoRoomBehind o.limits o.first stood.seen request
+no_room : (o : Opening) (stood : Known) (request : Asked) → stood.caller ≡ the_caller → HasNoRoomFor o stood request → HasNoRoomBehind o.limits o.first stood.seen request
 no_room o stood request mine none =
-    subst (λ (c : ℕ). has_room o.limits (state o.limits o.first stood.seen) (length stood.seen) (text_in stood.seen) (Call c request NotAsked) ≡ false) mine none
+    subst (λ (c : ℕ). has_room o.limits (state o.limits o.first stood.seen) (length stood.seen) (text_in stood.seen) (step_for c request) ≡ false) mine none
 
 reached_so : (o : Opening) (how : Served) (stood : Known) (read : List ℕ) (left_now : Option (List ℕ)) (done : List Incoming) (heard : List (Option Reply)) (written : List ℕ)
     → stood.caller ≡ the_caller → Reached (HasNoRoomFor o) stood how read left_now done heard written

@@ -11,7 +11,7 @@ use Rattle.scm_model.specs.declared.codes.TheConstants.{ERROR_SERVICE_NO_THREAD}
 use Rattle.scm_model.specs.declared.steps.Answer.{Answer}
 use Rattle.scm_model.specs.declared.steps.Answer.TheVariants as answers
 use Rattle.scm_model.specs.declared.steps.Step.{Step}
-use Rattle.scm_model.specs.declared.steps.Step.TheVariants.{Call, EndStart, LaunchFailed, LaunchTaken, NoMemory}
+use Rattle.scm_model.specs.declared.steps.Step.TheVariants.{Call, EndStart, LaunchFailed, LaunchTaken, NoMemory, Raised}
 use Rattle.scm_model.specs.Entries.{Entry}
 use Rattle.start_plan.specs.Decided.{code_of}
 use Rattle.scm_rules.specs.Histories.{answer, state}
@@ -19,12 +19,16 @@ use Rattle.scm_rules.specs.Runs.{run_state}
 use Rattle.scm_rules.specs.Steps.{step_of}
 use Rattle.scm_runs.proofs.Histories.{same_answer, state_behind, state_is, state_more, told}
 use Rattle.book_rule.specs.declared.view.Opening.{Opening}
-use Rattle.scm_book.specs.Passes.{Known, Learnt, Made}
+use Rattle.scm_book.specs.Called.{RaisedSo}
+use Rattle.scm_book.specs.Passes.{Known, Learnt, Made, MadeSo}
+use Rattle.conn_desk.specs.declared.asked.Asked.{Asked}
+use Rattle.conn_desk.specs.declared.asked.Asked.TheVariants as asks
 use Rattle.conn_desk.specs.Desks.{Chain}
-use Rattle.conn_worker.specs.Serving.{IsServed as IsServedBy, IsTold, IsRefused, IsWaitedFor}
+use Rattle.conn_worker.specs.Serving.{IsServed as IsServedBy, IsRaised, IsRefused, IsTold, IsWaitedFor}
 use Rattle.conn_worker.specs.Waiting.{Ends, FailsLaunch, Turns, Waits as WaitsBehind, WaitsOnce}
-use Rattle.scm_pipe.specs.Histories.{AreServed, Follows, IsServed, Waits, replies}
-use Rattle.scm_pipe.proofs.Histories.{begun_tells, call_tells, end_tells, failure_tells, first_told, replies_append, want_tells}
+use Rattle.conn_worker.proofs.Owning.{want_made}
+use Rattle.scm_pipe.specs.Histories.{AreServed, Follows, IsAskedAs, IsServed, Waits, replies}
+use Rattle.scm_pipe.proofs.Histories.{begun_tells, call_tells, end_tells, failure_tells, first_told, raise_tells, replies_append, want_tells}
 
 module _ (tells : ℕ → Type 0) (o : Opening) where
   abbrev l : Limits
@@ -147,7 +151,7 @@ module _ (tells : ℕ → Type 0) (o : Opening) where
   -- ## Requests
 
   -- what serves these requests of a caller leads from k to k', and is told this
-  pub record RunsTo (c : ℕ) (k k' : Known) (g : Flat) (requests : List Request) (told_so : List (Option Reply)) : Type 0 where
+  pub record RunsTo (c : ℕ) (k k' : Known) (g : Flat) (requests : List Asked) (told_so : List (Option Reply)) : Type 0 where
     pub entries : List Entry
     pub seen : k'.seen ≡ k.seen ++ entries
     pub served : AreServed l g c requests entries
@@ -157,7 +161,7 @@ module _ (tells : ℕ → Type 0) (o : Opening) where
     pub caller : k'.caller ≡ c
 
   -- the entries of one
-  record Serves (c : ℕ) (k k' : Known) (g : Flat) (asked : Request) (told_so : Option Reply) : Type 0 where
+  record Serves (c : ℕ) (k k' : Known) (g : Flat) (asked : Asked) (told_so : Option Reply) : Type 0 where
     entries : List Entry
     seen : k'.seen ≡ k.seen ++ entries
     served : IsServed l g c asked entries
@@ -166,7 +170,7 @@ module _ (tells : ℕ → Type 0) (o : Opening) where
     alone : k'.alone ≡ true
     caller : k'.caller ≡ c
 
-  at_once : (c : ℕ) (k k' : Known) (g : Flat) (asked : Request) (reply : Reply) → k.alone ≡ true → at k ≡ g → k.caller ≡ c → IsTold tells o k asked reply k' → Serves c k k' g asked (Some reply)
+  at_once : (c : ℕ) (k k' : Known) (g : Flat) (asked : Request) (reply : Reply) → k.alone ≡ true → at k ≡ g → k.caller ≡ c → IsTold tells o k asked reply k' → Serves c k k' g (asks.Call asked) (Some reply)
   at_once c k k' g asked reply alone is mine one =
       let t = one.moment in
       let append = one.made.append in
@@ -182,22 +186,43 @@ module _ (tells : ℕ → Type 0) (o : Opening) where
         caller = made.caller ∙ mine;
       }
 
-  refused_so : (c : ℕ) (k k' : Known) (g : Flat) (asked : Request) → k.alone ≡ true → at k ≡ g → k.caller ≡ c → IsRefused tells o k asked k' → Serves c k k' g asked None
+  raised_so : (c : ℕ) (k k' : Known) (g : Flat) (subtype : List ℕ) (reply : Reply) → k.alone ≡ true → at k ≡ g → k.caller ≡ c → IsRaised tells o k subtype reply k' → Serves c k k' g (asks.Raise subtype) (Some reply)
+  raised_so c k k' g subtype reply alone is mine one =
+      let t = one.moment in
+      let so : RaisedSo o k t subtype reply k' = one.made in
+      let raise : Step = Raised c subtype in
+      let made : Made o k t raise (answers.Reply reply) k' = subst (λ (n : ℕ). Made o k t (Raised n subtype) (answers.Reply reply) k') mine so.made.made in
+      let step = steps k k' t raise (answers.Reply reply) g alone is made in record {
+        entries = (t, raise) ∷ [];
+        seen = step.seen;
+        served = ((refl, refl), subst (λ (a : Answer). Follows l (step_of l g t raise).flat c a []) step.answers refl);
+        heard = ap (λ (x : Option (Option Reply)). cons_option x []) (raise_tells l g t c subtype reply step.answers);
+        moments = All-cons (λ (e : Entry). tells e.0) (t, raise) [] one.told (All-nil (λ (e : Entry). tells e.0));
+        alone = step.alone;
+        caller = made.caller ∙ mine;
+      }
+
+  asked_none : (c : ℕ) (asked : Asked) → IsAskedAs c asked (NoMemory c)
+  asked_none c (asks.Call request) = refl
+  asked_none c (asks.Raise subtype) = refl
+
+  refused_so : (c : ℕ) (k k' : Known) (g : Flat) (asked : Asked) → k.alone ≡ true → at k ≡ g → k.caller ≡ c → IsRefused tells o k asked k' → Serves c k k' g asked None
   refused_so c k k' g asked alone is mine one =
       let t = one.moment in
       let want : Step = NoMemory c in
-      let made : Made o k t want answers.Done k' = subst (λ (n : ℕ). Made o k t (NoMemory n) answers.Done k') mine one.wants.made.made in
+      let so : MadeSo o k t (NoMemory k.caller) answers.Done k' = want_made o k k' t asked one.wants in
+      let made : Made o k t want answers.Done k' = subst (λ (n : ℕ). Made o k t (NoMemory n) answers.Done k') mine so.made in
       let step = steps k k' t want answers.Done g alone is made in record {
         entries = (t, want) ∷ [];
         seen = step.seen;
-        served = (refl, subst (λ (a : Answer). Follows l (step_of l g t want).flat c a []) step.answers refl);
+        served = (asked_none c asked, subst (λ (a : Answer). Follows l (step_of l g t want).flat c a []) step.answers refl);
         heard = want_tells l g t c;
         moments = All-cons (λ (e : Entry). tells e.0) (t, want) [] one.told (All-nil (λ (e : Entry). tells e.0));
         alone = step.alone;
         caller = made.caller ∙ mine;
       }
 
-  waited_for : (c : ℕ) (k k' : Known) (g : Flat) (asked : Request) (reply : Reply) → k.alone ≡ true → at k ≡ g → k.caller ≡ c → IsWaitedFor tells o k asked reply k' → Serves c k k' g asked (Some reply)
+  waited_for : (c : ℕ) (k k' : Known) (g : Flat) (asked : Request) (reply : Reply) → k.alone ≡ true → at k ≡ g → k.caller ≡ c → IsWaitedFor tells o k asked reply k' → Serves c k k' g (asks.Call asked) (Some reply)
   waited_for c k k' g asked reply alone is mine one =
       let t = one.moment in
       let append = one.made.append in
@@ -215,9 +240,10 @@ module _ (tells : ℕ → Type 0) (o : Opening) where
         caller = rest.caller;
       }
 
-  serves : (c : ℕ) (k k' : Known) (g : Flat) (asked : Request) (heard : Option Reply) → k.alone ≡ true → at k ≡ g → k.caller ≡ c → IsServedBy tells o k k' asked heard → Serves c k k' g asked heard
-  serves c k k' g asked (Some reply) alone is mine (inl one) = at_once c k k' g asked reply alone is mine one
-  serves c k k' g asked (Some reply) alone is mine (inr one) = waited_for c k k' g asked reply alone is mine one
+  serves : (c : ℕ) (k k' : Known) (g : Flat) (asked : Asked) (heard : Option Reply) → k.alone ≡ true → at k ≡ g → k.caller ≡ c → IsServedBy tells o k k' asked heard → Serves c k k' g asked heard
+  serves c k k' g (asks.Call asked) (Some reply) alone is mine (inl one) = at_once c k k' g asked reply alone is mine one
+  serves c k k' g (asks.Call asked) (Some reply) alone is mine (inr one) = waited_for c k k' g asked reply alone is mine one
+  serves c k k' g (asks.Raise subtype) (Some reply) alone is mine one = raised_so c k k' g subtype reply alone is mine one
   serves c k k' g asked None alone is mine one = refused_so c k k' g asked alone is mine one
 
   -- the state behind what was seen more
@@ -225,7 +251,7 @@ module _ (tells : ℕ → Type 0) (o : Opening) where
   behind k k' g entries is seen =
       ap (λ (es : List Entry). state l o.first es) seen ∙ state_behind l o.first k.seen entries ∙ ap (λ (f : Flat). state l f entries) is ∙ state_is l g entries
 
-  pub runs : (c : ℕ) (k k' : Known) (g : Flat) (requests : List Request) (heard : List (Option Reply)) → k.alone ≡ true → at k ≡ g → k.caller ≡ c
+  pub runs : (c : ℕ) (k k' : Known) (g : Flat) (requests : List Asked) (heard : List (Option Reply)) → k.alone ≡ true → at k ≡ g → k.caller ≡ c
       → Chain (IsServedBy tells o) k k' requests heard → RunsTo c k k' g requests heard
   runs c k k' g [] [] alone is mine same = record {
     entries = [];

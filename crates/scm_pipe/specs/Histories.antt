@@ -4,11 +4,10 @@ use Rattle.std.specs.List.{cons_option}
 use Rattle.scm_model.specs.declared.flat.Flat.{Flat}
 use Rattle.scm_model.specs.declared.flat.Limits.{Limits}
 use Rattle.scm_model.specs.declared.flat.Principal.{Principal}
-use Rattle.scm_model.specs.declared.calls.Request.{Request}
 use Rattle.scm_model.specs.declared.calls.Reply.{Reply}
 use Rattle.scm_model.specs.declared.codes.TheConstants.{ERROR_SERVICE_NO_THREAD}
 use Rattle.scm_model.specs.declared.steps.Step.{Step}
-use Rattle.scm_model.specs.declared.steps.Step.TheVariants.{Call, EndStart, Gone, Joined, LaunchFailed, LaunchTaken, NoMemory}
+use Rattle.scm_model.specs.declared.steps.Step.TheVariants.{Call, EndStart, Gone, Joined, LaunchFailed, LaunchTaken, NoMemory, Raised}
 use Rattle.scm_model.specs.declared.steps.Answer.{Answer}
 use Rattle.scm_model.specs.declared.steps.Answer.TheVariants as answers
 use Rattle.scm_model.specs.Entries.{Entry}
@@ -16,10 +15,12 @@ use Rattle.start_plan.specs.Decided.{code_of}
 use Rattle.scm_rules.specs.Launches.{first_wanted}
 use Rattle.scm_rules.specs.Steps.{step_of}
 use Rattle.scm_rules.specs.Runs.{run_state}
+use Rattle.conn_desk.specs.declared.asked.Asked.{Asked}
+use Rattle.conn_desk.specs.declared.asked.Asked.TheVariants as asks
 
 -- ## Replies
 
--- what an answer tells the caller of a call: nothing yet where a start waits
+-- what an answer tells the caller of a request: nothing yet where a start waits
 abbrev pub reply_in : Answer → Option (Option Reply)
 reply_in (answers.Reply reply) = Some (Some reply)
 reply_in answer = None
@@ -28,6 +29,7 @@ reply_in answer = None
 abbrev pub heard_by : ℕ → Step → Answer → Option (Option Reply)
 heard_by caller (Call of request append) answer = if of == caller then reply_in answer else None
 heard_by caller (EndStart of plan) answer = if of == caller then reply_in answer else None
+heard_by caller (Raised of subtype) answer = if of == caller then reply_in answer else None
 heard_by caller (NoMemory of) answer = if of == caller then Some None else None
 heard_by caller step answer = None
 
@@ -39,9 +41,10 @@ replies l f caller (e ∷ es) =
 
 -- ## Requests
 
--- the step is what became of a caller's request: its call, or that there was no memory for it
-abbrev pub IsAskedAs : ℕ → Request → Step → Type 0
-IsAskedAs caller request (Call of asked append) = (of ≡ caller) × (asked ≡ request)
+-- the step is what became of a caller's request: its call or what it raised, or that there was no memory for it
+abbrev pub IsAskedAs : ℕ → Asked → Step → Type 0
+IsAskedAs caller (asks.Call request) (Call of asked append) = (of ≡ caller) × (asked ≡ request)
+IsAskedAs caller (asks.Raise subtype) (Raised of raised) = (of ≡ caller) × (raised ≡ subtype)
 IsAskedAs caller request (NoMemory of) = of ≡ caller
 IsAskedAs caller request step = ⊥
 
@@ -64,13 +67,13 @@ Follows l f caller (answers.Begun plan) es = Waits l f caller plan es
 Follows l f caller answer es = es ≡ []
 
 -- the entries are what became of a caller's request
-abbrev pub IsServed : Limits → Flat → ℕ → Request → List Entry → Type 0
+abbrev pub IsServed : Limits → Flat → ℕ → Asked → List Entry → Type 0
 IsServed l f caller request [] = ⊥
 IsServed l f caller request (e ∷ es) =
     IsAskedAs caller request e.1 × Follows l (step_of l f e.0 e.1).flat caller (step_of l f e.0 e.1).answer es
 
 -- the entries are what became of a caller's requests, one after another, from state to state
-abbrev pub AreServed : Limits → Flat → ℕ → List Request → List Entry → Type 0
+abbrev pub AreServed : Limits → Flat → ℕ → List Asked → List Entry → Type 0
 AreServed l f caller [] es = es ≡ []
 AreServed l f caller (request ∷ requests) es =
     (served : List Entry) × (rest : List Entry) × (es ≡ served ++ rest)
@@ -83,14 +86,14 @@ abbrev pub the_caller : ℕ
 the_caller = 1
 
 -- the caller joins, and what serves these requests comes
-pub record IsPipeRun (principal : Principal) (l : Limits) (f : Flat) (requests : List Request) (history : List Entry) : Type 0 where
+pub record IsPipeRun (principal : Principal) (l : Limits) (f : Flat) (requests : List Asked) (history : List Entry) : Type 0 where
   pub joined : ℕ
   pub calls : List Entry
   pub order : history ≡ (joined, Joined principal) ∷ calls
   pub served : AreServed l (run_state l f ((joined, Joined principal) ∷ [])) the_caller requests calls
 
 -- then it goes; nothing else stands in the history
-pub record IsPipeHistory (principal : Principal) (l : Limits) (f : Flat) (requests : List Request) (run history : List Entry) : Type 0 where
+pub record IsPipeHistory (principal : Principal) (l : Limits) (f : Flat) (requests : List Asked) (run history : List Entry) : Type 0 where
   pub runs : IsPipeRun principal l f requests run
   pub gone : ℕ
   pub order : history ≡ run ++ (gone, Gone the_caller) ∷ []

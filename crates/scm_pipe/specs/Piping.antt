@@ -5,9 +5,7 @@ use Rattle.outside.specs.Written.{Begins}
 use Rattle.scm_model.specs.declared.flat.Flat.{Flat}
 use Rattle.scm_model.specs.declared.flat.Limits.{Limits}
 use Rattle.scm_model.specs.declared.flat.Principal.{Principal}
-use Rattle.scm_model.specs.declared.calls.Request.{Request}
-use Rattle.scm_model.specs.declared.steps.Kept.TheVariants.{NotAsked}
-use Rattle.scm_model.specs.declared.steps.Step.TheVariants.{Call, Joined}
+use Rattle.scm_model.specs.declared.steps.Step.TheVariants.{Joined}
 use Rattle.scm_model.specs.Entries.{Entry, text_in}
 use Rattle.scm_rules.specs.Histories.{Legal, state}
 use Rattle.scm_rules.specs.Opening.{IsOpening}
@@ -21,27 +19,29 @@ use Rattle.book_rule.specs.declared.view.Opening.{Opening}
 use Rattle.scm_book.specs.Holds.{RoseBy, failures_in}
 use Rattle.scm_book.specs.Joins.{has_place}
 use Rattle.scm_book.specs.Passes.{Known, room_behind}
+use Rattle.conn_desk.specs.declared.asked.Asked.{Asked}
 use Rattle.conn_desk.specs.declared.served.Served.{Served}
 use Rattle.conn_desk.specs.declared.served.Served.TheVariants as served
 use Rattle.conn_desk.specs.Bodies.{asked, asked_by}
 use Rattle.conn_desk.specs.Connection.{Reached}
 use Rattle.conn_desk.specs.Desks.{AsMany}
+use Rattle.conn_worker.specs.Serving.{step_for}
 use Rattle.scm_pipe.specs.declared.alone.Piped.{Piped}
 use Rattle.scm_pipe.specs.Histories.{IsPipeHistory, IsPipeRun, replies, the_caller}
 
 -- ## Room
 
 -- whether the limits have room for a request behind a history
-abbrev pub has_room_behind : Limits → Flat → List Entry → Request → Bool
-has_room_behind l f run request = has_room l (state l f run) (length run) (text_in run) (Call the_caller request NotAsked)
+abbrev pub has_room_behind : Limits → Flat → List Entry → Asked → Bool
+has_room_behind l f run request = has_room l (state l f run) (length run) (text_in run) (step_for the_caller request)
 
-abbrev pub HasNoRoomBehind : Limits → Flat → List Entry → Request → Type 0
+abbrev pub HasNoRoomBehind : Limits → Flat → List Entry → Asked → Type 0
 HasNoRoomBehind l f run request = has_room_behind l f run request ≡ false
 
 -- behind whatever serves the first requests of these bytes, they have room for the next one
 abbrev pub HasRoomForAll : Principal → Limits → Flat → List ℕ → Type 0
 HasRoomForAll principal l f bytes =
-    (done : List Incoming) (next : Incoming) (request : Request) → Begins (done ++ next ∷ []) (items bytes).items → asked_by next ≡ Some request
+    (done : List Incoming) (next : Incoming) (request : Asked) → Begins (done ++ next ∷ []) (items bytes).items → asked_by next ≡ Some request
     → (run : List Entry) → IsPipeRun principal l f (asked done) run → Legal l f run → has_room_behind l f run request ≡ true
 
 -- ## A connection

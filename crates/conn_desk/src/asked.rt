@@ -1,0 +1,11 @@
+use scm_model::Request;
+
+/// What is asked by a request that can be read, of either interface.
+#[derive(Drop)]
+pub enum Asked {
+    /// A call of svcctl.
+    Call(Request),
+    /// The one method of the trigger interface: what has this subtype is raised. It is a UUID as it
+    /// lies in memory.
+    Raise([u8; 16]),
+}
