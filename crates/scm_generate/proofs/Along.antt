@@ -5,7 +5,7 @@ use Rattle.std.proofs.lemmas.List.{append-nil}
 use Rattle.std.specs.Prelude.{OnOk}
 use Rattle.scm_core.specs.Managed.{Managed, WasMadeFor}
 use Rattle.scm_model.specs.declared.steps.Step.{Step}
-use Rattle.scm_model.specs.declared.steps.Step.TheVariants.{Call, EndStart, Gone, Joined}
+use Rattle.scm_model.specs.declared.steps.Step.TheVariants.{Call, EndStart, Gone, Joined, Raised, Tick}
 use Rattle.scm_model.specs.declared.flat.Flat.{Flat}
 use Rattle.scm_model.specs.declared.flat.Limits.{Limits}
 use Rattle.scm_model.specs.declared.steps.Answer.{Answer}
@@ -75,6 +75,8 @@ makes_one run p mid now step taken e flat limits text flat_now limits_now text_n
 pub made_for : (step : Step) → WasMadeFor (Some (unkept step)) step
 made_for (Joined principal) = refl
 made_for (Call caller asked append) = refl
+made_for Tick = refl
+made_for (Raised caller subtype) = refl
 made_for step = tt
 
 -- what can be made of the run can be made of its manager

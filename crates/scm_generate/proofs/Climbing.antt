@@ -68,7 +68,7 @@ module _ (l : Limits) (n : ℕ) (look : ℕ → Live) (plan target s t : ℕ) (r
       (record { answer = report_told (current_of launched p) (told 4 1); flat = under_way n looked (ran first (s ∷ done)) [] plan target (s ∷ t ∷ rest) tried (p + 1) due })
       (next_wanting (p + 1)) (next_wanting (p + 1))
       (ap (λ f. record { answer = report_told (current_of launched p) (told 4 1); flat = f })
-      (report_alone launched p (told 4 1) (rows looked n) refl (reports_all l n look plan target s (t ∷ rest) tried done first due low some lt climbing)))
+      (report_alone launched p (told 4 1) (rows looked n) refl refl (reports_all l n look plan target s (t ∷ rest) tried done first due low some lt climbing)))
       (enters_next l n looked (ran first (s ∷ done)) plan target s t rest tried (p + 1) due small some lt running_here passed
       (let a = above in omega (arith, a)) within still up_for (untried t above) (let e = length_ran first (s ∷ done) in omega (arith, e, space)))
       (told_report (next_wanting (p + 1)) (current_of launched p) (told 4 1)) (all_stay (next_wanting (p + 1)) (next_looked (p + 1)) n refl refl))

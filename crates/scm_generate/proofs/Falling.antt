@@ -22,12 +22,12 @@ use Rattle.scm_rules.specs.Reports.{current_of, moved_by, report_told, reported_
 use Rattle.scm_rules.specs.Start.{is_caller_of}
 use Rattle.scm_rules.specs.Steps.{finished}
 use Rattle.scm_generate.specs.Listed.{at_once, down, downs, told}
-use Rattle.scm_generate.proofs.Built.{Each, map_built}
+use Rattle.scm_generate.proofs.Built.{Each, map_built, none_built}
 use Rattle.scm_generate.proofs.Goes.{Goes, all_stay, goes_both, goes_none, goes_on, goes_one, stepped}
 use Rattle.scm_generate.proofs.Launching.{IsRun, last_found, ran, running_process, told_report}
 use Rattle.scm_generate.proofs.Settling.{IsAtRest, decided, plan_with}
 use Rattle.scm_generate.proofs.Shape.{Live, resting, row_at, rows, standing}
-use Rattle.scm_generate.proofs.Untold.{fall_alone, report_alone}
+use Rattle.scm_generate.proofs.Untold.{end_alone, report_alone}
 
 -- the start is answered, and its processes still run
 abbrev pub falling : (n : ℕ) (look : ℕ → Live) (first : ℕ) (done : List ℕ) (process plan due : ℕ) → Flat
@@ -97,7 +97,7 @@ module _ (l : Limits) (n : ℕ) (look : ℕ → Live) (first s : ℕ) (done : Li
   stops = goes_one l before reported (Report p (told 1 0)) (ap (λ o. is_launched o && true) found) refl
       (stepped l before (Report p (told 1 0)) (record { answer = report_told (current_of before p) (told 1 0); flat = reported }) reported reported
       (ap (λ f. record { answer = report_told (current_of before p) (told 1 0); flat = f })
-      (report_alone before p (told 1 0) (rows looked n) refl (map_built (reported_if p (told 1 0)) [] (λ k. row_at k (look k)) [] (λ k. row_at k (looked k)) n refl stops_row)))
+      (report_alone before p (told 1 0) (rows looked n) refl refl (map_built (reported_if p (told 1 0)) [] (λ k. row_at k (look k)) [] (λ k. row_at k (looked k)) n refl stops_row)))
       refl (told_report reported (current_of before p) (told 1 0)) (all_stay reported looked n refl refl))
 
   has_other : (k : ℕ) → ((looked k).process == p) ≡ false
@@ -111,6 +111,10 @@ module _ (l : Limits) (n : ℕ) (look : ℕ → Live) (first s : ℕ) (done : Li
   falls_row k some le =
       ap (λ b. cond b (record (row_at k (looked k)) { status = take_end (looked k).status 1067; process = 0 }) (row_at k (looked k))) (has_other k)
 
+  -- it is no service's current one any more
+  nobody : current_of reported p ≡ None
+  nobody = none_built (λ (row : Service). row.process == p) [] (λ k. row_at k (looked k)) n refl (λ k some le. has_other k)
+
   leaves : filter (λ (row : Process). not (row.number == p)) (ran first (s ∷ done)) ≡ ran first done
   leaves =
       filter-append (λ (row : Process). not (row.number == p)) (ran first done) (running_process p s ∷ [])
@@ -121,7 +125,7 @@ module _ (l : Limits) (n : ℕ) (look : ℕ → Live) (first s : ℕ) (done : Li
   ends = goes_one l reported after (Ended p) (ap (λ o. is_launched o && true) found) refl
       (stepped l reported (Ended p) (record { answer = end_told (current_of reported p); flat = after }) after after
       (ap (λ f. record { answer = end_told (current_of reported p); flat = without_process f p })
-      (fall_alone reported p 1067 (rows looked n) refl (map_built (fallen_if p 1067) [] (λ k. row_at k (looked k)) [] (λ k. row_at k (looked k)) n refl falls_row))
+      (end_alone reported p (rows looked n) refl nobody (map_built (fallen_if p 1067) [] (λ k. row_at k (looked k)) [] (λ k. row_at k (looked k)) n refl falls_row))
       ∙ ap (λ ps. record { answer = end_told (current_of reported p); flat = record reported { processes = ps } }) leaves)
       refl (told_end after (current_of reported p)) (all_stay after looked n refl refl))
 

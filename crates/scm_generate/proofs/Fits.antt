@@ -13,22 +13,23 @@ use Rattle.scm_model.specs.declared.calls.Request.{Request}
 use Rattle.scm_model.specs.declared.calls.Request.TheVariants as request
 use Rattle.scm_model.specs.declared.steps.Answer.{Answer}
 use Rattle.scm_model.specs.declared.steps.Step.{Step}
-use Rattle.scm_model.specs.declared.steps.Step.TheVariants.{Call, EndStart, Tick, Gone}
+use Rattle.scm_model.specs.declared.steps.Step.TheVariants.{Call, EndStart, Tick, Raised, Gone}
 use Rattle.scm_model.specs.Entries.{Entry, text_in}
 use Rattle.scm_model.specs.Purge.{leaves}
 use Rattle.scm_model.specs.Texts.{some_bytes, text_of}
 use Rattle.scm_rules.specs.Histories.{Legal}
 use Rattle.scm_rules.specs.Opening.{IsOpening, opening}
 use Rattle.scm_rules.specs.Owed.{owed}
-use Rattle.scm_rules.specs.Room.{cost, debt, has_room, is_owed, need, need_of_call, need_with}
+use Rattle.scm_rules.specs.Room.{debt, has_room, is_owed, need, need_of_call, need_with}
 use Rattle.scm_rules.specs.Runs.{EachStep, IsLegal}
 use Rattle.scm_rules.specs.Steps.{step_of}
 use Rattle.scm_runs.specs.Leaving.{LawOfLeaving, before_leaving, created, succeeds}
 use Rattle.scm_runs.proofs.Along.{along}
 use Rattle.scm_runs.proofs.Calls.{keeps}
+use Rattle.scm_runs.proofs.Clear.{Clear, clear_begun, clear_keeps}
 use Rattle.scm_runs.proofs.Leaving.{gives as gives_leaving}
 use Rattle.scm_runs.proofs.Lists.{filter_short}
-use Rattle.scm_runs.proofs.Sound.{Sound, begun}
+use Rattle.scm_runs.proofs.Sound.{Sound}
 use Rattle.scm_owed.specs.Paying.{FoundRoom, LawOfOwed}
 use Rattle.scm_owed.proofs.Histories.{found_legal}
 use Rattle.scm_owed.proofs.Whole.{gives as gives_owed, opened_owes}
@@ -66,15 +67,13 @@ call_more m n asked le = omega arith
 need_more : (m n : ℕ) (step : Step) → m ≤ n → need_with m step ≤ need_with n step
 need_more m n (Call caller asked append) le = call_more m n asked le
 need_more m n Tick le = let product = mul-le (3 * m + 1) m (3 * n + 1) n (omega (arith, le)) le in omega (arith, product)
+need_more m n (Raised caller subtype) le = let product = mul-le (3 * m + 1) m (3 * n + 1) n (omega (arith, le)) le in omega (arith, product)
 need_more m n step le = omega arith
 
 owed_debt : (f : Flat) (step : Step) → is_owed step ≡ true → debt f step ≡ 0
 owed_debt f Tick h = absurd cc
+owed_debt f (Raised caller subtype) h = absurd cc
 owed_debt f step h = ap (λ b. cond b 0 (need f step)) h
-
-free_debt : (f : Flat) (step : Step) → is_owed step ≡ false → debt f step ≤ need f step
-free_debt f Tick h = omega arith
-free_debt f step h = let is : cost f step ≡ need f step = ap (λ b. cond b 0 (need f step)) h in omega (arith, is)
 
 abbrev cost_at : Step → ℕ
 cost_at step = cond (is_owed step) 0 (need_with 512 step)
@@ -102,7 +101,7 @@ fills l f (e ∷ es) steps text leaving owing few fits short =
       | false ↦ λ is.
           let costs : cost_at e.1 ≡ need_with 512 e.1 = ap (λ b. cond b 0 (need_with 512 e.1)) is in
           let needs : need f e.1 ≤ need_with 512 e.1 = need_more (length f.services) 512 e.1 (omega (arith, few)) in
-          let debts = free_debt f e.1 is in (
+          let debts = owing.0.fits is in (
             inr (and_from _ _ (le-leb (steps + owed f + need f e.1) l.steps (omega (arith, fits, costs, needs))) (le-leb (text + text_of e.1) l.text (omega (arith, short)))),
             fills l after es (steps + 1) (text + text_of e.1) leaving.1 owing.1 few_then (omega (arith, fits, pays, debts, costs, needs)) short_then,
           )
@@ -250,14 +249,14 @@ short_text n few = let same = text_sum (generated n) in let short = sum_texts n 
 pub all_fits : (l : Limits) (n : ℕ) → IsAmple l → n ≤ 512 → IsLegal l (opening l [] [] 0) (generated n) → IsOpening l (opening l [] [] 0) → Legal l (opening l [] [] 0) (generated n)
 all_fits l n ample few legal opens =
     let f = opening l [] [] 0 in
-    let sound = begun l f opens in
+    let clear = clear_begun l f opens in
     let none = opened_owes l f opens in
     let creates = sum_creates n few in
     let costs = sum_costs n few in
     let texts = sum_texts n few in
     let steps = ample.steps in
     let text = ample.text in
-    found_legal l f (generated n) sound (omega (arith, none)) legal
-    (fills l f (generated n) 0 0 (along Sound (LawOfLeaving l) l (keeps l) (gives_leaving l) f (generated n) sound legal)
-    (along Sound LawOfOwed l (keeps l) (gives_owed l) f (generated n) sound legal)
+    found_legal l f (generated n) clear (omega (arith, none)) legal
+    (fills l f (generated n) 0 0 (along Sound (LawOfLeaving l) l (keeps l) (gives_leaving l) f (generated n) clear.sound legal)
+    (along (Clear l) LawOfOwed l (clear_keeps l) (gives_owed l) f (generated n) clear legal)
     (omega (arith, creates)) (omega (arith, costs, none, steps)) (omega (arith, texts, text)))

@@ -184,7 +184,7 @@ module _ (l : Limits) (n : ℕ) (look : ℕ → Live) (plan target s : ℕ) (res
   runs_last : Goes l succeeded (at_once (Report p (told 4 1)) ∷ []) finished_all
   runs_last = goes_one l succeeded finished_all (Report p (told 4 1)) (ap (λ o. is_launched o && true) launched_found) refl
       (stepped l succeeded (Report p (told 4 1)) (record { answer = report_told (current_of succeeded p) (told 4 1); flat = finished_all }) finished_all finished_all
-      (ap (λ f. record { answer = report_told (current_of succeeded p) (told 4 1); flat = f }) (report_alone succeeded p (told 4 1) (rows running n) refl reports_all))
+      (ap (λ f. record { answer = report_told (current_of succeeded p) (told 4 1); flat = f }) (report_alone succeeded p (told 4 1) (rows running n) refl refl reports_all))
       refl (told_report finished_all (current_of succeeded p) (told 4 1)) (all_stay finished_all running n refl refl))
 
   pub up_last : (target == s) ≡ true → Goes l wanting (up p) finished_all

@@ -1,12 +1,17 @@
--- Where nobody is registered, nobody is told.
-use Rattle.std.proofs.Common.{ℕ, ◌≡◌, ◌∙◌, ◌==◌, Bool, true, false, cond, List, [], ◌∷◌, Option, None, Some, map, ap, sym, refl, subst}
+-- Where nobody is registered, nobody is told, and what is no failure is not counted.
+use Rattle.std.proofs.Common.{ℕ, ◌≡◌, ◌∙◌, ◌==◌, ◌&&◌, Bool, true, false, not, cond, List, [], ◌∷◌, Option, None, Some, map, ap, sym, refl, subst}
+use Rattle.scm_model.specs.Found.{if_found}
 use Rattle.scm_model.specs.Notices.{Event, all_noted, event_of_state, noted, pid_of, told_of_move}
+use Rattle.scm_model.specs.declared.codes.TheConstants.{ERROR_PROCESS_ABORTED, SERVICE_STOPPED}
 use Rattle.scm_model.specs.declared.flat.Flat.{Flat}
 use Rattle.scm_model.specs.declared.flat.Process.{Process}
 use Rattle.scm_model.specs.declared.flat.Registration.{Registration}
 use Rattle.scm_model.specs.declared.flat.Service.{Service}
 use Rattle.scm_model.specs.declared.flat.Status.{Status}
 use Rattle.start_plan.specs.Entered.{started_if, told_of_start}
+use Rattle.status_machine.specs.Moves.{takes}
+use Rattle.scm_rules.specs.Ends.{with_end}
+use Rattle.scm_rules.specs.Failures.{failed_by, is_failure, with_failure}
 use Rattle.scm_rules.specs.Launches.{current_of, fallen_if, told_of_fall, with_fallen}
 use Rattle.scm_rules.specs.Reports.{reported_if, told_of_report, with_report}
 
@@ -30,19 +35,45 @@ report_untold : (processes : List Process) (report : Status) (found : Option Ser
 report_untold processes report None = refl
 report_untold processes report (Some row) = move_untold (pid_of processes (reported_if row.process report row)) row (reported_if row.process report row)
 
--- a report changes the services alone
-pub report_alone : (f : Flat) (process : ℕ) (report : Status) (services : List Service) → f.registrations ≡ [] → map (reported_if process report) f.services ≡ services
+-- ## Failures
+
+never_both : (b : Bool) → (b && false) ≡ false
+never_both true = refl
+never_both false = refl
+
+-- a report without an error is no failure
+no_failure : (report : Status) (row : Service) → report.win32 ≡ 0 → is_failure report row ≡ false
+no_failure report row none =
+    let stops = row.config.on_exit && takes row.status report && report.state == SERVICE_STOPPED in
+    ap (λ (code : ℕ). stops && not (code == 0)) none ∙ never_both stops
+
+none_fails : (report : Status) (found : Option Service) → report.win32 ≡ 0 → failed_by report found ≡ None
+none_fails report None none = refl
+none_fails report (Some row) none = ap (λ (b : Bool). cond b (Some row) None) (no_failure report row none)
+
+-- ## What changes
+
+-- a report without an error changes the services alone
+pub report_alone : (f : Flat) (process : ℕ) (report : Status) (services : List Service) → report.win32 ≡ 0 → f.registrations ≡ [] → map (reported_if process report) f.services ≡ services
     → with_report f process report ≡ record f { services = services }
-report_alone f process report services none changes =
+report_alone f process report services right none changes =
     let same : told_of_report f.processes report (current_of f process) f.registrations ≡ f.registrations =
     subst (λ (rows : List Registration). told_of_report f.processes report (current_of f process) rows ≡ rows) (sym none) (report_untold f.processes report (current_of f process)) in
-    ap (λ (rows : List Registration). record f { services = map (reported_if process report) f.services; registrations = rows }) same
+    let moved : Flat = record f { services = map (reported_if process report) f.services; registrations = told_of_report f.processes report (current_of f process) f.registrations } in
+    ap (λ (found : Option Service). if_found with_failure found moved) (none_fails report (current_of f process) right)
+    ∙ ap (λ (rows : List Registration). record f { services = map (reported_if process report) f.services; registrations = rows }) same
     ∙ ap (λ (all : List Service). record f { services = all }) changes
 
--- so does a fall
-pub fall_alone : (f : Flat) (process code : ℕ) (services : List Service) → f.registrations ≡ [] → map (fallen_if process code) f.services ≡ services → with_fallen f process code ≡ record f { services = services }
+fall_alone : (f : Flat) (process code : ℕ) (services : List Service) → f.registrations ≡ [] → map (fallen_if process code) f.services ≡ services → with_fallen f process code ≡ record f { services = services }
 fall_alone f process code services none changes =
     let same : told_of_fall process code (current_of f process) f.registrations ≡ f.registrations =
     subst (λ (rows : List Registration). told_of_fall process code (current_of f process) rows ≡ rows) (sym none) (fall_untold process code (current_of f process)) in
     ap (λ (rows : List Registration). record f { services = map (fallen_if process code) f.services; registrations = rows }) same
     ∙ ap (λ (all : List Service). record f { services = all }) changes
+
+-- so does an end of a process that is no service's current one
+pub end_alone : (f : Flat) (process : ℕ) (services : List Service) → f.registrations ≡ [] → current_of f process ≡ None → map (fallen_if process ERROR_PROCESS_ABORTED) f.services ≡ services
+    → with_end f process ≡ record f { services = services }
+end_alone f process services none stale changes =
+    ap (λ (found : Option Service). if_found with_failure found (with_fallen f process ERROR_PROCESS_ABORTED)) stale
+    ∙ fall_alone f process ERROR_PROCESS_ABORTED services none changes

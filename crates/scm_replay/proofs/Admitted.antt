@@ -7,7 +7,7 @@ use Rattle.scm_model.specs.declared.flat.Flat.{Flat}
 use Rattle.scm_model.specs.declared.flat.Limits.{Limits}
 use Rattle.scm_model.specs.declared.steps.Kept.{Kept}
 use Rattle.scm_model.specs.declared.steps.Step.{Step}
-use Rattle.scm_model.specs.declared.steps.Step.TheVariants.{Joined, Call, EndStart, LaunchTaken, Launched, LaunchFailed, Report, Ended, ControlTaken, Tick, Gone, NoMemory}
+use Rattle.scm_model.specs.declared.steps.Step.TheVariants.{Joined, Call, EndStart, LaunchTaken, Launched, LaunchFailed, Report, Ended, ControlTaken, Tick, Raised, Gone, NoMemory}
 use Rattle.scm_rules.specs.Steps.{may, may_come}
 use Rattle.scm_model.specs.Texts.{text_of}
 use Rattle.scm_rules.specs.Verdicts.{change_of, change_of_call, tells_right}
@@ -35,6 +35,7 @@ may_made l f moment (Report process status) fails h = both _ true h refl
 may_made l f moment (Ended process) fails h = both _ true h refl
 may_made l f moment (ControlTaken process) fails h = both _ true h refl
 may_made l f moment Tick fails h = both _ true h refl
+may_made l f moment (Raised caller subtype) fails h = both _ true h refl
 may_made l f moment (Gone caller) fails h = both _ true h refl
 may_made l f moment (NoMemory caller) fails h = both _ true h refl
 
@@ -57,5 +58,6 @@ same_text (Report process status) append = refl
 same_text (Ended process) append = refl
 same_text (ControlTaken process) append = refl
 same_text Tick append = refl
+same_text (Raised caller subtype) append = refl
 same_text (Gone caller) append = refl
 same_text (NoMemory caller) append = refl

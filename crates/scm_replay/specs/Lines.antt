@@ -6,10 +6,11 @@ use Rattle.scm_model.specs.declared.flat.Status.{Status}
 use Rattle.scm_model.specs.declared.calls.Request.{Request}
 use Rattle.scm_model.specs.declared.steps.Kept.TheVariants as appended
 use Rattle.scm_model.specs.declared.steps.Step.{Step}
-use Rattle.scm_model.specs.declared.steps.Step.TheVariants.{Joined, Call, EndStart, LaunchTaken, Launched, LaunchFailed, Report, Ended, ControlTaken, Tick, Gone, NoMemory}
+use Rattle.scm_model.specs.declared.steps.Step.TheVariants.{Joined, Call, EndStart, LaunchTaken, Launched, LaunchFailed, Report, Ended, ControlTaken, Tick, Raised, Gone, NoMemory}
 use Rattle.decimal_words.specs.Numbers.{number_at, number_below}
 use Rattle.scm_bodies.specs.Calls.{call_at as served_at}
 use Rattle.scm_bodies.specs.Requests.{request_at}
+use Rattle.scm_calls.specs.Raises.{raise_at}
 use Rattle.scm_replay.specs.declared.line.Line.{Line}
 use Rattle.scm_replay.specs.declared.verb.Verb.{Verb}
 use Rattle.scm_replay.specs.declared.verb.Verb.TheVariants as verb
@@ -79,23 +80,36 @@ report_at process status = do
   told ← status
   Some (Report number told)
 
+-- a caller, and the subtype of triggers that it raises
+unfoldable pub raise_in_words : List ℕ → List ℕ → Option Step
+raise_in_words who subtype = do
+  caller ← number_at who
+  bytes ← hex_at subtype
+  raised ← result_ok (raise_at bytes)
+  Some (Raised caller raised)
+
+-- the step of a verb and the words behind it, but for those with bytes in hexadecimal among them
+abbrev pub plain_at : Verb → List (List ℕ) → Option Step
+plain_at verb.Join (name ∷ []) = joined_at name
+plain_at verb.End (who ∷ plan ∷ []) = end_at who plan
+plain_at verb.Take [] = Some LaunchTaken
+plain_at verb.Launched (process ∷ pid ∷ []) = launched_at process pid
+plain_at verb.Unlaunched (process ∷ code ∷ []) = unlaunched_at process code
+plain_at verb.Report (process ∷ kind ∷ state ∷ accepted ∷ win32 ∷ specific ∷ checkpoint ∷ hint ∷ []) =
+    report_at process (status_in_words kind state accepted win32 specific checkpoint hint)
+plain_at verb.Ended (process ∷ []) = option_map Ended (number_at process)
+plain_at verb.Control (process ∷ []) = option_map ControlTaken (number_at process)
+plain_at verb.Tick [] = Some Tick
+plain_at verb.Gone (who ∷ []) = option_map Gone (number_at who)
+plain_at verb.NoMemory (who ∷ []) = option_map NoMemory (number_at who)
+plain_at other words = None
+
 -- the step of a verb and the words behind it: each verb has so many and no others
 abbrev pub step_at : Verb → List (List ℕ) → Option Step
-step_at verb.Join (name ∷ []) = joined_at name
 step_at verb.Call (who ∷ opnum ∷ body ∷ []) = call_in_words who opnum body
 step_at verb.FailCall (who ∷ opnum ∷ body ∷ []) = call_in_words who opnum body
-step_at verb.End (who ∷ plan ∷ []) = end_at who plan
-step_at verb.Take [] = Some LaunchTaken
-step_at verb.Launched (process ∷ pid ∷ []) = launched_at process pid
-step_at verb.Unlaunched (process ∷ code ∷ []) = unlaunched_at process code
-step_at verb.Report (process ∷ kind ∷ state ∷ accepted ∷ win32 ∷ specific ∷ checkpoint ∷ hint ∷ []) =
-    report_at process (status_in_words kind state accepted win32 specific checkpoint hint)
-step_at verb.Ended (process ∷ []) = option_map Ended (number_at process)
-step_at verb.Control (process ∷ []) = option_map ControlTaken (number_at process)
-step_at verb.Tick [] = Some Tick
-step_at verb.Gone (who ∷ []) = option_map Gone (number_at who)
-step_at verb.NoMemory (who ∷ []) = option_map NoMemory (number_at who)
-step_at other words = None
+step_at verb.Raise (who ∷ subtype ∷ []) = raise_in_words who subtype
+step_at other words = plain_at other words
 
 -- ## Whole lines
 

@@ -16,6 +16,7 @@ verb_at word =
     else if bytes_eq word (codes "ended") then Some verb.Ended
     else if bytes_eq word (codes "control") then Some verb.Control
     else if bytes_eq word (codes "tick") then Some verb.Tick
+    else if bytes_eq word (codes "raise") then Some verb.Raise
     else if bytes_eq word (codes "gone") then Some verb.Gone
     else if bytes_eq word (codes "nomem") then Some verb.NoMemory
     else None

@@ -5,13 +5,15 @@ ghost use Rattle.scm_model.specs.declared.steps.Step.TheVariants.{ControlTaken, 
 ghost use Rattle.decimal_words.specs.Numbers.{number_at, number_below};
 ghost use Rattle.ndr_body.specs.declared.fault.BodyFault.{BodyFault};
 ghost use Rattle.ndr_body.specs.Reading.{Gives};
-ghost use Rattle.scm_replay.specs.Lines.{call_in_words, end_at, joined_at, launched_at, line_at, line_in, line_in_words, report_at, request_in, status_in_words, step_at, unlaunched_at};
+ghost use Rattle.scm_replay.specs.Lines.{call_in_words, end_at, joined_at, launched_at, line_at, line_in, line_in_words};
+ghost use Rattle.scm_replay.specs.Lines.{plain_at, raise_in_words, report_at, request_in, status_in_words, step_at, unlaunched_at};
 
 use super::line::Line;
 use super::verb::{Verb, verb_at};
 use super::words::{bytes_at, is, words_of};
 use decimal_words::{number_at, number_below};
 use ndr_body::BodyFault;
+use scm_calls::read_raise;
 use scm_model::{Kept, Principal, Request, Status, Step};
 use scm_text::OutOfMemory;
 use std::alloc::Global;
@@ -180,6 +182,23 @@ fn control_at(process: &[u8]) -> Option<Step>
     Some(Step::ControlTaken { process })
 }
 
+/// A raise, by the words behind its verb.
+#[tactic(auto, unfolding(crate::specs::Lines::raise_in_words))]
+fn raise_at(alloc: Global, who: &[u8], subtype: &[u8]) -> Result<Option<Step>, OutOfMemory>
+    ensures { IfOk result (λ step. step ≡ raise_in_words who.now subtype.now) }
+{
+    let Some(caller) = number_at(who) else {
+        return Ok(None);
+    };
+    let Some(bytes) = bytes_at(alloc, subtype)? else {
+        return Ok(None);
+    };
+    let Ok(subtype) = read_raise(bytes.as_slice()) else {
+        return Ok(None);
+    };
+    Ok(Some(Step::Raised { caller, subtype }))
+}
+
 /// That a caller goes, by the word behind its verb.
 fn gone_at(who: &[u8]) -> Option<Step>
     ensures { result ≡ option_map Gone (number_at who.now) }
@@ -196,17 +215,16 @@ fn no_memory_at(who: &[u8]) -> Option<Step>
     Some(Step::NoMemory { caller })
 }
 
-/// The step of a verb and the words behind it.
-fn step_at(alloc: Global, verb: Verb, words: &[&[u8]]) -> Result<Option<Step>, OutOfMemory>
-    ensures { IfOk result (λ step. step ≡ step_at verb (map (λ word. word.now) words.now)) }
+/// The step of a verb and the words behind it, but for those with bytes in hexadecimal among them.
+fn plain_at(verb: Verb, words: &[&[u8]]) -> Option<Step>
+    ensures { result ≡ plain_at verb (map (λ word. word.now) words.now) }
 {
     match (verb, words) {
-        (Verb::Join, [name]) => Ok(joined_at(name)),
-        (Verb::Call | Verb::FailCall, [who, opnum, body]) => call_at(alloc, who, opnum, body),
-        (Verb::End, [who, plan]) => Ok(end_at(who, plan)),
-        (Verb::Take, []) => Ok(Some(Step::LaunchTaken)),
-        (Verb::Launched, [process, pid]) => Ok(launched_at(process, pid)),
-        (Verb::Unlaunched, [process, code]) => Ok(unlaunched_at(process, code)),
+        (Verb::Join, [name]) => joined_at(name),
+        (Verb::End, [who, plan]) => end_at(who, plan),
+        (Verb::Take, []) => Some(Step::LaunchTaken),
+        (Verb::Launched, [process, pid]) => launched_at(process, pid),
+        (Verb::Unlaunched, [process, code]) => unlaunched_at(process, code),
         (
             Verb::Report,
             [
@@ -219,16 +237,27 @@ fn step_at(alloc: Global, verb: Verb, words: &[&[u8]]) -> Result<Option<Step>, O
                 checkpoint,
                 hint,
             ],
-        ) => Ok(report_at(
+        ) => report_at(
             process,
             status_at(kind, state, accepted, win32, specific, checkpoint, hint),
-        )),
-        (Verb::Ended, [process]) => Ok(ended_at(process)),
-        (Verb::Control, [process]) => Ok(control_at(process)),
-        (Verb::Tick, []) => Ok(Some(Step::Tick)),
-        (Verb::Gone, [who]) => Ok(gone_at(who)),
-        (Verb::NoMemory, [who]) => Ok(no_memory_at(who)),
-        _ => Ok(None),
+        ),
+        (Verb::Ended, [process]) => ended_at(process),
+        (Verb::Control, [process]) => control_at(process),
+        (Verb::Tick, []) => Some(Step::Tick),
+        (Verb::Gone, [who]) => gone_at(who),
+        (Verb::NoMemory, [who]) => no_memory_at(who),
+        _ => None,
+    }
+}
+
+/// The step of a verb and the words behind it.
+fn step_at(alloc: Global, verb: Verb, words: &[&[u8]]) -> Result<Option<Step>, OutOfMemory>
+    ensures { IfOk result (λ step. step ≡ step_at verb (map (λ word. word.now) words.now)) }
+{
+    match (verb, words) {
+        (Verb::Call | Verb::FailCall, [who, opnum, body]) => call_at(alloc, who, opnum, body),
+        (Verb::Raise, [who, subtype]) => raise_at(alloc, who, subtype),
+        _ => Ok(plain_at(verb, words)),
     }
 }
 

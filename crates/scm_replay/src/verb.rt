@@ -18,6 +18,7 @@ pub enum Verb {
     Ended,
     Control,
     Tick,
+    Raise,
     Gone,
     NoMemory,
 }
@@ -58,6 +59,8 @@ pub fn verb_at(word: &[u8]) -> Option<Verb>
         Some(Verb::Control)
     } else if is(word, "tick") {
         Some(Verb::Tick)
+    } else if is(word, "raise") {
+        Some(Verb::Raise)
     } else if is(word, "gone") {
         Some(Verb::Gone)
     } else if is(word, "nomem") {
