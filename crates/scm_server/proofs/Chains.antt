@@ -1,20 +1,23 @@
 -- The places of a pass's own entries rise, and its caller stays, along the requests of a connection.
 use Rattle.std.proofs.Common.{◌≡◌, ◌∙◌, ℕ, ◌<◌, ◌≤◌, List, [], ◌∷◌, length, Option, None, Some, refl, sym, subst, inl, inr, arith}
 use Rattle.scm_model.specs.declared.calls.Reply.{Reply}
-use Rattle.scm_model.specs.declared.calls.Request.{Request}
 use Rattle.scm_model.specs.declared.steps.Answer.{Answer}
 use Rattle.scm_model.specs.declared.steps.Answer.TheVariants as answers
 use Rattle.scm_model.specs.declared.steps.Step.{Step}
-use Rattle.scm_model.specs.declared.steps.Step.TheVariants.{Call, EndStart, LaunchFailed, LaunchTaken, NoMemory}
+use Rattle.scm_model.specs.declared.steps.Step.TheVariants.{Call, EndStart, LaunchFailed, LaunchTaken, NoMemory, Raised}
 use Rattle.book_rule.specs.declared.view.Opening.{Opening}
 use Rattle.book_rule.proofs.Prefixes.{prefix_length}
-use Rattle.scm_book.specs.Passes.{Known, Learnt, Made}
+use Rattle.scm_book.specs.Called.{RaisedSo}
+use Rattle.scm_book.specs.Passes.{Known, Learnt, Made, MadeSo}
+use Rattle.conn_desk.specs.declared.asked.Asked.{Asked}
+use Rattle.conn_desk.specs.declared.asked.Asked.TheVariants as asks
 use Rattle.conn_desk.specs.declared.served.Served.{Served}
 use Rattle.conn_desk.specs.declared.served.Served.TheVariants as served
 use Rattle.conn_desk.specs.Desks.{Chain}
 use Rattle.conn_desk.specs.Serves.{Leaves}
 use Rattle.conn_worker.specs.Serving.{IsServed}
 use Rattle.conn_worker.specs.Waiting.{Turns, Waits, WaitsOnce}
+use Rattle.conn_worker.proofs.Owning.{want_made}
 use Rattle.scm_server.specs.Pairs.{IsRising}
 use Rattle.scm_server.proofs.Lists.{pairwise_more}
 
@@ -56,12 +59,16 @@ module _ (o : Opening) where
       goes_on k once.looked k' (goes_learnt k once.looked once.learnt)
       (goes_on once.looked waits.0 k' (of_turn once.looked waits.0 moment once.turns) (of_waits plan moments waits.0 k' waits.2))
 
-  of_served : (tells : ℕ → Type 0) (k k' : Known) (asked : Request) (heard : Option Reply) → IsServed tells o k k' asked heard → Goes k k'
+  of_served : (tells : ℕ → Type 0) (k k' : Known) (asked : Asked) (heard : Option Reply) → IsServed tells o k k' asked heard → Goes k k'
   of_served tells k k' asked None wanted =
-      goes_made k k' wanted.moment (NoMemory k.caller) answers.Done wanted.wants.made.made wanted.wants.made.made.caller
-  of_served tells k k' asked (Some reply) (inl at_once) =
+      let made : MadeSo o k wanted.moment (NoMemory k.caller) answers.Done k' = want_made o k k' wanted.moment asked wanted.wants in
+      goes_made k k' wanted.moment (NoMemory k.caller) answers.Done made.made made.made.caller
+  of_served tells k k' (asks.Raise subtype) (Some reply) raised =
+      let made : RaisedSo o k raised.moment subtype reply k' = raised.made in
+      goes_made k k' raised.moment (Raised k.caller subtype) (answers.Reply reply) made.made.made made.made.made.caller
+  of_served tells k k' (asks.Call asked) (Some reply) (inl at_once) =
       goes_made k k' at_once.moment (Call k.caller asked at_once.made.append) (answers.Reply reply) at_once.made.made at_once.made.made.caller
-  of_served tells k k' asked (Some reply) (inr waited) =
+  of_served tells k k' (asks.Call asked) (Some reply) (inr waited) =
       let ends = waited.ends in
       let last = ends.ends in
       goes_on k waited.begun k'
@@ -69,7 +76,7 @@ module _ (o : Opening) where
       (goes_on waited.begun ends.waited k' (of_waits waited.plan ends.turns waited.begun ends.waited ends.waits)
       (goes_made ends.waited k' last.moment (EndStart ends.waited.caller waited.plan) (answers.Reply reply) last.made last.made.caller))
 
-  pub of_chain : (tells : ℕ → Type 0) (k k' : Known) (requests : List Request) (heard : List (Option Reply)) → Chain (IsServed tells o) k k' requests heard → Goes k k'
+  pub of_chain : (tells : ℕ → Type 0) (k k' : Known) (requests : List Asked) (heard : List (Option Reply)) → Chain (IsServed tells o) k k' requests heard → Goes k k'
   of_chain tells k k' [] [] same = goes_same k k' same
   of_chain tells k k' (asked ∷ requests) (told ∷ heard) chain =
       goes_on k chain.0 k' (of_served tells k chain.0 asked told chain.1) (of_chain tells chain.0 k' requests heard chain.2)

@@ -3,11 +3,9 @@ use Rattle.std.specs.Prelude.{ℕ, ◌≡◌, ◌≤◌, ◌<◌, ◌^◌, ◌�
 use Rattle.std.specs.Io.KnownBytes.{Appends, Consumes}
 use mathlib.Core.List.{IsPrefix}
 use Rattle.scm_model.specs.declared.calls.Reply.{Reply}
-use Rattle.scm_model.specs.declared.calls.Request.{Request}
 use Rattle.scm_model.specs.declared.flat.Principal.{Principal}
 use Rattle.scm_model.specs.declared.steps.Answer.TheVariants as answers
-use Rattle.scm_model.specs.declared.steps.Kept.TheVariants.{NotAsked}
-use Rattle.scm_model.specs.declared.steps.Step.TheVariants.{Call, Gone, Joined}
+use Rattle.scm_model.specs.declared.steps.Step.TheVariants.{Gone, Joined}
 use Rattle.scm_model.specs.Entries.{Entry}
 use Rattle.scm_rules.specs.Named.{has_made, names_caller}
 use Rattle.scm_history.specs.Owned.{Made as Told, made_of}
@@ -18,11 +16,13 @@ use Rattle.scm_book.specs.declared.answers.JoinFault.{JoinFault}
 use Rattle.scm_book.specs.declared.answers.JoinFault.TheVariants as joins
 use Rattle.scm_book.specs.Joins.{has_place}
 use Rattle.scm_book.specs.Passes.{room_behind}
+use Rattle.conn_desk.specs.declared.asked.Asked.{Asked}
 use Rattle.conn_desk.specs.declared.served.Served.{Served}
 use Rattle.conn_desk.specs.declared.served.Served.TheVariants as served
 use Rattle.conn_desk.specs.Bodies.{asked}
 use Rattle.conn_desk.specs.Connection.{IsServedFor, Reached}
 use Rattle.conn_worker.specs.Owning.{AreOfAll, AreTold, StandAt, StandsAt}
+use Rattle.conn_worker.specs.Serving.{step_for}
 use Rattle.scm_listener.specs.Connections.{PastConnection}
 use Rattle.scm_server.specs.Pairs.{IsRising}
 
@@ -54,15 +54,15 @@ pub record WasRefused (o : Opening) (log : List Entry) (principal : Principal) (
 -- ## The second case
 
 -- behind this front the limits have no room for the caller's request
-abbrev pub HasNoRoomBehind : Opening → ℕ → List Entry → Request → Type 0
-HasNoRoomBehind o caller front request = room_behind o front (Call caller request NotAsked) ≡ false
+abbrev pub HasNoRoomBehind : Opening → ℕ → List Entry → Asked → Type 0
+HasNoRoomBehind o caller front request = room_behind o front (step_for caller request) ≡ false
 
 -- no entry of the history but those at these places names the caller
 abbrev pub NamedOnlyAt : List Entry → ℕ → List ℕ → Type 0
 NamedOnlyAt log caller places = (front : List Entry) (e : Entry) (rest : List Entry) → log ≡ front ++ e ∷ rest → names_caller caller e.1 ≡ true → Has (length front) places
 
 -- what was read, answered and written of a connection, and how it ended
-pub record WasServed (full : List Entry → Request → Type 0) (stood : List Entry) (h : Handed) (done : List Incoming) (heard : List (Option Reply)) (how : Served) : Type 0 where
+pub record WasServed (full : List Entry → Asked → Type 0) (stood : List Entry) (h : Handed) (done : List Incoming) (heard : List (Option Reply)) (how : Served) : Type 0 where
   pub fresh : IsFresh h
   pub read : List ℕ
   pub consumed : Consumes h.given h.past.left read

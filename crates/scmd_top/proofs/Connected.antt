@@ -67,8 +67,8 @@ module _ {K : Type 0} (told : K → Option (List ℕ)) (faulted : K → ℕ) whe
   -- ## The connection
 
   came : (tells : ℕ → Type 0) (path : Bool) (principal : Principal) (moment : ℕ) (o : Opened) (a b : Side) (keeper mid : K) (end : Piped K)
-      → tells moment → (h : HasOpened path (side told faulted keeper mid) moment o)
-      → IsEnd told faulted tells principal program_limits (program_opening h.replay.configs moment) a.told a.told_now b.told b.told_now mid end
+      → tells moment → (h : HasOpened path [] (side told faulted keeper mid) moment o)
+      → IsEnd told faulted tells principal program_limits (program_opening [] h.replay.configs moment) a.told a.told_now b.told b.told_now mid end
       → HasCome tells path principal end.how (record { input = a; output = b; keeper = side told faulted keeper end.keeper })
   came tells path principal moment o a b keeper mid end at h (inl (inl j)) = inl (record {
     replay = h.replay;
@@ -77,7 +77,7 @@ module _ {K : Type 0} (told : K → Option (List ℕ)) (faulted : K → ℕ) whe
     opened_at = at;
     history = j.history;
     piped = j.piped;
-    kept = keeps h.replay.kept program_limits (program_opening h.replay.configs moment) j.history keeper mid end.keeper h.cut h.faults j.kept;
+    kept = keeps h.replay.kept program_limits (program_opening [] h.replay.configs moment) j.history keeper mid end.keeper h.cut h.faults j.kept;
   })
   came tells path principal moment o a b keeper mid end at h (inl (inr u)) = inr (record {
     replay = h.replay;
@@ -86,8 +86,8 @@ module _ {K : Type 0} (told : K → Option (List ℕ)) (faulted : K → ℕ) whe
     unread = u.0.unread;
     unwritten = u.0.unwritten;
     kept = subst (λ (changes : List Change). KeepsJournal h.replay.kept changes 0 (side told faulted keeper end.keeper))
-        (law_of_kept program_limits (program_opening h.replay.configs moment)).none
-        (keeps h.replay.kept program_limits (program_opening h.replay.configs moment) [] keeper mid end.keeper h.cut h.faults u.1);
+        (law_of_kept program_limits (program_opening [] h.replay.configs moment)).none
+        (keeps h.replay.kept program_limits (program_opening [] h.replay.configs moment) [] keeper mid end.keeper h.cut h.faults u.1);
   })
   came tells path principal moment o a b keeper mid end at h (inr u) = inr (record {
     replay = h.replay;
@@ -99,19 +99,19 @@ module _ {K : Type 0} (told : K → Option (List ℕ)) (faulted : K → ℕ) whe
   })
 
   pub come : (tells : ℕ → Type 0) (path : Bool) (principal : Principal) (moment : ℕ) (o : Opened) (a b : Side) (keeper mid : K) (end : Piped K)
-      → tells moment → HasOpened path (side told faulted keeper mid) moment o
+      → tells moment → HasOpened path [] (side told faulted keeper mid) moment o
       → IsEnd told faulted tells principal o.manager.limits o.manager.flat a.told a.told_now b.told b.told_now mid end
       → HasCome tells path principal end.how (record { input = a; output = b; keeper = side told faulted keeper end.keeper })
   come tells path principal moment o a b keeper mid end at h e =
       came tells path principal moment o a b keeper mid end at h
-      (subst (λ (l : Limits). IsEnd told faulted tells principal l (program_opening h.replay.configs moment) a.told a.told_now b.told b.told_now mid end) h.new.limits
+      (subst (λ (l : Limits). IsEnd told faulted tells principal l (program_opening [] h.replay.configs moment) a.told a.told_now b.told b.told_now mid end) h.new.limits
       (subst (λ (f : Flat). IsEnd told faulted tells principal o.manager.limits f a.told a.told_now b.told b.told_now mid end) h.new.flat e))
 
 -- ## Completeness
 
 -- room whenever the history begins is room where it began
 pub complete_always : (path : Bool) (principal : Principal) (moment : ℕ) (o : Opened) (keeper : Side) (left : Option (List ℕ)) (source source_now sink sink_now : ℕ) (how : Served)
-    → HasOpened path keeper moment o → EndsAsItsInput (HasRoomForAll principal o.manager.limits o.manager.flat) left source source_now sink sink_now how
+    → HasOpened path [] keeper moment o → EndsAsItsInput (HasRoomForAll principal o.manager.limits o.manager.flat) left source source_now sink sink_now how
     → EndsAsItsInput (HasRoomAlways path keeper.told principal) left source source_now sink sink_now how
 complete_always path principal moment o keeper None source source_now sink sink_now how h e = tt
 complete_always path principal moment o keeper (Some bytes) source source_now sink sink_now how h e =

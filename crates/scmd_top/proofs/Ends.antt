@@ -1,5 +1,5 @@
 -- No job has the status of words that are none.
-use Rattle.std.proofs.Common.{Bool, true, false, ℕ, ◌≡◌, ◌≢◌, ◌∙◌, inl, inr, sym}
+use Rattle.std.proofs.Common.{Bool, true, false, ℕ, ◌≡◌, ◌≢◌, ◌∙◌, List, inl, inr, sym}
 use Rattle.conn_desk.specs.declared.served.Served.{Served}
 use Rattle.conn_desk.specs.declared.served.Served.TheVariants as served
 use Rattle.scm_generate.specs.declared.generated.Generated.{Generated}
@@ -62,11 +62,11 @@ not_replayed false s status h = not_answered false s status h
 not_replayed true s status (inl h) = not_answered true s status h
 not_replayed true s status (inr h) = not_opened true s status h
 
-pub not_5 : (tells : ℕ → Type 0) (path : Bool) (job : Job) (s : Sides) (p : Ports) (status : ℕ) → HasRun tells path job s p status → status ≢ 5
-not_5 tells path (Pipe principal) s p status (inl h) = λ e. not_of_pipe h.how (sym h.status_is ∙ e)
-not_5 tells path (Pipe principal) s p status (inr h) = not_opened path s status h
-not_5 tells path Replay s p status h = not_replayed path s status h
-not_5 tells path (Generate services) s p status h = λ e. not_of_generate h.0.how (sym h.0.status_is ∙ e)
-not_5 tells path (Serve admin user) s p status (inl h, untouched) = not_of_serve h.end s.output status h.written
-not_5 tells path (Serve admin user) s p status (inr (inl h), untouched) = not_10 status h.status_is
-not_5 tells path (Serve admin user) s p status (inr (inr h), untouched) = not_opened path s status h.0
+pub not_5 : (tells : ℕ → Type 0) (path : Bool) (groups : List (List ℕ)) (job : Job) (s : Sides) (p : Ports) (status : ℕ) → HasRun tells path groups job s p status → status ≢ 5
+not_5 tells path groups (Pipe principal) s p status (inl h) = λ e. not_of_pipe h.how (sym h.status_is ∙ e)
+not_5 tells path groups (Pipe principal) s p status (inr h) = not_opened path s status h
+not_5 tells path groups Replay s p status h = not_replayed path s status h
+not_5 tells path groups (Generate services) s p status h = λ e. not_of_generate h.0.how (sym h.0.status_is ∙ e)
+not_5 tells path groups (Serve admin user) s p status (inl h, untouched) = not_of_serve h.end s.output status h.written
+not_5 tells path groups (Serve admin user) s p status (inr (inl h), untouched) = not_10 status h.status_is
+not_5 tells path groups (Serve admin user) s p status (inr (inr h), untouched) = not_opened path s status h.0

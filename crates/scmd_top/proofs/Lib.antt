@@ -6,3 +6,4 @@ mod Connected
 mod Summaries
 mod Options
 mod Served
+mod Named

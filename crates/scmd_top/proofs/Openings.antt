@@ -6,7 +6,7 @@ use Rattle.outside.specs.Causes.{Rose}
 use Rattle.scm_model.specs.declared.flat.Flat.{Flat}
 use Rattle.scm_model.specs.declared.flat.Limits.{Limits}
 use Rattle.scm_core.specs.Managed.{AreSmall, Managed}
-use Rattle.scm_core.proofs.Opened.{opens_empty}
+use Rattle.scm_core.proofs.Opened.{opens_with_nothing}
 use Rattle.scm_rules.specs.Opening.{IsOpening}
 use Rattle.record_journal.specs.Bearing.{Bears}
 use Rattle.record_journal.specs.Keepers.{IsEmptied}
@@ -53,17 +53,18 @@ emptied_cut None now e = tt
 emptied_cut (Some bytes) None e = absurd cc
 emptied_cut (Some bytes) (Some now) e = ap Some (e ∙ nothing_taken bytes)
 
-begins_empty : (m : Managed) (moment : ℕ) → IsNew [] moment m → IsOpening m.limits m.flat
-begins_empty m moment new =
-    subst (λ (l : Limits). IsOpening l m.flat) (sym new.limits) (subst (λ (f : Flat). IsOpening program_limits f) (sym new.flat) (opens_empty program_limits moment))
+begins_empty : (m : Managed) (groups : List (List ℕ)) (moment : ℕ) → IsNew groups [] moment m → IsOpening m.limits m.flat
+begins_empty m groups moment new =
+    subst (λ (l : Limits). IsOpening l m.flat) (sym new.limits)
+    (record { groups = groups; configs = []; moment = moment; can = opens_with_nothing program_limits; is = new.flat })
 
-pub opens_empty_at : (keeper : Side) (moment : ℕ) (m : Managed) (j : Journal) → j ≡ empty_journal → IsEmptied keeper.told keeper.told_now → keeper.faults_now ≡ keeper.faults → IsNew [] moment m
-    → Opens false keeper moment (Ok (record { manager = m; journal = j }))
-opens_empty_at keeper moment m j is e same new = record {
+pub opens_empty_at : (keeper : Side) (groups : List (List ℕ)) (moment : ℕ) (m : Managed) (j : Journal) → j ≡ empty_journal → IsEmptied keeper.told keeper.told_now → keeper.faults_now ≡ keeper.faults → IsNew groups [] moment m
+    → Opens false groups keeper moment (Ok (record { manager = m; journal = j }))
+opens_empty_at keeper groups moment m j is e same new = record {
   replay = record { configs = []; kept = 0 };
   read = refl;
   new = new;
-  begins = begins_empty m moment new;
+  begins = begins_empty m groups moment new;
   cut = emptied_cut keeper.told keeper.told_now e;
   bears = subst (λ (x : Journal). Bears keeper.told_now x keeper.told_now) (sym is) (emptied_bears keeper.told keeper.told_now e);
   faults = same;
@@ -91,11 +92,11 @@ keeps_so None now place h = tt
 keeps_so (Some bytes) None place h = absurd h
 keeps_so (Some bytes) (Some now) place h = h
 
-opened_so : (keeper : Side) (moment : ℕ) (o : Opened) (restored : Result Restored JournalFault) → IfSome keeper.told (λ bytes. Answers bytes restored)
-    → Leaves true keeper.told keeper.told_now restored → Manages program_limits moment restored (Ok o) → IsOpening program_limits o.manager.flat
-    → IsUnmoved program_limits o.manager → Bears keeper.told_now o.journal keeper.told_now → keeper.faults_now ≡ keeper.faults → HasOpened true keeper moment o
-opened_so keeper moment o (Err fault) a l m begins u b same = absurd m
-opened_so keeper moment o (Ok r) a l m begins u b same = record {
+opened_so : (keeper : Side) (groups : List (List ℕ)) (moment : ℕ) (o : Opened) (restored : Result Restored JournalFault) → IfSome keeper.told (λ bytes. Answers bytes restored)
+    → Leaves true keeper.told keeper.told_now restored → Manages program_limits groups moment restored (Ok o) → IsOpening program_limits o.manager.flat
+    → IsUnmoved program_limits o.manager → Bears keeper.told_now o.journal keeper.told_now → keeper.faults_now ≡ keeper.faults → HasOpened true groups keeper moment o
+opened_so keeper groups moment o (Err fault) a l m begins u b same = absurd m
+opened_so keeper groups moment o (Ok r) a l m begins u b same = record {
   replay = record { configs = r.configs; kept = r.journal.good };
   read = a;
   new = record { flat = m.0; limits = u.limits_are; steps = u.steps; text = u.text };
@@ -111,21 +112,29 @@ unopened_as keeper faults.Failed a l c = (l, c refl)
 unopened_as keeper faults.OutOfMemory a l c = left_so keeper.told keeper.told_now l
 unopened_as keeper (faults.Damaged place) a l c = (a, keeps_so keeper.told keeper.told_now place l)
 
-unopened_so : (keeper : Side) (moment : ℕ) (fault : JournalFault) (restored : Result Restored JournalFault) → IfSome keeper.told (λ bytes. Answers bytes restored)
-    → Leaves true keeper.told keeper.told_now restored → Manages program_limits moment restored (Err fault)
+unopened_so : (keeper : Side) (groups : List (List ℕ)) (moment : ℕ) (fault : JournalFault) (restored : Result Restored JournalFault) → IfSome keeper.told (λ bytes. Answers bytes restored)
+    → Leaves true keeper.told keeper.told_now restored → Manages program_limits groups moment restored (Err fault)
     → (fault ≡ faults.Failed → Rose keeper.faults keeper.faults_now) → IsUnopened true keeper fault
-unopened_so keeper moment fault (Err told) a l m c =
+unopened_so keeper groups moment fault (Err told) a l m c =
     subst (IsUnopened true keeper) (sym m) (unopened_as keeper told a l (λ e. c (m ∙ e)))
-unopened_so keeper moment faults.OutOfMemory (Ok r) a l m c = left_cut keeper.told keeper.told_now r a l
-unopened_so keeper moment faults.Failed (Ok r) a l m c = absurd m
-unopened_so keeper moment (faults.Damaged place) (Ok r) a l m c = absurd m
+unopened_so keeper groups moment faults.OutOfMemory (Ok r) a l m c = left_cut keeper.told keeper.told_now r a l
+unopened_so keeper groups moment faults.Failed (Ok r) a l m c = absurd m
+unopened_so keeper groups moment (faults.Damaged place) (Ok r) a l m c = absurd m
 
-pub opens_so : (keeper : Side) (moment : ℕ) (result : Result Opened JournalFault) → Comes program_limits moment true keeper.told keeper.told_now result
+pub opens_so : (keeper : Side) (groups : List (List ℕ)) (moment : ℕ) (result : Result Opened JournalFault) → Comes program_limits groups moment true keeper.told keeper.told_now result
     → IfOk result (λ o. IsOpening program_limits o.manager.flat) → IfOk result (λ o. IsUnmoved program_limits o.manager)
     → IfOk result (λ o. Bears keeper.told_now o.journal keeper.told_now) → (IsErrOf result faults.Failed → Rose keeper.faults keeper.faults_now)
-    → OnOk result (keeper.faults_now ≡ keeper.faults) → Opens true keeper moment result
-opens_so keeper moment (Ok o) h begins u b c same = opened_so keeper moment o h.restored h.answer h.leaves h.manages begins u b same
-opens_so keeper moment (Err fault) h begins u b c same = unopened_so keeper moment fault h.restored h.answer h.leaves h.manages (λ e. c (ap Err e))
+    → OnOk result (keeper.faults_now ≡ keeper.faults) → Opens true groups keeper moment result
+opens_so keeper groups moment (Ok o) h begins u b c same = opened_so keeper groups moment o h.restored h.answer h.leaves h.manages begins u b same
+opens_so keeper groups moment (Err fault) h begins u b c same = unopened_so keeper groups moment fault h.restored h.answer h.leaves h.manages (λ e. c (ap Err e))
+
+-- there was no memory for the groups: all is left as it was
+left_untouched : (told : Option (List ℕ)) → LeavesAll told told (Err faults.Failed)
+left_untouched None = tt
+left_untouched (Some bytes) = inl refl
+
+pub untouched_so : (keeper : Side) (groups : List (List ℕ)) (moment : ℕ) → keeper.told_now ≡ keeper.told → Opens true groups keeper moment (Err faults.OutOfMemory)
+untouched_so keeper groups moment same = subst (λ (now : Option (List ℕ)). LeavesAll keeper.told now (Err faults.Failed)) (sym same) (left_untouched keeper.told)
 
 -- ## A run without one
 

@@ -82,12 +82,12 @@ module _ (configs : List Config) where
       complete_lines how now bytes left_now held held_now source source_now sink sink_now p c
 
 -- a replay over a new manager begins in the opening state
-pub left_by : (configs : List Config) (m : Managed) (now : Standing) (left left_now held held_now : Option (List ℕ)) (how : Replayed) → IsNew configs 0 m
+pub left_by : (configs : List Config) (m : Managed) (now : Standing) (left left_now held held_now : Option (List ℕ)) (how : Replayed) → IsNew [] configs 0 m
     → IsReplayed m.limits (standing m) now left left_now held held_now how
     → IsReplayed program_limits (program_start configs) now left left_now held held_now how
 left_by configs m now left left_now held held_now how new h =
-    subst (λ n. IsReplayed program_limits (record { flat = program_opening configs 0; steps = 0; text = n }) now left left_now held held_now how) new.text
-    (subst (λ n. IsReplayed program_limits (record { flat = program_opening configs 0; steps = n; text = m.text }) now left left_now held held_now how) new.steps
+    subst (λ n. IsReplayed program_limits (record { flat = program_opening [] configs 0; steps = 0; text = n }) now left left_now held held_now how) new.text
+    (subst (λ n. IsReplayed program_limits (record { flat = program_opening [] configs 0; steps = n; text = m.text }) now left left_now held held_now how) new.steps
     (subst (λ f. IsReplayed program_limits (record { flat = f; steps = m.steps; text = m.text }) now left left_now held held_now how) new.flat
     (subst (λ l. IsReplayed l (standing m) now left left_now held held_now how) new.limits h)))
 
@@ -112,7 +112,7 @@ complete_alone how s h c =
 
 -- ## Over what stands under a path
 
-pub answered_over : (how : Replayed) (s : Sides) (o : Opened) (now : Standing) → HasOpened true s.keeper 0 o
+pub answered_over : (how : Replayed) (s : Sides) (o : Opened) (now : Standing) → HasOpened true [] s.keeper 0 o
     → IsReplayed o.manager.limits (standing o.manager) now s.input.told s.input.told_now s.output.told s.output.told_now how
     → IsReplayCaused how s.input.faults s.input.faults_now s.output.faults s.output.faults_now → HasReplayed true s (status_of_replay how)
 answered_over how s o now h r c = inl (record {
@@ -132,7 +132,7 @@ over_where None source source_now sink sink_now keeper replay status read h = tt
 over_where (Some bytes) source source_now sink sink_now keeper replay status read h =
     λ no_read no_write. inr (inr (replay, read, h no_read no_write))
 
-pub complete_over : (how : Replayed) (s : Sides) (o : Opened) (now : Standing) → HasOpened true s.keeper 0 o
+pub complete_over : (how : Replayed) (s : Sides) (o : Opened) (now : Standing) → HasOpened true [] s.keeper 0 o
     → IsReplayed o.manager.limits (standing o.manager) now s.input.told s.input.told_now s.output.told s.output.told_now how
     → IsReplayCaused how s.input.faults s.input.faults_now s.output.faults s.output.faults_now → HasAllReplayed true s (status_of_replay how)
 complete_over how s o now h r c =

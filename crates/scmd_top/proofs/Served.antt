@@ -23,23 +23,23 @@ use Rattle.scmd_top.proofs.Openings.{fails}
 -- ## The book
 
 module _ {K : Type 0} (told : K → Option (List ℕ)) (faulted : K → ℕ) where
-  served : (tells : ℕ → Type 0) (path : Bool) (moment : ℕ) (o : Opened) (keeper mid now : K) (a a' u u' : Told) (end : BookEnd) → tells moment
-      → (h : HasOpened path (side told faulted keeper mid) moment o) → ServesBook told faulted tells program_limits (program_opening h.replay.configs moment) a a' u u' mid now end
-      → HasServedOver tells path (side told faulted keeper now) a a' u u' end
-  served tells path moment o keeper mid now a a' u u' end at h (inl s) = inl (record {
+  served : (tells : ℕ → Type 0) (path : Bool) (groups : List (List ℕ)) (moment : ℕ) (o : Opened) (keeper mid now : K) (a a' u u' : Told) (end : BookEnd) → tells moment
+      → (h : HasOpened path groups (side told faulted keeper mid) moment o) → ServesBook told faulted tells program_limits (program_opening groups h.replay.configs moment) a a' u u' mid now end
+      → HasServedOver tells path groups (side told faulted keeper now) a a' u u' end
+  served tells path groups moment o keeper mid now a a' u u' end at h (inl s) = inl (record {
     replay = h.replay;
     stood = h.read;
     opened = moment;
     opened_at = at;
-    opening = begun_with told faulted program_limits (program_opening h.replay.configs moment) mid;
+    opening = begun_with told faulted program_limits (program_opening groups h.replay.configs moment) mid;
     opens = record { limits = refl; first = refl };
     history = s.history;
     legal = s.legal;
-    kept = keeps told faulted h.replay.kept program_limits (program_opening h.replay.configs moment) s.history keeper mid now h.cut h.faults s.kept;
+    kept = keeps told faulted h.replay.kept program_limits (program_opening groups h.replay.configs moment) s.history keeper mid now h.cut h.faults s.kept;
     served = s.served;
     ends = s.ends;
   })
-  served tells path moment o keeper mid now a a' u u' end at h (inr s) = inr (record {
+  served tells path groups moment o keeper mid now a a' u u' end at h (inr s) = inr (record {
     replay = h.replay;
     stood = h.read;
     lacks = s.lacks;
@@ -48,33 +48,33 @@ module _ {K : Type 0} (told : K → Option (List ℕ)) (faulted : K → ℕ) whe
     kept = rests told faulted h.replay.kept o.journal keeper mid now h.cut h.faults h.bears s.same;
   })
 
-  served_over : (tells : ℕ → Type 0) (path : Bool) (moment : ℕ) (o : Opened) (keeper mid now : K) (a a' u u' : Told) (end : BookEnd) → tells moment
-      → HasOpened path (side told faulted keeper mid) moment o → ServesBook told faulted tells o.manager.limits o.manager.flat a a' u u' mid now end
-      → HasServedOver tells path (side told faulted keeper now) a a' u u' end
-  served_over tells path moment o keeper mid now a a' u u' end at h s =
-      served tells path moment o keeper mid now a a' u u' end at h
-      (subst (λ (l : Limits). ServesBook told faulted tells l (program_opening h.replay.configs moment) a a' u u' mid now end) h.new.limits
+  served_over : (tells : ℕ → Type 0) (path : Bool) (groups : List (List ℕ)) (moment : ℕ) (o : Opened) (keeper mid now : K) (a a' u u' : Told) (end : BookEnd) → tells moment
+      → HasOpened path groups (side told faulted keeper mid) moment o → ServesBook told faulted tells o.manager.limits o.manager.flat a a' u u' mid now end
+      → HasServedOver tells path groups (side told faulted keeper now) a a' u u' end
+  served_over tells path groups moment o keeper mid now a a' u u' end at h s =
+      served tells path groups moment o keeper mid now a a' u u' end at h
+      (subst (λ (l : Limits). ServesBook told faulted tells l (program_opening groups h.replay.configs moment) a a' u u' mid now end) h.new.limits
       (subst (λ (f : Flat). ServesBook told faulted tells o.manager.limits f a a' u u' mid now end) h.new.flat s))
 
   -- both listened, and were served
-  pub has_listened : (tells : ℕ → Type 0) (path : Bool) (admin user : Listening) (input output : Side) (p : Ports) (status moment : ℕ) (o : Opened) (keeper mid now : K) (a u : Told)
-      (end : BookEnd) → tells moment → HasOpened path (side told faulted keeper mid) moment o → a ≡ listening_at p.admin admin → u ≡ listening_at p.user user
+  pub has_listened : (tells : ℕ → Type 0) (path : Bool) (groups : List (List ℕ)) (admin user : Listening) (input output : Side) (p : Ports) (status moment : ℕ) (o : Opened) (keeper mid now : K) (a u : Told)
+      (end : BookEnd) → tells moment → HasOpened path groups (side told faulted keeper mid) moment o → a ≡ listening_at p.admin admin → u ≡ listening_at p.user user
       → ServesBook told faulted tells o.manager.limits o.manager.flat a p.admin_now u p.user_now mid now end → HasWritten end output status
-      → HasServed tells path admin user (record { input = input; output = output; keeper = side told faulted keeper now }) p status
-  has_listened tells path admin user input output p status moment o keeper mid now a u end at h at_admin at_user s wrote = inl (record {
+      → HasServed tells path groups admin user (record { input = input; output = output; keeper = side told faulted keeper now }) p status
+  has_listened tells path groups admin user input output p status moment o keeper mid now a u end at h at_admin at_user s wrote = inl (record {
     end = end;
-    served = served_over tells path moment o keeper mid now (listening_at p.admin admin) p.admin_now (listening_at p.user user) p.user_now end at h
+    served = served_over tells path groups moment o keeper mid now (listening_at p.admin admin) p.admin_now (listening_at p.user user) p.user_now end at h
         (subst (λ (l : Told). ServesBook told faulted tells o.manager.limits o.manager.flat l p.admin_now (listening_at p.user user) p.user_now mid now end) at_admin
         (subst (λ (l : Told). ServesBook told faulted tells o.manager.limits o.manager.flat a p.admin_now l p.user_now mid now end) at_user s));
     written = wrote;
   })
 
   -- one failed to listen
-  pub has_not_listened : (tells : ℕ → Type 0) (path : Bool) (admin user : Listening) (input output : Side) (p : Ports) (moment : ℕ) (o : Opened) (keeper mid : K)
-      → HasOpened path (side told faulted keeper mid) moment o → IsUntouched output
+  pub has_not_listened : (tells : ℕ → Type 0) (path : Bool) (groups : List (List ℕ)) (admin user : Listening) (input output : Side) (p : Ports) (moment : ℕ) (o : Opened) (keeper mid : K)
+      → HasOpened path groups (side told faulted keeper mid) moment o → IsUntouched output
       → HandsNothing p.admin p.admin_now → HandsNothing p.user p.user_now → Rose p.admin.faults p.admin_now.faults ⊎ Rose p.user.faults p.user_now.faults
-      → HasServed tells path admin user (record { input = input; output = output; keeper = side told faulted keeper mid }) p 10
-  has_not_listened tells path admin user input output p moment o keeper mid h untouched a u cause = inr (inl (record {
+      → HasServed tells path groups admin user (record { input = input; output = output; keeper = side told faulted keeper mid }) p 10
+  has_not_listened tells path groups admin user input output p moment o keeper mid h untouched a u cause = inr (inl (record {
     status_is = refl;
     admin = a;
     user = u;
@@ -86,20 +86,20 @@ module _ {K : Type 0} (told : K → Option (List ℕ)) (faulted : K → ℕ) whe
   }))
 
 -- there is no manager
-pub not_opened : (tells : ℕ → Type 0) (path : Bool) (admin user : Listening) (s : Sides) (p : Ports) (fault : JournalFault) → IsUnopened path s.keeper fault
-    → IsUntouched s.input → IsUntouched s.output → p.admin_now ≡ p.admin → p.user_now ≡ p.user → HasServed tells path admin user s p (status_of_fault fault)
-not_opened tells path admin user s p fault h input output a u =
+pub not_opened : (tells : ℕ → Type 0) (path : Bool) (groups : List (List ℕ)) (admin user : Listening) (s : Sides) (p : Ports) (fault : JournalFault) → IsUnopened path s.keeper fault
+    → IsUntouched s.input → IsUntouched s.output → p.admin_now ≡ p.admin → p.user_now ≡ p.user → HasServed tells path groups admin user s p (status_of_fault fault)
+not_opened tells path groups admin user s p fault h input output a u =
     inr (inr (record { fault = fault; status_is = refl; unopened = h; input = input; output = output }, a, u))
 
 -- ## Completeness
 
-written_complete : (tells : ℕ → Type 0) (path : Bool) (admin user : Listening) (s : Sides) (p : Ports) (status : ℕ) (end : BookEnd)
-    → HasServedOver tells path s.keeper (listening_at p.admin admin) p.admin_now (listening_at p.user user) p.user_now end → HasWritten end s.output status → IsComplete path s p status
-written_complete tells path admin user s p status (Ended text) over (inl w) = λ keeper damage output a u. inl w.0
-written_complete tells path admin user s p status (Ended text) over (inr w) = λ keeper damage output a u. absurd (output w.2)
-written_complete tells path admin user s p status OutOfMemory over w = λ keeper damage output a u. inr w.0
-written_complete tells path admin user s p status ListenFault (inl h) w = λ keeper damage output a u. ⊎_elim (λ r. absurd (a r)) (λ r. absurd (u r)) h.ends.1
-written_complete tells path admin user s p status ListenFault (inr h) w = absurd cc
+written_complete : (tells : ℕ → Type 0) (path : Bool) (groups : List (List ℕ)) (admin user : Listening) (s : Sides) (p : Ports) (status : ℕ) (end : BookEnd)
+    → HasServedOver tells path groups s.keeper (listening_at p.admin admin) p.admin_now (listening_at p.user user) p.user_now end → HasWritten end s.output status → IsComplete path s p status
+written_complete tells path groups admin user s p status (Ended text) over (inl w) = λ keeper damage output a u. inl w.0
+written_complete tells path groups admin user s p status (Ended text) over (inr w) = λ keeper damage output a u. absurd (output w.2)
+written_complete tells path groups admin user s p status OutOfMemory over w = λ keeper damage output a u. inr w.0
+written_complete tells path groups admin user s p status ListenFault (inl h) w = λ keeper damage output a u. ⊎_elim (λ r. absurd (a r)) (λ r. absurd (u r)) h.ends.1
+written_complete tells path groups admin user s p status ListenFault (inr h) w = absurd cc
 
 unopened_complete : (path : Bool) (s : Sides) (p : Ports) (status : ℕ) → (status ≡ 8) ⊎ FailsToOpen path s.keeper status → IsComplete path s p status
 unopened_complete path s p status (inl is) = λ keeper damage output a u. inr is
@@ -111,7 +111,7 @@ not_opened_complete path s p status h =
     unopened_complete path s p status
     (subst (λ (n : ℕ). (n ≡ 8) ⊎ FailsToOpen path s.keeper n) (sym h.status_is) (fails path s.keeper h.fault h.unopened))
 
-pub complete : (tells : ℕ → Type 0) (path : Bool) (admin user : Listening) (s : Sides) (p : Ports) (status : ℕ) → HasServed tells path admin user s p status → IsComplete path s p status
-complete tells path admin user s p status (inl h) = written_complete tells path admin user s p status h.end h.served h.written
-complete tells path admin user s p status (inr (inl h)) = λ keeper damage output a u. ⊎_elim (λ r. absurd (a r)) (λ r. absurd (u r)) h.cause
-complete tells path admin user s p status (inr (inr h)) = not_opened_complete path s p status h.0
+pub complete : (tells : ℕ → Type 0) (path : Bool) (groups : List (List ℕ)) (admin user : Listening) (s : Sides) (p : Ports) (status : ℕ) → HasServed tells path groups admin user s p status → IsComplete path s p status
+complete tells path groups admin user s p status (inl h) = written_complete tells path groups admin user s p status h.end h.served h.written
+complete tells path groups admin user s p status (inr (inl h)) = λ keeper damage output a u. ⊎_elim (λ r. absurd (a r)) (λ r. absurd (u r)) h.cause
+complete tells path groups admin user s p status (inr (inr h)) = not_opened_complete path s p status h.0

@@ -15,6 +15,7 @@ use Rattle.scm_replay.specs.declared.replayed.Replayed.TheVariants as answered
 use Rattle.scm_model.specs.declared.flat.Config.{Config}
 use Rattle.record_journal.specs.declared.replaying.Replay.{Replay as Restoring}
 use Rattle.record_journal.specs.Keepers.{has_path}
+use Rattle.scmd_top.specs.Groups.{groups_in}
 use Rattle.scmd_top.specs.Opening.{FailsToOpen, HasNotOpened, IsCut, IsRead, program_opening}
 use Rattle.scmd_top.specs.declared.words.Job.{Job}
 use Rattle.scmd_top.specs.declared.words.Job.TheVariants.{Pipe, Replay, Generate, Serve}
@@ -23,7 +24,7 @@ use Rattle.scmd_top.specs.Serving.{HasServed, IsComplete as IsServed}
 use Rattle.scmd_top.specs.Sides.{IsUntouched, LeavesPorts, Ports, Side, Sides}
 use Rattle.scmd_top.specs.declared.world.World.{World}
 use Rattle.scmd_top.specs.Statuses.{IsOrLacks, program_limits}
-use Rattle.scmd_top.specs.Words.{job_of, path_of}
+use Rattle.scmd_top.specs.Words.{job_of, list_of, path_of}
 
 -- ## Statuses
 
@@ -45,7 +46,7 @@ status_of_generate printed.OutOfMemory = 8
 
 -- where the manager of a replay stands at first, at moment 0: it made no steps
 abbrev pub program_start : List Config → Standing
-program_start configs = record { flat = program_opening configs 0; steps = 0; text = 0 }
+program_start configs = record { flat = program_opening [] configs 0; steps = 0; text = 0 }
 
 -- the input's lines were answered, and the manager stands somewhere behind them
 pub record LeavesReplayed (configs : List Config) (left left_now held held_now : Option (List ℕ)) (how : Replayed) : Type 0 where
@@ -76,15 +77,15 @@ HasReplayed true s status = HasAnswered true s status ⊎ HasNotOpened true s st
 pub record HasPrinted (services : ℕ) (output : Side) (status : ℕ) : Type 0 where
   pub how : Generated
   pub status_is : status ≡ status_of_generate how
-  pub prints : Prints (summary program_limits (program_opening [] 0) (generated services)) output.told output.told_now how
-  pub can : IfMade how (CanBeMade program_limits (program_opening [] 0) (generated services))
+  pub prints : Prints (summary program_limits (program_opening [] [] 0) (generated services)) output.told output.told_now how
+  pub can : IfMade how (CanBeMade program_limits (program_opening [] [] 0) (generated services))
   pub cause : IsPrintCaused how output.faults output.faults_now
 
-abbrev pub HasRun : (tells : ℕ → Type 0) → (path : Bool) → Job → Sides → Ports → (status : ℕ) → Type 0
-HasRun tells path (Pipe principal) s p status = HasPiped tells path principal s status
-HasRun tells path Replay s p status = HasReplayed path s status
-HasRun tells path (Generate services) s p status = HasPrinted services s.output status × IsUntouched s.input × IsUntouched s.keeper
-HasRun tells path (Serve admin user) s p status = HasServed tells path admin user s p status × IsUntouched s.input
+abbrev pub HasRun : (tells : ℕ → Type 0) → (path : Bool) → (groups : List (List ℕ)) → Job → Sides → Ports → (status : ℕ) → Type 0
+HasRun tells path groups (Pipe principal) s p status = HasPiped tells path principal s status
+HasRun tells path groups Replay s p status = HasReplayed path s status
+HasRun tells path groups (Generate services) s p status = HasPrinted services s.output status × IsUntouched s.input × IsUntouched s.keeper
+HasRun tells path groups (Serve admin user) s p status = HasServed tells path groups admin user s p status × IsUntouched s.input
 
 -- no other jobs than a pipe and a server touch the keeper, and a replay over what stands under a path
 abbrev pub LeavesKeeper : {K : Type 0} → (path : Bool) → Job → (keeper now : K) → Type 0
@@ -141,8 +142,12 @@ HasAllDone path (Serve admin user) s p status = IsServed path s p status
 abbrev pub names_file : List (List ℕ) → Bool
 names_file words = has_path (path_of words)
 
+-- the groups that they list
+abbrev pub groups_listed : List (List ℕ) → List (List ℕ)
+groups_listed words = groups_in (list_of words)
+
 -- what words came to: 5 exactly where they are no job, and else what the job came to
 pub record HasEnded (tells : ℕ → Type 0) (words : List (List ℕ)) (s : Sides) (p : Ports) (status : ℕ) : Type 0 where
   pub words_are : status ≡ 5 ↔ IsNone (job_of words)
-  pub run : IfSome (job_of words) (λ job. HasRun tells (names_file words) job s p status)
+  pub run : IfSome (job_of words) (λ job. HasRun tells (names_file words) (groups_listed words) job s p status)
   pub complete : IfSome (job_of words) (λ job. HasAllDone (names_file words) job s p status)

@@ -2,6 +2,7 @@ pub mod Statuses
 pub mod Sides
 pub mod Settings
 pub mod Parts
+pub mod Groups
 pub mod Words
 pub mod Opening
 pub mod Pipe

@@ -40,22 +40,23 @@ IsCut kept (Some bytes) now = now ≡ Some (take kept bytes)
 
 -- ## An opening
 
--- the state in which a run's history begins: these services are there, all stopped, and nobody is
-abbrev pub program_opening : (configs : List Config) → (moment : ℕ) → Flat
-program_opening configs moment = opening program_limits [] configs moment
+-- the state in which a run's history begins: these services are there, all stopped, those that start by themselves are due, in the order of
+-- these groups, and nobody is there
+abbrev pub program_opening : (groups : List (List ℕ)) → (configs : List Config) → (moment : ℕ) → Flat
+program_opening groups configs moment = opening program_limits groups configs moment
 
--- it opened at this moment with these configurations under the program's limits, and made no step
-pub record IsNew (configs : List Config) (moment : ℕ) (m : Managed) : Type 0 where
-  pub flat : m.flat ≡ program_opening configs moment
+-- it opened at this moment with these groups and configurations under the program's limits, and made no step
+pub record IsNew (groups : List (List ℕ)) (configs : List Config) (moment : ℕ) (m : Managed) : Type 0 where
+  pub flat : m.flat ≡ program_opening groups configs moment
   pub limits : m.limits ≡ program_limits
   pub steps : m.steps ≡ 0
   pub text : m.text ≡ 0
 
 -- a manager has what stood under the path, and the keeper bears it
-pub record HasOpened (path : Bool) (keeper : Side) (moment : ℕ) (o : Opened) : Type 0 where
+pub record HasOpened (path : Bool) (groups : List (List ℕ)) (keeper : Side) (moment : ℕ) (o : Opened) : Type 0 where
   pub replay : Replay
   pub read : IsRead path keeper.told replay
-  pub new : IsNew replay.configs moment o.manager
+  pub new : IsNew groups replay.configs moment o.manager
   pub begins : IsOpening o.manager.limits o.manager.flat
   pub cut : IsCut replay.kept keeper.told keeper.told_now
   pub bears : Bears keeper.told_now o.journal keeper.told_now
@@ -76,9 +77,9 @@ IsUnopened true keeper faults.OutOfMemory = IsLeft keeper
 IsUnopened true keeper (faults.Damaged place) =
     IfSome keeper.told (λ bytes. read_journal bytes ≡ Err place) × Keeps keeper.told keeper.told_now
 
-abbrev pub Opens : (path : Bool) → (keeper : Side) → (moment : ℕ) → Result Opened JournalFault → Type 0
-Opens path keeper moment (Ok opened) = HasOpened path keeper moment opened
-Opens path keeper moment (Err fault) = IsUnopened path keeper fault
+abbrev pub Opens : (path : Bool) → (groups : List (List ℕ)) → (keeper : Side) → (moment : ℕ) → Result Opened JournalFault → Type 0
+Opens path groups keeper moment (Ok opened) = HasOpened path groups keeper moment opened
+Opens path groups keeper moment (Err fault) = IsUnopened path keeper fault
 
 -- ## A run without one
 

@@ -8,3 +8,8 @@ IsParts parts told = MatchOption told (parts ≡ None) (λ x. parts ≡ Some (x.
 
 abbrev pub IsText : Option (List ℕ) → Option (Bor (List ℕ)) → Type 0
 IsText text told = MatchOption told (text ≡ None) (λ (x : Bor (List ℕ)). text ≡ Some x.now)
+
+-- the text that is lent, if one is
+abbrev pub lent : Option (Bor (List ℕ)) → Option (List ℕ)
+lent None = None
+lent (Some x) = Some x.now

@@ -48,8 +48,8 @@ pub record HasServed (tells : ℕ → Type 0) (path : Bool) (principal : Princip
   pub opened : ℕ
   pub opened_at : tells opened
   pub history : List Entry
-  pub piped : IsPiped tells principal program_limits (program_opening replay.configs opened) s.input.told s.input.told_now s.output.told s.output.told_now how history
-  pub kept : KeepsJournal replay.kept (kept_changes program_limits (program_opening replay.configs opened) history) (failures_in history) s.keeper
+  pub piped : IsPiped tells principal program_limits (program_opening [] replay.configs opened) s.input.told s.input.told_now s.output.told s.output.told_now how history
+  pub kept : KeepsJournal replay.kept (kept_changes program_limits (program_opening [] replay.configs opened) history) (failures_in history) s.keeper
 
 -- there was no memory for a book and its caller: nothing is read or written, and no change is kept
 pub record HasNotJoined (path : Bool) (how : Served) (s : Sides) : Type 0 where
@@ -94,7 +94,7 @@ pub record EndsAs (path : Bool) (keeper : Side) (bytes : List ℕ) (status : ℕ
 -- those before it
 abbrev pub HasRoomAlways : (path : Bool) → (held : Option (List ℕ)) → Principal → List ℕ → Type 0
 HasRoomAlways path held principal bytes =
-    (opened : ℕ) (replay : Replay) → IsRead path held replay → HasRoomForAll principal program_limits (program_opening replay.configs opened) bytes
+    (opened : ℕ) (replay : Replay) → IsRead path held replay → HasRoomForAll principal program_limits (program_opening [] replay.configs opened) bytes
 
 -- where the input is told, neither its count nor the output's rose, and there is room for each request, the status is that of its end
 abbrev pub IsComplete : (path : Bool) → Principal → Sides → (status : ℕ) → Type 0

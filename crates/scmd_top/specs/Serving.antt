@@ -34,23 +34,23 @@ HasWritten ListenFault output status = (status ≡ 10) × IsUntouched output
 
 -- ## The book
 
--- it opens under the program's limits with these services, and nobody is there
-pub record IsProgramOpening (configs : List Config) (opened : ℕ) (o : Opening) : Type 0 where
+-- it opens under the program's limits with these groups and services, and nobody is there
+pub record IsProgramOpening (groups : List (List ℕ)) (configs : List Config) (opened : ℕ) (o : Opening) : Type 0 where
   pub limits : o.limits ≡ program_limits
-  pub first : o.first ≡ program_opening configs opened
+  pub first : o.first ≡ program_opening groups configs opened
 
 -- One history from a moment of the clock on, over what stood under the path: the connections of both listeners stand in it, its kept changes
 -- stand in the journal behind that, and it is what is summed up.
-pub record HasHistory (tells : ℕ → Type 0) (path : Bool) (keeper : Side) (a a' u u' : Told) (end : BookEnd) : Type 0 where
+pub record HasHistory (tells : ℕ → Type 0) (path : Bool) (groups : List (List ℕ)) (keeper : Side) (a a' u u' : Told) (end : BookEnd) : Type 0 where
   pub replay : Replay
   pub stood : IsRead path keeper.told replay
   pub opened : ℕ
   pub opened_at : tells opened
   pub opening : Opening
-  pub opens : IsProgramOpening replay.configs opened opening
+  pub opens : IsProgramOpening groups replay.configs opened opening
   pub history : List Entry
-  pub legal : Legal program_limits (program_opening replay.configs opened) history
-  pub kept : KeepsJournal replay.kept (kept_changes program_limits (program_opening replay.configs opened) history) (failures_in history) keeper
+  pub legal : Legal program_limits (program_opening groups replay.configs opened) history
+  pub kept : KeepsJournal replay.kept (kept_changes program_limits (program_opening groups replay.configs opened) history) (failures_in history) keeper
   pub served : ServedIn tells opening history a a' u u' (lacked_memory end)
   pub ends : EndsAs opening history a a' u u' end
 
@@ -63,15 +63,15 @@ pub record HasNoBook (path : Bool) (keeper : Side) (a a' u u' : Told) (end : Boo
   pub user : u' ≡ u
   pub kept : KeepsJournal replay.kept [] 0 keeper
 
-abbrev pub HasServedOver : (tells : ℕ → Type 0) → (path : Bool) → (keeper : Side) → (a a' u u' : Told) → BookEnd → Type 0
-HasServedOver tells path keeper a a' u u' end = HasHistory tells path keeper a a' u u' end ⊎ HasNoBook path keeper a a' u u' end
+abbrev pub HasServedOver : (tells : ℕ → Type 0) → (path : Bool) → (groups : List (List ℕ)) → (keeper : Side) → (a a' u u' : Told) → BookEnd → Type 0
+HasServedOver tells path groups keeper a a' u u' end = HasHistory tells path groups keeper a a' u u' end ⊎ HasNoBook path keeper a a' u u' end
 
 -- ## The program
 
 -- both listened, each once and where it was to, and were served
-pub record HasListened (tells : ℕ → Type 0) (path : Bool) (admin user : Listening) (s : Sides) (p : Ports) (status : ℕ) : Type 0 where
+pub record HasListened (tells : ℕ → Type 0) (path : Bool) (groups : List (List ℕ)) (admin user : Listening) (s : Sides) (p : Ports) (status : ℕ) : Type 0 where
   pub end : BookEnd
-  pub served : HasServedOver tells path s.keeper (listening_at p.admin admin) p.admin_now (listening_at p.user user) p.user_now end
+  pub served : HasServedOver tells path groups s.keeper (listening_at p.admin admin) p.admin_now (listening_at p.user user) p.user_now end
   pub written : HasWritten end s.output status
 
 -- one failed to listen: nothing was handed out, no change is kept, and nothing is written
@@ -85,9 +85,9 @@ pub record HasNotListened (path : Bool) (s : Sides) (p : Ports) (status : ℕ) :
   pub kept : KeepsJournal replay.kept [] 0 s.keeper
   pub output : IsUntouched s.output
 
-abbrev pub HasServed : (tells : ℕ → Type 0) → (path : Bool) → (admin user : Listening) → Sides → Ports → (status : ℕ) → Type 0
-HasServed tells path admin user s p status =
-    HasListened tells path admin user s p status
+abbrev pub HasServed : (tells : ℕ → Type 0) → (path : Bool) → (groups : List (List ℕ)) → (admin user : Listening) → Sides → Ports → (status : ℕ) → Type 0
+HasServed tells path groups admin user s p status =
+    HasListened tells path groups admin user s p status
     ⊎ HasNotListened path s p status
     ⊎ (HasNotOpened path s status × (p.admin_now ≡ p.admin) × (p.user_now ≡ p.user))
 

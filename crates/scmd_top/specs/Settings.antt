@@ -6,7 +6,7 @@ use Rattle.scm_replay.specs.Words.{decimal_at, ◌>>=◌}
 use Rattle.scm_model.specs.declared.flat.Principal.{Principal}
 use Rattle.scm_model.specs.declared.flat.Principal.TheVariants.{Admin, User}
 use Rattle.scmd_top.specs.declared.settings.Setting.{Setting}
-use Rattle.scmd_top.specs.declared.settings.Setting.TheVariants.{AdminPort, UserPort, AdminTake, UserTake, As, File}
+use Rattle.scmd_top.specs.declared.settings.Setting.TheVariants.{AdminPort, UserPort, AdminTake, UserTake, As, File, Groups}
 use Rattle.scmd_top.specs.declared.settings.Settings.{Settings}
 
 -- ## Names
@@ -22,6 +22,7 @@ setting_named word =
     else if is_word word (codes "--take-user") then Some UserTake
     else if is_word word (codes "--as") then Some As
     else if is_word word (codes "--db") then Some File
+    else if is_word word (codes "--groups") then Some Groups
     else None
 
 abbrev pub is_equals : ℕ → Bool
@@ -45,10 +46,10 @@ principal_named value =
     if is_word value (codes "admin") then Some Admin else
     if is_word value (codes "user") then Some User else None
 
--- a name of a file is not empty, and doesn't begin as an option does, with `-`
-abbrev pub is_file : List ℕ → Bool
-is_file [] = false
-is_file (b ∷ value) = not (b == 45)
+-- a name of a file and a list of groups aren't empty, and don't begin as an option does, with `-`
+abbrev pub is_plain : List ℕ → Bool
+is_plain [] = false
+is_plain (b ∷ value) = not (b == 45)
 
 -- a value, where none was given before
 abbrev pub once : {A : Type 0} → (before : Option A) → (value : Option A) → Option A
@@ -61,12 +62,13 @@ with_value s UserPort value = option_map (λ (n : ℕ). record s { user = Some n
 with_value s AdminTake value = option_map (λ (n : ℕ). record s { take_admin = Some n; waits = None }) (once s.take_admin (option_and_then count_of (decimal_at value)))
 with_value s UserTake value = option_map (λ (n : ℕ). record s { take_user = Some n; waits = None }) (once s.take_user (option_and_then count_of (decimal_at value)))
 with_value s As value = option_map (λ (p : Principal). record s { principal = Some p; waits = None }) (once s.principal (principal_named value))
-with_value s File value = if not s.file && is_file value then Some (record s { file = true; waits = None }) else None
+with_value s File value = if not s.file && is_plain value then Some (record s { file = true; waits = None }) else None
+with_value s Groups value = if not s.groups && is_plain value then Some (record s { groups = true; waits = None }) else None
 
 -- ## Words
 
 abbrev pub no_settings : Settings
-no_settings = record { admin = None; user = None; take_admin = None; take_user = None; principal = None; file = false; waits = None }
+no_settings = record { admin = None; user = None; take_admin = None; take_user = None; principal = None; file = false; groups = false; waits = None }
 
 -- a name, with its value or before it
 abbrev pub with_name : Settings → (word : List ℕ) → Option (List ℕ × List ℕ) → Option Settings
@@ -82,19 +84,20 @@ abbrev pub settings_from : Settings → List (List ℕ) → Option Settings
 settings_from s [] = Some s
 settings_from s (word ∷ words) = with_word s s.waits word >>= λ now. settings_from now words
 
--- ## The file
+-- ## Values that are texts
 
--- the file of an option in one word
-abbrev pub file_in : Option (List ℕ × List ℕ) → Option (List ℕ)
-file_in None = None
-file_in (Some pair) = if is_word pair.0 (codes "--db") then Some pair.1 else None
+-- the value of an option in one word
+abbrev pub value_in : (option : List ℕ) → Option (List ℕ × List ℕ) → Option (List ℕ)
+value_in option None = None
+value_in option (Some pair) = if is_word pair.0 option then Some pair.1 else None
 
 abbrev pub or_else : {A : Type 0} → Option A → Option A → Option A
 or_else None other = other
 or_else (Some a) other = Some a
 
--- Which file the words of a job name, of which one may wait for its value: no value of another option is written as this option is.
-abbrev pub file_from : (waits : Bool) → List (List ℕ) → Option (List ℕ)
-file_from waits [] = None
-file_from true (word ∷ words) = Some word
-file_from false (word ∷ words) = or_else (file_in (named_value word)) (file_from (is_word word (codes "--db")) words)
+-- Which value the words of a job have for an option, of which one may wait for its value: no value of another option is written as an option
+-- is.
+abbrev pub value_from : (option : List ℕ) → (waits : Bool) → List (List ℕ) → Option (List ℕ)
+value_from option waits [] = None
+value_from option true (word ∷ words) = Some word
+value_from option false (word ∷ words) = or_else (value_in option (named_value word)) (value_from option (is_word word option) words)

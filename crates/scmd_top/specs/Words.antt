@@ -1,33 +1,33 @@
 -- What the words ask for.
-use Rattle.std.specs.Prelude.{ℕ, ◌≤◌, ◌&&◌, nat_le, false, codes, List, [], ◌∷◌, Option, None, Some, option_and_then, option_map, if◌then◌else◌}
+use Rattle.std.specs.Prelude.{ℕ, ◌≤◌, Bool, ◌&&◌, nat_le, false, codes, List, [], ◌∷◌, Option, None, Some, option_and_then, option_map, if◌then◌else◌}
 use Rattle.scm_model.specs.declared.flat.Principal.{Principal}
 use Rattle.scm_model.specs.declared.flat.Principal.TheVariants.{Admin}
 use Rattle.scmd_top.specs.declared.words.Job.{Job}
 use Rattle.scm_replay.specs.Words.{decimal_at}
 use Rattle.scmd_top.specs.declared.words.Job.TheVariants.{Pipe, Replay, Generate, Serve}
-use Rattle.scmd_top.specs.Settings.{file_from, is_word, no_settings, settings_from}
+use Rattle.scmd_top.specs.Settings.{is_word, no_settings, settings_from, value_from}
 use Rattle.scmd_top.specs.declared.settings.Setting.{Setting}
 use Rattle.scmd_top.specs.declared.settings.Settings.{Settings}
 
 -- ## Options of each job
 
--- nothing is said of ports, and no value is waited for
-abbrev pub pipe_with : Option Setting → (admin user take_admin take_user : Option ℕ) → Option Principal → Option Job
-pipe_with None None None None None None = Some (Pipe Admin)
-pipe_with None None None None None (Some principal) = Some (Pipe principal)
-pipe_with waits admin user take_admin take_user principal = None
+-- nothing is said of ports and groups, and no value is waited for
+abbrev pub pipe_with : Option Setting → (admin user take_admin take_user : Option ℕ) → (groups : Bool) → Option Principal → Option Job
+pipe_with None None None None None false None = Some (Pipe Admin)
+pipe_with None None None None None false (Some principal) = Some (Pipe principal)
+pipe_with waits admin user take_admin take_user groups principal = None
 
 -- a pipe's connection is an administrator's, unless it is said
 abbrev pub pipe_of : Settings → Option Job
-pipe_of s = pipe_with s.waits s.admin s.user s.take_admin s.take_user s.principal
+pipe_of s = pipe_with s.waits s.admin s.user s.take_admin s.take_user s.groups s.principal
 
-abbrev pub replay_with : Option Setting → (admin user take_admin take_user : Option ℕ) → Option Principal → Option Job
-replay_with None None None None None None = Some Replay
-replay_with waits admin user take_admin take_user principal = None
+abbrev pub replay_with : Option Setting → (admin user take_admin take_user : Option ℕ) → (groups : Bool) → Option Principal → Option Job
+replay_with None None None None None false None = Some Replay
+replay_with waits admin user take_admin take_user groups principal = None
 
 -- a replay has no option but its file
 abbrev pub replay_of : Settings → Option Job
-replay_of s = replay_with s.waits s.admin s.user s.take_admin s.take_user s.principal
+replay_of s = replay_with s.waits s.admin s.user s.take_admin s.take_user s.groups s.principal
 
 -- where two ports are listened at, and how many connections each takes
 abbrev pub served_at : Option Setting → Option Principal → (admin user : Option ℕ) → (take_admin take_user : Option ℕ) → Option Job
@@ -74,4 +74,8 @@ job_of (word ∷ words) =
 
 -- which file they name, where they are a job
 abbrev pub path_of : List (List ℕ) → Option (List ℕ)
-path_of words = file_from false words
+path_of words = value_from (codes "--db") false words
+
+-- which groups they list, where they are a job
+abbrev pub list_of : List (List ℕ) → Option (List ℕ)
+list_of words = value_from (codes "--groups") false words

@@ -1,6 +1,7 @@
 //! The service control manager as a program: what it does by its words, with what it meets outside.
 #![tactic(auto)]
 
+mod groups;
 mod limits;
 mod lines;
 mod opening;

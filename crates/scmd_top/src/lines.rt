@@ -41,7 +41,7 @@ fn answer_lines<I: Source, O: Sink>(alloc: Global, input: &mut I, output: &mut O
     ensures cause { IsReplayCaused result
         (I.faults input.old) (I.faults input.new) (O.faults output.old) (O.faults output.new) }
 {
-    let Ok(mut manager) = new_manager(alloc, 0) else {
+    let Ok(mut manager) = new_manager(alloc, None, 0) else {
         return Replayed::OutOfMemory;
     };
     let how = replay(alloc, &mut manager, input, output);
@@ -71,7 +71,7 @@ fn answer_over<I: Source, O: Sink, K: Keeper>(
       keeper = side K.held K.faults keeper.old keeper.new;
     }) result }
 {
-    match open_stored(alloc, keeper, path, 0) {
+    match open_stored(alloc, keeper, path, None, 0) {
         Ok(
             Opened {
                 mut manager,

@@ -1,8 +1,11 @@
 ghost use Rattle.std.specs.Prelude.{◌≡◌, [], false, true, IfOk};
 ghost use Rattle.record_journal.specs.Keepers.{has_path};
+ghost use Rattle.scmd_top.specs.Groups.{groups_in};
 ghost use Rattle.scmd_top.specs.Opening.{IsNew, Opens, status_of_fault};
+ghost use Rattle.scmd_top.specs.Parts.{lent};
 ghost use Rattle.scmd_top.specs.Sides.{side};
 
+use crate::groups::groups_in;
 use crate::limits::LIMITS;
 use record_journal::{Journal, JournalFault, Keeper};
 use scm_core::Manager;
@@ -21,21 +24,28 @@ pub fn status_of_fault(fault: JournalFault) -> u8
     }
 }
 
-/// A manager in which nobody and nothing is, at this moment.
-pub fn new_manager(alloc: Global, moment: u64) -> Result<Manager, OutOfMemory>
-    ensures { IfOk result (IsNew [] moment) }
+/// A manager in which nobody and nothing is, at this moment, with the groups of a list.
+pub fn new_manager(alloc: Global, names: Option<&str>, moment: u64) -> Result<Manager, OutOfMemory>
+    ensures { IfOk result (IsNew (groups_in (lent names.entry)) [] moment) }
 {
-    Manager::new(alloc, LIMITS, Items::new(alloc), Items::new(alloc), moment)
+    let groups = groups_in(alloc, names)?;
+    Manager::new(alloc, LIMITS, groups, Items::new(alloc), moment)
 }
 
 /// The same over a keeper that is emptied.
-fn open_empty<K: Keeper>(alloc: Global, keeper: &mut K, moment: u64) -> Result<Opened, JournalFault>
-    ensures { Opens false (side K.held K.faults keeper.old keeper.new) moment result }
+fn open_empty<K: Keeper>(
+    alloc: Global,
+    keeper: &mut K,
+    names: Option<&str>,
+    moment: u64,
+) -> Result<Opened, JournalFault>
+    ensures { Opens false (groups_in (lent names.entry))
+        (side K.held K.faults keeper.old keeper.new) moment result }
 {
     let Ok(()) = keeper.open_at(None) else {
         return Err(JournalFault::Failed);
     };
-    match new_manager(alloc, moment) {
+    match new_manager(alloc, names, moment) {
         Ok(manager) => Ok(Opened {
             manager,
             journal: Journal::empty(),
@@ -49,26 +59,32 @@ pub fn open_stored<K: Keeper>(
     alloc: Global,
     keeper: &mut K,
     path: &str,
+    names: Option<&str>,
     moment: u64,
 ) -> Result<Opened, JournalFault>
-    ensures { Opens true (side K.held K.faults keeper.old keeper.new) moment result }
+    ensures { Opens true (groups_in (lent names.entry))
+        (side K.held K.faults keeper.old keeper.new) moment result }
 {
-    open_manager(alloc, LIMITS, keeper, Some(path), moment)
+    let Ok(groups) = groups_in(alloc, names) else {
+        return Err(JournalFault::OutOfMemory);
+    };
+    open_manager(alloc, LIMITS, groups, keeper, Some(path), moment)
 }
 
-/// A manager over what stands under the path, at this moment. Without a path the keeper is emptied,
-/// and keeps in memory.
+/// A manager over what stands under the path, with the groups of a list, at this moment. Without a
+/// path the keeper is emptied, and keeps in memory.
 pub fn open_at<K: Keeper>(
     alloc: Global,
     keeper: &mut K,
     path: Option<&str>,
+    names: Option<&str>,
     moment: u64,
 ) -> Result<Opened, JournalFault>
-    ensures { Opens (has_path path.entry)
+    ensures { Opens (has_path path.entry) (groups_in (lent names.entry))
         (side K.held K.faults keeper.old keeper.new) moment result }
 {
     match path {
-        Some(path) => open_stored(alloc, keeper, path, moment),
-        None => open_empty(alloc, keeper, moment),
+        Some(path) => open_stored(alloc, keeper, path, names, moment),
+        None => open_empty(alloc, keeper, names, moment),
     }
 }

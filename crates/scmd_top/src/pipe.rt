@@ -54,7 +54,7 @@ pub fn pipe_main<R: Wait, I: Source, O: Sink, K: Keeper, N: Listener, P: Spawner
 {
     let mut world = world;
     let moment = world.clock.now();
-    match open_at(alloc, &mut world.keeper, path, moment) {
+    match open_at(alloc, &mut world.keeper, path, None, moment) {
         Ok(Opened { manager, journal }) => {
             let World {
                 mut input,

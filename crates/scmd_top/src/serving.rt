@@ -1,6 +1,8 @@
 //! `scmd serve`.
 ghost use Rattle.std.specs.Prelude.{◌≡◌, ◌≤◌};
 ghost use Rattle.record_journal.specs.Keepers.{has_path};
+ghost use Rattle.scmd_top.specs.Groups.{groups_in};
+ghost use Rattle.scmd_top.specs.Parts.{lent};
 ghost use Rattle.scmd_top.specs.Serving.{HasServed, HasWritten, IsComplete};
 ghost use Rattle.scmd_top.specs.Sides.{ports_of, side, sides_of};
 
@@ -34,14 +36,15 @@ fn written<O: Sink>(end: BookEnd, output: &mut O) -> u8
 }
 
 /// Serves the connections of two ports, writes the summary of their history once both listeners are
-/// closed, and gives the status of the program. Without a path the journal begins empty, and is
-/// kept in memory.
+/// closed, and gives the status of the program. What starts by itself does so in the order of the
+/// groups of a list. Without a path the journal begins empty, and is kept in memory.
 pub fn serve_main<R, I, O, K, N, NI, NO, A, P, L, F, C>(
     rt: &R,
     alloc: Global,
     admin_at: Listening,
     user_at: Listening,
     path: Option<&str>,
+    names: Option<&str>,
     world: World<I, O, K, N, P, C>,
 ) -> (u8, World<I, O, K, N, P, C>)
 where
@@ -62,7 +65,7 @@ where
     ensures output { O.faults world.output ≤ O.faults result.1.output }
     // Which history the connections and the keeper are of, what was written, and why it ended.
     ensures run { HasServed (C.tells world.clock)
-        (has_path path.entry) admin_at user_at
+        (has_path path.entry) (groups_in (lent names.entry)) admin_at user_at
         (sides_of I.left I.faults O.held O.faults K.held K.faults world result.1)
         (ports_of N.left N.accepted N.noted N.listened N.faults world result.1) result.0 }
     // Nothing else ends a server without faults.
@@ -72,7 +75,7 @@ where
 {
     let mut world = world;
     let moment = world.clock.now();
-    match open_at(alloc, &mut world.keeper, path, moment) {
+    match open_at(alloc, &mut world.keeper, path, names, moment) {
         Ok(Opened { manager, journal }) => {
             let Ok(()) = listen_both(&mut world.admin, admin_at, &mut world.user, user_at) else {
                 manager.close();

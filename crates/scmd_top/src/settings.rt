@@ -1,11 +1,11 @@
 // The options of jobs.
-ghost use Rattle.std.specs.Prelude.{◌≡◌, false, option_and_then};
+ghost use Rattle.std.specs.Prelude.{◌≡◌, codes, false, option_and_then};
 ghost use Rattle.decimal_words.specs.Numbers.{number_at};
 ghost use Rattle.scmd_top.specs.Parts.{IsParts, IsText};
 ghost use Rattle.scmd_top.specs.Settings.{count_of, no_settings, once, port_of, setting_named};
 ghost use Rattle.scmd_top.specs.Settings.{settings_from, with_name, with_value, with_word};
-ghost use Rattle.scmd_top.specs.Settings.{file_from, file_in, is_file, named_value};
-ghost use Rattle.scmd_top.specs.Settings.{principal_named};
+ghost use Rattle.scmd_top.specs.Settings.{is_plain, named_value, principal_named};
+ghost use Rattle.scmd_top.specs.Settings.{value_from, value_in};
 
 use scm_model::Principal;
 use scm_replay::number_at;
@@ -22,6 +22,8 @@ pub enum Setting {
     As,
     /// Where the journal stands.
     File,
+    /// Which groups start first.
+    Groups,
 }
 
 /// What options say, so far as they were read.
@@ -35,6 +37,8 @@ pub struct Settings {
     pub principal: Option<Principal>,
     /// Whether a file is named.
     pub file: bool,
+    /// Whether groups are listed.
+    pub groups: bool,
     /// The option whose value is the next word.
     pub waits: Option<Setting>,
 }
@@ -54,6 +58,8 @@ fn setting_named(word: &str) -> Option<Setting>
         Some(Setting::As)
     } else if word == "--db" {
         Some(Setting::File)
+    } else if word == "--groups" {
+        Some(Setting::Groups)
     } else {
         None
     }
@@ -112,8 +118,8 @@ fn principal_named(value: &str) -> Option<Principal>
     }
 }
 
-fn is_file(value: &str) -> bool
-    ensures { result ≡ is_file value.now }
+fn is_plain(value: &str) -> bool
+    ensures { result ≡ is_plain value.now }
 {
     match value.as_bytes() {
         [] => false,
@@ -139,6 +145,7 @@ impl Settings {
         take_user: None,
         principal: None,
         file: false,
+        groups: false,
         waits: None,
     };
 
@@ -170,11 +177,15 @@ impl Settings {
                 principal: Some(once(self.principal, principal_named(value))?),
                 ..settings
             }),
-            Setting::File if !self.file && is_file(value) => Some(Settings {
+            Setting::File if !self.file && is_plain(value) => Some(Settings {
                 file: true,
                 ..settings
             }),
-            Setting::File => None,
+            Setting::Groups if !self.groups && is_plain(value) => Some(Settings {
+                groups: true,
+                ..settings
+            }),
+            Setting::File | Setting::Groups => None,
         }
     }
 
@@ -213,27 +224,41 @@ impl Settings {
     }
 }
 
-/// The file of an option that stands in one word with it.
-fn file_in(word: &str) -> Option<&str>
-    ensures { IsText (file_in (named_value word.now)) result }
+/// The value of an option that stands in one word with it.
+fn value_in<'a>(option: &str, word: &'a str) -> Option<&'a str>
+    ensures { IsText (value_in option.now (named_value word.now)) result }
 {
     let (name, value) = parts_of(word)?;
-    if name == "--db" { Some(value) } else { None }
+    if name == option { Some(value) } else { None }
 }
 
-/// Which file these words name, if they are options of a job and their values.
-pub fn file_of(words: &[Text]) -> Option<&str>
-    ensures { IsText (file_from false words.now) result }
+/// The value that these words have for an option, if they are options of a job and their values.
+fn value_of<'a>(option: &str, words: &'a [Text]) -> Option<&'a str>
+    ensures { IsText (value_from option.now false words.now) result }
 {
     let mut waits = false;
     for word in words {
         if waits {
             return Some(word.as_str());
         }
-        if let Some(file) = file_in(word.as_str()) {
-            return Some(file);
+        if let Some(value) = value_in(option, word.as_str()) {
+            return Some(value);
         }
-        waits = word.as_str() == "--db";
+        waits = word.as_str() == option;
     }
     None
+}
+
+/// Which file they name.
+pub fn file_of(words: &[Text]) -> Option<&str>
+    ensures { IsText (value_from (codes "--db") false words.now) result }
+{
+    value_of("--db", words)
+}
+
+/// The groups that they list, as one text.
+pub fn groups_text(words: &[Text]) -> Option<&str>
+    ensures { IsText (value_from (codes "--groups") false words.now) result }
+{
+    value_of("--groups", words)
 }

@@ -1,7 +1,9 @@
 ghost use Rattle.std.specs.Prelude.{◌≡◌, ◌≤◌, ◌↔◌, IfOk, IfSome, IsErrOf, IsNone};
 ghost use Rattle.record_journal.specs.Keepers.{has_path};
 ghost use Rattle.scmd_top.specs.Jobs.{HasAllDone, HasEnded, HasRun, LeavesKeeper, LeavesOthers};
-ghost use Rattle.scmd_top.specs.Jobs.{names_file};
+ghost use Rattle.scmd_top.specs.Jobs.{groups_listed, names_file};
+ghost use Rattle.scmd_top.specs.Groups.{groups_in};
+ghost use Rattle.scmd_top.specs.Parts.{lent};
 ghost use Rattle.scmd_top.specs.Sides.{ports_of, sides_of};
 ghost use Rattle.scmd_top.specs.Words.{IsFew, job_of};
 
@@ -9,7 +11,7 @@ use crate::lines::replay_main;
 use crate::pipe::pipe_main;
 use crate::serving::serve_main;
 use crate::summary::generate_main;
-use crate::words::{Job, NoWords, job_of, path_of};
+use crate::words::{Job, NoWords, job_of, list_of, path_of};
 use crate::world::World;
 use child_link::{Feed, Link};
 use outside::{Clock, Sink, Source};
@@ -28,6 +30,7 @@ fn run<R, I, O, K, N, NI, NO, A, P, L, F, C>(
     alloc: Global,
     job: Job,
     path: Option<&str>,
+    names: Option<&str>,
     world: World<I, O, K, N, P, C>,
 ) -> (u8, World<I, O, K, N, P, C>)
 where
@@ -44,7 +47,8 @@ where
     P: Spawner<Link = L, Feed = F> + Send + Drop,
     C: Clock + Sync,
     requires { IsFew job }
-    ensures run { HasRun (C.tells world.clock) (has_path path.entry) job
+    ensures run { HasRun (C.tells world.clock)
+        (has_path path.entry) (groups_in (lent names.entry)) job
         (sides_of I.left I.faults O.held O.faults K.held K.faults world result.1)
         (ports_of N.left N.accepted N.noted N.listened N.faults world result.1) result.0 }
     ensures clock { result.1.clock ≡ world.clock }
@@ -60,7 +64,7 @@ where
         Job::Pipe { principal } => pipe_main(rt, alloc, principal, path, world),
         Job::Replay => replay_main(alloc, path, world),
         Job::Generate { services } => generate_main(alloc, services, world),
-        Job::Serve { admin, user } => serve_main(rt, alloc, admin, user, path, world),
+        Job::Serve { admin, user } => serve_main(rt, alloc, admin, user, path, names, world),
     }
 }
 
@@ -102,7 +106,7 @@ where
     ensures output { O.faults world.output ≤ O.faults result.1.output }
     // What was read, answered, written and kept, and why the run ended.
     ensures run { IfSome (job_of words.now) (λ job. HasRun (C.tells world.clock)
-        (names_file words.now) job
+        (names_file words.now) (groups_listed words.now) job
         (sides_of I.left I.faults O.held O.faults K.held K.faults world result.1)
         (ports_of N.left N.accepted N.noted N.listened N.faults world result.1) result.0) }
     // Nothing else ends a run without faults.
@@ -111,7 +115,7 @@ where
         (ports_of N.left N.accepted N.noted N.listened N.faults world result.1) result.0) }
 {
     match job_of(words) {
-        Some(job) => run(rt, alloc, job, path_of(words), world),
+        Some(job) => run(rt, alloc, job, path_of(words), list_of(words), world),
         None => (5, world),
     }
 }

@@ -1,10 +1,10 @@
 ghost use Rattle.std.specs.Prelude.{◌≡◌, ◌≤◌, IfSome, option_and_then};
 ghost use Rattle.scm_replay.specs.Words.{decimal_at};
 ghost use Rattle.scmd_top.specs.Parts.{IsText};
-ghost use Rattle.scmd_top.specs.Words.{IsFew, generate_with, job_of, path_of, pipe_of};
-ghost use Rattle.scmd_top.specs.Words.{replay_of, serving_of, with_options, within};
+ghost use Rattle.scmd_top.specs.Words.{IsFew, generate_with, job_of, list_of, path_of};
+ghost use Rattle.scmd_top.specs.Words.{pipe_of, replay_of, serving_of, with_options, within};
 
-use crate::settings::{Settings, file_of};
+use crate::settings::{Settings, file_of, groups_text};
 use scm_listener::Listening;
 use scm_model::Principal;
 use scm_replay::number_at;
@@ -68,8 +68,9 @@ fn pipe_of(said: Settings) -> Option<Job>
         said.user,
         said.take_admin,
         said.take_user,
+        said.groups,
     ) {
-        (None, None, None, None, None) => Some(Job::Pipe {
+        (None, None, None, None, None, false) => Some(Job::Pipe {
             principal: said.principal.unwrap_or(Principal::Admin),
         }),
         _ => None,
@@ -155,4 +156,11 @@ pub fn path_of(words: &Items<Text>) -> Option<&str>
     ensures { IsText (path_of words.now) result }
 {
     file_of(words.as_slice())
+}
+
+/// The groups that the words list, where they are a job.
+pub fn list_of(words: &Items<Text>) -> Option<&str>
+    ensures { IsText (list_of words.now) result }
+{
+    groups_text(words.as_slice())
 }

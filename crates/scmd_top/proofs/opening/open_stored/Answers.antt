@@ -1,9 +1,18 @@
+use Rattle.std.proofs.Common.{ℕ, List, true, refl, subst}
+use Rattle.scmd_top.specs.Groups.{groups_in}
+use Rattle.scmd_top.specs.Opening.{Opens}
+use Rattle.scmd_top.specs.Parts.{lent}
 use Rattle.scmd_top.specs.Sides.{side}
-use Rattle.scmd_top.proofs.Openings.{opens_so}
+use Rattle.scmd_top.proofs.Openings.{opens_so, untouched_so}
 use Rattle.scmd_top.proofs.opening.open_stored.Goals as goal
 
 pub returns : goal.returns
 returns g c =
     let e = c.open_manager.ensures in
-    opens_so (side g.K.Keeper.held g.K.Keeper.faults c.args.keeper.now c.open_manager.new.keeper) c.args.moment c.open_manager.result
-    e.comes e.opens e.unmoved e.bears e.cause e.kept
+    let keeper = side g.K.Keeper.held g.K.Keeper.faults c.args.keeper.now c.open_manager.new.keeper in
+    subst (λ (groups : List (List ℕ)). Opens true groups keeper c.args.moment c.open_manager.result) c.in-Ok.ensures
+    (opens_so keeper c.in-Ok.groups c.args.moment c.open_manager.result e.comes e.opens e.unmoved e.bears e.cause e.kept)
+
+pub returns-in_default : goal.returns-in_default
+returns-in_default g c =
+    untouched_so (side g.K.Keeper.held g.K.Keeper.faults c.args.keeper.now c.args.keeper.now) (groups_in (lent c.args.names)) c.args.moment refl
