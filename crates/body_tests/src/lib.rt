@@ -3,6 +3,8 @@
 #![tactic(auto)]
 
 #[cfg(test)]
+mod raising;
+#[cfg(test)]
 mod rows;
 #[cfg(test)]
 mod tests;

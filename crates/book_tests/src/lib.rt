@@ -5,6 +5,8 @@
 #[cfg(test)]
 mod crowds;
 #[cfg(test)]
+mod raising;
+#[cfg(test)]
 mod replays;
 #[cfg(test)]
 mod rows;

@@ -57,7 +57,12 @@ fn look<R: Wait>(rt: &R, book: &Book<MemoryKeeper>, pass: &mut Pass, plan: u64) 
 }
 
 /// Takes the launch of `/a` in hand.
-fn take<R: Wait>(rt: &R, alloc: Global, book: &Book<MemoryKeeper>, pass: &mut Pass) -> Option<u64>
+pub fn take<R: Wait>(
+    rt: &R,
+    alloc: Global,
+    book: &Book<MemoryKeeper>,
+    pass: &mut Pass,
+) -> Option<u64>
     requires { IsOf book.now pass.old }
     ensures book { IsOf book.now pass.new }
     ensures process { IfSome result (λ process. HoldsProcess book.now.opening pass.new process phases.Taken) }
@@ -74,7 +79,12 @@ fn take<R: Wait>(rt: &R, alloc: Global, book: &Book<MemoryKeeper>, pass: &mut Pa
 }
 
 /// Takes it in hand, and launches it.
-fn launch<R: Wait>(rt: &R, alloc: Global, book: &Book<MemoryKeeper>, pass: &mut Pass) -> Option<u64>
+pub fn launch<R: Wait>(
+    rt: &R,
+    alloc: Global,
+    book: &Book<MemoryKeeper>,
+    pass: &mut Pass,
+) -> Option<u64>
     requires { IsOf book.now pass.old }
     ensures book { IsOf book.now pass.new }
     ensures process { IfSome result (λ process. HoldsProcess book.now.opening pass.new process phases.Launched) }
@@ -85,7 +95,7 @@ fn launch<R: Wait>(rt: &R, alloc: Global, book: &Book<MemoryKeeper>, pass: &mut 
 }
 
 /// A caller makes a service that nobody needs.
-fn service() -> [Row; 2] {
+pub fn service() -> [Row; 2] {
     let (manager, name) = (1, 0x41);
     [
         told(Asked::OpensManager, 0, 1),
@@ -111,7 +121,7 @@ fn standing(state: u32) -> Status {
 }
 
 /// Whether the reports of these states come to this.
-fn report<R: Wait>(
+pub fn report<R: Wait>(
     rt: &R,
     book: &Book<MemoryKeeper>,
     pass: &mut Pass,

@@ -30,4 +30,13 @@ impl Desk for Counter {
         self.asked += 1;
         Ok(reply)
     }
+
+    fn raise(&mut self, _subtype: [u8; 16]) -> Result<u32, Lacks> {
+        if self.room <= self.asked {
+            return Err(Lacks::Full);
+        }
+        let code = self.asked;
+        self.asked += 1;
+        Ok(code)
+    }
 }

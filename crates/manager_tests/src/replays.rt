@@ -23,6 +23,20 @@ const CALLERS: [Row; 6] = [
     ("0 nomem 3", "done"),
 ];
 
+/// Only an administrator raises triggers, which no service has here.
+const RAISES: [Row; 4] = [
+    ("0 join admin", "caller 1"),
+    ("0 join user", "caller 2"),
+    (
+        "0 raise 1 000102030405060708090a0b0c0d0e0f",
+        "reply 00000000",
+    ),
+    (
+        "0 raise 2 000102030405060708090a0b0c0d0e0f",
+        "reply 05000000",
+    ),
+];
+
 /// Six steps may be made, and each caller's going is owed from its joining on.
 const FULL: [Row; 9] = [
     ("0 join admin", "caller 1"),
@@ -37,17 +51,14 @@ const FULL: [Row; 9] = [
 ];
 
 /// What is wrong with a line, and the line.
-const BAD: [Row; 15] = [
+const BAD: [Row; 17] = [
     ("no moment", ""),
     ("a zero before the moment", "00 gone 1"),
     ("a sign", "+0 gone 1"),
     ("two spaces", "0 gone  1"),
     ("a word too many", "0 take 1"),
     ("a word too few", "0 end 1"),
-    (
-        "a verb that there is not",
-        "0 raise 1 00000000000000000000000000000000",
-    ),
+    ("a verb that there is not", "0 rise 1"),
     ("a moment of 65 bits", "18446744073709551616 tick"),
     ("a number of 33 bits", "0 launched 1 4294967296"),
     ("hex in upper case", "0 call 1 15 00000000000000000F000000"),
@@ -55,7 +66,12 @@ const BAD: [Row; 15] = [
         "a body that is too short",
         "0 call 1 15 0000000000000000000000",
     ),
+    (
+        "a subtype that is too short",
+        "0 raise 1 000000000000000000000000000000",
+    ),
     ("a caller that is not there", "0 gone 2"),
+    ("the same", "0 raise 2 00000000000000000000000000000000"),
     ("a plan that is not there", "0 end 1 1"),
     ("a process that was not taken", "0 launched 1 4294967295"),
     ("the same", "0 unlaunched 1 2"),
@@ -130,6 +146,7 @@ fn talks(alloc: Global, limits: Limits, rows: &[Row]) -> Result<(), Fail>
 #[test]
 fn lines_have_their_answers(rt: HostRuntime) -> Result<(), Fail> {
     talks(rt.alloc(), LIMITS, CALLERS.as_slice())?;
+    talks(rt.alloc(), LIMITS, RAISES.as_slice())?;
     talks(rt.alloc(), SIX_STEPS, FULL.as_slice())
 }
 

@@ -74,6 +74,9 @@ fn put_parts(
     {
         return Err("a cycle".into());
     }
+    if !index.is_next(number) {
+        return Err("a number that is too small".into());
+    }
     index.set_needs(number, &parts.name, &parts.group, &parts.needs);
     Ok(())
 }

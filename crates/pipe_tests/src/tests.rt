@@ -29,6 +29,21 @@ const TEXTS: [&str; 3] = [
      00000000 0000000000000000 0000000000000000 00000000",
 ];
 
+/// A bind to svcctl as context 0 and to the trigger interface as context 1, and a raise.
+const RAISE: &str = "05000b03 10000000 74000000 01000000 00000000 07000000 02000000 00000100 \
+     81bb7a364498f135ad3298f038001003 02000000 045d888aeb1cc9119fe808002b104860 02000000 \
+     01000100 100a3f5c4b2e614d9a770d5b1e6f2c01 01000000 \
+     045d888aeb1cc9119fe808002b104860 02000000 \
+     05000003 10000000 28000000 03000000 10000000 01000000 000102030405060708090a0b0c0d0e0f";
+
+/// What each is answered: nobody has the trigger, and the caller may raise it.
+const RAISE_TEXTS: [&str; 2] = [
+    "05000c03 10000000 50000000 01000000 98059805 07000000 01000000 02000000 \
+     00000000 045d888aeb1cc9119fe808002b104860 02000000 \
+     00000000 045d888aeb1cc9119fe808002b104860 02000000",
+    "05000203 10000000 1c000000 03000000 04000000 01000000 00000000",
+];
+
 /// Bytes of hex digits, with spaces between them.
 fn put(alloc: Global, all: &mut Vec<u8>, digits: &str) -> Result<(), Fail> {
     let mut close = String::new(alloc);
@@ -39,10 +54,10 @@ fn put(alloc: Global, all: &mut Vec<u8>, digits: &str) -> Result<(), Fail> {
     Ok(())
 }
 
-/// The bytes that the first so many are answered.
-fn text(alloc: Global, count: usize) -> Result<Vec<u8>, Fail> {
+/// The first so many texts.
+fn text(alloc: Global, texts: &[&'static str], count: usize) -> Result<Vec<u8>, Fail> {
     let mut all = Vec::new(alloc);
-    for text in TEXTS.iter().take(count) {
+    for text in texts.iter().take(count) {
         put(alloc, &mut all, text)?;
     }
     Ok(all)
@@ -122,7 +137,22 @@ fn a_session_is_answered_until_the_limits_have_no_room(rt: HostRuntime) -> Resul
     for (steps, end, count) in rows {
         let mut bytes = Vec::new(rt.alloc());
         put(rt.alloc(), &mut bytes, SESSION)?;
-        let text = text(rt.alloc(), count)?;
+        let text = text(rt.alloc(), &TEXTS, count)?;
+        assert!(rt;
+            comes_to(&rt, rt.alloc(), steps, bytes, end, text.as_slice()),
+            "{steps}"
+        );
+    }
+    Ok(())
+}
+
+#[test]
+fn a_raise_is_answered_where_the_limits_have_room(rt: HostRuntime) -> Result<(), Fail> {
+    let rows = [(2, Served::Full, 1), (3, Served::Ended, 2)];
+    for (steps, end, count) in rows {
+        let mut bytes = Vec::new(rt.alloc());
+        put(rt.alloc(), &mut bytes, RAISE)?;
+        let text = text(rt.alloc(), &RAISE_TEXTS, count)?;
         assert!(rt;
             comes_to(&rt, rt.alloc(), steps, bytes, end, text.as_slice()),
             "{steps}"

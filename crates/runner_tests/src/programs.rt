@@ -44,12 +44,20 @@ fn next_line<L: Link>(alloc: Global, link: &mut L) -> Option<Vec<u8>> {
     Some(line)
 }
 
-/// The status that a child's next line reports.
-fn next_status<L: Link>(alloc: Global, link: &mut L, process: u64) -> Option<Status> {
-    match read_line_step(next_line(alloc, link)?.as_slice(), process) {
-        Some(Step::Report { status, .. }) => Some(status),
+/// The status that a step reports, if it is a report.
+fn status_of(step: &Step) -> Option<Status> {
+    match step {
+        Step::Report { status, .. } => Some(*status),
         _ => None,
     }
+}
+
+/// The status that a child's next line reports.
+fn next_status<L: Link>(alloc: Global, link: &mut L, process: u64) -> Option<Status> {
+    let line = next_line(alloc, link)?;
+    let step = read_line_step(line.as_slice(), process)?;
+    let status = status_of(&step);
+    status
 }
 
 /// Makes the report of a child's next line, and tells its state where that was taken.

@@ -150,10 +150,15 @@ pub const BODIES: [(&str, &str); 4] = [
 ];
 
 /// Rows by name.
-pub const ROWS: [(&str, &str); 7] = [
+pub const ROWS: [(&str, &str); 8] = [
     (
         "bind",
         "| pdu 11 3 1 #16D016D0 0 1 x00000100 svcctl ndr | pdu 12 3 1 #16D016D0 1 x01000000 1 0 ndr",
+    ),
+    (
+        "triggers",
+        "| pdu 11 3 1 #16D016D0 0 2 x00000100 svcctl ndr x01000100 triggers ndr |
+ |  | pdu 12 3 1 #16D016D0 1 x01000000 2 0 ndr 0 ndr",
     ),
     (
         "manager",
@@ -163,7 +168,11 @@ pub const ROWS: [(&str, &str); 7] = [
         "user",
         "all rights of an administrator | manager - - #F003F             | h0 5
 all that a user may have       | manager - - #2000000           | h1 0
-which is not to create         | create h1 'A' - own '/a' plain | - h0 5",
+which is not to create         | create h1 'A' - own '/a' plain | - h0 5
+nor to lock                    | lock h1                        | h0 5
+but to see who does            | locked h1 14                   | 0 * 0 '' 14 0
+and which services there are   | services h1 #30 3 0 -          | 0 0 0 - 0
+and to open them               | open h1 'A' 4                  | h0 1060",
     ),
     (
         "administrator",
@@ -224,7 +233,8 @@ bind
                              |  | pdu 15 3 2 #16D016D0 1 0 3 x02000100 nosyntax 0 ndr 0 ndr
 0 is accepted no more        | manager - - 0                  | fault #1C010003
 7 is                         | pdu 0 3 7 12 x07000f00 - - 0   | pdu 2 3 7 24 x07000000 h1 0
-9 has no call that is served | pdu 0 3 8 16 x09000000 0 0 0 0 | pdu 3 3 8 0 9 #1C010002 0
+9 raises triggers            | pdu 0 3 8 16 x09000000 0 0 0 0 | pdu 2 3 8 4 x09000000 0
+and has no other call        | pdu 0 3 9 16 x09000100 0 0 0 0 | pdu 3 3 9 0 9 #1C010002 0
 = 0 pipe: a request in two fragments
 bind
 the front of a request | pdu 0 1 2 4 x00000f00 -   |
@@ -240,6 +250,20 @@ the front of a request | pdu 0 1 2 4 x00000f00 -   |
 = 7 pipe: its back alone
 bind
  | pdu 0 2 2 8 x00000f00 - 0 |
+= 0 pipe: a trigger is raised
+triggers
+                 | manager - - #F003F                          | h1 0
+                 | create h1 'A' - own '/bin/a' plain          | - h2 0
+nobody has it    | pdu 0 3 7 16 x01000000 xaa^16               | pdu 2 3 7 4 x01000000 0
+A has it         | level h2 8 8 * 1 * - 1 20 1 * 0 - xaa^16    | 0
+it is raised     | pdu 0 3 8 16 x01000000 xaa^16               | pdu 2 3 8 4 x01000000 0
+so A is started  | status h2                                   | 16 2 0 0 0 0 0 0
+a byte too few   | pdu 0 3 9 15 x01000000 xaa^15               | pdu 3 3 9 0 1 #6F7 0
+a byte too many  | pdu 0 3 9 17 x01000000 xaa^17               | pdu 3 3 9 0 1 #6F7 0
+no such method   | pdu 0 3 9 16 x01000100 xaa^16               | pdu 3 3 9 0 1 #1C010002 0
+= 0 pipe --as user: a user raises no trigger
+triggers
+not even one that nobody has | pdu 0 3 7 16 x01000000 xaa^16 | pdu 2 3 7 4 x01000000 5
 = 0 pipe: faults
 bind
 a call that there is not        | 9                             | fault #1C010002
@@ -691,6 +715,15 @@ no change                   | failcall 1 status h2                      | reply 
                             | failcall 1 level h2 1 1 -                 | reply 0
 a level that can't be kept  | failcall 1 level h2 1 1 * * 'a'           | reply 1013
 is not there                | call 1 leveled h2 1 4                     | reply 4 0 0 0
+nor is what is done         | failcall 1 level h2 2 2 * 9 - - 1 * 1 1 0 | reply 1013
+                            | call 1 leveled h2 2 20                    | reply 20 0 0 0 0 0 0 0
+                            | failcall 1 level h2 4 4 * 1               | reply 1013
+                            | call 1 leveled h2 4 4                     | reply 4 0 0 0
+triggers aren't appended    | failcall 1 level h2 8 8 * 1 * - 1 20 2 * 0 - xaa^16 | reply 0
+                            | call 1 leveled h2 8 28                    | reply 28 1 20 2 xaa^16 0 0
+an automatic start          | call 1 change h2 keep 2 keep - - - - 0 - - 0 - | reply - 0
+nor is its delay            | failcall 1 level h2 3 3 * 1               | reply 0
+                            | call 1 leveled h2 3 4                     | reply 4 1 0 0
 nothing is due              | tick                                      | idle
 = 0 replay: a start is given up after two minutes
 administrator
@@ -698,12 +731,246 @@ A
                    | 5 call 1 start h2 0 - | plan 1
 before two minutes | 120004 tick           | idle
 after them         | 120005 tick; end 1 1  | done; reply 1053
+= 0 replay: failures count until a minute passes without one
+administrator
+A
+after one second, then two | call 1 level h2 2 2 * 60 - - 2 * 2 1 1000 1 2000 | reply 0
+runs
+it fails at 0              | ended 1; call 1 status h2        | done; reply 16 1 0 1067 0 0 0 0
+nothing is due yet         | 999 tick; take                   | idle; empty
+a second later it starts   | 1000 tick; take; launched 2 102  | done; launch 2; done
+and once                   | take; tick                       | empty; idle
+it runs, and fails again   | report 2 16 4 0 0 0 0 0; 59000 ended 2 | done; done
+for the second time        | 60999 tick                       | idle
+two seconds later          | 61000 tick; take; launched 3 103 | done; launch 3; done
+a minute later it fails    | 119000 ended 3                   | done
+for the first time         | 119999 tick                      | idle
+a second later             | 120000 tick; take                | done; launch 4
+= 0 replay: the last action stands for all later failures
+administrator
+A
+counted for ever           | call 1 level h2 2 2 * #FFFFFFFF - - 2 * 2 1 0 1 1000 | reply 0
+runs
+the first is undone at once | ended 1; tick; take; launched 2 102      | done; done; launch 2; done
+the second a second later  | 5000000000000 ended 2; 5000000000999 tick | done; idle
+                           | 5000000001000 tick; take; launched 3 103  | done; launch 3; done
+the third too              | 9999999999000 ended 3; 9999999999999 tick | done; idle
+                           | 10000000000000 tick; take; launched 4 104 | done; launch 4; done
+not counted at all         | call 1 level h2 2 2 * 0 - - 2 * 2 1 0 1 1000 | reply 0
+each is undone at once     | ended 4; tick; take; launched 5 105       | done; done; launch 5; done
+                           | ended 5; tick; take                       | done; done; launch 6
+= 0 replay: a stop with an error is a failure where it counts as one
+administrator
+with the right to report   | call 1 create h1 'A' - #F81FF 16 3 1 '/bin/a' plain | reply - h2 0
+at once, then a second later | call 1 level h2 2 2 * 60 - - 2 * 2 1 0 1 1000 | reply 0
+runs
+it stops with an error     | report 1 16 1 0 7 0 0 0; tick    | done; idle
+which counts from now on   | call 1 level h2 4 4 * 1          | reply 0
+it is started again        | call 1 start h2 0 -; take; launched 2 102 | plan 2; launch 2; done
+                           | end 1 2; report 2 16 4 1 0 0 0 0 | reply 0; done
+and stops with an error    | report 2 16 1 0 7 0 0 0          | done
+it starts unasked          | tick; call 1 start h2 0 -        | done; reply 1056
+                           | take; launched 3 103             | launch 3; done
+the second, by the call    | call 1 set h2 16 1 0 7 0 0 0; 999 tick | reply 0; idle
+a second later             | 1000 tick; take; launched 4 104  | done; launch 4; done
+an error of its own is none | report 4 16 1 0 0 7 0 0; 9000 tick | done; idle
+two plans were unasked     | call 1 start h2 0 -              | plan 5
+= 0 replay: what is no failure
+administrator
+A
+a restart at once          | call 1 level h2 2 2 * 60 - - 1 * 1 1 0 | reply 0
+a launch that fails        | call 1 start h2 0 -; take; unlaunched 1 2 | plan 1; launch 1; done
+                           | end 1 1; tick                    | reply 2; idle
+a stop                     | call 1 start h2 0 -; take; launched 2 102 | plan 2; launch 2; done
+                           | end 1 2; report 2 16 1 0 7 0 0 0; tick | reply 0; done; idle
+the end of an old process  | call 1 start h2 0 -; take; launched 3 103 | plan 3; launch 3; done
+                           | end 1 3; ended 2; tick           | reply 0; stale; idle
+but of this one            | ended 3; tick; take              | done; done; launch 4
+= 0 replay: an action takes the place of the one before
+administrator
+A
+ten seconds later, then one | call 1 level h2 2 2 * 60 - - 2 * 2 1 10000 1 1000 | reply 0
+runs
+it fails, and is started   | ended 1; call 1 start h2 0 -; take | done; plan 2; launch 2
+                           | launched 2 102; end 1 2          | done; reply 0
+it fails again             | ended 2; 999 tick                | done; idle
+one second later           | 1000 tick; take; launched 3 103  | done; launch 3; done
+and not ten                | 10000 tick                       | idle
+= 0 replay: a failure after which nothing is done leaves what is due
+administrator
+A
+ten seconds later, then none | call 1 level h2 2 2 * 60 - - 2 * 2 1 10000 0 0 | reply 0
+runs
+it fails, and is started   | ended 1; call 1 start h2 0 -; take | done; plan 2; launch 2
+                           | launched 2 102; end 1 2          | done; reply 0
+it fails again             | ended 2; 9999 tick               | done; idle
+the first is still due     | 10000 tick; take; launched 3 103 | done; launch 3; done
+five seconds later         | call 1 level h2 2 2 * 60 - - 1 * 1 1 5000; ended 3 | reply 0; done
+it is started              | call 1 start h2 0 -; take; launched 4 104 | plan 4; launch 4; done
+and fails without an action | call 1 level h2 2 2 * 0 - - 0 * 0; ended 4 | reply 0; done
+the earlier is still due   | 14999 tick; 15000 tick; take     | idle; done; launch 5
+= 0 replay: a restart is dropped where the service can't be started
+administrator
+A
+a second later             | call 1 level h2 2 2 * 60 - - 1 * 1 1 1000 | reply 0
+runs
+it fails                   | ended 1                          | done
+and is disabled            | call 1 change h2 keep 4 keep - - - - 0 - - 0 - | reply - 0
+so it does not start       | 1000 tick; take; tick            | done; empty; idle
+on demand again            | call 1 change h2 keep 3 keep - - - - 0 - - 0 - | reply - 0
+                           | call 1 start h2 0 -; take; launched 2 102 | plan 2; launch 2; done
+it fails, and is started   | ended 2; call 1 start h2 0 -; take | done; plan 3; launch 3
+so it does not start twice | 2000 tick; take                  | done; empty
+it fails, and is deleted   | launched 3 103; ended 3; call 1 delete h2 | done; done; reply 0
+so it does not start       | 3000 tick; take                  | done; empty
+B fails, and is gone       | call 1 create h1 'B' - own '/bin/b' plain | reply - h3 0
+                           | call 1 level h3 2 2 * 60 - - 1 * 1 1 1000 | reply 0
+                           | call 1 start h3 0 -; take; launched 4 104 | plan 4; launch 4; done
+                           | ended 4; call 1 delete h3; call 1 close h3 | done; reply 0; reply h0 0
+nothing is done            | 3999 tick; 4000 tick; take       | idle; done; empty
+= 0 replay: a restart starts what is needed, and is given up after two minutes
+administrator
+                           | call 1 create h1 'D' - own '/bin/d' plain | reply - h2 0
+T needs D                  | call 1 create h1 'T' - own '/bin/t' - - * [D] 6 - - 0 | reply - h3 0
+T is started at once       | call 1 level h3 2 2 * 60 - - 1 * 1 1 0 | reply 0
+                           | call 1 start h3 0 -; take; launched 1 101 | plan 1; launch 1; done
+                           | report 1 16 4 0 0 0 0 0; take; launched 2 102 | done; launch 2; done
+both end                   | end 1 1; ended 2; ended 1        | reply 0; done; done
+D is launched first        | tick; take; launched 3 103; take | done; launch 3; done; empty
+too late                   | 119999 tick; 120000 tick         | idle; done
+no T                       | report 3 16 4 0 0 0 0 0; take    | done; empty
+                           | call 1 status h3                 | reply 16 1 0 1067 0 0 0 0
+= 0 replay: a restart goes on when everybody has gone
+administrator
+                           | call 1 create h1 'D' - own '/bin/d' plain | reply - h2 0
+T needs D                  | call 1 create h1 'T' - own '/bin/t' - - * [D] 6 - - 0 | reply - h3 0
+T is started at once       | call 1 level h3 2 2 * 60 - - 1 * 1 1 0 | reply 0
+                           | call 1 start h3 0 -; take; launched 1 101 | plan 1; launch 1; done
+                           | report 1 16 4 0 0 0 0 0; take; launched 2 102 | done; launch 2; done
+both end                   | ended 2; ended 1                 | done; done
+D is launched              | tick; take; launched 3 103       | done; launch 3; done
+the caller goes            | gone 1                           | done
+D runs, and T is launched  | report 3 16 4 0 0 0 0 0; take    | done; launch 4
+= 0 replay: what is due is done by its moment, then by its number
+administrator
+                           | call 1 create h1 'A' - own '/bin/a' plain | reply - h2 0
+                           | call 1 create h1 'B' - own '/bin/b' plain | reply - h3 0
+A two seconds later        | call 1 level h2 2 2 * 60 - - 2 * 2 1 2000 1 1000 | reply 0
+B a second later           | call 1 level h3 2 2 * 60 - - 1 * 1 1 1000 | reply 0
+                           | call 1 start h2 0 -; take; launched 1 101 | plan 1; launch 1; done
+                           | call 1 start h3 0 -; take; launched 2 102 | plan 2; launch 2; done
+A fails before B           | ended 1; ended 2                 | done; done
+one tick does both         | 5000 tick; take; launched 3 103  | done; launch 3; done
+                           | take; launched 4 104; tick       | launch 4; done; idle
+B before A                 | call 1 process h3 0 36           | reply 36 16 2 0 0 0 0 0 103 0 0 0
+A fails before B again     | ended 4; ended 3                 | done; done
+both a second later        | 6000 tick; take; launched 5 105  | done; launch 5; done
+                           | take                             | launch 6
+A before B                 | call 1 process h2 0 36           | reply 36 16 2 0 0 0 0 0 105 0 0 0
+= 0 replay: a start that is given up before makes way for a restart
+administrator
+                           | call 1 create h1 'D' - own '/bin/d' plain | reply - h2 0
+T needs D                  | call 1 create h1 'T' - own '/bin/t' - - * [D] 6 - - 0 | reply - h3 0
+T is started much later    | call 1 level h3 2 2 * 60 - - 1 * 1 1 130000 | reply 0
+                           | call 1 start h3 0 -; take; launched 1 101 | plan 1; launch 1; done
+                           | report 1 16 4 0 0 0 0 0; take; launched 2 102 | done; launch 2; done
+both end                   | end 1 1; ended 2; ended 1        | reply 0; done; done
+T is started, and waits    | call 1 start h3 0 -; take; launched 3 103 | plan 2; launch 3; done
+one tick does both         | 130000 tick; end 1 2             | done; reply 1053
+D runs, and T is launched  | report 3 16 4 0 0 0 0 0; take    | done; launch 4
+= 0 replay: at the last moment a start is given up as it begins
+administrator
+A
+a restart a second later   | call 1 level h2 2 2 * 60 - - 1 * 1 1 1000 | reply 0
+runs
+it fails at the end of time | 18446744073709551615 ended 1    | done
+one tick starts and ends it | tick; take; tick                | done; empty; idle
+                           | call 1 status h2                 | reply 16 1 0 1067 0 0 0 0
+so does the one behind     | call 1 start h2 0 -; tick; end 1 3 | plan 3; done; reply 1053
+= 0 replay: a command is run after a failure, and reboots are none
+administrator
+A
+half a second later        | call 1 level h2 2 2 * 60 - * 1 * '/bin/c' 1 3 500 | reply 0
+runs
+it fails                   | ended 1; 499 tick                | done; idle
+the command is run         | 500 tick; take; launched 2 102   | done; launch 2; done
+and is no process of A     | call 1 process h2 0 36           | reply 36 16 1 0 1067 0 0 0 0 0 0 0
+it reports in vain         | report 2 16 4 1 0 0 0 0; control 2 | stale; empty
+its end is no failure      | ended 2; 9000 tick; control 2    | stale; idle; over
+A fails without a command  | call 1 level h2 2 2 * 60 - * 1 * '' 1 3 0 | reply 0
+                           | call 1 start h2 0 -; take; launched 3 103 | plan 2; launch 3; done
+nothing is run             | ended 3; tick; take; tick        | done; done; empty; idle
+a reboot is only counted   | call 1 level h2 2 2 * 60 - - 1 * 1 2 0 | reply 0
+                           | call 1 start h2 0 -; take; launched 4 104 | plan 3; launch 4; done
+                           | ended 4; tick; take; tick        | done; done; empty; idle
+a command that is not there | call 1 level h2 2 2 * 60 - * 1 * '/bin/c' 1 3 0 | reply 0
+                           | call 1 start h2 0 -; take; launched 5 105 | plan 4; launch 5; done
+                           | ended 5; tick; take; unlaunched 6 2 | done; done; launch 6; done
+changes nothing            | control 6; call 1 status h2      | over; reply 16 1 0 1067 0 0 0 0
+= 0 replay: a trigger starts a service once
+administrator
+                           | call 1 create h1 'D' - own '/bin/d' plain | reply - h2 0
+T needs D                  | call 1 create h1 'T' - own '/bin/t' - - * [D] 6 - - 0 | reply - h3 0
+nobody has the trigger     | raise 1 aaaaaaaaaaaaaaaaaaaaaaaaaaaaaaaa; take | reply 0; empty
+T has it                   | call 1 level h3 8 8 * 1 * - 1 20 1 * 0 - xaa^16 | reply 0
+another one                | raise 1 aaaaaaaaaaaaaaaaaaaaaaaaaaaaaaab; take | reply 0; empty
+a user raises none         | join user; raise 2 aaaaaaaaaaaaaaaaaaaaaaaaaaaaaaaa | caller 2; reply 5
+                           | take                             | empty
+D is launched for T        | raise 1 aaaaaaaaaaaaaaaaaaaaaaaaaaaaaaaa | reply 0
+                           | take; launched 1 101             | launch 1; done
+once                       | raise 1 aaaaaaaaaaaaaaaaaaaaaaaaaaaaaaaa; take | reply 0; empty
+D runs, and T is launched  | report 1 16 4 0 0 0 0 0; take    | done; launch 2
+once                       | raise 1 aaaaaaaaaaaaaaaaaaaaaaaaaaaaaaaa; take | reply 0; empty
+it stops                   | launched 2 102; report 2 16 1 0 0 0 0 0 | done; done
+there was one plan         | call 1 start h3 0 -; take; launched 3 103 | plan 2; launch 3; done
+it is disabled             | call 1 change h3 keep 4 keep - - - - 0 - - 0 - | reply - 0
+and stops                  | report 3 16 1 0 0 0 0 0          | done
+so it does not start       | raise 1 aaaaaaaaaaaaaaaaaaaaaaaaaaaaaaaa; take | reply 0; empty
+= 0 replay: a trigger stops what may be stopped
+administrator
+A
+the first trigger counts | call 1 level h2 8 8 * 2 * - 2 20 2 * 0 - 20 1 * 0 - xaa^32 | reply 0
+A does not run             | raise 1 aaaaaaaaaaaaaaaaaaaaaaaaaaaaaaaa; take | reply 0; empty
+runs
+it gets a STOP             | raise 1 aaaaaaaaaaaaaaaaaaaaaaaaaaaaaaaa | reply 0
+                           | control 1; control 1             | control 1; empty
+it accepts none            | report 1 16 4 2 0 0 0 0          | done
+so it gets none            | raise 1 aaaaaaaaaaaaaaaaaaaaaaaaaaaaaaaa | reply 0
+                           | control 1                        | empty
+B needs A                  | call 1 create h1 'B' - own '/bin/b' - - * [A] 6 - - 0 | reply - h3 0
+                           | call 1 start h3 0 -; take; launched 2 102 | plan 2; launch 2; done
+A accepts one again        | report 1 16 4 1 0 0 0 0          | done
+B is about to run: none    | raise 1 aaaaaaaaaaaaaaaaaaaaaaaaaaaaaaaa | reply 0
+                           | control 1                        | empty
+= 0 replay: a trigger starts services in the order of their creation
+administrator
+                           | call 1 create h1 'B' - own '/bin/b' plain | reply - h2 0
+                           | call 1 create h1 'A' - own '/bin/a' plain | reply - h3 0
+                           | call 1 level h3 8 8 * 1 * - 1 20 1 * 0 - xaa^16 | reply 0
+                           | call 1 level h2 8 8 * 1 * - 1 20 1 * 0 - xaa^16 | reply 0
+                           | raise 1 aaaaaaaaaaaaaaaaaaaaaaaaaaaaaaaa | reply 0
+both are launched          | take; launched 1 101; take       | launch 1; done; launch 2
+B before A                 | call 1 process h2 0 36           | reply 36 16 2 0 0 0 0 0 101 0 0 0
+                           | call 1 process h3 0 36           | reply 36 16 2 0 0 0 0 0 0 0 0 0
 ";
 
 /// Jobs by their words, and words that are none.
 pub const JOBS: &str = "
 = 11 replay: nothing is read behind a bad line
 | join admin; ended 9; join admin | caller 1; bad line 2
+= 11 replay: a raise of a caller that is not there
+| join admin; raise 2 aaaaaaaaaaaaaaaaaaaaaaaaaaaaaaaa | caller 1; bad line 2
+= 11 replay: a raise of fifteen bytes
+| join admin; raise 1 aaaaaaaaaaaaaaaaaaaaaaaaaaaaaa | caller 1; bad line 2
+= 11 replay: a raise of seventeen
+| join admin; raise 1 aaaaaaaaaaaaaaaaaaaaaaaaaaaaaaaaaa | caller 1; bad line 2
+= 11 replay: a start that nobody asked for leaves when it is launched
+administrator
+A
+at once | call 1 level h2 2 2 * 60 - - 1 * 1 1 0    | reply 0
+runs
+        | ended 1; tick; take; launched 2 102       | done; done; launch 2; done
+        | end 1 2                                   | bad line 14
 = 6 replay: a line without its line feed
 | join admin           | caller 1
 | hex 3020676f6e652031 |
@@ -730,6 +997,10 @@ pub const JOBS: &str = "
 || steps 0; services 0
 = 0 serve --take-user=0 --user=65535 --take-admin 4294967295 --admin 1: in another order
 || steps 0; services 0
+= 0 serve --groups A,B --admin 135 --user 139: groups that nobody has
+|| steps 0; services 0
+= 0 serve --admin 135 --groups=A --user 139: one group
+|| steps 0; services 0
 = 5 pipe --db: no file
 = 5 pipe --db=: no file
 = 5 pipe --db -a: another option
@@ -753,6 +1024,13 @@ pub const JOBS: &str = "
 = 5 serve --admin 135 --user 139 --: a word too many
 = 5 serve --admin 135 --user 139 --as admin: no option of a server
 = 5 serve --Admin 135 --user 139: no option of a server
+= 5 serve --admin 135 --user 139 --groups: no groups
+= 5 serve --admin 135 --user 139 --groups=: no groups
+= 5 serve --admin 135 --user 139 --groups -A: another option
+= 5 serve --admin 135 --user 139 --groups A --groups=A: twice
+= 5 pipe --groups A: no option of a pipe
+= 5 replay --groups A: no option of a replay
+= 5 generate 1 --groups A: a word too many
 ";
 
 pub const GREATEST: &str = "0 generate 512: as many services as there may be

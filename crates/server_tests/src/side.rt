@@ -51,16 +51,23 @@ fn spawner(alloc: Global) -> Option<MemorySpawner> {
 }
 
 /// Whether a step is that of a caller who joins.
-fn is_joined(step: Step) -> bool {
+fn is_joined(step: &Step) -> bool {
     matches!(step, Step::Joined { .. })
+}
+
+/// The same of an entry.
+fn is_joining(entry: (u64, Step)) -> bool {
+    let (_, step) = entry;
+    let is_joining = is_joined(&step);
+    is_joining
 }
 
 /// How many callers joined in a history.
 fn joined(trail: &Trail) -> u64 {
     let mut count = 0u64;
     for place in 0..trail.len() {
-        if let Ok((_, step)) = trail.entry(place) {
-            if is_joined(step) {
+        if let Ok(entry) = trail.entry(place) {
+            if is_joining(entry) {
                 count = count.wrapping_add(1);
             }
         }

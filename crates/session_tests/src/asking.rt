@@ -9,7 +9,7 @@ use std::time::Duration;
 use std::{thread, time};
 
 /// How many connections the server takes.
-pub const TAKE: usize = 60;
+pub const TAKE: usize = 120;
 
 /// Milliseconds between two questions.
 const PAUSE: u64 = 10;

@@ -1,5 +1,6 @@
 // Children that obey: each says that it is RUNNING, and once it is told to stop that it is STOPPED.
-use crate::rows::{PROGRAMS, RUNS, STOP, STOPS};
+// One ends at once and says nothing.
+use crate::rows::{CHILDREN, Child, STOP};
 use child_link::{Feed, Link};
 use outside::{Failed, Sink, SliceSource, Source};
 use process_runner::{SpawnFault, SpawnFaults, Spawned, Spawner};
@@ -15,7 +16,7 @@ const PAUSE: u64 = 1;
 /// is over, at which all of them stop.
 #[derive(Drop)]
 pub struct Told {
-    stops: [AtomicBool; 3],
+    stops: [AtomicBool; 9],
     is_over: AtomicBool,
 }
 
@@ -23,6 +24,12 @@ impl Told {
     pub fn nothing() -> Self {
         Told {
             stops: [
+                AtomicBool::new(false),
+                AtomicBool::new(false),
+                AtomicBool::new(false),
+                AtomicBool::new(false),
+                AtomicBool::new(false),
+                AtomicBool::new(false),
                 AtomicBool::new(false),
                 AtomicBool::new(false),
                 AtomicBool::new(false),
@@ -133,7 +140,7 @@ impl<'a> Sink for ObedientFeed<'a> {
 
 impl<'a> Feed for ObedientFeed<'a> {}
 
-/// Starts one child of each program, in their order, and nothing else.
+/// Starts the children in their order, and nothing else.
 #[derive(Drop)]
 pub struct ObedientSpawner<'a, R> {
     pub rt: R,
@@ -142,11 +149,11 @@ pub struct ObedientSpawner<'a, R> {
     pub faults: SpawnFaults,
 }
 
-/// Whether a program is the one that comes at this place.
-fn comes_at(words: &Items<Text>, place: usize) -> bool {
-    match (words.as_slice().first(), PROGRAMS.get(place)) {
-        (Some(word), Some(program)) => word.as_str() == *program,
-        _ => false,
+/// The child that comes at this place, if it is of that program.
+fn child_at(words: &Items<Text>, place: usize) -> Option<&'static Child> {
+    match (words.as_slice().first(), CHILDREN.get(place)) {
+        (Some(word), Some(child)) if word.as_str() == child.program => Some(child),
+        _ => None,
     }
 }
 
@@ -168,17 +175,20 @@ impl<'a, R: time::Clock + Copy + Drop> Spawner for ObedientSpawner<'a, R> {
         words: &Items<Text>,
     ) -> Result<Spawned<ObedientLink<'a, R>, ObedientFeed<'a>>, SpawnFault> {
         let place = self.next as usize;
-        if !comes_at(words, place) {
+        let Some(child) = child_at(words, place) else {
             return Err(self.faults.count(SpawnFault::NotFound));
-        }
+        };
         self.next = self.next.wrapping_add(1);
+        if child.first.is_empty() {
+            self.told.stop(place);
+        }
         let link = ObedientLink {
             rt: self.rt,
             told: self.told,
             place,
             pid: self.next,
-            first: SliceSource::new(RUNS),
-            last: SliceSource::new(STOPS),
+            first: SliceSource::new(child.first),
+            last: SliceSource::new(child.last),
         };
         let feed = ObedientFeed {
             told: self.told,

@@ -1,5 +1,6 @@
 use crate::asking::{TAKE, session, words_of};
 use crate::children::{ObedientSpawner, Told};
+use crate::rows::{GROUPS, JOURNAL};
 use outside::{MemorySink, MemorySource, SystemClock};
 use process_runner::SpawnFaults;
 use record_journal::MemoryKeeper;
@@ -7,6 +8,7 @@ use sc_dial::TcpDialer;
 use scm_listener::PortListener;
 use scm_text::{Items, Text};
 use scmd_top::{World, scmd_main};
+use std::alloc::Global;
 use std::net::{Net, TcpListener, TcpStream};
 use std::sync::Wait;
 use std::test::*;
@@ -18,6 +20,14 @@ use std::{thread, time};
 struct Ran {
     status: u8,
     output: MemorySink,
+}
+
+/// A keeper that has the journal, or nothing where there is no memory.
+fn keeper(alloc: Global) -> MemoryKeeper {
+    match Vec::from_slice(alloc, JOURNAL) {
+        Ok(bytes) => MemoryKeeper::new(bytes, Vec::new(alloc)),
+        Err(_) => MemoryKeeper::new(Vec::new(alloc), Vec::new(alloc)),
+    }
 }
 
 /// Serves ports by these words, with the system's clock and children that obey.
@@ -37,7 +47,7 @@ where
     let world = World {
         input: MemorySource::new(Vec::new(alloc), Vec::new(alloc)),
         output: MemorySink::new(alloc, Vec::new(alloc)),
-        keeper: MemoryKeeper::new(Vec::new(alloc), Vec::new(alloc)),
+        keeper: keeper(alloc),
         admin: PortListener::new(*rt),
         user: PortListener::new(*rt),
         spawner: ObedientSpawner {
@@ -71,8 +81,8 @@ fn sc_goes_through_the_usual_session(rt: HostRuntime) -> Result<(), Fail> {
     let (admin, user) = free_ports(&rt).ok_or("no ports")?;
     let address = format!(in alloc; "127.0.0.1:{}", admin)?;
     let line = format!(in alloc;
-        "serve|--admin|{}|--user|{}|--take-admin|{}|--take-user|0",
-        admin, user, TAKE
+        "serve|--db|journal|--groups|{}|--admin|{}|--user|{}|--take-admin|{}|--take-user|0",
+        GROUPS, admin, user, TAKE
     )?;
     let words = words_of(alloc, &line).ok_or("memory")?;
     let told = Told::nothing();
@@ -86,7 +96,7 @@ fn sc_goes_through_the_usual_session(rt: HostRuntime) -> Result<(), Fail> {
             held
         },
     );
-    let left = ran.output.bytes().ends_with(b"\nservices 2\n");
+    let left = ran.output.bytes().ends_with(b"\nservices 6\n");
     if !held || ran.status != 0 || !left {
         return Err("another session".into());
     }
