@@ -1,5 +1,5 @@
-"""What scripts of this folder share: where the built programs are, and a server on ports of the loopback."""
-import os, shutil, socket, subprocess, sys
+"""What scripts of this folder share: where the built programs are, a server on ports of the loopback, and an administrator's connection to it."""
+import os, shutil, socket, struct, subprocess, sys, time
 
 
 def program(name):
@@ -52,3 +52,53 @@ def scmd_serve(scmd, take):
     admin, user = free_ports(2)
     ports = ["--admin", str(admin), "--user", str(user)]
     return Server([scmd, "serve", *ports, "--take-admin", str(take), "--take-user", "0"], admin, take)
+
+
+BIND = bytes.fromhex(
+    "05000b03100000004800000001000000d016d01600000000010000000000010081bb7a364498f135ad3298f03800100302000000"
+    "045d888aeb1cc9119fe808002b10486002000000")
+
+
+def text(words):
+    data = (words + "\0").encode("utf-16-le")
+    return struct.pack("<III", len(data) // 2, 0, len(data) // 2) + data + bytes(-len(data) % 4)
+
+
+class Caller:
+    """An administrator's connection. A handle is its 20 bytes."""
+
+    def __init__(self, connection):
+        self.connection, self.stream, self.call = connection, connection.makefile("rb"), 1
+        connection.sendall(BIND)
+        self.pdu()
+        self.manager = self.ask(15, struct.pack("<III", 0, 0, 0xF003F))[:20]
+
+    def pdu(self):
+        head = self.stream.read(16)
+        return self.stream.read(struct.unpack_from("<H", head, 8)[0] - 16)
+
+    def ask(self, opnum, body, code=0):
+        self.call += 1
+        head = struct.pack("<BBBBIHHIIHH", 5, 0, 0, 3, 16, 24 + len(body), 0, self.call, len(body), 0, opnum)
+        self.connection.sendall(head + body)
+        told = self.pdu()[8:]
+        if told[-4:] != struct.pack("<I", code):
+            sys.exit(f"call {opnum} was answered {told.hex()}")
+        return told
+
+    def create(self, name, path, needs):
+        data = "".join(it + "\0" for it in [*needs, ""]).encode("utf-16-le") if needs else b""
+        listed = struct.pack("<II", 1, len(data)) + data + bytes(-len(data) % 4) if needs else bytes(4)
+        numbers = struct.pack("<IIIII", 0, 0xF01FF, 16, 3, 1)
+        rest = listed + struct.pack("<IIII", len(data), 0, 0, 0)
+        return self.ask(12, self.manager + text(name) + numbers + text(path) + bytes(8) + rest)[4:24]
+
+    def start(self, service):
+        self.ask(19, service + bytes(8))
+
+    def stop(self, service):
+        self.ask(1, service + struct.pack("<I", 1))
+
+    def until(self, service, state):
+        while struct.unpack_from("<II", self.ask(6, service))[1] != state:
+            time.sleep(0.001)
