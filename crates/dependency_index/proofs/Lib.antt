@@ -15,3 +15,5 @@ pub mod Cycles
 pub mod Closing
 pub mod Listing
 pub mod Shelves
+pub mod Splitting
+pub mod Bisecting

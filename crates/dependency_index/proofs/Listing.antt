@@ -52,7 +52,7 @@ without_above : (n : ℕ) (xs : List ℕ) → AllByRecursion (λ x. n < x) xs �
 without_above n [] all = refl
 without_above n (x ∷ xs) all = rw (ne_eqb x n (omega (arith, all.0))) (ap (λ rest. x ∷ rest) (without_above n xs all.1))
 
-numbers_above : (p : NeedRow → Bool) (n : ℕ) (rows : List NeedRow) → AllByRecursion (λ (row : NeedRow). n < row.number) rows → AllByRecursion (λ x. n < x) (numbers_if p rows)
+pub numbers_above : (p : NeedRow → Bool) (n : ℕ) (rows : List NeedRow) → AllByRecursion (λ (row : NeedRow). n < row.number) rows → AllByRecursion (λ x. n < x) (numbers_if p rows)
 numbers_above p n [] all = tt
 numbers_above p n (row ∷ rows) all =
     elim (p row) as (λ b. AllByRecursion (λ x. n < x) (map number_of (cond b (row ∷ filter p rows) (filter p rows)))) [
@@ -60,7 +60,7 @@ numbers_above p n (row ∷ rows) all =
       | false ↦ numbers_above p n rows all.1
     ]
 
-found_above : (low n : ℕ) (rows : List NeedRow) (old : NeedRow) → AllByRecursion (λ (row : NeedRow). low < row.number) rows → find (has_number n) rows ≡ Some old → low < n
+pub found_above : (low n : ℕ) (rows : List NeedRow) (old : NeedRow) → AllByRecursion (λ (row : NeedRow). low < row.number) rows → find (has_number n) rows ≡ Some old → low < n
 found_above low n [] old all found = absurd (cc found)
 found_above low n (row ∷ rows) old all found =
     elim (cases_Bool (has_number n row)) [
@@ -85,7 +85,7 @@ unlisted p (row ∷ rows) old n rising found fails =
           ]
     ]
 
-unmapped : (n : ℕ) (change : NeedRow → NeedRow) (rows : List NeedRow) → AllByRecursion (λ (row : NeedRow). n < row.number) rows → map (λ (row : NeedRow). cond (has_number n row) (change row) row) rows ≡ rows
+pub unmapped : (n : ℕ) (change : NeedRow → NeedRow) (rows : List NeedRow) → AllByRecursion (λ (row : NeedRow). n < row.number) rows → map (λ (row : NeedRow). cond (has_number n row) (change row) row) rows ≡ rows
 unmapped n change [] all = refl
 unmapped n change (row ∷ rows) all = rw (ne_eqb row.number n (omega (arith, all.0))) (ap (λ rest. row ∷ rest) (unmapped n change rows all.1))
 

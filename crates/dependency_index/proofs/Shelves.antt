@@ -14,7 +14,8 @@ use Rattle.row_slab.specs.Rowed.{AreRisingBy}
 use Rattle.scm_model.specs.declared.flat.NeedRow.{NeedRow}
 use Rattle.scm_model.specs.Needs.{instead, added, numbers_of, with_row}
 use Rattle.scm_model.specs.Needs as needs
-use Rattle.dependency_index.specs.Kept.{number_of, has_number, IsNext}
+use Rattle.dependency_index.specs.Kept.{number_of, has_number, AreOf, IsNext, SameNumbers}
+use Rattle.dependency_index.specs.declared.keeping.KeptLists.{KeptLists}
 use Rattle.dependency_index.proofs.Listing as listing
 use Rattle.dependency_index.proofs.Listing.{numbers_if}
 
@@ -110,7 +111,7 @@ none_leaves n rows none = by rows (none_passes (has_number n) rows none)
     by [] all = refl
     by (row ∷ rs) all = rw all.0 (ap (λ rest. row ∷ rest) (by rs all.1))
 
-none_instead : (new : NeedRow) (rows : List NeedRow) → find (has_number new.number) rows ≡ None → map (instead new) rows ≡ rows
+pub none_instead : (new : NeedRow) (rows : List NeedRow) → find (has_number new.number) rows ≡ None → map (instead new) rows ≡ rows
 none_instead new rows none = by rows (none_passes (has_number new.number) rows none)
   where
     by : (rs : List NeedRow) → AllByRecursion (λ (row : NeedRow). has_number new.number row ≡ false) rs → map (instead new) rs ≡ rs
@@ -226,3 +227,11 @@ counted p q (row ∷ rows) =
       ]
       | false ↦ counted p q rows
     ]
+
+-- lists with the same numbers are those of the same rows
+pub still_of : (old new : KeptLists) (rows : List NeedRow) → SameNumbers old new → AreOf old rows → AreOf new rows
+still_of old new rows same lists = record {
+  called = λ (name : List ℕ). same.called name ∙ lists.called name;
+  named = λ (name : List ℕ). same.named name ∙ lists.named name;
+  grouped = λ (group : List ℕ). same.grouped group ∙ lists.grouped group;
+}

@@ -1,5 +1,5 @@
--- The lists that are kept of who names whom, and of groups.
-use Rattle.std.specs.Prelude.{ℕ, ◌≡◌, ◌≤◌, ◌<◌, Bool, true, false, ◌==◌, List, filter, IfSome, vec_len, vec_capacity}
+-- The lists that are kept of who has a name, of who names whom, and of groups.
+use Rattle.std.specs.Prelude.{ℕ, ◌≡◌, ◌≤◌, ◌<◌, Bool, true, false, not, ◌==◌, List, filter, IfSome, vec_len, vec_capacity}
 use Rattle.std.specs.List.{list_any, IsDistinct, AllByRecursion}
 use Rattle.std.specs.Prelude.{eqb}
 use Rattle.scm_text.specs.Fold.{same_text}
@@ -7,10 +7,11 @@ use Rattle.scm_model.specs.declared.flat.Need.{Need}
 use Rattle.number_lists.specs.Under.{Under, at, room}
 use Rattle.row_slab.specs.Rowed.{AreRisingBy}
 use Rattle.scm_model.specs.declared.flat.NeedRow.{NeedRow}
-use Rattle.dependency_index.specs.declared.index.Spare.{Spare}
+use Rattle.dependency_index.specs.declared.keeping.KeptLists.{KeptLists}
+use Rattle.dependency_index.specs.declared.keeping.Spare.{Spare}
 use Rattle.dependency_index.specs.declared.index.DependencyIndex.TheInside.{Inside}
 use Rattle.dependency_index.specs.Naming.{is_named, names}
-use Rattle.scm_model.specs.Needs.{has, numbers_of}
+use Rattle.scm_model.specs.Needs.{has, numbers_of, with_row}
 
 abbrev pub number_of : NeedRow → ℕ
 number_of row = row.number
@@ -25,6 +26,13 @@ name_it name needs = list_any (is_named name) needs
 abbrev pub is_member : List ℕ → NeedRow → Bool
 is_member group row = same_text row.group group
 
+abbrev pub has_name : List ℕ → NeedRow → Bool
+has_name name row = same_text row.name name
+
+-- the services of this name
+abbrev pub called_of : List NeedRow → List ℕ → List ℕ
+called_of rows name = numbers_of (filter (has_name name) rows)
+
 -- the services that name the one of this name
 abbrev pub naming_of : List NeedRow → List ℕ → List ℕ
 naming_of rows name = numbers_of (filter (names name) rows)
@@ -37,26 +45,64 @@ members_of rows group = numbers_of (filter (is_member group) rows)
 abbrev pub IsReady : Under → List Need → Type 0
 IsReady lists needs = (name : List ℕ) → name_it name needs ≡ true → 1 ≤ room lists name
 
+abbrev pub TellsCalled : Under → List NeedRow → Type 0
+TellsCalled lists rows = (name : List ℕ) → at lists name ≡ called_of rows name
+
 abbrev pub TellsNaming : Under → List NeedRow → Type 0
 TellsNaming lists rows = (name : List ℕ) → at lists name ≡ naming_of rows name
 
 abbrev pub TellsMembers : Under → List NeedRow → Type 0
 TellsMembers lists rows = (group : List ℕ) → at lists group ≡ members_of rows group
 
+-- the lists are those of the rows
+pub record AreOf (lists : KeptLists) (rows : List NeedRow) : Type 0 where
+  pub called : TellsCalled lists.called rows
+  pub named : TellsNaming lists.named rows
+  pub grouped : TellsMembers lists.grouped rows
+
+-- each text has the same numbers under it
+pub record SameNumbers (old new : KeptLists) : Type 0 where
+  pub called : (name : List ℕ) → at new.called name ≡ at old.called name
+  pub named : (name : List ℕ) → at new.named name ≡ at old.named name
+  pub grouped : (group : List ℕ) → at new.grouped group ≡ at old.grouped group
+
+-- no text has less room
+pub record KeepsRoom (old new : KeptLists) : Type 0 where
+  pub called : (name : List ℕ) → room old.called name ≤ room new.called name
+  pub named : (name : List ℕ) → room old.named name ≤ room new.named name
+  pub grouped : (group : List ℕ) → room old.grouped group ≤ room new.grouped group
+
+-- there is room for a number under the texts of a row
+pub record HasTexts (lists : KeptLists) (row : Spare) : Type 0 where
+  pub name : 1 ≤ room lists.called row.name
+  pub needs : IsReady lists.named row.needs
+  pub group : 1 ≤ room lists.grouped row.group
+
 -- a service that has no row yet comes after all others
 abbrev pub IsNext : List NeedRow → ℕ → Type 0
 IsNext rows number = has (numbers_of rows) number ≡ false → AllByRecursion (λ (row : NeedRow). row.number < number) rows
 
+-- the row that a service gets
+abbrev pub row_from : Spare → ℕ → NeedRow
+row_from spare number = record { number = number; name = spare.name; group = spare.group; needs = spare.needs }
+
+abbrev pub without_row : List NeedRow → ℕ → List NeedRow
+without_row rows number = filter (λ (row : NeedRow). not (has_number number row)) rows
+
+-- lists of the other services' rows come to be those of all rows
+abbrev pub Enters : KeptLists → KeptLists → Spare → ℕ → Type 0
+Enters old new spare number =
+    (rows : List NeedRow) → AreRisingBy number_of rows → IsNext rows number → AreOf old (without_row rows number)
+    → AreOf new (with_row rows (row_from spare number))
+
 -- there is room for a row
 pub record HasRoom (index : Inside) (row : Spare) : Type 0 where
   pub rows : vec_len index.rows < vec_capacity index.rows
-  pub names : IsReady index.named row.needs
-  pub group : 1 ≤ room index.grouped row.group
+  pub texts : HasTexts index.lists row
 
 -- rows stand in order of number, and the lists are theirs
 pub record IsKept (index : Inside) : Type 0 where
   pub once : IsDistinct eqb (numbers_of index.rows.items)
   pub rising : AreRisingBy number_of index.rows.items
-  pub named : TellsNaming index.named index.rows.items
-  pub grouped : TellsMembers index.grouped index.rows.items
+  pub lists : AreOf index.lists index.rows.items
   pub room : IfSome index.spare (HasRoom index)

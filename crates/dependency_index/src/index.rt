@@ -1,45 +1,35 @@
-ghost use Rattle.std.specs.Prelude.{ℕ, List, ◌≡◌, ◌+◌, ◌≤◌, ◌<◌, ◌==◌, true, false, not, [], eqb, filter, length, slice_get, vec_len, vec_capacity, IfSome, IfOk, OnOk, OnErr, IsTrue, IsFalse, Some, Ok};
+ghost use Rattle.std.specs.Prelude.{ℕ, List, ◌≡◌, ◌+◌, ◌≤◌, ◌<◌, ◌==◌, true, false, not, [], eqb, filter, length, slice_get, vec_len, vec_capacity, IfSome, IfOk, OnOk, OnErr, IsTrue, IsFalse, None, Some, Ok};
 ghost use Rattle.std.specs.List.{AllByRecursion, IsDistinct};
 ghost use Rattle.dependency_index.specs.Dependents.{dependents_in};
 ghost use Rattle.dependency_index.specs.Indexed.{Indexed, empty, reserved, row_with, spare_of, with_needs, without_service};
-ghost use Rattle.dependency_index.specs.Kept.{has_number, number_of, IsNext, IsReady, TellsMembers, TellsNaming, members_of, naming_of};
+ghost use Rattle.dependency_index.specs.Kept.{number_of, HasTexts, IsNext, KeepsRoom, SameNumbers, called_of, members_of, naming_of};
 ghost use Rattle.dependency_index.specs.Naming.{active_in, naming_in, row_of};
 ghost use Rattle.scm_model.specs.Needs.{has, needs_of, numbers_of, with_row};
 ghost use Rattle.scm_model.specs.Order.{is_cyclic, order_in};
 ghost use Rattle.scm_model.specs.Walks.{IsAcyclic};
 ghost use Rattle.number_lists.specs.Rising.{AreRising};
-ghost use Rattle.number_lists.specs.Under.{at, room};
 ghost use Rattle.row_slab.specs.Rowed.{AreRisingBy};
 
-use super::graph::{Listed, NewRow, is_listed};
-use super::keeping::{enlist, reserve_names, tidy_names, unlist};
-use super::naming::{StateLook, active_among, row_of};
+use super::graph::{NeedRows, NewRow};
+use super::keeping::{
+    KeptLists, Spare, enter_lists, forget_texts, leave_lists, reserve_texts, tidy_texts,
+};
+use super::naming::{StateLook, active_among};
+use super::rows::{is_listed, met_at, needs_in, number_at, place_of, row_of};
 use super::steps::Steps;
 use super::visit::StateOf;
 use super::{dependents, order};
-use number_lists::TextLists;
 use scm_model::{Need, NeedRow, copy_needs};
 use scm_text::{Buffer, Items, OutOfMemory, WText};
 use std::alloc::Global;
 use std::marker::Model;
 use std::sync::ledger::Ledger;
 
-/// What is kept for a row that comes.
-#[derive(Drop)]
-pub struct Spare {
-    name: WText,
-    group: WText,
-    needs: Items<Need>,
-}
-
 /// Which service needs which. Contracts see the rows, a service each, and the row that there is room for.
 #[derive(Drop)]
 pub struct DependencyIndex {
     rows: Vec<NeedRow>,
-    /// Who names a service.
-    named: TextLists,
-    /// Who is in a group.
-    grouped: TextLists,
+    lists: KeptLists,
     spare: Option<Spare>,
 }
 
@@ -54,31 +44,17 @@ impl Model for DependencyIndex {
     ghost invariant = { IsKept };
 }
 
-/// Where a service's row is, or past the end.
-fn place_of(rows: &[NeedRow], number: u64) -> usize
-    ensures within { result < length rows.now → IfSome (slice_get rows.now result) (λ row. row.number ≡ number) }
-    ensures past { length rows.now ≤ result → has (numbers_of rows.now) number ≡ false }
-{
-    for i in 0..rows.len() {
-        if rows[i].number == number {
-            return i;
-        }
-    }
-    rows.len()
-}
-
 /// Puts a row in place of the same service's, or at the end.
 fn put(rows: &mut Vec<NeedRow>, row: NeedRow)
     requires once { IsDistinct eqb (numbers_of rows.old.items) }
+    requires rising { AreRisingBy number_of rows.old.items }
     requires room { vec_len rows.old < vec_capacity rows.old }
     ensures rows { rows.new.items ≡ with_row rows.old.items row }
     ensures once { IsDistinct eqb (numbers_of rows.new.items) }
 {
-    let place = place_of(rows.as_slice(), row.number);
-    if place < rows.len() {
-        rows[place] = row;
-    } else {
-        rows.push_reserved(row);
+    match place_of(rows.as_slice(), row.number) {
+        Some(place) => rows[place] = row,
+        None => rows.push_reserved(row),
     }
 }
 
@@ -91,55 +67,23 @@ fn take_out(rows: &mut Vec<NeedRow>, number: u64)
     rows.retain(|row| !(row.number == number));
 }
 
-/// Makes room for a row with this group and these needs.
+/// Makes room for a row.
 fn make_room(
     rows: &mut Vec<NeedRow>,
-    named: &mut TextLists,
-    grouped: &mut TextLists,
+    lists: &mut KeptLists,
     alloc: Global,
-    group: &WText,
-    needs: &[Need],
+    spare: &Spare,
 ) -> Result<(), OutOfMemory>
     ensures rows { rows.new.items ≡ rows.old.items }
-    ensures named { (name : List ℕ) → at named.new name ≡ at named.old name }
-    ensures grouped { (name : List ℕ) → at grouped.new name ≡ at grouped.old name }
     ensures more_rows { vec_len rows.old < vec_capacity rows.old → vec_len rows.new < vec_capacity rows.new }
-    ensures more_named { (name : List ℕ) → room named.old name ≤ room named.new name }
-    ensures more_grouped { (name : List ℕ) → room grouped.old name ≤ room grouped.new name }
-    ensures ok { OnOk result ((vec_len rows.new < vec_capacity rows.new) × IsReady named.new needs.now × (1 ≤ room grouped.new group.now)) }
+    ensures numbers { SameNumbers lists.old lists.new }
+    ensures more_texts { KeepsRoom lists.old lists.new }
+    ensures ok { OnOk result ((vec_len rows.new < vec_capacity rows.new) × HasTexts lists.new spare.now) }
 {
     if rows.reserve(1).is_err() {
         return Err(OutOfMemory);
     }
-    reserve_names(named, alloc, needs)?;
-    grouped.reserve(alloc, group)
-}
-
-/// Takes a service's number out of all lists.
-fn leave_lists(rows: &[NeedRow], named: &mut TextLists, grouped: &mut TextLists, service: u64)
-    requires rising { AreRisingBy number_of rows.now }
-    requires named { TellsNaming named.old rows.now }
-    requires grouped { TellsMembers grouped.old rows.now }
-    ensures named { TellsNaming named.new (filter (λ row. not (has_number service row)) rows.now) }
-    ensures grouped { TellsMembers grouped.new (filter (λ row. not (has_number service row)) rows.now) }
-    ensures named_room { (name : List ℕ) → room named.old name ≤ room named.new name }
-    ensures grouped_room { (name : List ℕ) → room grouped.old name ≤ room grouped.new name }
-{
-    if let Some(row) = row_of(rows, service) {
-        unlist(named, row.needs.as_slice(), service);
-        grouped.remove(&row.group, service);
-    }
-}
-
-/// Forgets the texts of a service's row under which no number is left.
-fn forget_texts(rows: &[NeedRow], named: &mut TextLists, grouped: &mut TextLists, service: u64)
-    ensures named { (name : List ℕ) → at named.new name ≡ at named.old name }
-    ensures grouped { (name : List ℕ) → at grouped.new name ≡ at grouped.old name }
-{
-    if let Some(row) = row_of(rows, service) {
-        tidy_names(named, row.needs.as_slice());
-        grouped.tidy(&row.group);
-    }
+    reserve_texts(lists, alloc, spare)
 }
 
 /// Whether the numbers of all rows are below this one.
@@ -161,8 +105,7 @@ impl DependencyIndex {
     {
         Ok(DependencyIndex {
             rows: Vec::new(alloc),
-            named: TextLists::new(alloc),
-            grouped: TextLists::new(alloc),
+            lists: KeptLists::new(alloc),
             spare: None,
         })
     }
@@ -199,19 +142,28 @@ impl DependencyIndex {
         ensures ok { OnOk result (self.new ≡ reserved self.old name.now group.now needs.now) }
         ensures err { OnErr result (self.new ≡ self.old) }
     {
-        let name = name.copy(alloc)?;
-        let group = group.copy(alloc)?;
-        let needs = copy_needs(needs.as_slice(), alloc)?;
-        make_room(
-            &mut self.rows,
-            &mut self.named,
-            &mut self.grouped,
-            alloc,
-            &group,
-            needs.as_slice(),
-        )?;
-        self.spare = Some(Spare { name, group, needs });
+        let spare = Spare {
+            name: name.copy(alloc)?,
+            group: group.copy(alloc)?,
+            needs: copy_needs(needs.as_slice(), alloc)?,
+        };
+        make_room(&mut self.rows, &mut self.lists, alloc, &spare)?;
+        self.spare = Some(spare);
         Ok(())
+    }
+
+    /// Lets the room for a row go. Texts under which no number is are forgotten with it.
+    pub fn forget_spare(&mut self)
+        ensures { self.new ≡ record self.old { spare = None } }
+    {
+        if let Some(spare) = self.spare.take() {
+            tidy_texts(
+                &mut self.lists,
+                &spare.name,
+                &spare.group,
+                spare.needs.as_slice(),
+            );
+        }
     }
 
     /// Puts a service's row in, for which room was made, in place of the one that it had or at the end. It takes no memory.
@@ -223,14 +175,9 @@ impl DependencyIndex {
         let Some(spare) = self.spare.take() else {
             return;
         };
-        leave_lists(
-            self.rows.as_slice(),
-            &mut self.named,
-            &mut self.grouped,
-            service,
-        );
-        enlist(&mut self.named, spare.needs.as_slice(), service);
-        self.grouped.add(&spare.group, service);
+        leave_lists(&mut self.lists, self.rows.as_slice(), service);
+        enter_lists(&mut self.lists, &spare, service);
+        forget_texts(&mut self.lists, self.rows.as_slice(), service);
         let row = NeedRow {
             number: service,
             name: spare.name,
@@ -245,18 +192,8 @@ impl DependencyIndex {
         ensures { self.new ≡ without_service self.old service }
     {
         self.spare = None;
-        leave_lists(
-            self.rows.as_slice(),
-            &mut self.named,
-            &mut self.grouped,
-            service,
-        );
-        forget_texts(
-            self.rows.as_slice(),
-            &mut self.named,
-            &mut self.grouped,
-            service,
-        );
+        leave_lists(&mut self.lists, self.rows.as_slice(), service);
+        forget_texts(&mut self.lists, self.rows.as_slice(), service);
         take_out(&mut self.rows, service);
     }
 
@@ -283,10 +220,7 @@ impl DependencyIndex {
             group,
             needs: needs.as_slice(),
         };
-        let listed = Listed {
-            rows: self.rows.as_slice(),
-        };
-        order::makes_cycle(&listed, new, room)
+        order::makes_cycle(self, new, room)
     }
 
     /// Writes the order in which a service and what it needs are started. It takes no memory.
@@ -297,10 +231,7 @@ impl DependencyIndex {
         ensures order { room.new.items ≡ order_in self.now.rows (S.state_of states.now) target }
         ensures few { length room.new.items ≤ length self.now.rows }
     {
-        let listed = Listed {
-            rows: self.rows.as_slice(),
-        };
-        order::order_of(&listed, target, states, room);
+        order::order_of(self, target, states, room);
     }
 
     /// Writes the order in which the services are stopped that need a service by name, directly or through named needs: each before
@@ -312,10 +243,15 @@ impl DependencyIndex {
         ensures order { room.new.items ≡ dependents_in self.now.rows service }
         ensures few { length room.new.items ≤ length self.now.rows }
     {
-        let listed = Listed {
-            rows: self.rows.as_slice(),
-        };
-        dependents::order_of_dependents(&listed, service, room);
+        dependents::order_of_dependents(self, service, room);
+    }
+
+    /// The numbers of the services of this name, rising. It takes no memory.
+    pub fn called(&self, name: &WText) -> &[u64]
+        ensures numbers { result.now ≡ called_of self.now.rows name.now }
+        ensures rising { AreRising result.now }
+    {
+        self.lists.called.at(name)
     }
 
     /// The numbers of the services that name the one of this name, rising. It takes no memory.
@@ -323,7 +259,7 @@ impl DependencyIndex {
         ensures numbers { result.now ≡ naming_of self.now.rows name.now }
         ensures rising { AreRising result.now }
     {
-        self.named.at(name)
+        self.lists.named.at(name)
     }
 
     /// The numbers of the services of a group, rising. It takes no memory.
@@ -331,7 +267,7 @@ impl DependencyIndex {
         ensures numbers { result.now ≡ members_of self.now.rows group.now }
         ensures rising { AreRising result.now }
     {
-        self.grouped.at(group)
+        self.lists.grouped.at(group)
     }
 
     /// How many services name this one and aren't stopped. A state is looked at by `state_of` alone, and of those services alone.
@@ -346,8 +282,39 @@ impl DependencyIndex {
         ensures looks { steps.new ≡ steps.old + naming_in self.now.rows (row_of self.now.rows service) }
     {
         match row_of(self.rows.as_slice(), service) {
-            Some(row) => active_among(self.named.at(&row.name), states, steps),
+            Some(row) => active_among(self.lists.named.at(&row.name), states, steps),
             None => 0,
+        }
+    }
+}
+
+impl NeedRows for DependencyIndex {
+    ghost rows = { λ index. index.rows };
+
+    fn size(&self) -> usize {
+        self.rows.len()
+    }
+
+    fn number_at(&self, place: usize) -> Option<u64> {
+        number_at(self.rows.as_slice(), place)
+    }
+
+    fn met_at(&self, need: &Need, place: usize) -> Option<u64> {
+        met_at(self.rows.as_slice(), need, place)
+    }
+
+    fn is_listed(&self, number: u64) -> bool {
+        is_listed(self.rows.as_slice(), number)
+    }
+
+    fn needs_at(&self, number: u64) -> &[Need] {
+        needs_in(self.rows.as_slice(), number)
+    }
+
+    fn met(&self, need: &Need) -> Option<&[u64]> {
+        match need {
+            Need::Service(name) => Some(self.lists.called.at(name)),
+            Need::Group(group) => Some(self.lists.grouped.at(group)),
         }
     }
 }

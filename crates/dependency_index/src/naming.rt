@@ -1,5 +1,5 @@
-ghost use Rattle.std.specs.Prelude.{ℕ, ◌≡◌, ◌+◌, ◌-◌, ◌^◌, ◌==◌, Bool, true, false, not, filter, length, min, option_copied, if◌then◌else◌};
-ghost use Rattle.dependency_index.specs.Naming.{is_named, names, row_of};
+ghost use Rattle.std.specs.Prelude.{ℕ, ◌≡◌, ◌+◌, ◌-◌, ◌^◌, ◌==◌, Bool, true, false, not, filter, length, min, if◌then◌else◌};
+ghost use Rattle.dependency_index.specs.Naming.{is_named, names};
 ghost use Rattle.scm_model.specs.declared.codes.TheConstants.{SERVICE_STOPPED};
 
 use super::steps::Steps;
@@ -60,16 +60,4 @@ pub fn active_among<S: StateLook, L: Ledger>(
         count = raised(count, states.state_of(*service, steps) != SERVICE_STOPPED);
     }
     count
-}
-
-/// The row of a service.
-pub fn row_of(rows: &[NeedRow], number: u64) -> Option<&NeedRow>
-    ensures { option_copied result ≡ row_of rows.now number }
-{
-    for row in rows {
-        if row.number == number {
-            return Some(row);
-        }
-    }
-    None
 }

@@ -12,6 +12,6 @@ returns-in-Some-clause-active g c =
     let test : ℕ → Bool = λ (service : ℕ). not (state_of service == 1) in
     rw (← c.self.view_is)
     (c.active_among.ensures.active
-    ∙ ap (λ (l : List ℕ). min (length (filter test l)) (2 ^ 32 - 1)) (c.at.ensures.items ∙ c.self.invariant.named name)
+    ∙ ap (λ (l : List ℕ). min (length (filter test l)) (2 ^ 32 - 1)) (c.at.ensures.items ∙ c.self.invariant.lists.named name)
     ∙ ap (λ (n : ℕ). min n (2 ^ 32 - 1)) (counted (names name) test rows)
     ∙ ap (active_in rows state_of) found)

@@ -1,0 +1,12 @@
+use Rattle.std.proofs.Common.{rules}
+use Rattle.std.proofs.lemmas.List.Sorted.{answers_always}
+use Rattle.scm_model.specs.declared.flat.NeedRow.{NeedRow}
+use Rattle.dependency_index.proofs.Bisecting.{placed}
+use Rattle.dependency_index.proofs.rows.place_of.Goals as goal
+
+pub returns : goal.returns
+returns c =
+    let facts = c.binary_search_by_key.ensures in
+    let by_number = facts.position (λ (row : NeedRow). row.number) (answers_always _ _ _ (λ f a r g called. search rules)) in
+    let place = placed c.args.rows.now c.args.number c.requires _ facts.bound by_number in
+    rw c.ok.ensures.value (record { within = place.within; found = place.found; none = place.none })
