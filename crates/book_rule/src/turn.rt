@@ -12,11 +12,26 @@ use std::marker::Model;
 use std::snapshot::Snapshot;
 use std::sync::Wait;
 
-/// How often a thread looks for the turn before it sleeps.
-const LOOKS: u32 = 30;
-/// How often it pauses at most between two looks. It begins with one pause and doubles them: so a
-/// turn that is soon free is soon seen, and who makes many turns in a row isn't slowed by looks.
-const MOST_PAUSES: u32 = 128;
+/// How a thread looks for the turn before it sleeps.
+#[derive(Clone, Copy)]
+struct Patience {
+    looks: u32,
+    /// How often it pauses before each look.
+    pauses: u32,
+}
+
+/// Who comes looks rarely: so who makes many turns in a row isn't slowed, and has its memory at
+/// hand.
+const COMING: Patience = Patience {
+    looks: 4,
+    pauses: 32,
+};
+
+/// Who was woken is to have the turn as soon as it is free.
+const WOKEN: Patience = Patience {
+    looks: 100,
+    pauses: 1,
+};
 
 /// Whether the turn is taken.
 const TURN: usize = 0;
@@ -98,7 +113,7 @@ impl<H: Content> Turn<H> {
             return content;
         }
         if !self.gate.is_shut() {
-            if let Some(content) = self.spin(seat) {
+            if let Some(content) = self.spin(seat, COMING) {
                 return content;
             }
         }
@@ -108,7 +123,7 @@ impl<H: Content> Turn<H> {
                 return content;
             }
             self.gate.sleep(rt);
-            if let Some(content) = self.spin(seat) {
+            if let Some(content) = self.spin(seat, WOKEN) {
                 self.gate.shut();
                 return content;
             }
@@ -192,20 +207,18 @@ impl<H: Content> Turn<H> {
     }
 
     /// Looks for the turn a while.
-    fn spin(&self, seat: &mut TurnSeat<H>) -> Option<Box<H>>
+    fn spin(&self, seat: &mut TurnSeat<H>, patience: Patience) -> Option<Box<H>>
         requires { Waits self.now seat.old }
         ensures some { IfSome result (λ h. Enters H.way self.now seat.old seat.new h) }
         ensures none { IfNone result (IsSameSeat seat.old seat.new) }
     {
-        let mut pauses = 1;
-        for _ in 0..LOOKS {
+        for _ in 0..patience.looks {
+            rest(patience.pauses);
             if self.table.shared.peek(TURN) == 0 {
                 if let Some(content) = self.try_enter(seat) {
                     return Some(content);
                 }
             }
-            rest(pauses);
-            pauses = pauses.saturating_mul(2).min(MOST_PAUSES);
         }
         None
     }
