@@ -24,6 +24,7 @@ use Rattle.start_plan.proofs.Enterings.{all_units}
 use Rattle.scm_model.specs.declared.flat.Due.{Due}
 use Rattle.scm_tables.specs.Places.{HasPlaces}
 use Rattle.scm_tables.specs.Inside.{IsBelow, IsKept}
+use Rattle.scm_tables.specs.Processed.{Processed}
 use Rattle.scm_tables.specs.Tabled.{HasShort, HasShortTexts}
 use Rattle.scm_tables.specs.declared.tables.Tables.TheInside.{Inside}
 
@@ -130,18 +131,38 @@ settles l f g plans ended rows plans_are flat_is rows_are =
     rw (rows_are, flat_is, plans_are) (sym (settles_beside l f plans))
 
 -- lists that differ in plans, due rows and what no list tells are kept where their plans and due rows are
-pub other_plans : {t u : Inside} → IsKept t → u.next.service ≡ t.next.service → u.services.items ≡ t.services.items → u.acyclic ≡ t.acyclic → u.has_marked ≡ t.has_marked
-    → u.limits.processes ≡ t.limits.processes → vec_capacity u.processes ≡ vec_capacity t.processes → u.tried.items ≡ t.tried.items
+pub other_plans : {t u : Inside} → IsKept t → u.next.service ≡ t.next.service → u.services.items ≡ t.services.items → u.index.rows ≡ t.index.rows → u.acyclic ≡ t.acyclic → u.leaving ≡ t.leaving
+    → u.limits.processes ≡ t.limits.processes → u.processes.capacity ≡ t.processes.capacity → u.processes.next ≡ t.processes.next → u.tried.items ≡ t.tried.items
     → u.start_room ≡ t.start_room → u.starts.items ≡ t.starts.items → u.commands.items ≡ t.commands.items
     → AllByRecursion (IsBelow u.next.plan) u.plans.plans → HasPlaces t.services.items u.dues.items (vec_capacity u.dues) → IsKept u
-other_plans kept next rows acyclic marked limit capacity tried wide starts commands plans dues = record {
+other_plans kept next rows index acyclic marked limit capacity listed tried wide starts commands plans dues = record {
   rising = rw next (rw rows kept.rising);
+  owns = rw listed (rw rows kept.owns);
   texts = rw rows kept.texts;
+  index = rw (index, rows) kept.index;
   needs = rw acyclic (rw rows kept.needs);
-  unmarked = rw marked (rw rows kept.unmarked);
+  marked = rw marked (rw rows kept.marked);
+  marks = rw marked (rw rows kept.marks);
   room = rw limit (rw capacity kept.room);
   plans = plans;
   untried = tried ∙ kept.untried;
   dues = rw rows dues;
   rooms = rw (wide, starts, commands) kept.rooms;
+}
+
+-- lists that differ in processes are kept where there is room for as many and the next one has the same number
+pub other_processes : {t : Inside} → IsKept t → (all : Processed) → all.next ≡ t.processes.next → all.capacity ≡ t.processes.capacity → IsKept (record t { processes = all })
+other_processes kept all next capacity = record {
+  rising = kept.rising;
+  owns = rw next kept.owns;
+  texts = kept.texts;
+  index = kept.index;
+  needs = kept.needs;
+  marked = kept.marked;
+  marks = kept.marks;
+  room = rw capacity kept.room;
+  plans = kept.plans;
+  untried = kept.untried;
+  dues = kept.dues;
+  rooms = kept.rooms;
 }

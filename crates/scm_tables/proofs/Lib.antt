@@ -5,7 +5,11 @@ pub mod Listing
 pub mod Wording
 pub mod NeedRows
 pub mod Opened
-pub mod Unmarked
+pub mod Marks
+pub mod Bisecting
+pub mod Counting
+pub mod Changing
+pub mod Owning
 pub mod Placed
 pub mod Fired
 pub mod Failures

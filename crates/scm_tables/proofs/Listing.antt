@@ -1,15 +1,9 @@
 -- Changes of the processes, in both lists of the flat state.
-use Rattle.std.proofs.Common.{ℕ, ◌≡◌, ◌+◌, ◌==◌, ◌&&◌, ◌++◌, true, false, not, nat_lt, cond, List, [], ◌∷◌, refl, sym, ap, subst, map, filter, drop, length}
-use Rattle.std.proofs.lemmas.List.{map-append}
-use Rattle.std.proofs.lemmas.List.Elements.{filter-append}
-use Rattle.scm_model.specs.declared.flat.Flat.{Flat}
-use Rattle.scm_model.specs.declared.flat.Phase.TheVariants as phases
+use Rattle.std.proofs.Common.{ℕ, ◌≡◌, ◌==◌, ◌&&◌, ◌++◌, true, false, not, nat_lt, cond, List, [], ◌∷◌, refl, sym, ap, subst, map, filter, drop, length}
 use Rattle.scm_model.specs.declared.flat.Process.{Process}
 use Rattle.scm_model.specs.declared.flat.Wanted.{Wanted}
 use Rattle.scm_rules.specs.Controls.{controlled_if, relieved_if}
 use Rattle.scm_rules.specs.Launches.{taken_if, launched_if}
-use Rattle.scm_rules.specs.Ticks.{with_wanted_command}
-use Rattle.scm_tables.specs.Lined.{Lined}
 use Rattle.scm_tables.specs.declared.process_rows.ProcessRow.{ProcessRow}
 use Rattle.scm_tables.specs.Listed.{processes_in, wanted_in, listed_as, process_shown, is_wanted_row, wanted_of}
 
@@ -95,11 +89,3 @@ wanted_relieved number rows =
     (λ row. elim (row.number == number) as (λ b. is_wanted_row (listed_as (λ p. cond b (record p { controls = drop 1 p.controls }) p) row) ≡ is_wanted_row row) [ true ↦ refl | false ↦ refl ])
     (λ row. elim (row.number == number) as (λ b. wanted_of (listed_as (λ p. cond b (record p { controls = drop 1 p.controls }) p) row) ≡ wanted_of row) [ true ↦ refl | false ↦ refl ])
     rows
-
--- a command more is to be launched
-pub command_listed : (f : Flat) (rows more : List ProcessRow) (command : List ℕ) (controls : List ℕ) (line : Lined) → f.processes ≡ processes_in rows → f.wanted ≡ wanted_in rows → controls ≡ []
-    → line ≡ record { command = true; words = command ∷ [] }
-    → more ≡ rows ++ record { number = f.next.process; service = 0; phase = phases.Wanted; pid = 0; controls = controls; line = line } ∷ []
-    → record f { processes = processes_in more; wanted = wanted_in more; next = record f.next { process = f.next.process + 1 } } ≡ with_wanted_command command f
-command_listed f rows more command controls line processes wanted none is all =
-    rw (all, none, is, processes, wanted) (simp (map-append, filter-append))

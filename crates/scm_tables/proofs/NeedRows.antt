@@ -1,23 +1,22 @@
 -- Services as rows of needs.
-use Rattle.std.proofs.Common.{ℕ, ◌≡◌, ◌∙◌, ◌<◌, ◌≤◌, ◌==◌, ◌||◌, true, false, cond, List, [], ◌∷◌, None, Some, get_or, length, refl, sym, ap, eqb}
-use Rattle.std.specs.Prelude.{Bool, IsSome, IsTrue, find, not, option_map, slice_get}
+use Rattle.std.proofs.Common.{ℕ, ◌≡◌, ◌∙◌, ◌<◌, ◌==◌, ◌||◌, ◌+◌, ◌++◌, true, false, cond, List, [], ◌∷◌, Some, get_or, length, take, map, filter, refl, sym, ap, subst, arith, eqb}
+use Rattle.std.specs.Prelude.{Bool, All, AllPairs, IsSome, IsTrue, find, not}
+use Rattle.std.specs.List.{AllByRecursion}
+use Rattle.std.proofs.lemmas.List.{append-nil, get_or-take, get_or_default, length-map, length-take, take_more}
+use Rattle.std.proofs.lemmas.List.Elements.{All-head, All-tail}
+use Rattle.scm_model.specs.declared.flat.Config.{Config}
+use Rattle.scm_model.specs.Changes.{configured_if}
+use Rattle.dependency_index.proofs.Once.{map_fresh}
+use Rattle.scm_rules.proofs.Needed.{rows_added}
+use Rattle.scm_tables.specs.Needing.{changed_needs}
 use Rattle.std.proofs.lemmas.Bool.{eq-eqb, eqb-true, false≢true}
-use Rattle.std.proofs.lemmas.Option.{slice_get-map, slice_get_past, slice_get_read}
 use Rattle.scm_model.specs.declared.flat.Service.{Service}
 use Rattle.scm_model.specs.declared.flat.NeedRow.{NeedRow}
-use Rattle.scm_model.specs.Needs.{has, needs_of, numbers_of}
+use Rattle.scm_model.specs.Needs.{has, instead, needs_of, numbers_of, with_row}
 use Rattle.scm_model.specs.Order.{is_cyclic}
 use Rattle.scm_model.specs.Walks.{IsAcyclic}
 use Rattle.dependency_index.proofs.Cycles.{acyclic_ends, ends_acyclic}
-use Rattle.scm_rules.specs.Needs.{need_row, need_rows}
-
--- the row at a place is that of the service there
-pub row_at : (rows : List Service) (i : ℕ) (row : Service) → i < length rows → row ≡ get_or rows i row → slice_get (need_rows rows) i ≡ Some (need_row row)
-row_at rows i row within is = slice_get-map need_row rows i ∙ ap (option_map need_row) (slice_get_read rows (length rows) i row refl within is)
-
--- behind them there is none
-pub row_past : (rows : List Service) (i : ℕ) → length rows ≤ i → slice_get (need_rows rows) i ≡ None
-row_past rows i past = slice_get-map need_row rows i ∙ ap (option_map need_row) (slice_get_past rows i past)
+use Rattle.scm_rules.specs.Needs.{need_row, need_row_of, need_rows}
 
 -- a service that is there has a row
 pub has_row : (rows : List Service) (n : ℕ) → IsSome (find (λ (row : Service). row.number == n) rows) → has (numbers_of (need_rows rows)) n ≡ true
@@ -36,3 +35,64 @@ found_free false rows is free = ends_acyclic rows (sym is)
 -- needs that are known to have no cycle
 pub cyclic_not : (rows : List NeedRow) → IsAcyclic (needs_of rows) → true ≡ not (is_cyclic rows)
 cyclic_not rows none = ap not (sym (acyclic_ends rows none))
+
+-- ## What each change of the services makes of the rows
+
+-- a change that leaves each service's row
+pub same_rows : (change : Service → Service) → ((row : Service) → need_row (change row) ≡ need_row row) → (rows : List Service) → need_rows rows ≡ need_rows (map change rows)
+same_rows change same [] = refl
+same_rows change same (row ∷ rows) = ap (λ (r : NeedRow). r ∷ need_rows rows) (sym (same row)) ∙ ap (λ (rs : List NeedRow). need_row (change row) ∷ rs) (same_rows change same rows)
+
+instead_is : (number : ℕ) (config : Config) (row : Service) → instead (need_row_of number config) (need_row row) ≡ need_row (configured_if number config row)
+instead_is number config row =
+    elim (row.number == number) as (λ b. (row.number == number) ≡ b
+    → cond b (need_row_of number config) (need_row row) ≡ need_row (cond b (record row { config = config; status = record row.status { kind = config.kind } }) row)) [
+      | true ↦ λ e. ap (λ (n : ℕ). need_row_of n config) (sym (eqb-true row.number number e))
+      | false ↦ λ e. refl
+    ] refl
+
+instead_all : (number : ℕ) (config : Config) (rows : List Service) → map (instead (need_row_of number config)) (need_rows rows) ≡ need_rows (map (configured_if number config) rows)
+instead_all number config [] = refl
+instead_all number config (row ∷ rows) =
+    ap (λ (r : NeedRow). r ∷ map (instead (need_row_of number config)) (need_rows rows)) (instead_is number config row)
+    ∙ ap (λ (rs : List NeedRow). need_row (configured_if number config row) ∷ rs) (instead_all number config rows)
+
+-- another configuration
+pub rows_changed : (number : ℕ) (config : Config) (rows : List Service) → changed_needs (need_rows rows) number config ≡ need_rows (map (configured_if number config) rows)
+rows_changed number config rows =
+    let new = need_row_of number config in
+    elim (has (numbers_of (need_rows rows)) number) as (λ b. has (numbers_of (need_rows rows)) number ≡ b
+    → cond b (map (instead new) (need_rows rows) ++ cond b [] (new ∷ [])) (need_rows rows) ≡ need_rows (map (configured_if number config) rows)) [
+      | true ↦ λ e. append-nil (map (instead new) (need_rows rows)) ∙ instead_all number config rows
+      | false ↦ λ e. sym (map_fresh new (need_rows rows) e) ∙ instead_all number config rows
+    ] refl
+
+-- a service less
+pub rows_without : (number : ℕ) (rows : List Service) → filter (λ (row : NeedRow). not (row.number == number)) (need_rows rows) ≡ need_rows (filter (λ (row : Service). not (row.number == number)) rows)
+rows_without number [] = refl
+rows_without number (row ∷ rows) =
+    elim (row.number == number) as (λ b. cond (not b) (need_row row ∷ filter (λ (r : NeedRow). not (r.number == number)) (need_rows rows)) (filter (λ (r : NeedRow). not (r.number == number)) (need_rows rows))
+    ≡ need_rows (cond (not b) (row ∷ filter (λ (r : Service). not (r.number == number)) rows) (filter (λ (r : Service). not (r.number == number)) rows))) [
+      | true ↦ rows_without number rows
+      | false ↦ ap (λ (rs : List NeedRow). need_row row ∷ rs) (rows_without number rows)
+    ]
+
+-- a number above those of all services
+pub next_above : (n : ℕ) (rows : List Service) → All (λ (row : Service). row.number < n) rows → AllByRecursion (λ (row : NeedRow). row.number < n) (need_rows rows)
+next_above n [] below = tt
+next_above n (row ∷ rows) below = (All-head (λ (r : Service). r.number < n) row rows below, next_above n rows (All-tail (λ (r : Service). r.number < n) row rows below))
+
+-- those before a service have numbers below its own
+pub before_below : (rows : List Service) (i : ℕ) (row : Service) → AllPairs (λ (a b : Service). a.number < b.number) rows → i < length rows → row ≡ get_or rows i row → All (λ (r : Service). r.number < row.number) (take i rows)
+before_below rows i row rising lt is k d within =
+    let less : k < i = omega (arith, within, length-take i rows) in
+    rw (get_or-take i rows k d less) (subst (λ (r : Service). (get_or rows k d).number < r.number) (get_or_default rows i d row lt ∙ sym is) (rising k i d less lt))
+
+pub rows_more : (rows : List Service) (i : ℕ) (row : Service) → AllPairs (λ (a b : Service). a.number < b.number) rows → i < length rows → row ≡ get_or rows i row
+    → with_row (need_rows (take i rows)) (need_row row) ≡ need_rows (take (i + 1) rows)
+rows_more rows i row rising lt is =
+    sym (rows_added (take i rows) row (before_below rows i row rising lt is))
+    ∙ ap need_rows (sym (take_more rows i row lt ∙ ap (λ (r : Service). take i rows ++ r ∷ []) (sym is)))
+
+pub same_length : (graph : List NeedRow) (rows : List Service) → graph ≡ need_rows rows → length graph ≡ length rows
+same_length graph rows is = ap (λ (g : List NeedRow). length g) is ∙ length-map rows need_row

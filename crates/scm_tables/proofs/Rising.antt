@@ -1,75 +1,100 @@
--- Services in order of number: what each change keeps, and that a number names one service.
-use Rattle.std.proofs.Common.{ℕ, ◌≡◌, ◌∙◌, ◌≢◌, ◌<◌, ◌+◌, ◌++◌, ◌==◌, suc, zero, Bool, true, false, cond, List, [], ◌∷◌, filter, map, get_or, length, ap, sym, refl, subst, arith, eq-eqb, eqb-true}
-use Rattle.std.specs.Prelude.{All, AllPairs, IfSome, set, slice_get}
-use Rattle.std.proofs.lemmas.Option.{slice_get-get_or}
+-- Rows in order of number: what each change keeps.
+use Rattle.std.proofs.Common.{ℕ, ◌≡◌, ◌≢◌, ◌<◌, ◌+◌, ◌++◌, ◌==◌, ◌||◌, Bool, true, false, cond, List, [], ◌∷◌, filter, map, get_or, length, ap, sym, refl, subst, arith, eq-eqb}
+use Rattle.std.proofs.lemmas.Bool.{ne_eqb}
 use Rattle.std.proofs.lemmas.List.{get_or-map, length-map}
 use Rattle.std.proofs.lemmas.List.Elements.{All-filter, All-push, All-map}
 use Rattle.std.proofs.lemmas.List.Kept.{AllPairs-filter}
 use Rattle.std.proofs.lemmas.List.Quantifiers.{all_pairs_push}
+use Rattle.failure_actions.specs.Failing.{on_failure}
 use Rattle.scm_model.specs.declared.flat.Config.{Config}
 use Rattle.scm_model.specs.declared.flat.Service.{Service}
-use Rattle.scm_model.specs.Changes.{configured_if}
-use Rattle.scm_tables.specs.Tabled.{AreRising}
+use Rattle.scm_model.specs.Changes.{configured_if, marked_if}
+use Rattle.scm_rules.specs.Failures.{counted_if}
+use Rattle.start_plan.specs.Entered.{started_if, starting_in}
+use Rattle.scm_tables.specs.Tabled.{AreInOrder, AreRising}
+
+module _ {R : Type 0} (number_of : R → ℕ) where
+  pub ordered_push : (next : ℕ) (rows : List R) (row : R) → AreInOrder number_of next rows → number_of row ≡ next → AreInOrder number_of (next + 1) (rows ++ row ∷ [])
+  ordered_push next rows row old new = record {
+    below = All-push (λ (r : R). number_of r < next + 1) rows row (λ k d lt. let b = old.below k d lt in omega arith) (omega arith);
+    rising = all_pairs_push (λ (a b : R). number_of a < number_of b) rows row old.rising (λ k d lt. let b = old.below k d lt in omega arith);
+  }
+
+  pub ordered_filter : (next : ℕ) (p : R → Bool) (rows : List R) → AreInOrder number_of next rows → AreInOrder number_of next (filter p rows)
+  ordered_filter next p rows old = record {
+    below = All-filter p (λ (r : R). number_of r < next) rows old.below;
+    rising = AllPairs-filter (λ (a b : R). number_of a < number_of b) p rows old.rising;
+  }
+
+  -- a change that keeps each number
+  pub ordered_map : (next : ℕ) (change : R → R) → ((row : R) → number_of (change row) ≡ number_of row) → (rows : List R) → AreInOrder number_of next rows → AreInOrder number_of next (map change rows)
+  ordered_map next change same rows old = record {
+    below = All-map (λ (r : R). number_of r < next) change rows (λ k d lt. let b = old.below k d lt in let e = same (get_or rows k d) in omega arith);
+    rising = λ i j d lt within.
+        let short : j < length rows = simp length-map at within in
+        let shorter : i < length rows = omega arith in
+        subst (λ (a : R). number_of a < number_of (get_or (map change rows) j d)) (sym (get_or-map change rows i d d shorter))
+        (subst (λ (b : R). number_of (change (get_or rows i d)) < number_of b) (sym (get_or-map change rows j d d short))
+        (let r = old.rising i j d lt short in let e = same (get_or rows i d) in let g = same (get_or rows j d) in omega arith));
+  }
+
+-- ## Services
 
 pub rising_push : (next : ℕ) (rows : List Service) (row : Service) → AreRising next rows → row.number ≡ next → AreRising (next + 1) (rows ++ row ∷ [])
-rising_push next rows row old new = record {
-  below = All-push (λ (r : Service). r.number < next + 1) rows row (λ k d lt. let b = old.below k d lt in omega arith) (omega arith);
-  rising = all_pairs_push (λ (a b : Service). a.number < b.number) rows row old.rising (λ k d lt. let b = old.below k d lt in omega arith);
-}
+rising_push next rows row old new = ordered_push (λ (r : Service). r.number) next rows row old new
 
 pub rising_filter : (next : ℕ) (p : Service → Bool) (rows : List Service) → AreRising next rows → AreRising next (filter p rows)
-rising_filter next p rows old = record {
-  below = All-filter p (λ (r : Service). r.number < next) rows old.below;
-  rising = AllPairs-filter (λ (a b : Service). a.number < b.number) p rows old.rising;
-}
+rising_filter next p rows old = ordered_filter (λ (r : Service). r.number) next p rows old
 
--- a change that keeps each number
 pub rising_map : (next : ℕ) (change : Service → Service) → ((row : Service) → (change row).number ≡ row.number) → (rows : List Service) → AreRising next rows → AreRising next (map change rows)
-rising_map next change same rows old = record {
-  below = All-map (λ (r : Service). r.number < next) change rows (λ k d lt. let b = old.below k d lt in let e = same (get_or rows k d) in omega arith);
-  rising = λ i j d lt within.
-      let short : j < length rows = simp length-map at within in
-      let shorter : i < length rows = omega arith in
-      subst (λ (a : Service). a.number < (get_or (map change rows) j d).number) (sym (get_or-map change rows i d d shorter))
-      (subst (λ (b : Service). (change (get_or rows i d)).number < b.number) (sym (get_or-map change rows j d d short))
-      (let r = old.rising i j d lt short in let e = same (get_or rows i d) in let g = same (get_or rows j d) in omega arith));
-}
+rising_map next change same rows old = ordered_map (λ (r : Service). r.number) next change same rows old
 
-other_number : (number : ℕ) (config : Config) (row : Service) → row.number ≢ number → configured_if number config row ≡ row
-other_number number config row other =
-    elim (row.number == number) as (λ b. row.number == number ≡ b → cond b (record row { config = config; status = record row.status { kind = config.kind } }) row ≡ row)
-    [ true ↦ λ e. absurd (other (eqb-true row.number number e)) | false ↦ λ e. refl ] refl
+abbrev pub configured : Config → Service → Service
+configured config row = record row { config = config; status = record row.status { kind = config.kind } }
 
-this_number : (number : ℕ) (config : Config) (row : Service) → row.number ≡ number → configured_if number config row ≡ record row { config = config; status = record row.status { kind = config.kind } }
-this_number number config row this =
-    ap (λ b. cond b (record row { config = config; status = record row.status { kind = config.kind } }) row) (eq-eqb row.number number this)
+pub configured_here : (n : ℕ) (config : Config) (row : Service) → row.number ≡ n → configured_if n config row ≡ configured config row
+configured_here n config row is = rw (eq-eqb row.number n is) refl
 
--- what stands at a place has the number
-pub number_at : (number : ℕ) (rows : List Service) (i : ℕ) (d : Service) → i < length rows → IfSome (slice_get rows i) (λ row. row.number ≡ number) → (get_or rows i d).number ≡ number
-number_at number rows i d within found = subst (λ o. IfSome o (λ (row : Service). row.number ≡ number)) (slice_get-get_or rows i d within) found
-
--- where no service has the number nothing is changed
-pub none_configured : (number : ℕ) (config : Config) (rows : List Service) → All (λ (row : Service). row.number ≢ number) rows → map (configured_if number config) rows ≡ rows
-none_configured number config [] others = refl
-none_configured number config (row ∷ rows) others =
-    ap (λ r. r ∷ map (configured_if number config) rows) (other_number number config row (others 0 row (omega arith)))
-    ∙ ap (λ rs. row ∷ rs) (none_configured number config rows (λ k d lt. others (suc k) d (omega arith)))
-
--- the one service that has it is changed
-pub one_configured : (number : ℕ) (config : Config) (rows : List Service) (i : ℕ) (d : Service) → AllPairs (λ (a b : Service). a.number < b.number) rows → i < length rows → (get_or rows i d).number ≡ number
-    → map (configured_if number config) rows ≡ set rows i (record (get_or rows i d) { config = config; status = record (get_or rows i d).status { kind = config.kind } })
-one_configured number config [] i d rising within this = absurd (omega arith)
-one_configured number config (row ∷ rows) zero d rising within this =
-    ap (λ r. r ∷ map (configured_if number config) rows) (this_number number config row this)
-    ∙ ap (λ rs. record row { config = config; status = record row.status { kind = config.kind } } ∷ rs)
-    (none_configured number config rows (λ k e lt same. let r = rising 0 (suc k) e (omega arith) (omega arith) in omega arith))
-one_configured number config (row ∷ rows) (suc i) d rising within this =
-    let r = rising 0 (suc i) d (omega arith) within in
-    ap (λ r. r ∷ map (configured_if number config) rows) (other_number number config row (λ same. omega arith))
-    ∙ ap (λ rs. row ∷ rs) (one_configured number config rows i d (λ k j e lt short. rising (suc k) (suc j) e (omega arith) (omega arith)) (omega arith) this)
+pub configured_elsewhere : (n : ℕ) (config : Config) (row : Service) → row.number ≢ n → configured_if n config row ≡ row
+configured_elsewhere n config row other = rw (ne_eqb row.number n other) refl
 
 -- a change of a configuration keeps each number
 pub configured_number : (number : ℕ) (config : Config) (row : Service) → (configured_if number config row).number ≡ row.number
 configured_number number config row =
     elim (row.number == number) as (λ b. (cond b (record row { config = config; status = record row.status { kind = config.kind } }) row).number ≡ row.number)
     [ true ↦ refl | false ↦ refl ]
+
+-- ## A change of one service, by its number
+
+or_false : (b : Bool) → (b || false) ≡ b
+or_false b = elim b as (λ b. (b || false) ≡ b) [ true ↦ refl | false ↦ refl ]
+
+or_true : (b : Bool) → (b || true) ≡ true
+or_true b = elim b as (λ b. (b || true) ≡ true) [ true ↦ refl | false ↦ refl ]
+
+abbrev pub marked : Service → Service
+marked row = record row { marked = true }
+
+pub marked_here : (n : ℕ) (row : Service) → row.number ≡ n → marked_if n row ≡ marked row
+marked_here n row is = rw (eq-eqb row.number n is) (ap (λ (b : Bool). record row { marked = b }) (or_true row.marked))
+
+pub marked_elsewhere : (n : ℕ) (row : Service) → row.number ≢ n → marked_if n row ≡ row
+marked_elsewhere n row other = rw (ne_eqb row.number n other) (ap (λ (b : Bool). record row { marked = b }) (or_false row.marked))
+
+abbrev pub started : ℕ → Service → Service
+started process row = cond (row.status.state == 1) (starting_in process row) row
+
+pub started_here : (n process : ℕ) (row : Service) → row.number ≡ n → started_if n process row ≡ started process row
+started_here n process row is = rw (eq-eqb row.number n is) refl
+
+pub started_elsewhere : (n process : ℕ) (row : Service) → row.number ≢ n → started_if n process row ≡ row
+started_elsewhere n process row other = rw (ne_eqb row.number n other) refl
+
+abbrev pub counted : ℕ → Service → Service
+counted moment row = record row { failures = (on_failure row.config row.failures row.last_failure moment).failures; last_failure = moment }
+
+pub counted_here : (n moment : ℕ) (row : Service) → row.number ≡ n → counted_if n moment row ≡ counted moment row
+counted_here n moment row is = rw (eq-eqb row.number n is) refl
+
+pub counted_elsewhere : (n moment : ℕ) (row : Service) → row.number ≢ n → counted_if n moment row ≡ row
+counted_elsewhere n moment row other = rw (ne_eqb row.number n other) refl

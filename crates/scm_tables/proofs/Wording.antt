@@ -1,6 +1,6 @@
 -- The words of the launch that is wanted first.
 use Rattle.std.proofs.Common.{ℕ, ◌≡◌, ◌∙◌, ◌<◌, ◌≤◌, suc, zero, Bool, true, false, cond, List, [], ◌∷◌, None, Some, filter, map, get_or, length, ap, sym, refl, arith, Option, ◌==◌}
-use Rattle.std.specs.Prelude.{set, position, IfSome, All, find, option_and_then}
+use Rattle.std.specs.Prelude.{set, position, slice_get, IfSome, All, find, option_and_then}
 use Rattle.std.specs.Prelude.{nat_lt}
 use Rattle.std.specs.List.{position_or_len}
 use Rattle.std.proofs.lemmas.Bool.Decides.{nat_tests}
@@ -86,33 +86,21 @@ short_with f (Some number) all = found_has HasShort (λ (row : Service). row.num
 
 -- ## Lines
 
--- the launch that is wanted first is that of the first process that is to be launched
-pub first_lined : (f : Flat) (rows : List ProcessRow) (row : ProcessRow) → find is_wanted_row rows ≡ Some row → first_line f (wanted_in rows) ≡ line_of f (wanted_of row)
+pub first_lined : (f : Flat) (rows : List Wanted) (row : Wanted) → slice_get rows 0 ≡ Some row → first_line f rows ≡ line_of f row
 first_lined f [] row e = absurd cc
-first_lined f (one ∷ rows) row e =
-    elim (is_wanted_row one) as (λ b. cond b (Some one) (find is_wanted_row rows) ≡ Some row → first_line f (map wanted_of (cond b (one ∷ filter is_wanted_row rows) (filter is_wanted_row rows))) ≡ line_of f (wanted_of row)) [
-      | true ↦ λ is. (let same : one ≡ row = cc in ap (λ (r : ProcessRow). line_of f (wanted_of r)) same)
-      | false ↦ λ is. first_lined f rows row is
-    ] e
+first_lined f (one ∷ rows) row e = let same : one ≡ row = cc in ap (line_of f) same
 
-pub none_lined : (f : Flat) (rows : List ProcessRow) → find is_wanted_row rows ≡ None → first_line f (wanted_in rows) ≡ ([], [])
+pub none_lined : (f : Flat) (rows : List Wanted) → slice_get rows 0 ≡ None → first_line f rows ≡ ([], [])
 none_lined f [] e = refl
-none_lined f (one ∷ rows) e =
-    elim (is_wanted_row one) as (λ b. cond b (Some one) (find is_wanted_row rows) ≡ None → first_line f (map wanted_of (cond b (one ∷ filter is_wanted_row rows) (filter is_wanted_row rows))) ≡ ([], [])) [
-      | true ↦ λ is. absurd cc
-      | false ↦ λ is. none_lined f rows is
-    ] e
+none_lined f (one ∷ rows) e = absurd cc
 
 line_words : (f : Flat) (row : Wanted) → cond row.command [] row.words ≡ (line_of f row).1
 line_words f row =
     elim row.command as (λ b. cond b [] row.words ≡ (cond {A = List ℕ × List (List ℕ)} b (head_word row.words, []) (path_in (option_and_then (service_of f) (service_of_process f row.process)), row.words)).1) [ true ↦ refl | false ↦ refl ]
 
-words_of_lines : (f : Flat) (rows : List Wanted) → words_in rows ≡ (first_line f rows).1
-words_of_lines f [] = refl
-words_of_lines f (row ∷ rows) = line_words f row
-
-pub first_words : (f : Flat) (rows : List ProcessRow) → words_in (wanted_in rows) ≡ (first_line f (wanted_in rows)).1
-first_words f rows = words_of_lines f (wanted_in rows)
+pub first_words : (f : Flat) (rows : List Wanted) → words_in rows ≡ (first_line f rows).1
+first_words f [] = refl
+first_words f (row ∷ rows) = line_words f row
 
 -- and the service that a handle is of
 pub held_has : (P : Service → Type 0) (rows : List Service) (handle : Option Opened) → All P rows → IfSome (option_and_then (λ (of : Opened). find (λ (row : Service). row.number == of.service) rows) handle) P

@@ -1,5 +1,6 @@
 pub mod Tabled
 pub mod Listed
+pub mod Processed
 pub mod Lines
 pub mod Inside
 pub mod Tags
@@ -10,3 +11,5 @@ pub mod Rooms
 pub mod Failed
 pub mod Started
 pub mod Lined
+pub mod Marked
+pub mod Needing

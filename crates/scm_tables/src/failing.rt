@@ -124,13 +124,14 @@ impl Tables {
         ensures flat { self.new.flat ≡ with_fallen self.old.flat process code }
         ensures limits { self.new.limits ≡ self.old.limits }
     {
+        let of = self.processes.service_of(process);
         note_fall(
             &mut self.registrations,
-            current_in(self.services.as_slice(), process),
+            current_in(self.services.as_slice(), of, process),
             process,
             code,
         );
-        fall_in(&mut self.services, process, code);
+        fall_in(&mut self.services, of, process, code);
     }
 
     /// The service falls whose current process this is, with `ERROR_PROCESS_ABORTED` (1067), which is a failure of it. It takes no
@@ -150,13 +151,14 @@ impl Tables {
         ensures flat { self.new.flat ≡ taken_by self.old.flat process report.now }
         ensures limits { self.new.limits ≡ self.old.limits }
     {
+        let of = self.processes.service_of(process);
         note_report(
             &mut self.registrations,
-            current_in(self.services.as_slice(), process),
+            current_in(self.services.as_slice(), of, process),
             report,
-            self.processes.as_slice(),
+            &self.processes,
         );
-        report_in(&mut self.services, process, report);
+        report_in(&mut self.services, of, process, report);
     }
 
     /// The service takes a report whose current process this is, which may be a failure of it; its registrations are told of another
@@ -180,13 +182,8 @@ impl Tables {
             return;
         };
         let process = row.process;
-        note_report(
-            &mut self.registrations,
-            Some(row),
-            report,
-            self.processes.as_slice(),
-        );
-        report_in(&mut self.services, process, report);
+        note_report(&mut self.registrations, Some(row), report, &self.processes);
+        report_in(&mut self.services, Some(service), process, report);
     }
 
     /// A service takes a report as if its current process had made it, if it is there, which may be a failure of it; its registrations are

@@ -9,13 +9,11 @@ ghost use Rattle.scm_tables.specs.Rooms.{IsCommandRoom, IsStartRoom};
 
 use super::due_rows::{commands_in, drop_due, first_due, starts_in};
 use super::lines::Line;
-use super::process_rows::{ProcessRow, is_full};
 use super::rooms::{CommandRoom, StartRoom, fill_commands, fill_starts};
 use super::service_rows::row_with;
 use super::tables::Tables;
-use control_dispatch::Controls;
 use scm_model::codes::{SERVICE_DISABLED, SERVICE_STOPPED};
-use scm_model::{DueKind, Phase, Plan, Service};
+use scm_model::{DueKind, Plan, Service};
 use scm_text::{Items, OutOfMemory};
 
 /// Takes the room of a plan without a caller.
@@ -225,7 +223,7 @@ impl Tables {
         match service {
             Some(row) => {
                 !row.config.command.units().is_empty()
-                    && !is_full(self.processes.as_slice(), self.limits.processes)
+                    && !self.processes.is_full(self.limits.processes)
             }
             None => false,
         }
@@ -247,15 +245,7 @@ impl Tables {
             return;
         };
         let line = Line::of_command(take_command_room(&mut self.commands), &row.config.command);
-        self.processes.push_reserved(ProcessRow {
-            number: self.next.process,
-            service: 0,
-            phase: Phase::Wanted,
-            pid: 0,
-            controls: Controls::new(),
-            line,
-        });
-        self.next.process += 1;
+        self.processes.list(0, line);
     }
 
     /// A row leaves.

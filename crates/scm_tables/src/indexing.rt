@@ -1,10 +1,10 @@
 ghost use Rattle.std.specs.Prelude.{◌≡◌, ◌≤◌, [], length, IfOk, IsSome};
 ghost use Rattle.scm_model.specs.Rows.{service_of};
-ghost use Rattle.scm_rules.specs.Needs.{makes_cycle, start_order};
+ghost use Rattle.scm_rules.specs.Needs.{makes_cycle, need_rows, start_order};
 
-use super::needing::{Needing, row_of};
+use super::needing::row_of;
 use super::tables::Tables;
-use dependency_index::{closes_cycle, makes_cycle, order_of};
+use dependency_index::{DependencyIndex, NeedRows, closes_cycle, makes_cycle, order_of};
 use scm_model::Config;
 use scm_text::{Buffer, Items, OutOfMemory};
 use std::alloc::Global;
@@ -17,6 +17,13 @@ impl Tables {
         self.next.service
     }
 
+    /// Which service needs which.
+    pub fn index(&self) -> &DependencyIndex
+        ensures { result.now.rows ≡ need_rows self.now.flat.services }
+    {
+        &self.index
+    }
+
     /// Whether the needs would have a cycle if the service with a number had this configuration.
     pub fn makes_cycle(
         &self,
@@ -26,15 +33,12 @@ impl Tables {
     ) -> Result<bool, OutOfMemory>
         ensures { IfOk result (λ cyclic. cyclic ≡ makes_cycle self.now.flat number config.now) }
     {
-        let mut room = Buffer::with_room(alloc, self.services.len() + 1)?;
-        let needing = Needing {
-            services: self.services.as_slice(),
-        };
+        let mut room = Buffer::with_room(alloc, self.index.size() + 1)?;
         let new = row_of(number, config);
         if self.acyclic {
-            Ok(closes_cycle(&needing, new, &mut room))
+            Ok(closes_cycle(&self.index, new, &mut room))
         } else {
-            Ok(makes_cycle(&needing, new, &mut room))
+            Ok(makes_cycle(&self.index, new, &mut room))
         }
     }
 
@@ -46,10 +50,7 @@ impl Tables {
         ensures order { room.new.items ≡ start_order self.now.flat target }
         ensures few { length room.new.items ≤ length self.now.flat.services }
     {
-        let needing = Needing {
-            services: self.services.as_slice(),
-        };
-        order_of(&needing, target, self, room);
+        order_of(&self.index, target, self, room);
     }
 
     /// The services to start for a service, by number: each after what it needs, and none that is RUNNING.

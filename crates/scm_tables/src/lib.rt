@@ -13,6 +13,7 @@ mod noticing;
 mod opening;
 mod planning;
 mod process_rows;
+mod processes;
 mod registering;
 mod rooms;
 mod running;

@@ -1,17 +1,14 @@
-ghost use Rattle.std.specs.Prelude.{ℕ, ◌≡◌, ◌==◌, ◌≤◌, All, filter, find, map, if◌then◌else◌, IfSome, option_copied};
+ghost use Rattle.std.specs.Prelude.{ℕ, ◌≡◌, ◌==◌, ◌≤◌, find, if◌then◌else◌, IfSome, option_copied};
 ghost use Rattle.scm_model.specs.Found.{if_found};
-ghost use Rattle.scm_model.specs.Notices.{all_noted, event_of_leaving, event_of_state, new_registration, noted, notified, pid_in, pid_of, put_in, state_mask, with_pid};
-ghost use Rattle.scm_model.specs.Purge.{leaves};
+ghost use Rattle.scm_model.specs.Notices.{event_of_leaving, event_of_state, new_registration, noted, notified, pid_in, pid_of, put_in, state_mask, with_pid};
 ghost use Rattle.scm_rules.specs.Delete.{told_of_mark};
 ghost use Rattle.scm_rules.specs.Launches.{told_of_fall};
 ghost use Rattle.scm_rules.specs.Reports.{process_in_state, told_of_report};
 ghost use Rattle.start_plan.specs.Entered.{told_of_start};
-ghost use Rattle.scm_tables.specs.Listed.{processes_in};
 ghost use Rattle.scm_tables.specs.Tabled.{HasShort};
 
-use super::process_rows::{ProcessRow, pid_of_row};
-use super::service_rows::{bare_status, leaves};
-use handle_table::HandleTable;
+use super::processes::Processes;
+use super::service_rows::bare_status;
 use notify_queue::NotifyQueue;
 use scm_model::codes::{
     SERVICE_CONTINUE_PENDING, SERVICE_NOTIFY_CONTINUE_PENDING, SERVICE_NOTIFY_DELETE_PENDING,
@@ -51,13 +48,13 @@ pub fn with_pid(status: Status, pid: u32) -> ProcessStatus
 }
 
 /// The system's number of a process, or 0.
-pub fn pid_with(rows: &[ProcessRow], number: u64) -> u32
-    ensures { result ≡ if number == 0 then 0 else pid_in (find (λ process. process.number == number) (processes_in rows.now)) }
+pub fn pid_with(processes: &Processes, number: u64) -> u32
+    ensures { result ≡ if number == 0 then 0 else pid_in (find (λ process. process.number == number) processes.now.processes) }
 {
     if number == 0 {
         0
     } else {
-        pid_of_row(rows, number)
+        processes.pid_of(number)
     }
 }
 
@@ -116,10 +113,10 @@ pub fn note_report(
     queue: &mut NotifyQueue,
     service: Option<&Service>,
     report: &Status,
-    processes: &[ProcessRow],
+    processes: &Processes,
 )
     requires { IfSome (option_copied service) HasShort }
-    ensures rows { queue.new.rows ≡ told_of_report (processes_in processes.now) report.now (option_copied service.entry) queue.old.rows }
+    ensures rows { queue.new.rows ≡ told_of_report processes.now.processes report.now (option_copied service.entry) queue.old.rows }
     ensures spare { queue.new.spare ≡ queue.old.spare }
 {
     if let Some(row) = service {
@@ -131,9 +128,9 @@ pub fn note_report(
 }
 
 /// Tells that a service is marked.
-pub fn note_mark(queue: &mut NotifyQueue, service: Option<&Service>, processes: &[ProcessRow])
+pub fn note_mark(queue: &mut NotifyQueue, service: Option<&Service>, processes: &Processes)
     requires { IfSome (option_copied service) HasShort }
-    ensures rows { queue.new.rows ≡ told_of_mark (processes_in processes.now) (option_copied service.entry) queue.old.rows }
+    ensures rows { queue.new.rows ≡ told_of_mark processes.now.processes (option_copied service.entry) queue.old.rows }
     ensures spare { queue.new.spare ≡ queue.old.spare }
 {
     if let Some(row) = service {
@@ -146,13 +143,13 @@ pub fn note_mark(queue: &mut NotifyQueue, service: Option<&Service>, processes: 
     }
 }
 
-/// Tells the manager's registrations that a service leaves, if it does.
-fn note_leaving(queue: &mut NotifyQueue, row: &Service, handles: &HandleTable)
-    requires { HasShort row.now }
-    ensures rows { queue.new.rows ≡ if leaves handles.now.rows row.now then noted (event_of_leaving row.now) queue.old.rows else queue.old.rows }
+/// Tells the manager's registrations that a service leaves.
+pub fn note_leaving(queue: &mut NotifyQueue, service: Option<&Service>)
+    requires { IfSome (option_copied service) HasShort }
+    ensures rows { queue.new.rows ≡ if_found (λ row. noted (event_of_leaving row)) (option_copied service.entry) queue.old.rows }
     ensures spare { queue.new.spare ≡ queue.old.spare }
 {
-    if leaves(handles, row) {
+    if let Some(row) = service {
         queue.note(
             0,
             SERVICE_NOTIFY_DELETED,
@@ -162,22 +159,11 @@ fn note_leaving(queue: &mut NotifyQueue, row: &Service, handles: &HandleTable)
     }
 }
 
-/// Tells the manager's registrations of each service that leaves, in their order.
-pub fn note_all_leaving(queue: &mut NotifyQueue, services: &[Service], handles: &HandleTable)
-    requires { All HasShort services.now }
-    ensures rows { queue.new.rows ≡ all_noted (map event_of_leaving (filter (leaves handles.now.rows) services.now)) queue.old.rows }
-    ensures spare { queue.new.spare ≡ queue.old.spare }
-{
-    for row in services {
-        note_leaving(queue, row, handles);
-    }
-}
-
 /// Adds a registration, which is told of the state of the service where its mask has it.
 pub fn register_in(
     queue: &mut NotifyQueue,
     present: Option<&Service>,
-    processes: &[ProcessRow],
+    processes: &Processes,
     number: u64,
     caller: u64,
     service: u64,
@@ -185,7 +171,7 @@ pub fn register_in(
 )
     requires room { 1 ≤ queue.old.spare }
     requires short { IfSome (option_copied present) HasShort }
-    ensures { queue.new.rows ≡ put_in (if_found (λ row. notified (event_of_state (pid_of (processes_in processes.now) row) row)) (option_copied present.entry) (new_registration number caller service mask)) queue.old.rows }
+    ensures { queue.new.rows ≡ put_in (if_found (λ row. notified (event_of_state (pid_of processes.now.processes row) row)) (option_copied present.entry) (new_registration number caller service mask)) queue.old.rows }
 {
     match present {
         Some(row) => queue.register_told(

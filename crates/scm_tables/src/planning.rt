@@ -13,10 +13,7 @@ ghost use Rattle.scm_tables.specs.Lines.{first_line};
 ghost use Rattle.scm_tables.specs.Listed.{wanted_of, without_words};
 
 use super::due_rows::is_any_due;
-use super::process_rows::{
-    ProcessRow, drop_process, first_wanted, is_any_wanted, is_taken_in, launch_in, owed_in,
-    service_of, take_in, take_words, wanted_first,
-};
+use super::process_rows::ProcessRow;
 use super::tables::Tables;
 use scm_model::{Due, DueKind, Plan, Service};
 use scm_text::{Items, OutOfMemory, TextRoom, WText};
@@ -30,28 +27,28 @@ impl Tables {
     pub fn first_wanted(&self) -> Option<u64>
         ensures { result ≡ first_wanted self.now.flat.wanted }
     {
-        first_wanted(self.processes.as_slice())
+        self.processes.first_wanted()
     }
 
     /// Whether a launch is wanted.
     pub fn is_wanted(&self) -> bool
         ensures { result ≡ wants_launch self.now.flat.wanted }
     {
-        is_any_wanted(self.processes.as_slice())
+        self.processes.is_any_wanted()
     }
 
     /// Whether the launch of a process is taken in hand.
     pub fn is_taken(&self, process: u64) -> bool
         ensures { result ≡ is_taken (process_of self.now.flat process) }
     {
-        is_taken_in(self.processes.as_slice(), process)
+        self.processes.is_taken(process)
     }
 
     /// The service that a process is of, which is 0 for a command.
     pub fn service_of_process(&self, process: u64) -> Option<u64>
         ensures { result ≡ service_of_process self.now.flat process }
     {
-        service_of(self.processes.as_slice(), process)
+        self.processes.service_of(process)
     }
 
     /// The launch of a process is taken in hand.
@@ -59,7 +56,7 @@ impl Tables {
         ensures flat { self.new.flat ≡ with_taken self.old.flat process }
         ensures limits { self.new.limits ≡ self.old.limits }
     {
-        take_in(&mut self.processes, process);
+        self.processes.take(process);
     }
 
     /// Takes the words of the launch that is wanted first.
@@ -69,7 +66,7 @@ impl Tables {
         ensures limits { self.new.limits ≡ self.old.limits }
         ensures spare { self.new.spare ≡ self.old.spare }
     {
-        take_words(&mut self.processes, self.alloc)
+        self.processes.take_words(self.alloc)
     }
 
     /// Writes the path of the launch that is wanted first, or the empty one where none is. It takes no memory.
@@ -77,7 +74,7 @@ impl Tables {
         requires { 2048 ≤ path.old.room }
         ensures { path.new ≡ record { units = (first_line self.now.flat self.now.flat.wanted).0; room = path.old.room } }
     {
-        match wanted_first(self.processes.as_slice()) {
+        match self.processes.wanted_first() {
             Some(row) => self.write_line(row, path),
             None => path.set(&WText::new(self.alloc)),
         }
@@ -121,7 +118,7 @@ impl Tables {
         ensures flat { self.new.flat ≡ with_launched self.old.flat process pid }
         ensures limits { self.new.limits ≡ self.old.limits }
     {
-        launch_in(&mut self.processes, process, pid);
+        self.processes.launch(process, pid);
     }
 
     /// Takes a process away.
@@ -129,7 +126,7 @@ impl Tables {
         ensures flat { self.new.flat ≡ without_process self.old.flat process }
         ensures limits { self.new.limits ≡ self.old.limits }
     {
-        drop_process(&mut self.processes, process);
+        self.processes.remove(process);
     }
 
     /// Decides the undecided plans with a target, if any.
@@ -286,7 +283,7 @@ impl Tables {
         ensures { result ≡ min (owed self.now.flat) (2 ^ 64 - 1) }
     {
         (self.callers() as u64)
-            .saturating_add(owed_in(self.processes.as_slice()))
+            .saturating_add(self.processes.owed())
             .saturating_add(self.plans.owed())
     }
 

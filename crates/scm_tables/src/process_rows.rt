@@ -1,12 +1,11 @@
-ghost use Rattle.std.specs.Prelude.{◌≡◌, ◌==◌, ◌≤◌, ◌-◌, ◌^◌, [], length, min, nat_le, not, position, map, filter, find, option_copied, option_map, vec_capacity};
-ghost use Rattle.scm_model.specs.declared.flat.Process.{Process};
-ghost use Rattle.scm_model.specs.Notices.{pid_in};
-ghost use Rattle.scm_rules.specs.Controls.{controlled_if, controls_in, first_control, relieved_if};
-ghost use Rattle.scm_rules.specs.Launches.{first_wanted, is_launched, is_taken, launched_if, taken_if};
-ghost use Rattle.scm_rules.specs.Owed.{owed_by_process, owed_in_phase};
+ghost use Rattle.std.specs.Prelude.{◌≡◌, ◌≢◌, ◌<◌, ◌==◌, ◌≤◌, ◌++◌, ◌∷◌, ◌^◌, [], length, nat_lt, not, position, map, drop, filter, find, if◌then◌else◌, option_copied, slice_get, vec_capacity, All, AllPairs, IfNone, IfSome};
+ghost use Rattle.scm_model.specs.declared.flat.Phase.TheVariants as phases;
+ghost use Rattle.scm_rules.specs.Controls.{controlled_if, relieved_if};
+ghost use Rattle.scm_rules.specs.Launches.{first_wanted, launched_if, taken_if};
+ghost use Rattle.scm_rules.specs.Owed.{owed_in_phase};
 ghost use Rattle.scm_rules.specs.Steps.{wants_launch as is_any_wanted};
-ghost use Rattle.start_plan.specs.Owed.{total};
 ghost use Rattle.scm_tables.specs.Listed.{is_wanted_row, listed_as, processes_in, wanted_in, without_words, words_in};
+ghost use Rattle.scm_tables.specs.Processed.{owed_in};
 
 use super::lines::Line;
 use control_dispatch::Controls;
@@ -28,162 +27,142 @@ pub struct ProcessRow {
     pub line: Line,
 }
 
-/// The launch of a process is taken in hand.
-fn take_row(row: &mut ProcessRow, number: u64)
-    ensures { row.new ≡ listed_as (taken_if number) row.old }
+/// Where the process with a number stands.
+fn place_of(rows: &[ProcessRow], number: u64) -> Option<usize>
+    requires { AllPairs (λ a b. a.number < b.number) rows.now }
+    ensures found { IfSome result (λ place. IfSome (slice_get rows.now place) (λ row. row.number ≡ number)) }
+    ensures within { IfSome result (λ place. place < length rows.now) }
+    ensures none { IfNone result (All (λ row. row.number ≢ number) rows.now) }
+    ensures few { length rows.now < 2 ^ 64 }
 {
-    if row.number == number {
-        row.phase = Phase::Taken;
+    rows.binary_search_by_key(&number, |row| row.number).ok()
+}
+
+/// The process with a number.
+pub fn process_with(rows: &[ProcessRow], number: u64) -> Option<&ProcessRow>
+    requires { AllPairs (λ a b. a.number < b.number) rows.now }
+    ensures { option_copied result ≡ find (λ row. row.number == number) rows.now }
+{
+    let place = place_of(rows, number)?;
+    Some(&rows[place])
+}
+
+/// How many steps a process in a phase still owes.
+pub fn owed_in_phase(phase: Phase) -> u128
+    ensures { result ≡ owed_in_phase phase }
+{
+    match phase {
+        Phase::Wanted => 3,
+        Phase::Taken => 2,
+        Phase::Launched => 1,
     }
 }
 
 /// The launch of a process is taken in hand.
-pub fn take_in(rows: &mut Vec<ProcessRow>, number: u64)
+fn take_row(row: &mut ProcessRow)
+    ensures { row.new ≡ record row.old { phase = phases.Taken } }
+{
+    row.phase = Phase::Taken;
+}
+
+/// The launch of a process is taken in hand. Gives what all owe then, who owed so much before.
+pub fn take_in(rows: &mut Vec<ProcessRow>, number: u64, owed: u128) -> u128
+    requires rising { AllPairs (λ a b. a.number < b.number) rows.old.items }
+    requires owed { owed ≡ owed_in rows.old.items }
     ensures rows { rows.new.items ≡ map (listed_as (taken_if number)) rows.old.items }
     ensures capacity { vec_capacity rows.new ≡ vec_capacity rows.old }
+    ensures owed { result ≡ owed_in rows.new.items }
 {
-    for row in rows.iter_mut() {
-        take_row(row, number);
+    match place_of(rows.as_slice(), number) {
+        Some(place) => {
+            let before = owed_in_phase(rows[place].phase);
+            take_row(&mut rows[place]);
+            owed - before + owed_in_phase(Phase::Taken)
+        }
+        None => owed,
     }
 }
 
 /// A process is launched.
-fn launch_row(row: &mut ProcessRow, number: u64, pid: u32)
-    ensures { row.new ≡ listed_as (launched_if number pid) row.old }
+fn launch_row(row: &mut ProcessRow, pid: u32)
+    ensures { row.new ≡ record row.old { phase = phases.Launched; pid = pid } }
 {
-    if row.number == number {
-        row.phase = Phase::Launched;
-        row.pid = pid;
-    }
+    row.phase = Phase::Launched;
+    row.pid = pid;
 }
 
-/// A process is launched.
-pub fn launch_in(rows: &mut Vec<ProcessRow>, number: u64, pid: u32)
+/// A process is launched. Gives what all owe then, who owed so much before.
+pub fn launch_in(rows: &mut Vec<ProcessRow>, number: u64, pid: u32, owed: u128) -> u128
+    requires rising { AllPairs (λ a b. a.number < b.number) rows.old.items }
+    requires owed { owed ≡ owed_in rows.old.items }
     ensures rows { rows.new.items ≡ map (listed_as (launched_if number pid)) rows.old.items }
     ensures capacity { vec_capacity rows.new ≡ vec_capacity rows.old }
+    ensures owed { result ≡ owed_in rows.new.items }
 {
-    for row in rows.iter_mut() {
-        launch_row(row, number, pid);
+    match place_of(rows.as_slice(), number) {
+        Some(place) => {
+            let before = owed_in_phase(rows[place].phase);
+            launch_row(&mut rows[place], pid);
+            owed - before + owed_in_phase(Phase::Launched)
+        }
+        None => owed,
     }
 }
 
-/// Keeps the other processes.
-pub fn drop_process(rows: &mut Vec<ProcessRow>, number: u64)
+/// Keeps the other processes. Gives what they owe, where all owed so much before.
+pub fn drop_process(rows: &mut Vec<ProcessRow>, number: u64, owed: u128) -> u128
+    requires rising { AllPairs (λ a b. a.number < b.number) rows.old.items }
+    requires owed { owed ≡ owed_in rows.old.items }
     ensures rows { rows.new.items ≡ filter (λ row. not (row.number == number)) rows.old.items }
     ensures capacity { vec_capacity rows.new ≡ vec_capacity rows.old }
+    ensures owed { result ≡ owed_in rows.new.items }
 {
-    rows.retain(|row| !(row.number == number));
-}
-
-/// The service that a process is of, which is 0 for a command.
-pub fn service_of(rows: &[ProcessRow], number: u64) -> Option<u64>
-    ensures { result ≡ option_map (λ row. row.service) (find (λ row. row.number == number) (processes_in rows.now)) }
-{
-    for row in rows {
-        if row.number == number {
-            return Some(row.service);
+    match place_of(rows.as_slice(), number) {
+        Some(place) => {
+            let gone = rows.remove(place);
+            owed - owed_in_phase(gone.phase)
         }
+        None => owed,
     }
-    None
-}
-
-/// The system's number of a process, or 0 where it isn't listed.
-pub fn pid_of_row(rows: &[ProcessRow], number: u64) -> u32
-    ensures { result ≡ pid_in (find (λ row. row.number == number) (processes_in rows.now)) }
-{
-    for row in rows {
-        if row.number == number {
-            return row.pid;
-        }
-    }
-    0
-}
-
-/// Whether a process is listed and its launch is taken in hand.
-pub fn is_taken_in(rows: &[ProcessRow], number: u64) -> bool
-    ensures { result ≡ is_taken (find (λ row. row.number == number) (processes_in rows.now)) }
-{
-    for row in rows {
-        if row.number == number {
-            return matches!(row.phase, Phase::Taken);
-        }
-    }
-    false
-}
-
-/// Whether a process is listed and was launched.
-pub fn is_running_in(rows: &[ProcessRow], number: u64) -> bool
-    ensures { result ≡ is_launched (find (λ row. row.number == number) (processes_in rows.now)) }
-{
-    for row in rows {
-        if row.number == number {
-            return matches!(row.phase, Phase::Launched);
-        }
-    }
-    false
-}
-
-/// How many controls wait for a process; none where it isn't listed.
-pub fn waiting_in(rows: &[ProcessRow], number: u64) -> Option<u32>
-    ensures { result ≡ option_map (λ row. length row.controls) (find (λ row. row.number == number) (processes_in rows.now)) }
-{
-    for row in rows {
-        if row.number == number {
-            return Some(row.controls.len());
-        }
-    }
-    None
-}
-
-/// The control that waits first for a process.
-pub fn first_control_in(rows: &[ProcessRow], number: u64) -> Option<u32>
-    ensures { result ≡ first_control (controls_in (find (λ row. row.number == number) (processes_in rows.now))) }
-{
-    for row in rows {
-        if row.number == number {
-            return row.controls.first();
-        }
-    }
-    None
 }
 
 /// A control more waits for a process, as long as fewer do than may.
-fn control_row(row: &mut ProcessRow, limit: u32, number: u64, code: u32)
+fn control_row(row: &mut ProcessRow, limit: u32, code: u32)
     requires { limit ≤ 16 }
-    ensures { row.new ≡ listed_as (controlled_if limit number code) row.old }
+    ensures { row.new ≡ (if nat_lt (length row.old.controls) limit then record row.old { controls = row.old.controls ++ code ∷ [] } else row.old) }
 {
-    if row.number == number && row.controls.len() < limit {
+    if row.controls.len() < limit {
         row.controls.enqueue(code);
     }
 }
 
 /// A control more waits for a process, as long as fewer do than may.
 pub fn control_in(rows: &mut Vec<ProcessRow>, limit: u32, number: u64, code: u32)
-    requires { limit ≤ 16 }
+    requires limit { limit ≤ 16 }
+    requires rising { AllPairs (λ a b. a.number < b.number) rows.old.items }
     ensures rows { rows.new.items ≡ map (listed_as (controlled_if limit number code)) rows.old.items }
     ensures capacity { vec_capacity rows.new ≡ vec_capacity rows.old }
 {
-    for row in rows.iter_mut() {
-        control_row(row, limit, number, code);
+    if let Some(place) = place_of(rows.as_slice(), number) {
+        control_row(&mut rows[place], limit, code);
     }
 }
 
 /// The control that waits first for a process waits no longer.
-fn relieve_row(row: &mut ProcessRow, number: u64)
-    ensures { row.new ≡ listed_as (relieved_if number) row.old }
+fn relieve_row(row: &mut ProcessRow)
+    ensures { row.new ≡ record row.old { controls = drop 1 row.old.controls } }
 {
-    if row.number == number {
-        let _code = row.controls.take_next();
-    }
+    let _code = row.controls.take_next();
 }
 
 /// The control that waits first for a process waits no longer.
 pub fn relieve_in(rows: &mut Vec<ProcessRow>, number: u64)
+    requires { AllPairs (λ a b. a.number < b.number) rows.old.items }
     ensures rows { rows.new.items ≡ map (listed_as (relieved_if number)) rows.old.items }
     ensures capacity { vec_capacity rows.new ≡ vec_capacity rows.old }
 {
-    for row in rows.iter_mut() {
-        relieve_row(row, number);
+    if let Some(place) = place_of(rows.as_slice(), number) {
+        relieve_row(&mut rows[place]);
     }
 }
 
@@ -237,33 +216,4 @@ pub fn take_words(rows: &mut Vec<ProcessRow>, alloc: Global) -> Items<WText>
         Some(place) => rows[place].line.take_words(alloc),
         None => Items::new(alloc),
     }
-}
-
-/// Whether no more processes may be listed.
-pub fn is_full(rows: &[ProcessRow], limit: u32) -> bool
-    ensures { result ≡ nat_le limit (length (processes_in rows.now)) }
-{
-    limit as usize <= rows.len()
-}
-
-/// How many steps a process in a phase still owes.
-fn owed_in_phase(phase: Phase) -> u64
-    ensures { result ≡ owed_in_phase phase }
-{
-    match phase {
-        Phase::Wanted => 3,
-        Phase::Taken => 2,
-        Phase::Launched => 1,
-    }
-}
-
-/// How many steps the processes owe, up to 2^64 - 1.
-pub fn owed_in(rows: &[ProcessRow]) -> u64
-    ensures { result ≡ min (total owed_by_process (processes_in rows.now)) (2 ^ 64 - 1) }
-{
-    let mut owed = 0u64;
-    for row in rows {
-        owed = owed.saturating_add(owed_in_phase(row.phase));
-    }
-    owed
 }

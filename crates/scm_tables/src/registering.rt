@@ -16,7 +16,7 @@ impl Tables {
     pub fn pid_of(&self, row: &Service) -> u32
         ensures { result ≡ pid_of self.now.flat.processes row.now }
     {
-        pid_with(self.processes.as_slice(), row.process)
+        pid_with(&self.processes, row.process)
     }
 
     /// Makes room for one registration more.
@@ -44,7 +44,7 @@ impl Tables {
         register_in(
             &mut self.registrations,
             row_in(self.services.as_slice(), opened),
-            self.processes.as_slice(),
+            &self.processes,
             number,
             caller,
             service,

@@ -3,7 +3,6 @@ ghost use Rattle.scm_rules.specs.Controls.{active_among, controls_of, first_cont
 ghost use Rattle.scm_rules.specs.Query.{status_in};
 ghost use Rattle.scm_rules.specs.Launches.{current_of, is_launched, process_of};
 
-use super::process_rows::{control_in, first_control_in, is_running_in, relieve_in, waiting_in};
 use super::service_rows::{active_in, current_in};
 use super::tables::Tables;
 use scm_model::{Service, Status, zero_status};
@@ -23,14 +22,18 @@ impl Tables {
     pub fn is_running(&self, process: u64) -> bool
         ensures { result ≡ is_launched (process_of self.now.flat process) }
     {
-        is_running_in(self.processes.as_slice(), process)
+        self.processes.is_launched(process)
     }
 
     /// The service whose current process this is.
     pub fn current(&self, process: u64) -> Option<&Service>
         ensures { option_copied result ≡ current_of self.now.flat process }
     {
-        current_in(self.services.as_slice(), process)
+        current_in(
+            self.services.as_slice(),
+            self.service_of_process(process),
+            process,
+        )
     }
 
     /// How many services name a service as a need and aren't STOPPED, in 32 bits.
@@ -47,14 +50,14 @@ impl Tables {
     pub fn waiting(&self, process: u64) -> Option<u32>
         ensures { result ≡ waiting self.now.flat process }
     {
-        waiting_in(self.processes.as_slice(), process)
+        self.processes.waiting(process)
     }
 
     /// The control that waits first for a process.
     pub fn first_control(&self, process: u64) -> Option<u32>
         ensures { result ≡ first_control (controls_of self.now.flat process) }
     {
-        first_control_in(self.processes.as_slice(), process)
+        self.processes.first_control(process)
     }
 
     /// A control more waits for a process, as long as fewer do than may. It takes no memory.
@@ -64,7 +67,7 @@ impl Tables {
         ensures limits { self.new.limits ≡ self.old.limits }
         ensures spare { self.new.spare ≡ self.old.spare }
     {
-        control_in(&mut self.processes, self.limits.controls, process, code);
+        self.processes.control(self.limits.controls, process, code);
     }
 
     /// The control that waits first for a process waits no longer.
@@ -72,6 +75,6 @@ impl Tables {
         ensures flat { self.new.flat ≡ with_control_taken self.old.flat process }
         ensures limits { self.new.limits ≡ self.old.limits }
     {
-        relieve_in(&mut self.processes, process);
+        self.processes.relieve(process);
     }
 }

@@ -2,6 +2,8 @@ ghost use Rattle.std.specs.Prelude.{◌≡◌, ◌≢◌, ◌<◌, ◌+◌, ◌-
 ghost use Rattle.std.specs.List.{list_any};
 ghost use Rattle.dependency_index.specs.Naming.{is_named};
 ghost use Rattle.scm_text.specs.Fold.{same_text};
+ghost use Rattle.failure_actions.specs.Failing.{on_failure};
+ghost use Rattle.scm_model.specs.declared.codes.TheConstants.{SERVICE_STOPPED};
 ghost use Rattle.scm_model.specs.Changes.{configured_if, marked_if};
 ghost use Rattle.scm_model.specs.Purge.{leaves};
 ghost use Rattle.scm_rules.specs.Controls.{is_active_by};
@@ -9,28 +11,39 @@ ghost use Rattle.scm_rules.specs.Create.{greatest_tag};
 ghost use Rattle.scm_rules.specs.Failures.{counted_if};
 ghost use Rattle.scm_rules.specs.Launches.{fallen_if};
 ghost use Rattle.scm_rules.specs.Reports.{reported_if};
-ghost use Rattle.start_plan.specs.Entered.{started_if};
+ghost use Rattle.start_plan.specs.Entered.{started_if, starting_in};
 ghost use Rattle.scm_model.specs.Ready.{is_running};
+ghost use Rattle.scm_model.specs.declared.flat.Service.{Service};
+ghost use Rattle.scm_tables.specs.Marked.{number_leaves, without};
+ghost use Rattle.scm_tables.specs.Tabled.{IsOnly};
 ghost use Rattle.scm_tables.specs.Tags.{tag_in};
 
 use dependency_index::is_named;
 use failure_actions::on_failure;
 use handle_table::HandleTable;
+use marked_delete::Free;
 use scm_model::codes::{SERVICE_RUNNING, SERVICE_START_PENDING, SERVICE_STOPPED};
 use scm_model::{Config, Need, Opened, Service, Status};
 use scm_text::{WText, same};
 use status_machine::{take_end, take_report};
 
+/// Where the service with a number stands.
+fn place_of(rows: &[Service], number: u64) -> Option<usize>
+    requires { AllPairs (λ a b. a.number < b.number) rows.now }
+    ensures found { IfSome result (λ place. IfSome (slice_get rows.now place) (λ row. row.number ≡ number)) }
+    ensures within { IfSome result (λ place. place < length rows.now) }
+    ensures none { IfNone result (All (λ row. row.number ≢ number) rows.now) }
+{
+    rows.binary_search_by_key(&number, |row| row.number).ok()
+}
+
 /// The service with a number.
 pub fn row_with(rows: &[Service], number: u64) -> Option<&Service>
+    requires { AllPairs (λ a b. a.number < b.number) rows.now }
     ensures { option_copied result ≡ find (λ row. row.number == number) rows.now }
 {
-    for row in rows {
-        if row.number == number {
-            return Some(row);
-        }
-    }
-    None
+    let place = place_of(rows, number)?;
+    Some(&rows[place])
 }
 
 /// The service at a place.
@@ -42,6 +55,7 @@ pub fn row_at(rows: &[Service], place: usize) -> Option<&Service>
 
 /// The service that a handle is of.
 pub fn row_in(rows: &[Service], opened: Option<Opened>) -> Option<&Service>
+    requires { AllPairs (λ a b. a.number < b.number) rows.now }
     ensures { option_copied result ≡ option_and_then (λ of. find (λ row. row.number == of.service) rows.now) opened }
 {
     match opened {
@@ -131,23 +145,15 @@ pub fn running_in(rows: &[Service]) -> usize
         .count()
 }
 
-/// Marks the services with a number.
+/// Marks the service with a number.
 pub fn mark_in(rows: &mut Vec<Service>, number: u64)
+    requires { AllPairs (λ a b. a.number < b.number) rows.old.items }
     ensures rows { rows.new.items ≡ map (marked_if number) rows.old.items }
     ensures capacity { vec_capacity rows.new ≡ vec_capacity rows.old }
 {
-    for row in rows.iter_mut() {
-        row.marked |= row.number == number;
+    if let Some(place) = place_of(rows.as_slice(), number) {
+        rows[place].marked = true;
     }
-}
-
-/// Where the service with a number stands.
-fn place_of(rows: &[Service], number: u64) -> Option<usize>
-    ensures found { IfSome result (λ place. IfSome (slice_get rows.now place) (λ row. row.number ≡ number)) }
-    ensures within { IfSome result (λ place. place < length rows.now) }
-    ensures none { IfNone result (All (λ row. row.number ≢ number) rows.now) }
-{
-    rows.iter().position(|row| row.number == number)
 }
 
 /// Gives a service another configuration, and its status the type.
@@ -169,26 +175,42 @@ pub fn configure_in(rows: &mut Vec<Service>, number: u64, config: Config)
     }
 }
 
-/// Whether a service is marked.
-pub fn is_any_marked(rows: &[Service]) -> bool
-    ensures { result ≡ list_any (λ row. row.marked) rows.now }
-{
-    rows.iter().any(|row| row.marked)
-}
-
 /// Whether a service is marked, stopped and named by no handle.
-pub fn leaves(handles: &HandleTable, row: &Service) -> bool
+fn leaves(handles: &HandleTable, row: &Service) -> bool
     ensures { result ≡ leaves handles.now.rows row.now }
 {
     row.marked && row.status.state == SERVICE_STOPPED && !handles.is_open(row.number)
 }
 
-/// Keeps the services that stay.
-pub fn purge_in(rows: &mut Vec<Service>, handles: &HandleTable)
-    ensures rows { rows.new.items ≡ filter (λ row. not (leaves handles.now.rows row)) rows.old.items }
+/// The services in order of number, of which those that are marked may leave.
+#[derive(Clone, Copy)]
+pub struct Marked<'a> {
+    pub services: &'a [Service],
+    pub handles: &'a HandleTable,
+}
+
+impl<'a> Free for Marked<'a> {
+    ghost ready = { λ marked. AllPairs (λ (a b : Service). a.number < b.number) marked.services.now };
+
+    ghost free = { λ marked. number_leaves marked.handles.now.rows marked.services.now };
+
+    fn is_free(&self, service: u64) -> bool {
+        match row_with(self.services, service) {
+            Some(row) => leaves(self.handles, row),
+            None => false,
+        }
+    }
+}
+
+/// Takes the service with a number out.
+pub fn drop_service(rows: &mut Vec<Service>, number: u64)
+    requires { AllPairs (λ a b. a.number < b.number) rows.old.items }
+    ensures rows { rows.new.items ≡ without number rows.old.items }
     ensures capacity { vec_capacity rows.new ≡ vec_capacity rows.old }
 {
-    rows.retain(|row| !leaves(handles, row));
+    if let Some(place) = place_of(rows.as_slice(), number) {
+        let _gone = rows.remove(place);
+    }
 }
 
 /// Whether a group has a RUNNING member.
@@ -215,11 +237,11 @@ pub fn bare_status(kind: u32, state: u32, win32: u32) -> Status
     }
 }
 
-/// The service with this number is started where it is STOPPED, by this process.
-fn start_row(row: &mut Service, number: u64, process: u64)
-    ensures { row.new ≡ started_if number process row.old }
+/// A service is START_PENDING where it was STOPPED, by this process.
+fn start_row(row: &mut Service, process: u64)
+    ensures { row.new ≡ (if row.old.status.state == SERVICE_STOPPED then starting_in process row.old else row.old) }
 {
-    if row.number == number && row.status.state == SERVICE_STOPPED {
+    if row.status.state == SERVICE_STOPPED {
         row.status = bare_status(row.status.kind, SERVICE_START_PENDING, 0);
         row.process = process;
     }
@@ -227,10 +249,11 @@ fn start_row(row: &mut Service, number: u64, process: u64)
 
 /// The service with this number is START_PENDING where it was STOPPED, by this process.
 pub fn start_in(rows: &mut Vec<Service>, number: u64, process: u64)
+    requires { AllPairs (λ a b. a.number < b.number) rows.old.items }
     ensures { rows.new.items ≡ map (started_if number process) rows.old.items }
 {
-    for row in rows.iter_mut() {
-        start_row(row, number, process);
+    if let Some(place) = place_of(rows.as_slice(), number) {
+        start_row(&mut rows[place], process);
     }
 }
 
@@ -250,7 +273,7 @@ fn is_among(needs: &[Need], name: &WText) -> bool
 fn is_active_by(row: &Service, name: &WText) -> bool
     ensures { result ≡ is_active_by name.now row.now }
 {
-    is_among(row.config.needs.as_slice(), name) && row.status.state != SERVICE_STOPPED
+    row.status.state != SERVICE_STOPPED && is_among(row.config.needs.as_slice(), name)
 }
 
 /// A count with one more or not, in 32 bits.
@@ -285,8 +308,8 @@ fn report_row(row: &mut Service, process: u64, report: &Status)
     }
 }
 
-/// The service takes a report whose current process this is.
-pub fn report_in(rows: &mut Vec<Service>, process: u64, report: &Status)
+/// The services take a report whose current process this is.
+fn report_each(rows: &mut Vec<Service>, process: u64, report: &Status)
     ensures { rows.new.items ≡ map (reported_if process report.now) rows.old.items }
 {
     for row in rows.iter_mut() {
@@ -294,11 +317,49 @@ pub fn report_in(rows: &mut Vec<Service>, process: u64, report: &Status)
     }
 }
 
-/// The service whose current process this is.
-pub fn current_in(rows: &[Service], process: u64) -> Option<&Service>
+/// Where the service stands that a process is said to be of, if that alone has the process.
+fn place_with(rows: &[Service], of: Option<u64>, process: u64) -> Option<usize>
+    requires ordered { AllPairs (λ a b. a.number < b.number) rows.now }
+    requires apart { AllPairs (λ a b. a.process ≡ b.process → a.process ≡ 0) rows.now }
+    ensures { IfSome result (IsOnly process rows.now) }
+{
+    let place = place_of(rows, of?)?;
+    if process != 0 && rows[place].process == process {
+        Some(place)
+    } else {
+        None
+    }
+}
+
+/// The service takes a report whose current process this is. It is found at once where the process is said to be of it.
+pub fn report_in(rows: &mut Vec<Service>, of: Option<u64>, process: u64, report: &Status)
+    requires ordered { AllPairs (λ a b. a.number < b.number) rows.old.items }
+    requires apart { AllPairs (λ a b. a.process ≡ b.process → a.process ≡ 0) rows.old.items }
+    ensures { rows.new.items ≡ map (reported_if process report.now) rows.old.items }
+{
+    match place_with(rows.as_slice(), of, process) {
+        Some(place) => report_row(&mut rows[place], process, report),
+        None => report_each(rows, process, report),
+    }
+}
+
+/// The first service whose current process this is.
+fn first_with(rows: &[Service], process: u64) -> Option<&Service>
     ensures { option_copied result ≡ find (λ row. row.process == process) rows.now }
 {
     rows.iter().find(|row| row.process == process)
+}
+
+/// The service whose current process this is. It is found at once where the process is said to be of it.
+pub fn current_in(rows: &[Service], of: Option<u64>, process: u64) -> Option<&Service>
+    requires ordered { AllPairs (λ a b. a.number < b.number) rows.now }
+    requires apart { AllPairs (λ a b. a.process ≡ b.process → a.process ≡ 0) rows.now }
+    ensures { option_copied result ≡ find (λ row. row.process == process) rows.now }
+{
+    match place_with(rows, of, process) {
+        Some(place) => Some(&rows[place]),
+        None => first_with(rows, process),
+    }
 }
 
 /// A service whose current process this is falls.
@@ -311,8 +372,8 @@ fn fall_row(row: &mut Service, process: u64, code: u32)
     }
 }
 
-/// The service falls whose current process this is.
-pub fn fall_in(rows: &mut Vec<Service>, process: u64, code: u32)
+/// The services fall whose current process this is.
+fn fall_each(rows: &mut Vec<Service>, process: u64, code: u32)
     ensures { rows.new.items ≡ map (fallen_if process code) rows.old.items }
 {
     for row in rows.iter_mut() {
@@ -320,21 +381,32 @@ pub fn fall_in(rows: &mut Vec<Service>, process: u64, code: u32)
     }
 }
 
-/// A failure at a moment is counted with a service.
-fn count_row(row: &mut Service, number: u64, moment: u64)
-    ensures { row.new ≡ counted_if number moment row.old }
+/// The service falls whose current process this is. It is found at once where the process is said to be of it.
+pub fn fall_in(rows: &mut Vec<Service>, of: Option<u64>, process: u64, code: u32)
+    requires ordered { AllPairs (λ a b. a.number < b.number) rows.old.items }
+    requires apart { AllPairs (λ a b. a.process ≡ b.process → a.process ≡ 0) rows.old.items }
+    ensures { rows.new.items ≡ map (fallen_if process code) rows.old.items }
 {
-    if row.number == number {
-        row.failures = on_failure(&row.config, row.failures, row.last_failure, moment).failures;
-        row.last_failure = moment;
+    match place_with(rows.as_slice(), of, process) {
+        Some(place) => fall_row(&mut rows[place], process, code),
+        None => fall_each(rows, process, code),
     }
+}
+
+/// A failure at a moment is counted with a service.
+fn count_row(row: &mut Service, moment: u64)
+    ensures { row.new ≡ record row.old { failures = (on_failure row.old.config row.old.failures row.old.last_failure moment).failures; last_failure = moment } }
+{
+    row.failures = on_failure(&row.config, row.failures, row.last_failure, moment).failures;
+    row.last_failure = moment;
 }
 
 /// A failure at a moment is counted with the service with a number.
 pub fn count_in(rows: &mut Vec<Service>, number: u64, moment: u64)
+    requires { AllPairs (λ a b. a.number < b.number) rows.old.items }
     ensures { rows.new.items ≡ map (counted_if number moment) rows.old.items }
 {
-    for row in rows.iter_mut() {
-        count_row(row, number, moment);
+    if let Some(place) = place_of(rows.as_slice(), number) {
+        count_row(&mut rows[place], moment);
     }
 }

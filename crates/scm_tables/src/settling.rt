@@ -9,16 +9,14 @@ ghost use Rattle.start_plan.specs.Settle.{settled};
 use super::due_rows::keep_due;
 use super::lines::Line;
 use super::noticing::note_start;
-use super::process_rows::{ProcessRow, is_full};
 use super::service_rows::{has_running, row_with, start_in};
 use super::tables::Tables;
-use control_dispatch::Controls;
 use dependency_index::StateOf;
 use scm_model::codes::{
     ERROR_SERVICE_DEPENDENCY_FAIL, ERROR_SERVICE_DISABLED, ERROR_SERVICE_MARKED_FOR_DELETE,
     ERROR_SERVICE_NO_THREAD, SERVICE_DISABLED, SERVICE_RUNNING, SERVICE_STOPPED,
 };
-use scm_model::{Need, Phase, Service};
+use scm_model::{Need, Service};
 use scm_text::{Items, WText};
 use start_plan::{Entering, Field, Plans};
 use std::mem::replace;
@@ -68,7 +66,7 @@ impl Tables {
         if !self.is_ready(row) || row.status.state != SERVICE_STOPPED {
             return Entering::No(ERROR_SERVICE_DEPENDENCY_FAIL);
         }
-        if is_full(self.processes.as_slice(), self.limits.processes) {
+        if self.processes.is_full(self.limits.processes) {
             return Entering::No(ERROR_SERVICE_NO_THREAD);
         }
         match self.lock() {
@@ -131,21 +129,12 @@ impl Field for Tables {
     }
 
     fn enter(&mut self, service: u64, words: Items<WText>) {
-        let number = self.next.process;
         note_start(
             &mut self.registrations,
             row_with(self.services.as_slice(), service),
             service,
         );
-        start_in(&mut self.services, service, number);
-        self.processes.push_reserved(ProcessRow {
-            number,
-            service,
-            phase: Phase::Wanted,
-            pid: 0,
-            controls: Controls::new(),
-            line: Line::of_service(words),
-        });
-        self.next.process += 1;
+        start_in(&mut self.services, service, self.processes.next());
+        self.processes.list(service, Line::of_service(words));
     }
 }

@@ -1,4 +1,4 @@
-ghost use Rattle.std.specs.Prelude.{◌≡◌, ◌+◌, ◌^◌, ◌<◌, ◌≤◌, ◌==◌, filter, IfOk, OnOk, length, option_copied, slice_get, All, []};
+ghost use Rattle.std.specs.Prelude.{◌≡◌, ◌+◌, ◌^◌, ◌<◌, ◌≤◌, ◌==◌, filter, IfOk, OnOk, length, option_copied, slice_get, All, IsFalse, IsTrue, []};
 ghost use Rattle.scm_model.specs.Changes.{with_handle, without_handle, without_handles_of, with_caller, without_caller, with_config, with_moment, without_lock_of};
 ghost use Rattle.scm_model.specs.Purge.{purged};
 ghost use Rattle.scm_model.specs.Rows.{caller_of, displayed, handle_of, held_by, held_service, holds_lock, is_caller, is_shown, is_shown_by_another, manager_mask, named, opened, owner_at, principal_of, service_of};
@@ -7,22 +7,24 @@ ghost use Rattle.scm_model.specs.Changes.{with_service};
 ghost use Rattle.scm_rules.specs.Locks.{with_lock, without_lock};
 ghost use Rattle.scm_rules.specs.Opening.{empty_at, opening};
 ghost use Rattle.scm_model.specs.declared.codes.TheConstants.{SERVICE_RUNNING};
-ghost use Rattle.scm_tables.specs.Inside.{with_handles};
+ghost use Rattle.scm_tables.specs.Inside.{all_numbers};
 ghost use Rattle.scm_tables.specs.Noticed.{with_marked};
-ghost use Rattle.scm_tables.specs.Tabled.{HasShortTexts};
+ghost use Rattle.scm_tables.specs.Tabled.{HasNeedRoom, HasShortTexts};
 
 use super::caller_rows::{caller_in, drop_caller_row};
-use super::needing::{is_acyclic, reserve_search, stays_acyclic};
-use super::noticing::{note_all_leaving, note_mark, with_pid};
+use super::needing::{change_needs, index_of, is_acyclic, reserve_search, stays_acyclic};
+use super::noticing::{note_leaving, note_mark, with_pid};
 use super::opening::{automatic_starts, services_of};
-use super::process_rows::ProcessRow;
+use super::processes::Processes;
 use super::rooms::{CommandRoom, StartRoom};
 use super::service_rows::{
-    configure_in, displayed_in, greatest_tag_in, is_any_marked, is_shown_by_another_in,
-    is_shown_in, mark_in, named_in, purge_in, row_at, row_with, running_in,
+    Marked, configure_in, displayed_in, drop_service, greatest_tag_in, is_shown_by_another_in,
+    is_shown_in, mark_in, named_in, row_at, row_with, running_in,
 };
 use database_lock::DatabaseLock;
+use dependency_index::DependencyIndex;
 use handle_table::HandleTable;
+use marked_delete::Leaving;
 use notify_queue::NotifyQueue;
 use scm_model::codes::SERVICE_NOTIFY_CREATED;
 use scm_model::{
@@ -33,11 +35,10 @@ use start_plan::Plans;
 use std::alloc::Global;
 use std::marker::Model;
 
-/// The numbers that are given next. Those of handles their table keeps.
+/// The numbers that are given next. Those of handles and of processes their tables keep.
 #[derive(Clone, Copy)]
 pub struct Numbers {
     pub service: u64,
-    pub process: u64,
     pub plan: u64,
     pub registration: u64,
     pub due: u64,
@@ -48,14 +49,16 @@ pub struct Numbers {
 #[derive(Drop)]
 pub struct Tables {
     pub(crate) services: Vec<Service>,
+    /// Which service needs which.
+    pub(crate) index: DependencyIndex,
     /// Whether the services' needs are known to have no cycle.
     pub(crate) acyclic: bool,
-    /// Whether a service may be marked.
-    has_marked: bool,
+    /// The services that are marked, with room for each.
+    leaving: Leaving,
     /// For the services that a search through the needs comes by.
     searched: Buffer<u64>,
     handles: HandleTable,
-    pub(crate) processes: Vec<ProcessRow>,
+    pub(crate) processes: Processes,
     pub(crate) plans: Plans,
     /// For what the next plan will have tried.
     pub(crate) tried: Vec<u64>,
@@ -89,11 +92,10 @@ impl Model for Tables {
 fn first_numbers(services: u64, dues: u64) -> Numbers
     requires services { services < 2 ^ 63 }
     requires dues { dues < 2 ^ 63 }
-    ensures { with_handles result 1 ≡ record (empty_at 0).next { service = services + 1; due = dues + 1 } }
+    ensures { all_numbers result 1 1 ≡ record (empty_at 0).next { service = services + 1; due = dues + 1 } }
 {
     Numbers {
         service: services + 1,
-        process: 1,
         plan: 1,
         registration: 1,
         due: dues + 1,
@@ -125,18 +127,20 @@ impl Tables {
         ensures flat { IfOk result (λ tables. tables.flat ≡ opening limits groups.now configs moment) }
         ensures limits { IfOk result (λ tables. tables.limits ≡ limits) }
     {
-        let Ok(processes) = Vec::with_capacity(alloc, limits.processes as usize) else {
-            return Err(OutOfMemory);
-        };
+        let processes = Processes::with_room(alloc, limits.processes)?;
         let services = services_of(alloc, configs)?;
+        let mut leaving = Leaving::new(alloc);
+        leaving.reserve(services.len())?;
         let dues = automatic_starts(alloc, services.as_slice(), groups, moment)?;
         let mut searched = Buffer::with_room(alloc, services.len() + 1)?;
-        let acyclic = is_acyclic(services.as_slice(), &mut searched);
+        let index = index_of(alloc, services.as_slice())?;
+        let acyclic = is_acyclic(&index, &mut searched);
         let next = first_numbers(services.len() as u64, dues.len() as u64);
         Ok(Tables {
             services,
+            index,
             acyclic,
-            has_marked: false,
+            leaving,
             searched,
             handles: HandleTable::new(alloc),
             processes,
@@ -221,7 +225,7 @@ impl Tables {
     pub fn reserve_handle(&mut self) -> Result<(), OutOfMemory>
         ensures flat { self.new.flat ≡ self.old.flat }
         ensures room { OnOk result (1 ≤ self.new.spare.handles) }
-        ensures others { self.new.spare.services ≡ self.old.spare.services }
+        ensures others { (self.new.spare.services ≡ self.old.spare.services) × (self.new.spare.needs ≡ self.old.spare.needs) }
         ensures limits { self.new.limits ≡ self.old.limits }
     {
         self.handles.reserve()
@@ -468,7 +472,21 @@ impl Tables {
         if self.services.reserve(1).is_err() {
             return Err(OutOfMemory);
         }
+        self.leaving.reserve(self.services.len() + 1)?;
         reserve_search(&mut self.searched, self.services.len())
+    }
+
+    /// Makes room for the texts and the needs of a service that gets this configuration, and lets
+    /// go what was made for another.
+    pub fn reserve_needs(&mut self, config: &Config) -> Result<(), OutOfMemory>
+        ensures flat { self.new.flat ≡ self.old.flat }
+        ensures room { OnOk result (HasNeedRoom self.new.spare config.now) }
+        ensures others { (self.new.spare.services ≡ self.old.spare.services) × (self.new.spare.handles ≡ self.old.spare.handles) }
+        ensures limits { self.new.limits ≡ self.old.limits }
+    {
+        self.index.forget_spare();
+        self.index
+            .reserve(self.alloc, &config.name, &config.group, &config.needs)
     }
 
     /// Adds a service, and answers its number; the manager's registrations are told. It takes no memory.
@@ -476,6 +494,7 @@ impl Tables {
         requires room { 1 ≤ self.old.spare.services }
         requires next { self.old.flat.next.service < 2 ^ 63 }
         requires texts { HasShortTexts config }
+        requires needs { HasNeedRoom self.old.spare config }
         ensures number { result ≡ self.old.flat.next.service }
         ensures flat { self.new.flat ≡ with_creation self.old.flat config status }
         ensures others { self.new.spare.handles ≡ self.old.spare.handles }
@@ -490,6 +509,7 @@ impl Tables {
         requires room { 1 ≤ self.old.spare.services }
         requires next { self.old.flat.next.service < 2 ^ 63 }
         requires texts { HasShortTexts config }
+        requires needs { HasNeedRoom self.old.spare config }
         ensures number { result ≡ self.old.flat.next.service }
         ensures flat { self.new.flat ≡ with_service self.old.flat config status }
         ensures others { self.new.spare.handles ≡ self.old.spare.handles }
@@ -497,12 +517,14 @@ impl Tables {
     {
         let number = self.next.service;
         self.acyclic = stays_acyclic(
-            self.services.as_slice(),
+            &self.index,
             self.acyclic,
             number,
             &config,
             &mut self.searched,
         );
+        self.index
+            .set_needs(number, &config.name, &config.group, &config.needs);
         self.services.push_reserved(Service {
             number,
             config,
@@ -518,17 +540,19 @@ impl Tables {
 
     /// Gives a service another configuration. It takes no memory.
     pub fn configure(&mut self, number: u64, config: Config)
-        requires { HasShortTexts config }
+        requires texts { HasShortTexts config }
+        requires needs { HasNeedRoom self.old.spare config }
         ensures flat { self.new.flat ≡ with_config self.old.flat number config }
         ensures limits { self.new.limits ≡ self.old.limits }
     {
         self.acyclic = stays_acyclic(
-            self.services.as_slice(),
+            &self.index,
             self.acyclic,
             number,
             &config,
             &mut self.searched,
         );
+        change_needs(&mut self.index, number, &config);
         configure_in(&mut self.services, number, config);
     }
 
@@ -541,30 +565,39 @@ impl Tables {
             return;
         };
         let number = row.number;
-        note_mark(
-            &mut self.registrations,
-            Some(row),
-            self.processes.as_slice(),
-        );
-        self.has_marked = true;
+        note_mark(&mut self.registrations, Some(row), &self.processes);
+        let _told = self.leaving.mark(number);
         mark_in(&mut self.services, number);
     }
 
-    /// Lets each service go that is marked, STOPPED and named by no handle; the manager's registrations are told. Where none is marked
-    /// it looks at no service.
+    /// Lets the first service go that is marked, STOPPED and named by no handle; the manager's
+    /// registrations are told. False where there is none.
+    fn let_one_go(&mut self) -> bool
+        ensures rest { purged self.new.flat ≡ purged self.old.flat }
+        ensures none { IsFalse result → self.new.flat ≡ purged self.old.flat }
+        ensures fewer { IsTrue result → length self.new.flat.services < length self.old.flat.services }
+        ensures limits { self.new.limits ≡ self.old.limits }
+    {
+        let services = self.services.as_slice();
+        let marked = Marked {
+            services,
+            handles: &self.handles,
+        };
+        let Some(number) = self.leaving.purge(&marked) else {
+            return false;
+        };
+        note_leaving(&mut self.registrations, row_with(services, number));
+        drop_service(&mut self.services, number);
+        self.index.drop_service(number);
+        true
+    }
+
+    /// Lets each service go that is marked, STOPPED and named by no handle; the manager's
+    /// registrations are told. It looks at marked services alone.
     pub fn purge(&mut self)
         ensures flat { self.new.flat ≡ purged self.old.flat }
         ensures limits { self.new.limits ≡ self.old.limits }
     {
-        if !self.has_marked {
-            return;
-        }
-        note_all_leaving(
-            &mut self.registrations,
-            self.services.as_slice(),
-            &self.handles,
-        );
-        purge_in(&mut self.services, &self.handles);
-        self.has_marked = is_any_marked(self.services.as_slice());
+        while self.let_one_go() {}
     }
 }

@@ -1,6 +1,5 @@
-use Rattle.scm_rules.specs.Needs.{need_rows}
 use Rattle.scm_tables.proofs.NeedRows.{found_free}
 use Rattle.scm_tables.proofs.depending.has_no_cycle.Goals as goal
 
 pub returns-clause-free : goal.returns-clause-free
-returns-clause-free c = found_free c.is_cyclic.result (need_rows c.args.services.now) c.is_cyclic.ensures
+returns-clause-free c = found_free c.is_cyclic.result c.args.index.now.rows c.is_cyclic.ensures

@@ -7,7 +7,6 @@ use Rattle.scm_model.specs.declared.flat.Status.{Status}
 use Rattle.scm_model.specs.Notices.{noted, pid_in, pid_of, state_mask, told_of_move, with_pid}
 use Rattle.scm_rules.specs.Reports.{moved_by, process_in_state, reported_if, told_of_report}
 use Rattle.status_machine.specs.Moves.{take_report, takes}
-use Rattle.scm_tables.specs.Listed.{processes_in}
 use Rattle.scm_tables.proofs.noticing.note_report.Goals as goal
 
 abbrev judged : Bool → Status → Result Status ℕ
@@ -29,7 +28,7 @@ pub returns-then-is_ok-clause-rows : goal.returns-then-is_ok-clause-rows
 returns-then-is_ok-clause-rows c =
     let row = c.in-Some.row.now in
     let report = c.args.report.now in
-    let processes = processes_in c.args.processes.now in
+    let processes = c.args.processes.now.processes in
     let rows = c.args.queue.now.rows in
     let ok : is_ok (take_report row.status report) ≡ true = ap is_ok (sym c.take_report.ensures) ∙ sym c.is_ok.ensures.value ∙ c.if-is_ok.true in
     let pid = c.pid_with.ensures ∙ ap (λ (n : ℕ). cond (n == 0) 0 (pid_in (find (λ (process : Process). process.number == n) processes))) c.process_in_state-process.ensures in

@@ -1,11 +1,39 @@
-use Rattle.std.proofs.Common.{arith}
-use Rattle.std.proofs.lemmas.List.Edits.{map_over_more}
+use Rattle.std.proofs.Common.{◌<◌, ◌∙◌, ◌^◌, List, ap, arith, length, subst, sym}
 use Rattle.scm_rules.specs.Launches.{taken_if}
+use Rattle.scm_rules.specs.Owed.{owed_in_phase}
 use Rattle.scm_tables.specs.Listed.{listed_as}
+use Rattle.scm_tables.specs.declared.process_rows.ProcessRow.{ProcessRow}
+use Rattle.scm_tables.proofs.Bisecting.{changed_at, unchanged}
+use Rattle.scm_tables.proofs.Changing.{number_of, taken, taken_elsewhere, taken_here}
+use Rattle.scm_tables.proofs.Counting.{owed_after, owed_enough, owed_fits}
 use Rattle.scm_tables.proofs.process_rows.take_in.Goals as goal
 
-pub loop-row-preserved : goal.loop-row-preserved
-loop-row-preserved c =
-    rw (c.take_row.ensures, ← c.row-item.is)
-    (map_over_more (listed_as (taken_if c.args.number)) c.deref_mut-row-items.result.now c.loop-row.row-items c.loop-row.row-index c.row-item.result
-    (omega arith) c.loop-row.invariant c.row-item.is)
+pub place_of-requires : goal.place_of-requires
+place_of-requires c = rw c.as_slice.ensures.value c.requires.rising
+
+pub overflow_sub-result : goal.overflow_sub-result
+overflow_sub-result c =
+    let rows = c.args.rows.now.items in
+    let within = subst (λ (rs : List ProcessRow). c.in-Some.place < length rs) c.as_slice.ensures.value c.in-Some.ensures.within in
+    owed_enough rows c.in-Some.place c.index.result.now within c.requires.owed (c.owed_in_phase-before.ensures ∙ ap (λ (row : ProcessRow). owed_in_phase row.phase) c.index.ensures)
+
+pub overflow_add-result : goal.overflow_add-result
+overflow_add-result c =
+    let short = subst (λ (rs : List ProcessRow). length rs < 2 ^ 64) c.as_slice.ensures.value c.in-Some.ensures.few in
+    omega (arith, owed_fits c.args.rows.now.items c.args.owed c.owed_in_phase-before.result c.owed_in_phase.result short c.requires.owed (omega (arith, c.owed_in_phase.ensures)))
+
+pub returns-in-Some-clause-owed : goal.returns-in-Some-clause-owed
+returns-in-Some-clause-owed c =
+    let rows = c.args.rows.now.items in
+    let within = subst (λ (rs : List ProcessRow). c.in-Some.place < length rs) c.as_slice.ensures.value c.in-Some.ensures.within in
+    owed_after rows c.in-Some.place c.index.result.now within c.requires.owed (c.owed_in_phase-before.ensures ∙ ap (λ (row : ProcessRow). owed_in_phase row.phase) c.index.ensures)
+    c.take_row.new.row (c.owed_in_phase.ensures ∙ sym (ap (λ (row : ProcessRow). owed_in_phase row.phase) c.take_row.ensures))
+
+pub returns-in-None-clause-rows : goal.returns-in-None-clause-rows
+returns-in-None-clause-rows c =
+    unchanged number_of c.args.number (listed_as (taken_if c.args.number)) (taken_elsewhere c.args.number) c.as_slice.ensures.value c.in-None.ensures.none
+
+pub returns-in-Some-clause-rows : goal.returns-in-Some-clause-rows
+returns-in-Some-clause-rows c =
+    rw (c.take_row.ensures, c.index_mut.ensures.value)
+    (changed_at number_of c.args.number (listed_as (taken_if c.args.number)) (taken_elsewhere c.args.number) taken (taken_here c.args.number) c.as_slice.ensures.value c.in-Some.ensures.within c.in-Some.ensures.found c.requires.rising c.index_mut.result.now)

@@ -1,10 +1,17 @@
-use Rattle.std.proofs.Common.{arith}
-use Rattle.std.proofs.lemmas.List.Edits.{map_over_more}
+use Rattle.std.proofs.Common.{List, subst}
+use Rattle.scm_model.specs.declared.flat.Service.{Service}
 use Rattle.scm_rules.specs.Launches.{fallen_if}
+use Rattle.scm_tables.specs.Tabled.{IsOnly}
+use Rattle.scm_tables.proofs.Owning.{only_changed, fallen_elsewhere}
 use Rattle.scm_tables.proofs.service_rows.fall_in.Goals as goal
 
-pub loop-row-preserved : goal.loop-row-preserved
-loop-row-preserved c =
-    rw (c.fall_row.ensures, ← c.row-item.is)
-    (map_over_more (fallen_if c.args.process c.args.code) c.deref_mut-row-items.result.now c.loop-row.row-items c.loop-row.row-index c.row-item.result
-    (omega arith) c.loop-row.invariant c.row-item.is)
+pub place_with-requires-clause-ordered : goal.place_with-requires-clause-ordered
+place_with-requires-clause-ordered c = rw c.as_slice.ensures.value c.requires.ordered
+
+pub place_with-requires-clause-apart : goal.place_with-requires-clause-apart
+place_with-requires-clause-apart c = rw c.as_slice.ensures.value c.requires.apart
+
+pub returns-in-Some : goal.returns-in-Some
+returns-in-Some c =
+    let only = subst (λ (rows : List Service). IsOnly c.args.process rows c.in-Some.place) c.as_slice.ensures.value c.in-Some.ensures in
+    rw (c.fall_row.ensures, c.index_mut.ensures.value) (only_changed c.args.process (fallen_if c.args.process c.args.code) (fallen_elsewhere c.args.process c.args.code) c.args.rows.now.items c.in-Some.place c.index_mut.result.now only)

@@ -1,10 +1,17 @@
-use Rattle.std.proofs.Common.{arith}
-use Rattle.std.proofs.lemmas.List.Edits.{map_over_more}
+use Rattle.scm_model.specs.declared.flat.Service.{Service}
 use Rattle.start_plan.specs.Entered.{started_if}
+use Rattle.scm_tables.proofs.Bisecting.{changed_at, unchanged}
+use Rattle.scm_tables.proofs.Rising.{started, started_elsewhere, started_here}
 use Rattle.scm_tables.proofs.service_rows.start_in.Goals as goal
 
-pub loop-row-preserved : goal.loop-row-preserved
-loop-row-preserved c =
-    rw (c.start_row.ensures, ← c.row-item.is)
-    (map_over_more (started_if c.args.number c.args.process) c.deref_mut-row-items.result.now c.loop-row.row-items c.loop-row.row-index c.row-item.result
-    (omega arith) c.loop-row.invariant c.row-item.is)
+pub place_of-requires : goal.place_of-requires
+place_of-requires c = rw c.as_slice.ensures.value c.requires
+
+pub returns-in_default : goal.returns-in_default
+returns-in_default c =
+    unchanged (λ (row : Service). row.number) c.args.number (started_if c.args.number c.args.process) (started_elsewhere c.args.number c.args.process) c.as_slice.ensures.value c.in_default.ensures.none
+
+pub returns-in-Some : goal.returns-in-Some
+returns-in-Some c =
+    rw (c.start_row.ensures, c.index_mut.ensures.value)
+    (changed_at (λ (row : Service). row.number) c.args.number (started_if c.args.number c.args.process) (started_elsewhere c.args.number c.args.process) (started c.args.process) (started_here c.args.number c.args.process) c.as_slice.ensures.value c.in-Some.ensures.within c.in-Some.ensures.found c.requires c.index_mut.result.now)

@@ -9,4 +9,7 @@ register_in-requires-clause-short c =
 
 pub returns-clause-flat : goal.returns-clause-flat
 returns-clause-flat c =
-    rw (c.register_in.ensures, c.row_in.ensures, c.as_slice.ensures.value, c.as_slice-2.ensures.value, c.opened-opened.ensures, ← c.self.view_is) refl
+    rw (c.register_in.ensures, c.row_in.ensures, c.as_slice.ensures.value, c.opened-opened.ensures, ← c.self.view_is) refl
+
+pub row_in-requires : goal.row_in-requires
+row_in-requires c = rw c.as_slice.ensures.value c.self.invariant.rising.rising

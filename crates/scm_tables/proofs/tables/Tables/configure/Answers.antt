@@ -1,9 +1,12 @@
-use Rattle.scm_tables.proofs.Unmarked.{configured_mark, unmarked_map}
+use Rattle.std.proofs.Common.{◌∙◌, sym, inl}
+use Rattle.scm_tables.proofs.NeedRows.{rows_changed}
+use Rattle.scm_tables.proofs.Marks.{configured_mark, marks_map, room_map}
 use Rattle.scm_model.specs.Changes.{configured_if}
 use Rattle.scm_rules.proofs.Needed.{still_free}
 use Rattle.scm_tables.proofs.Keeping.{texts_configured}
 use Rattle.scm_tables.proofs.Placed.{map_keeps}
 use Rattle.scm_tables.proofs.Rising.{rising_map, configured_number}
+use Rattle.scm_tables.proofs.Owning.{configured_process, own_map}
 use Rattle.scm_tables.proofs.tables.Tables.configure.Goals as goal
 
 pub invariant_of-self : goal.invariant_of-self
@@ -12,12 +15,18 @@ invariant_of-self c =
     record {
       rising = rw c.configure_in.ensures.rows
           (rising_map _ (configured_if c.args.number c.args.config) (configured_number c.args.number c.args.config) _ kept.rising);
-      texts = rw c.configure_in.ensures.rows (texts_configured c.args.number c.args.config _ c.requires kept.texts);
-      needs = λ t. rw c.configure_in.ensures.rows (still_free c.args.number c.args.config _ (kept.needs (c.stays_acyclic-self-inside.ensures.before t)) (rw c.as_slice.ensures.value at (c.stays_acyclic-self-inside.ensures.after t)));
-      unmarked = λ no. rw c.configure_in.ensures.rows (unmarked_map (configured_if c.args.number c.args.config) (configured_mark c.args.number c.args.config) _ (kept.unmarked no));
+      owns = rw c.configure_in.ensures.rows (own_map _ (configured_if c.args.number c.args.config) (λ row. inl (configured_process c.args.number c.args.config row)) _ kept.owns);
+      texts = rw c.configure_in.ensures.rows (texts_configured c.args.number c.args.config _ c.requires.texts kept.texts);
+      index = rw (c.change_needs.ensures, c.configure_in.ensures.rows, kept.index) (rows_changed c.args.number c.args.config _);
+      needs = λ t. rw c.configure_in.ensures.rows (still_free c.args.number c.args.config _ (kept.needs (c.stays_acyclic-self-inside.ensures.before t)) (rw kept.index at (c.stays_acyclic-self-inside.ensures.after t)));
+      marked = rw c.configure_in.ensures.rows (kept.marked ∙ sym (marks_map (configured_if c.args.number c.args.config) (configured_number c.args.number c.args.config) (configured_mark c.args.number c.args.config) _));
+      marks = rw c.configure_in.ensures.rows (room_map (configured_if c.args.number c.args.config) _ _ kept.marks);
       room = kept.room;
       plans = kept.plans;
       untried = kept.untried;
       dues = rw c.configure_in.ensures.rows (map_keeps (configured_if c.args.number c.args.config) (configured_number c.args.number c.args.config) kept.dues);
       rooms = kept.rooms;
     }
+
+pub stays_acyclic-self-inside-requires : goal.stays_acyclic-self-inside-requires
+stays_acyclic-self-inside-requires c = rw c.self.invariant.index c.self.invariant.needs

@@ -1,10 +1,13 @@
+use Rattle.std.proofs.Common.{◌∙◌, sym, inl}
 use Rattle.scm_rules.specs.Failures.{counted_if}
 use Rattle.scm_rules.proofs.Needed.{same_graph}
+use Rattle.scm_tables.proofs.NeedRows.{same_rows}
 use Rattle.scm_tables.proofs.Failures.{counted_config, counted_mark, counted_needs, counted_number}
 use Rattle.scm_tables.proofs.Keeping.{texts_map}
 use Rattle.scm_tables.proofs.Placed.{map_keeps}
 use Rattle.scm_tables.proofs.Rising.{rising_map}
-use Rattle.scm_tables.proofs.Unmarked.{unmarked_map}
+use Rattle.scm_tables.proofs.Marks.{marks_map, room_map}
+use Rattle.scm_tables.proofs.Owning.{counted_process, own_map}
 use Rattle.scm_tables.proofs.tables.Tables.count_failure.Goals as goal
 
 pub invariant_of-self : goal.invariant_of-self
@@ -14,12 +17,18 @@ invariant_of-self c =
     let moment = c.self.inside.moment in
     record {
       rising = rw c.count_in.ensures (rising_map _ (counted_if number moment) (counted_number number moment) _ kept.rising);
+      owns = rw c.count_in.ensures (own_map _ (counted_if number moment) (λ row. inl (counted_process number moment row)) _ kept.owns);
       texts = rw c.count_in.ensures (texts_map (counted_if number moment) (counted_config number moment) _ kept.texts);
+      index = rw c.count_in.ensures (kept.index ∙ same_rows (counted_if number moment) (counted_needs number moment) _);
       needs = λ t. rw c.count_in.ensures (same_graph (counted_if number moment) (counted_needs number moment) _ (kept.needs t));
-      unmarked = λ no. rw c.count_in.ensures (unmarked_map (counted_if number moment) (counted_mark number moment) _ (kept.unmarked no));
+      marked = rw c.count_in.ensures (kept.marked ∙ sym (marks_map (counted_if number moment) (counted_number number moment) (counted_mark number moment) _));
+      marks = rw c.count_in.ensures (room_map (counted_if number moment) _ _ kept.marks);
       room = kept.room;
       plans = kept.plans;
       untried = kept.untried;
       dues = rw c.count_in.ensures (map_keeps (counted_if number moment) (counted_number number moment) kept.dues);
       rooms = kept.rooms;
     }
+
+pub count_in-requires : goal.count_in-requires
+count_in-requires c = c.self.invariant.rising.rising

@@ -7,7 +7,7 @@ use Rattle.scm_tables.proofs.tables.Tables.drop_due.Goals as goal
 pub invariant_of-self : goal.invariant_of-self
 invariant_of-self c =
     let kept = c.self.invariant in
-    other_plans kept refl refl refl refl refl refl refl refl refl refl kept.plans (rw (c.drop_due.ensures.rows, c.drop_due.ensures.capacity) (filter_keeps (λ (due : Due). not (due.number == c.args.number)) kept.dues))
+    other_plans kept refl refl refl refl refl refl refl refl refl refl refl refl kept.plans (rw (c.drop_due.ensures.rows, c.drop_due.ensures.capacity) (filter_keeps (λ (due : Due). not (due.number == c.args.number)) kept.dues))
 
 pub returns-clause-dues : goal.returns-clause-dues
 returns-clause-dues c =

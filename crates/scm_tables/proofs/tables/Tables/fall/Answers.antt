@@ -1,5 +1,6 @@
-use Rattle.scm_tables.proofs.Unmarked.{fallen_mark, unmarked_map}
-use Rattle.std.proofs.Common.{◌==◌}
+use Rattle.scm_tables.proofs.NeedRows.{same_rows}
+use Rattle.scm_tables.proofs.Marks.{fallen_mark, marks_map, room_map}
+use Rattle.std.proofs.Common.{◌==◌, ◌∙◌, sym}
 use Rattle.scm_model.specs.declared.flat.Service.{Service}
 use Rattle.scm_rules.specs.Launches.{fallen_if}
 use Rattle.scm_rules.proofs.Needed.{same_graph}
@@ -8,6 +9,7 @@ use Rattle.scm_tables.proofs.Keeping.{fallen_number, fallen_needs, fallen_config
 use Rattle.scm_tables.proofs.Placed.{map_keeps}
 use Rattle.scm_tables.proofs.Rising.{rising_map}
 use Rattle.scm_tables.proofs.Wording.{found_has}
+use Rattle.scm_tables.proofs.Owning.{fallen_process, own_map}
 use Rattle.scm_tables.proofs.tables.Tables.fall.Goals as goal
 
 pub note_fall-requires : goal.note_fall-requires
@@ -19,12 +21,27 @@ invariant_of-self c =
     let kept = c.self.invariant in
     record {
       rising = rw c.fall_in.ensures (rising_map _ (fallen_if c.args.process c.args.code) (fallen_number c.args.process c.args.code) _ kept.rising);
+      owns = rw c.fall_in.ensures (own_map _ (fallen_if c.args.process c.args.code) (fallen_process c.args.process c.args.code) _ kept.owns);
       texts = rw c.fall_in.ensures (texts_map (fallen_if c.args.process c.args.code) (fallen_config c.args.process c.args.code) _ kept.texts);
+      index = rw c.fall_in.ensures (kept.index ∙ same_rows (fallen_if c.args.process c.args.code) (fallen_needs c.args.process c.args.code) _);
       needs = λ t. rw c.fall_in.ensures (same_graph (fallen_if c.args.process c.args.code) (fallen_needs c.args.process c.args.code) _ (kept.needs t));
-      unmarked = λ no. rw c.fall_in.ensures (unmarked_map (fallen_if c.args.process c.args.code) (fallen_mark c.args.process c.args.code) _ (kept.unmarked no));
+      marked = rw c.fall_in.ensures (kept.marked ∙ sym (marks_map (fallen_if c.args.process c.args.code) (fallen_number c.args.process c.args.code) (fallen_mark c.args.process c.args.code) _));
+      marks = rw c.fall_in.ensures (room_map (fallen_if c.args.process c.args.code) _ _ kept.marks);
       room = kept.room;
       plans = kept.plans;
       untried = kept.untried;
       dues = rw c.fall_in.ensures (map_keeps (fallen_if c.args.process c.args.code) (fallen_number c.args.process c.args.code) kept.dues);
       rooms = kept.rooms;
     }
+
+pub current_in-requires-clause-ordered : goal.current_in-requires-clause-ordered
+current_in-requires-clause-ordered c = rw c.as_slice.ensures.value c.self.invariant.rising.rising
+
+pub current_in-requires-clause-apart : goal.current_in-requires-clause-apart
+current_in-requires-clause-apart c = rw c.as_slice.ensures.value c.self.invariant.owns.apart
+
+pub fall_in-requires-clause-ordered : goal.fall_in-requires-clause-ordered
+fall_in-requires-clause-ordered c = c.self.invariant.rising.rising
+
+pub fall_in-requires-clause-apart : goal.fall_in-requires-clause-apart
+fall_in-requires-clause-apart c = c.self.invariant.owns.apart

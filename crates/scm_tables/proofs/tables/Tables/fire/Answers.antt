@@ -9,7 +9,7 @@ use Rattle.scm_tables.proofs.tables.Tables.fire.Goals as goal
 pub invariant_of-self : goal.invariant_of-self
 invariant_of-self c =
     let kept = c.self.invariant in
-    other_plans kept refl refl refl refl refl refl refl refl refl refl (rw c.expire.ensures.plans (below_decided _ (is_numbered c.in-Deadline.plan) 1053 _ kept.plans)) kept.dues
+    other_plans kept refl refl refl refl refl refl refl refl refl refl refl refl (rw c.expire.ensures.plans (below_decided _ (is_numbered c.in-Deadline.plan) 1053 _ kept.plans)) kept.dues
 
 pub returns-in-Start-clause-left : goal.returns-in-Start-clause-left
 returns-in-Start-clause-left c =

@@ -18,5 +18,5 @@ pub invariant_of-self : goal.invariant_of-self
 invariant_of-self c =
     let kept = c.self.invariant in
     let there = subst (λ (t : Tabled). list_any (λ (row : Service). is_due_of row.number c.args.kind) t.flat.services ≡ true) (sym c.self.view_is) c.requires.service in
-    other_plans kept refl refl refl refl refl refl refl refl refl refl kept.plans
+    other_plans kept refl refl refl refl refl refl refl refl refl refl refl refl kept.plans
     (rw (c.push_reserved.ensures.items, c.push_reserved.ensures.capacity, c.keep_beside.ensures.rows, c.keep_beside.ensures.capacity) (kind_keeps c.args.kind _ _ there kept.dues))

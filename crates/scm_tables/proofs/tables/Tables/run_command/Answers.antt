@@ -1,14 +1,13 @@
-use Rattle.std.proofs.Common.{◌≡◌, ◌∙◌, ◌==◌, ap, find, refl, subst, sym, Option, Some}
+use Rattle.std.proofs.Common.{◌≡◌, ◌∙◌, ◌==◌, ap, find, subst, sym, Option, Some}
 use Rattle.std.specs.Prelude.{IfSome}
 use Rattle.scm_model.specs.declared.flat.Service.{Service}
 use Rattle.scm_model.specs.Rows.{service_of}
 use Rattle.scm_rules.specs.Ticks.{with_wanted_command}
 use Rattle.scm_tables.specs.Firing.{runs}
-use Rattle.scm_tables.specs.Inside.{tabled}
 use Rattle.scm_tables.specs.Tabled.{HasShort, Tabled}
 use Rattle.scm_tables.proofs.Fired.{runs_one}
-use Rattle.scm_tables.proofs.Listing.{command_listed}
 use Rattle.scm_tables.proofs.Wording.{found_has}
+use Rattle.scm_tables.proofs.Owning.{own_more}
 use Rattle.scm_tables.proofs.tables.Tables.run_command.Goals as goal
 
 pub of_command-line-requires-clause-command : goal.of_command-line-requires-clause-command
@@ -24,7 +23,26 @@ returns-clause-flat c =
     let found = c.in-Some.ensures ∙ ap (find (λ (r : Service). r.number == c.args.service)) c.as_slice.ensures.value in
     let is = subst (λ (t : Tabled). service_of t.flat c.args.service ≡ Some row) c.self.view_is (sym found) in
     let can = sym (c.can_run.ensures ∙ ap (runs before.limits before.flat) c.service.ensures) ∙ c.if-not-can_run.false in
-    command_listed (tabled c.self.inside).flat c.self.inside.processes.items c.push_reserved.new.self.items row.config.command c.new.result c.of_command-line.result refl refl c.new.ensures c.of_command-line.ensures
-    c.push_reserved.ensures.items
-    ∙ ap (λ (t : Tabled). with_wanted_command row.config.command t.flat) c.self.view_is
-    ∙ runs_one before.limits before.flat (service_of before.flat c.args.service) row is can
+    let runs = ap (λ (t : Tabled). with_wanted_command row.config.command t.flat) c.self.view_is ∙ runs_one before.limits before.flat (service_of before.flat c.args.service) row is can in
+    rw (c.list.ensures, c.of_command-line.ensures) runs
+
+pub row_with-requires : goal.row_with-requires
+row_with-requires c = rw c.as_slice.ensures.value c.self.invariant.rising.rising
+
+pub invariant_of-self : goal.invariant_of-self
+invariant_of-self c =
+    let kept = c.self.invariant in
+    record {
+      rising = kept.rising;
+      owns = rw c.list.ensures (own_more _ _ kept.owns);
+      texts = kept.texts;
+      index = kept.index;
+      needs = kept.needs;
+      marked = kept.marked;
+      marks = kept.marks;
+      room = rw c.list.ensures kept.room;
+      plans = kept.plans;
+      untried = kept.untried;
+      dues = kept.dues;
+      rooms = record { starts_fit = kept.rooms.starts_fit; commands_fit = c.take_command_room.ensures.rooms };
+    }

@@ -31,5 +31,5 @@ invariant_of-self-2 c =
     let was = ap (λ (p : Planned). p.plans) c.replace-plans.ensures.value in
     let next = ap (λ (t : Tabled). t.flat.next.plan) c.self-2.view_is ∙ ap (λ (g : Flat). g.next.plan) c.settle.ensures.flat ∙ next_settled l f c.replace-plans.result.plans in
     let below = below_settled l f c.self.inside.next.plan c.replace-plans.result.plans (subst (λ (ps : List Plan). AllByRecursion (IsBelow c.self.inside.next.plan) ps) (sym was) c.self.invariant.plans) in
-    other_plans kept refl refl refl refl refl refl refl refl refl refl (subst (λ n. AllByRecursion (IsBelow n) c.settle.new.self.plans) (sym next) (subst (λ (ps : List Plan). AllByRecursion (IsBelow c.self.inside.next.plan) ps) (sym c.settle.ensures.plans) below))
+    other_plans kept refl refl refl refl refl refl refl refl refl refl refl refl (subst (λ n. AllByRecursion (IsBelow n) c.settle.new.self.plans) (sym next) (subst (λ (ps : List Plan). AllByRecursion (IsBelow c.self.inside.next.plan) ps) (sym c.settle.ensures.plans) below))
     (rw (c.keep_due.ensures.rows, c.keep_due.ensures.capacity) (filter_keeps _ kept.dues))

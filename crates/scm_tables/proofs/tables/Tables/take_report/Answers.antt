@@ -1,5 +1,6 @@
-use Rattle.scm_tables.proofs.Unmarked.{reported_mark, unmarked_map}
-use Rattle.std.proofs.Common.{◌==◌, refl}
+use Rattle.scm_tables.proofs.NeedRows.{same_rows}
+use Rattle.scm_tables.proofs.Marks.{reported_mark, marks_map, room_map}
+use Rattle.std.proofs.Common.{◌==◌, ◌∙◌, refl, sym}
 use Rattle.scm_model.specs.declared.flat.Service.{Service}
 use Rattle.scm_rules.specs.Reports.{reported_if}
 use Rattle.scm_rules.proofs.Needed.{same_graph}
@@ -8,6 +9,7 @@ use Rattle.scm_tables.proofs.Keeping.{reported_config, reported_needs, reported_
 use Rattle.scm_tables.proofs.Placed.{map_keeps}
 use Rattle.scm_tables.proofs.Rising.{rising_map}
 use Rattle.scm_tables.proofs.Wording.{found_has}
+use Rattle.scm_tables.proofs.Owning.{own_map, reported_process}
 use Rattle.scm_tables.proofs.tables.Tables.take_report.Goals as goal
 
 pub note_report-requires : goal.note_report-requires
@@ -19,9 +21,12 @@ invariant_of-self c =
     let kept = c.self.invariant in
     record {
       rising = rw c.report_in.ensures (rising_map _ (reported_if c.args.process c.args.report.now) (reported_number c.args.process c.args.report.now) _ kept.rising);
+      owns = rw c.report_in.ensures (own_map _ (reported_if c.args.process c.args.report.now) (reported_process c.args.process c.args.report.now) _ kept.owns);
       texts = rw c.report_in.ensures (texts_map (reported_if c.args.process c.args.report.now) (reported_config c.args.process c.args.report.now) _ kept.texts);
+      index = rw c.report_in.ensures (kept.index ∙ same_rows (reported_if c.args.process c.args.report.now) (reported_needs c.args.process c.args.report.now) _);
       needs = λ t. rw c.report_in.ensures (same_graph (reported_if c.args.process c.args.report.now) (reported_needs c.args.process c.args.report.now) _ (kept.needs t));
-      unmarked = λ no. rw c.report_in.ensures (unmarked_map (reported_if c.args.process c.args.report.now) (reported_mark c.args.process c.args.report.now) _ (kept.unmarked no));
+      marked = rw c.report_in.ensures (kept.marked ∙ sym (marks_map (reported_if c.args.process c.args.report.now) (reported_number c.args.process c.args.report.now) (reported_mark c.args.process c.args.report.now) _));
+      marks = rw c.report_in.ensures (room_map (reported_if c.args.process c.args.report.now) _ _ kept.marks);
       room = kept.room;
       plans = kept.plans;
       untried = kept.untried;
@@ -31,4 +36,16 @@ invariant_of-self c =
 
 pub returns-clause-flat : goal.returns-clause-flat
 returns-clause-flat c =
-    rw (← c.self.view_is, c.report_in.ensures, c.note_report.ensures.rows, c.current_in.ensures, c.as_slice.ensures.value, c.as_slice-2.ensures.value) refl
+    rw (← c.self.view_is, c.report_in.ensures, c.note_report.ensures.rows, c.current_in.ensures, c.as_slice.ensures.value) refl
+
+pub current_in-requires-clause-ordered : goal.current_in-requires-clause-ordered
+current_in-requires-clause-ordered c = rw c.as_slice.ensures.value c.self.invariant.rising.rising
+
+pub current_in-requires-clause-apart : goal.current_in-requires-clause-apart
+current_in-requires-clause-apart c = rw c.as_slice.ensures.value c.self.invariant.owns.apart
+
+pub report_in-requires-clause-ordered : goal.report_in-requires-clause-ordered
+report_in-requires-clause-ordered c = c.self.invariant.rising.rising
+
+pub report_in-requires-clause-apart : goal.report_in-requires-clause-apart
+report_in-requires-clause-apart c = c.self.invariant.owns.apart

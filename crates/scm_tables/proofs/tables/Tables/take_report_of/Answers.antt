@@ -1,4 +1,5 @@
-use Rattle.scm_tables.proofs.Unmarked.{reported_mark, unmarked_map}
+use Rattle.scm_tables.proofs.NeedRows.{same_rows}
+use Rattle.scm_tables.proofs.Marks.{reported_mark, marks_map, room_map}
 use Rattle.std.proofs.Common.{◌==◌, ◌∙◌, ap, find, refl, subst, sym}
 use Rattle.std.specs.Prelude.{Option, IfSome}
 use Rattle.scm_model.specs.declared.flat.Service.{Service}
@@ -9,6 +10,7 @@ use Rattle.scm_tables.proofs.Keeping.{reported_config, reported_needs, reported_
 use Rattle.scm_tables.proofs.Placed.{map_keeps}
 use Rattle.scm_tables.proofs.Rising.{rising_map}
 use Rattle.scm_tables.proofs.Wording.{found_has}
+use Rattle.scm_tables.proofs.Owning.{own_map, reported_process}
 use Rattle.scm_tables.proofs.tables.Tables.take_report_of.Goals as goal
 
 pub note_report-requires : goal.note_report-requires
@@ -22,9 +24,12 @@ invariant_of-self c =
     let process = c.in-Some.row.now.process in
     record {
       rising = rw c.report_in.ensures (rising_map _ (reported_if process c.args.report.now) (reported_number process c.args.report.now) _ kept.rising);
+      owns = rw c.report_in.ensures (own_map _ (reported_if process c.args.report.now) (reported_process process c.args.report.now) _ kept.owns);
       texts = rw c.report_in.ensures (texts_map (reported_if process c.args.report.now) (reported_config process c.args.report.now) _ kept.texts);
+      index = rw c.report_in.ensures (kept.index ∙ same_rows (reported_if process c.args.report.now) (reported_needs process c.args.report.now) _);
       needs = λ t. rw c.report_in.ensures (same_graph (reported_if process c.args.report.now) (reported_needs process c.args.report.now) _ (kept.needs t));
-      unmarked = λ no. rw c.report_in.ensures (unmarked_map (reported_if process c.args.report.now) (reported_mark process c.args.report.now) _ (kept.unmarked no));
+      marked = rw c.report_in.ensures (kept.marked ∙ sym (marks_map (reported_if process c.args.report.now) (reported_number process c.args.report.now) (reported_mark process c.args.report.now) _));
+      marks = rw c.report_in.ensures (room_map (reported_if process c.args.report.now) _ _ kept.marks);
       room = kept.room;
       plans = kept.plans;
       untried = kept.untried;
@@ -35,9 +40,18 @@ invariant_of-self c =
 pub returns-clause-flat : goal.returns-clause-flat
 returns-clause-flat c =
     let found = c.in-Some.ensures ∙ ap (find (λ (row : Service). row.number == c.args.service)) c.as_slice.ensures.value in
-    rw (← c.self.view_is, c.report_in.ensures, c.note_report.ensures.rows, c.as_slice-2.ensures.value, ← found) refl
+    rw (← c.self.view_is, c.report_in.ensures, c.note_report.ensures.rows, ← found) refl
 
 pub returns-in_default-clause-flat : goal.returns-in_default-clause-flat
 returns-in_default-clause-flat c =
     let found = c.in_default.ensures ∙ ap (find (λ (row : Service). row.number == c.args.service)) c.as_slice.ensures.value in
     rw (← c.self.view_is, ← found) refl
+
+pub row_with-requires : goal.row_with-requires
+row_with-requires c = rw c.as_slice.ensures.value c.self.invariant.rising.rising
+
+pub report_in-requires-clause-ordered : goal.report_in-requires-clause-ordered
+report_in-requires-clause-ordered c = c.self.invariant.rising.rising
+
+pub report_in-requires-clause-apart : goal.report_in-requires-clause-apart
+report_in-requires-clause-apart c = c.self.invariant.owns.apart

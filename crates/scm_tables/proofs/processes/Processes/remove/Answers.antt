@@ -1,0 +1,16 @@
+use Rattle.std.proofs.Common.{refl}
+use Rattle.scm_tables.proofs.Changing.{number_of}
+use Rattle.scm_tables.proofs.Listing.{processes_kept, wanted_kept}
+use Rattle.scm_tables.proofs.Rising.{ordered_filter}
+use Rattle.scm_tables.proofs.processes.Processes.remove.Goals as goal
+
+pub invariant_of-self : goal.invariant_of-self
+invariant_of-self c =
+    record {
+      rising = rw c.drop_process-self-inside.ensures.rows (ordered_filter number_of _ _ _ c.self.invariant.rising);
+      owed = c.drop_process-self-inside.ensures.owed;
+    }
+
+pub returns : goal.returns
+returns c =
+    rw (← c.self.view_is, c.drop_process-self-inside.ensures.rows, c.drop_process-self-inside.ensures.capacity, processes_kept c.args.number c.self.inside.rows.items, wanted_kept c.args.number c.self.inside.rows.items) refl
