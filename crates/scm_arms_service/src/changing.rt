@@ -1,10 +1,11 @@
-ghost use Rattle.std.specs.Prelude.{◌≡◌, IfOk, option_copied, false, Some, if◌then◌else◌};
+ghost use Rattle.std.specs.Prelude.{◌≡◌, IfOk, IfSome, option_copied, false, Some, if◌then◌else◌};
 ghost use Rattle.scm_model.specs.Refused.{first_refusal, outcome};
 ghost use Rattle.scm_model.specs.declared.calls.Request.TheVariants as request;
 ghost use Rattle.scm_model.specs.declared.steps.Kept.TheVariants as appended;
 ghost use Rattle.scm_rules.specs.Change.{asked_refusals, clash_refusals, row_refusals, asked_config, change_change, change_done, change_verdict, changed_from, changed_row, new_config, new_tag, tags_no_group, takes_name, change_outcome};
 ghost use Rattle.scm_rules.specs.Needs.{are_unreadable};
 ghost use Rattle.scm_rules.specs.Verdicts.{unless_refused};
+ghost use Rattle.scm_tables.specs.Tabled.{HasNeedRoom};
 
 use super::deleting::code_once_kept;
 use super::making::told_tag;
@@ -269,6 +270,7 @@ pub fn change(
 ) -> Reply
     requires verdict { code ≡ change_verdict tables.old.flat caller change.now appended.Kept }
     requires made { config ≡ asked_config tables.old.flat caller change.now }
+    requires needs { IfSome config (HasNeedRoom tables.old.spare) }
     ensures reply { result ≡ (change_outcome tables.old.flat caller change.now kept).reply }
     ensures flat { tables.new.flat ≡ (change_outcome tables.old.flat caller change.now kept).flat }
     ensures limits { tables.new.limits ≡ tables.old.limits }

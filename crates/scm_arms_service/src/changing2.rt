@@ -1,9 +1,10 @@
-ghost use Rattle.std.specs.Prelude.{◌≡◌, IfOk, None, Some};
+ghost use Rattle.std.specs.Prelude.{◌≡◌, IfOk, IfSome, None, Some};
 ghost use Rattle.std.specs.List.{list_any};
 ghost use Rattle.scm_model.specs.Refused.{first_refusal};
 ghost use Rattle.scm_model.specs.declared.steps.Kept.TheVariants as appended;
 ghost use Rattle.scm_rules.specs.Change2.{asked_level, asks_restart, change2_change, change2_outcome, change2_verdict, has_bad_trigger, is_bad_trigger, is_other, is_refused, is_restart, level_changed, level_config};
 ghost use Rattle.scm_rules.specs.Verdicts.{unless_refused};
+ghost use Rattle.scm_tables.specs.Tabled.{HasNeedRoom};
 ghost use Rattle.scm_arms_service.specs.Leveled.{level_refusals};
 
 use super::changing::changed_from;
@@ -227,6 +228,7 @@ pub fn change2(
 ) -> Reply
     requires verdict { code ≡ change2_verdict tables.old.flat caller handle info.now appended.Kept }
     requires made { config ≡ asked_level tables.old.flat caller handle info.now }
+    requires needs { IfSome config (HasNeedRoom tables.old.spare) }
     ensures reply { result ≡ (change2_outcome tables.old.flat caller handle info.now kept).reply }
     ensures flat { tables.new.flat ≡ (change2_outcome tables.old.flat caller handle info.now kept).flat }
     ensures limits { tables.new.limits ≡ tables.old.limits }

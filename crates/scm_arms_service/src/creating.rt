@@ -1,4 +1,4 @@
-ghost use Rattle.std.specs.Prelude.{◌≡◌, ◌<◌, ◌≤◌, ◌^◌, ◌||◌, Some, nat_le, length, IfOk, is_some};
+ghost use Rattle.std.specs.Prelude.{◌≡◌, ◌<◌, ◌≤◌, ◌^◌, ◌||◌, Some, nat_le, length, IfOk, IfSome, is_some};
 ghost use Rattle.scm_model.specs.Refused.{first_refusal, outcome};
 ghost use Rattle.scm_model.specs.Changes.{with_handle};
 ghost use Rattle.scm_model.specs.Rows.{held_by};
@@ -8,7 +8,7 @@ ghost use Rattle.scm_model.specs.declared.steps.Kept.TheVariants as appended;
 ghost use Rattle.scm_rules.specs.Create.{config_refusals, new_status, place_refusals, right_refusals, created_config, create_change, create_done, create_verdict, tags_nothing, create_outcome, with_creation};
 ghost use Rattle.scm_rules.specs.OpenService.{service_granted};
 ghost use Rattle.scm_rules.specs.Verdicts.{unless_refused};
-ghost use Rattle.scm_tables.specs.Tabled.{HasShortTexts};
+ghost use Rattle.scm_tables.specs.Tabled.{HasNeedRoom, HasShortTexts};
 
 use super::deleting::{code_once_kept, is_marked};
 use super::making::{config_of, told_tag};
@@ -162,6 +162,7 @@ pub fn created(
 fn add_opened(tables: &mut Tables, caller: u64, config: Config, kind: u32, rights: u32) -> u64
     requires texts { HasShortTexts config }
     requires services { 1 ≤ tables.old.spare.services }
+    requires needs { HasNeedRoom tables.old.spare config }
     requires handles { 1 ≤ tables.old.spare.handles }
     requires next_service { tables.old.flat.next.service < 2 ^ 63 }
     requires next_handle { tables.old.flat.next.handle < 2 ^ 63 }
@@ -178,6 +179,7 @@ fn create_done(tables: &mut Tables, caller: u64, new: &NewService, config: Confi
     requires made { config ≡ created_config tables.old.flat new.now }
     requires texts { HasShortTexts config }
     requires services { 1 ≤ tables.old.spare.services }
+    requires needs { HasNeedRoom tables.old.spare config }
     requires handles { 1 ≤ tables.old.spare.handles }
     requires next_service { tables.old.flat.next.service < 2 ^ 63 }
     requires next_handle { tables.old.flat.next.handle < 2 ^ 63 }
@@ -209,6 +211,7 @@ pub fn create(
     requires verdict { code ≡ create_verdict limits.now tables.old.flat caller new appended.Kept }
     requires made { config ≡ Some (created_config tables.old.flat new) }
     requires services { 1 ≤ tables.old.spare.services }
+    requires needs { IfSome config (HasNeedRoom tables.old.spare) }
     requires handles { 1 ≤ tables.old.spare.handles }
     requires next_service { tables.old.flat.next.service < 2 ^ 63 }
     requires next_handle { tables.old.flat.next.handle < 2 ^ 63 }

@@ -1,4 +1,7 @@
-use Rattle.std.proofs.Common.{ap, sym, ◌∙◌}
+use Rattle.std.proofs.Common.{ap, subst, sym, ◌∙◌}
+use Rattle.std.specs.Prelude.{IfSome, Option}
+use Rattle.scm_model.specs.declared.flat.Config.{Config}
+use Rattle.scm_tables.specs.Tabled.{HasNeedRoom}
 use Rattle.scm_model.specs.Outcomes.{Done}
 use Rattle.scm_arms_service.proofs.Leveling.{level_fits, level_refused}
 use Rattle.scm_arms_service.proofs.changing2.change2.Goals as goal
@@ -15,5 +18,8 @@ returns-then-code-ne0-clause-flat c =
 
 pub configure-requires : goal.configure-requires
 configure-requires c =
-    level_fits c.args.tables.now.flat c.args.caller c.args.handle c.args.info.now c.args.kept c.args.code c.code_once_kept-code.result c.in-Some-Some.config c.requires.verdict c.code_once_kept-code.ensures
-    c.if-code-ne0.false (sym c.requires.made ∙ c.in-Some-Some.is-1)
+    let config = c.in-Some-Some.config in
+    record {
+      texts = level_fits c.args.tables.now.flat c.args.caller c.args.handle c.args.info.now c.args.kept c.args.code c.code_once_kept-code.result config c.requires.verdict c.code_once_kept-code.ensures c.if-code-ne0.false (sym c.requires.made ∙ c.in-Some-Some.is-1);
+      needs = subst (λ (asked : Option Config). IfSome asked (HasNeedRoom c.args.tables.now.spare)) c.in-Some-Some.is-1 c.requires.needs;
+    }
