@@ -1,5 +1,5 @@
 -- The room that a step uses.
-use Rattle.std.specs.Prelude.{ℕ, ◌≡◌, ◌≤◌, ◌<◌, ◌+◌, ◌^◌, length, None, Some}
+use Rattle.std.specs.Prelude.{ℕ, ◌≡◌, ◌≤◌, ◌<◌, ◌+◌, ◌^◌, length, IfSome, None, Some}
 use Rattle.scm_model.specs.declared.flat.Flat.{Flat}
 use Rattle.scm_model.specs.declared.calls.Request.{Request}
 use Rattle.scm_model.specs.declared.calls.Request.TheVariants as request
@@ -21,13 +21,15 @@ use Rattle.scm_rules.specs.OtherName.{display_by_name, name_by_display, other_na
 use Rattle.scm_arms_start.specs.Entries.{start_entries}
 use Rattle.scm_arms_process.specs.Raised.{raise_starts}
 use Rattle.scm_tables.specs.Firing.{HasFires, HasPlanNumbers, HasStarts, starts_in}
-use Rattle.scm_tables.specs.Tabled.{Tabled}
+use Rattle.scm_tables.specs.Tabled.{HasNeedRoom, Tabled}
 use Rattle.scm_core.specs.declared.made.Made.{Made}
 
--- the rows that a call may add find room; a plan also has room for what it will have tried
+-- the rows that a call may add find room, and so do the texts and needs of a service that comes or changes; a plan also has room for what it will have tried
 abbrev pub HasRoomForCall : Tabled → ℕ → Request → Type 0
 HasRoomForCall t caller (request.Lock handle) = 1 ≤ t.spare.handles
-HasRoomForCall t caller (request.Create new) = (1 ≤ t.spare.handles) × (1 ≤ t.spare.services)
+HasRoomForCall t caller (request.Create new) = (1 ≤ t.spare.handles) × (1 ≤ t.spare.services) × HasNeedRoom t.spare (created_config t.flat new)
+HasRoomForCall t caller (request.Change change) = IfSome (asked_config t.flat caller change) (HasNeedRoom t.spare)
+HasRoomForCall t caller (request.Change2 handle asked) = IfSome (asked_level t.flat caller handle asked) (HasNeedRoom t.spare)
 HasRoomForCall t caller (request.OpenManager database access) = 1 ≤ t.spare.handles
 HasRoomForCall t caller (request.OpenService handle name access) = 1 ≤ t.spare.handles
 HasRoomForCall t caller (request.Start handle words) =

@@ -1,4 +1,4 @@
-ghost use Rattle.std.specs.Prelude.{◌≡◌, IfOk, Some};
+ghost use Rattle.std.specs.Prelude.{◌≡◌, IfOk, OnOk, Some};
 ghost use Rattle.scm_model.specs.declared.calls.Request.TheVariants as request;
 ghost use Rattle.scm_model.specs.declared.steps.Change.TheVariants.{Created};
 ghost use Rattle.scm_rules.specs.Verdicts.{unless_refused};
@@ -33,6 +33,7 @@ pub struct Made {
     pub reply: Option<Reply>,
 }
 
+#[inline(always)]
 pub fn nothing_made() -> Made
     ensures { result ≡ nothing_made }
 {
@@ -207,16 +208,53 @@ fn make_for_call(
     }
 }
 
-/// Makes what a step needs.
-pub fn make_for(tables: &Tables, step: &Step, alloc: Global) -> Result<Made, OutOfMemory>
-    ensures { IfOk result (λ made. IsMadeFor tables.now.limits tables.now.flat made step.now) }
+/// Keeps what was made for a step.
+#[inline(always)]
+fn keep(made: &mut Made, now: Made)
+    ensures { made.new ≡ now }
+{
+    *made = now;
+}
+
+/// Makes what a call needs, in place of what was made before.
+fn remake(
+    tables: &Tables,
+    caller: u64,
+    request: &Request,
+    alloc: Global,
+    made: &mut Made,
+) -> Result<(), OutOfMemory>
+    ensures { OnOk result (made.new ≡ made_for tables.now.limits tables.now.flat caller request.now) }
+{
+    match request {
+        Request::Close { .. }
+        | Request::Control { .. }
+        | Request::Lock { .. }
+        | Request::QueryStatus { .. }
+        | Request::SetStatus { .. }
+        | Request::Unlock { .. }
+        | Request::OpenManager { .. }
+        | Request::OpenService { .. } => keep(made, nothing_made()),
+        _ => keep(made, make_for_call(tables, caller, request, alloc)?),
+    }
+    Ok(())
+}
+
+/// Makes what a step needs, in place of what was made before.
+pub fn make_for(
+    tables: &Tables,
+    step: &Step,
+    alloc: Global,
+    made: &mut Made,
+) -> Result<(), OutOfMemory>
+    ensures { OnOk result (IsMadeFor tables.now.limits tables.now.flat made.new step.now) }
 {
     match step {
         Step::Call {
             caller,
             request,
             kept: _,
-        } => make_for_call(tables, *caller, request, alloc),
-        _ => Ok(nothing_made()),
+        } => remake(tables, *caller, request, alloc, made),
+        _ => Ok(()),
     }
 }

@@ -1,6 +1,7 @@
 ghost use Rattle.std.specs.Prelude.{◌≡◌, ◌+◌, ◌<◌, ◌≤◌, ◌==◌, ◌^◌, max, nat_le, IsTrue, OnOk, OnErr, IfOk, None, Some, length, filter, is_some, option_copied, []};
 ghost use Rattle.std.specs.List.{list_any};
 ghost use Rattle.scm_rules.specs.Controls.{waiting};
+ghost use Rattle.scm_rules.specs.Needs.{need_rows};
 ghost use Rattle.scm_rules.specs.Opening.{CanOpen, opening};
 ghost use Rattle.scm_rules.specs.Due.{is_due};
 ghost use Rattle.start_plan.specs.Decided.{plan_caller, code_of};
@@ -17,6 +18,7 @@ use super::judging::{change_in, change_of, is_told, may_come};
 use super::made::{Made, make_for, nothing_made};
 use super::promised::Promised;
 use super::room::reserve;
+use dependency_index::DependencyIndex;
 use scm_model::{Answer, Change, Config, Limits, Step};
 use scm_tables::Tables;
 use scm_text::{Items, OutOfMemory, TextRoom, WText};
@@ -62,13 +64,6 @@ fn promise(room: &mut Option<Promised>, step: &Step)
     *room = Some(Promised::of(step));
 }
 
-/// Keeps what was made for a step.
-fn keep(made: &mut Made, now: Made)
-    ensures { made.new ≡ now }
-{
-    *made = now;
-}
-
 impl Manager {
     /// A manager with a service for each configuration, which never ran, and with no callers. Those start by themselves that are automatic,
     /// those of the listed groups first.
@@ -110,6 +105,13 @@ impl Manager {
         ensures { result ≡ length (filter (λ row. row.status.state == SERVICE_RUNNING) self.now.flat.services) }
     {
         self.tables.running() as u64
+    }
+
+    /// Which service needs which. It takes no memory.
+    pub fn index(&self) -> &DependencyIndex
+        ensures { result.now.rows ≡ need_rows self.now.flat.services }
+    {
+        self.tables.index()
     }
 
     /// Whether so many steps more can be counted.
@@ -208,7 +210,7 @@ impl Manager {
         ensures err { OnErr result (self.new ≡ record self.old { room = None }) }
     {
         forget(&mut self.room);
-        keep(&mut self.made, make_for(&self.tables, step, self.alloc)?);
+        make_for(&self.tables, step, self.alloc, &mut self.made)?;
         reserve(&mut self.tables, step, &self.made)?;
         promise(&mut self.room, step);
         Ok(())

@@ -1,9 +1,10 @@
 ghost use Rattle.std.specs.Prelude.{◌≡◌, ◌≤◌, length, IfSome, OnOk};
+ghost use Rattle.scm_tables.specs.Tabled.{HasNeedRoom};
 ghost use Rattle.scm_core.specs.Room.{HasRoomFor, HasRoomForCall, IsMadeFor, made_for};
 
 use super::made::Made;
 use scm_arms_process::raise_starts;
-use scm_model::{Request, Step};
+use scm_model::{Config, Request, Step};
 use scm_tables::Tables;
 use scm_text::{Items, OutOfMemory};
 
@@ -18,6 +19,19 @@ fn reserve_plan(tables: &mut Tables, entries: &Option<Items<u64>>) -> Result<(),
     match entries {
         Some(entries) => tables.reserve_plan(entries.len()),
         None => tables.reserve_plan(0),
+    }
+}
+
+/// Makes room for the texts and needs of a service that gets a configuration.
+fn reserve_needs(tables: &mut Tables, config: &Option<Config>) -> Result<(), OutOfMemory>
+    ensures flat { tables.new.flat ≡ tables.old.flat }
+    ensures limits { tables.new.limits ≡ tables.old.limits }
+    ensures room { OnOk result (IfSome config.now (HasNeedRoom tables.new.spare)) }
+    ensures others { tables.new.spare.services ≡ tables.old.spare.services }
+{
+    match config {
+        Some(config) => tables.reserve_needs(config),
+        None => Ok(()),
     }
 }
 
@@ -39,8 +53,10 @@ fn reserve_call(
         }
         Request::Create(_) => {
             tables.reserve_service()?;
+            reserve_needs(tables, &made.config)?;
             tables.reserve_handle()
         }
+        Request::Change(_) | Request::Change2 { .. } => reserve_needs(tables, &made.config),
         Request::Notify { .. } => {
             tables.reserve_handle()?;
             tables.reserve_registration()

@@ -10,8 +10,8 @@ pub invariant_of-self-2 : goal.invariant_of-self-2
 invariant_of-self-2 c =
     let sound = c.self.invariant in
     let tables = c.reserve.new.tables in
-    let made : IsMadeFor tables.limits tables.flat c.in_ok-make_for.field-0 (unkept c.args.step.now) = rw (c.reserve.ensures.flat, c.reserve.ensures.limits)
-    (is_made_unkept c.self.inside.tables.limits c.self.inside.tables.flat c.in_ok-make_for.field-0 c.args.step.now c.in_ok-make_for.ensures) in
+    let made : IsMadeFor tables.limits tables.flat c.make_for.new.made (unkept c.args.step.now) = rw (c.reserve.ensures.flat, c.reserve.ensures.limits)
+    (is_made_unkept c.self.inside.tables.limits c.self.inside.tables.flat c.make_for.new.made c.args.step.now c.in_ok-make_for.ensures) in
     record {
       handles = rw c.reserve.ensures.flat sound.handles;
       callers = rw c.reserve.ensures.flat sound.callers;
@@ -25,6 +25,5 @@ invariant_of-self-2 c =
       limit = rw c.reserve.ensures.limits sound.limit;
       controls = rw c.reserve.ensures.limits sound.controls;
       room = subst (KeepsRoom tables) (sym c.promise.ensures) (has_room_unkept tables c.args.step.now c.in_ok-reserve.ensures.room);
-      made = subst (KeepsMade tables.limits tables.flat c.keep.new.made) (sym c.promise.ensures)
-          (subst (λ (m : Made). KeepsMade tables.limits tables.flat m (Some (unkept c.args.step.now))) (sym c.keep.ensures) made);
+      made = subst (KeepsMade tables.limits tables.flat c.make_for.new.made) (sym c.promise.ensures) made;
     }
