@@ -40,21 +40,17 @@ rest_alone l s number rest clean = ap (told_from l s number) (slice_split_none (
 pub clean_none : IsOneLine []
 clean_none = All-nil (λ (b : ℕ). (b == 10) ≡ false)
 
-told_apart : (b : ℕ) → (((b == 10) ≡ true) × (b ≡ 10)) ⊎ (((b == 10) ≡ false) × (b ≡ 10 → ⊥)) → (b ≡ 10 → ⊥) → (b == 10) ≡ false
-told_apart b (inl same) h = absurd (h same.1)
-told_apart b (inr other) h = other.0
-
--- one byte more of a line
-pub one_byte : (l : Limits) (a b : Point) (byte : ℕ) → IsOneLine a.pending → (byte ≡ 10 → ⊥)
-    → b ≡ record a { pending = a.pending ++ byte ∷ [] } → GoesOn l (byte ∷ []) a b
-one_byte l a b byte clean other e = subst (GoesOn l (byte ∷ []) a) (sym e) (record {
+-- more bytes of a line
+pub more_bytes : (l : Limits) (a b : Point) (bytes : List ℕ) → IsOneLine a.pending → IsOneLine bytes
+    → b.at ≡ a.at → b.held ≡ a.held → b.number ≡ a.number → b.pending ≡ a.pending ++ bytes → GoesOn l bytes a b
+more_bytes l a b bytes clean whole at held number pending = record {
   lines = [];
   text = [];
-  parts = refl;
-  written = Appends-nil a.held;
-  told = λ more. refl;
-  clean = All-append (λ (b : ℕ). (b == 10) ≡ false) a.pending (byte ∷ []) clean (All-cons (λ (b : ℕ). (b == 10) ≡ false) byte [] (told_apart byte (eqb_tells byte 10) other) clean_none);
-})
+  parts = sym pending;
+  written = subst (λ h. Appends a.held h []) (sym held) (Appends-nil a.held);
+  told = λ more. ap (λ s. replayed_from l s a.number more) (sym at) ∙ ap (λ n. replayed_from l b.at n more) (sym number);
+  clean = subst IsOneLine (sym pending) (All-append (λ (b : ℕ). (b == 10) ≡ false) a.pending bytes clean whole);
+}
 
 if_good : (b : Bool) (text : List ℕ) (more other : Told) → b ≡ true → text_behind text (cond b more other) ≡ text_behind text more
 if_good true text more other e = refl

@@ -1,10 +1,11 @@
 -- Stretches of an input, one after another.
-use Rattle.std.proofs.Common.{inl, ℕ, ◌≡◌, ◌+◌, ◌<◌, take, drop, get_or, length, arith, List, [], ◌∷◌, ◌++◌, Err, refl, sym, ap, ◌∙◌, subst, append_assoc, append-nil}
+use Rattle.std.proofs.Common.{inl, ℕ, ◌≡◌, ◌+◌, ◌<◌, take, take-add, drop, length, arith, List, [], ◌∷◌, ◌++◌, Err, refl, sym, ap, ◌∙◌, subst, append_assoc, append-nil}
 use Rattle.std.proofs.KnownBytes.{Appends-nil, Appends-trans}
 use Rattle.std.proofs.lemmas.List.{take_more, drop_more, take-append-drop}
 use Rattle.scm_model.specs.declared.flat.Limits.{Limits}
 use Rattle.scm_replay.specs.declared.stop.Stop.{Stop}
 use Rattle.scm_replay.specs.declared.stop.Stop.TheVariants as stop
+use Rattle.std.specs.Prelude.{slice_index}
 use Rattle.scm_replay.specs.Replay.{IsOneLine, Told, text_behind, replayed_from}
 use Rattle.scm_core.specs.Managed.{Managed}
 use Rattle.scm_replay.specs.Along.{Point, GoesOn, LinesFed, Halts, HaltsIn, IsFeed, Keeps}
@@ -63,9 +64,21 @@ module _ (l : Limits) where
   pub line_stops : (a b : Point) (why : Stop) → IsOneLine a.pending → IsOneLine b.pending → Halts l a.number a.pending a.at b.at a.held b.held why → HaltsIn l (10 ∷ []) a b why
   line_stops a b why clean still halts = halts_at a b 10 why clean still (is_feed why) halts
 
-  -- there is no memory for a byte more
-  pub byte_lost : (a b : Point) (byte : ℕ) → IsOneLine a.pending → IsOneLine b.pending → b.at ≡ a.at → b.held ≡ a.held → HaltsIn l (byte ∷ []) a b stop.OutOfMemory
-  byte_lost a b byte clean still at held = halts_at a b byte stop.OutOfMemory clean still tt (inl at, held)
+  -- there is no memory for some bytes more
+  pub bytes_lost : (a b : Point) (bytes : List ℕ) → 0 < length bytes → IsOneLine a.pending → IsOneLine b.pending → b.at ≡ a.at → b.held ≡ a.held
+      → HaltsIn l bytes a b stop.OutOfMemory
+  bytes_lost a b [] some clean still at held = absurd (omega (arith, some))
+  bytes_lost a b (byte ∷ rest) some clean still at held = record {
+    before = [];
+    byte = byte;
+    rest = rest;
+    point = a;
+    parts = refl;
+    on = goes_nowhere a clean;
+    feed = tt;
+    halts = (inl at, held);
+    clean = still;
+  }
 
   -- a part of a piece stops the run
   pub stops_there : (piece xs ys zs : List ℕ) (a m b : Point) (why : Stop) → piece ≡ xs ++ (ys ++ zs)
@@ -84,18 +97,31 @@ module _ (l : Limits) where
     clean = q.clean;
   }
 
-  -- one byte more of a piece
-  pub one_more : (piece : List ℕ) (i x : ℕ) (a m b : Point) → i < length piece → get_or piece i 0 ≡ x
-      → GoesOn l (take i piece) a m → GoesOn l (x ∷ []) m b → GoesOn l (take (i + 1) piece) a b
-  one_more piece i x a m b lt at p q =
-      subst (λ xs. GoesOn l xs a b) (ap (λ y. take i piece ++ y ∷ []) (sym at) ∙ sym (take_more piece i 0 lt)) (goes_further (take i piece) (x ∷ []) a m b p q)
+  -- the bytes up to a line feed, and it
+  pub line_more : (bytes : List ℕ) (place : ℕ) (a m b : Point) → place < length bytes → slice_index bytes place ≡ 10
+      → GoesOn l (take place bytes) a m → GoesOn l (10 ∷ []) m b → GoesOn l (take (place + 1) bytes) a b
+  line_more bytes place a m b lt at p q =
+      subst (λ xs. GoesOn l xs a b) (ap (λ y. take place bytes ++ y ∷ []) (sym at) ∙ sym (take_more bytes place 0 lt)) (goes_further (take place bytes) (10 ∷ []) a m b p q)
 
-  -- a byte of a piece stops the run
-  pub one_stops : (T : Type 0) (piece : List ℕ) (i x : ℕ) (a m b : Point) (why : Stop) → i < length piece → get_or piece i 0 ≡ x
-      → GoesOn l (take i piece) a m → LinesFed {T = T} l (x ∷ []) m b (Err why) → LinesFed {T = T} l piece a b (Err why)
-  one_stops T piece i x a m b why lt at p q =
-      stops_there piece (take i piece) (x ∷ []) (drop (i + 1) piece) a m b why
-      (sym (take-append-drop i piece) ∙ ap (λ r. take i piece ++ r) (drop_more piece i 0 lt ∙ ap (λ y. y ∷ drop (i + 1) piece) at)) p q
+  -- the run stops at a line feed
+  pub line_lost : (bytes : List ℕ) (place : ℕ) (a m b : Point) (why : Stop) → place < length bytes → slice_index bytes place ≡ 10
+      → GoesOn l (take place bytes) a m → HaltsIn l (10 ∷ []) m b why → HaltsIn l bytes a b why
+  line_lost bytes place a m b why lt at p q =
+      stops_there bytes (take place bytes) (10 ∷ []) (drop (place + 1) bytes) a m b why
+      (sym (take-append-drop place bytes) ∙ ap (λ r. take place bytes ++ r) (drop_more bytes place 0 lt ∙ ap (λ y. y ∷ drop (place + 1) bytes) at)) p q
+
+  -- so many bytes more of a piece
+  pub front_more : (piece : List ℕ) (taken more : ℕ) (a m b : Point)
+      → GoesOn l (take taken piece) a m → GoesOn l (take more (drop taken piece)) m b → GoesOn l (take (taken + more) piece) a b
+  front_more piece taken more a m b p q =
+      subst (λ xs. GoesOn l xs a b) (sym (take-add taken more piece)) (goes_further (take taken piece) (take more (drop taken piece)) a m b p q)
+
+  -- what is left of a piece stops the run
+  pub rest_stops : (piece : List ℕ) (taken : ℕ) (a m b : Point) (why : Stop)
+      → GoesOn l (take taken piece) a m → HaltsIn l (drop taken piece) m b why → HaltsIn l piece a b why
+  rest_stops piece taken a m b why p q =
+      stops_there piece (take taken piece) (drop taken piece) [] a m b why
+      (sym (take-append-drop taken piece) ∙ ap (λ r. take taken piece ++ r) (sym (append-nil (drop taken piece)))) p q
 
 -- what a manager keeps over two stretches
 pub keeps_more : (o m n : Managed) (most more : ℕ) → Keeps o m most → Keeps m n more → Keeps o n (most + more)

@@ -1,5 +1,5 @@
 -- What became of the bytes on a stretch of an input.
-use Rattle.std.specs.Prelude.{ℕ, ◌≡◌, ◌+◌, ◌<◌, ◌≤◌, ◌^◌, ◌⊎◌, Bool, true, false, List, ◌∷◌, ◌++◌, Option, Result, Ok, Err}
+use Rattle.std.specs.Prelude.{ℕ, ◌≡◌, ◌+◌, ◌<◌, ◌≤◌, ◌^◌, ◌⊎◌, Bool, true, false, List, ◌∷◌, ◌++◌, length, take, Option, Result, Ok, Err}
 use Rattle.std.specs.Io.KnownBytes.{Appends}
 use Rattle.feed_loop.specs.declared.fed.Fed.{Fed}
 use Rattle.feed_loop.specs.declared.fed.Fed.TheVariants as fed
@@ -69,6 +69,11 @@ pub record HaltsIn (l : Limits) (piece : List ℕ) (a b : Point) (why : Stop) : 
 abbrev pub LinesFed : {T : Type 0} → Limits → (piece : List ℕ) → Point → Point → Result T Stop → Type 0
 LinesFed l piece a b (Ok done) = GoesOn l piece a b
 LinesFed l piece a b (Err why) = HaltsIn l piece a b why
+
+-- so many of the bytes, at least one, are taken from their front on, and the lines that end in them are answered
+abbrev pub FrontFed : Limits → (bytes : List ℕ) → Point → Point → Result ℕ Stop → Type 0
+FrontFed l bytes a b (Ok count) = (0 < count) × (count ≤ length bytes) × GoesOn l (take count bytes) a b
+FrontFed l bytes a b (Err why) = HaltsIn l bytes a b why
 
 -- the sink's count of faults rose where it is said to have failed, and is the same elsewhere
 abbrev pub IsStopCaused : {T : Type 0} → Result T Stop → (before now : ℕ) → Type 0

@@ -10,10 +10,17 @@ use scm_model::{Answer, Reply};
 use scm_text::{Buffer, OutOfMemory};
 use std::alloc::{AllocError, Global};
 
+/// Room for the words of a line that stand before what is told, and for its line feed.
+const FRONT: usize = 16;
+
+/// Room for the body of most replies.
+const BODY: usize = 64;
+
 fn line_of(alloc: Global, front: &str, rest: &[u8]) -> Result<Vec<u8>, AllocError>
     ensures { IfOk result (λ line. line.items ≡ line_with front.now rest.now) }
 {
-    let mut line = Vec::from_slice(alloc, front.as_bytes())?;
+    let mut line = Vec::with_capacity(alloc, rest.len().saturating_add(FRONT))?;
+    line.extend_from_slice(front.as_bytes())?;
     line.extend_from_slice(rest)?;
     line.extend_from_slice(b"\n")?;
     Ok(line)
@@ -40,7 +47,7 @@ fn numbered(alloc: Global, front: &str, number: u64) -> Result<Vec<u8>, OutOfMem
 fn body_of(alloc: Global, reply: &Reply) -> Result<Buffer<u8>, OutOfMemory>
     ensures { IfOk result (λ body. body.items ≡ reply_bytes reply.now) }
 {
-    match write_reply(reply, Buffer::with_room(alloc, 0)?) {
+    match write_reply(reply, Buffer::with_room(alloc, BODY)?) {
         Ok(body) => Ok(body),
         Err(_) => Err(OutOfMemory),
     }

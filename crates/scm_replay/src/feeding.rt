@@ -1,5 +1,6 @@
-ghost use Rattle.std.specs.Prelude.{◌≡◌, ◌+◌, ◌≤◌, ◌<◌, ◌^◌, ◌∷◌, [], length};
-ghost use Rattle.scm_replay.specs.Along.{LinesFed, HasStopCause, IsFit, Keeps, Lined, point, line_stopped};
+ghost use Rattle.std.specs.Prelude.{◌≡◌, ◌+◌, ◌++◌, ◌≤◌, ◌<◌, ◌^◌, ◌∷◌, [], IfErr, IfNone, IfSome, OnOk, length, slice_index, take};
+ghost use Rattle.scm_replay.specs.Along.{FrontFed, LinesFed, HasStopCause, IsFit, Keeps, Lined, point, line_stopped};
+ghost use Rattle.scm_replay.specs.declared.stop.Stop.TheVariants as stop;
 ghost use Rattle.scm_replay.specs.Outcomes.{standing};
 ghost use Rattle.scm_replay.specs.Replay.{IsOneLine};
 
@@ -66,6 +67,19 @@ fn next_line(reading: &mut Reading)
     reading.number += 1;
 }
 
+/// Keeps bytes of the line that is read.
+fn hold(reading: &mut Reading, bytes: &[u8]) -> Result<(), Stop>
+    ensures ok { OnOk result (reading.new.pending.items ≡ reading.old.pending.items ++ bytes.now) }
+    ensures err { IfErr result (λ why. (why ≡ stop.OutOfMemory)
+        × (reading.new.pending.items ≡ reading.old.pending.items)) }
+    ensures number { reading.new.number ≡ reading.old.number }
+{
+    match reading.pending.extend_from_slice(bytes) {
+        Ok(()) => Ok(()),
+        Err(_) => Err(Stop::OutOfMemory),
+    }
+}
+
 /// Answers the line that was read, and begins the next one.
 fn end_line<O: Sink>(
     alloc: Global,
@@ -98,17 +112,29 @@ fn end_line<O: Sink>(
     }
 }
 
-/// Takes a byte, and answers the line that it ends.
+/// The place of the first line feed.
+fn first_feed(bytes: &[u8]) -> Option<usize>
+    ensures feed { IfSome result (λ place. (slice_index bytes.now place ≡ 10)
+        × IsOneLine (take place bytes.now)) }
+    ensures none { IfNone result (IsOneLine bytes.now) }
+    ensures bound { IfSome result (λ place. place < length bytes.now) }
+{
+    bytes.iter().position(|b| *b == b'\n')
+}
+
+/// Takes the bytes up to the first line feed and answers the line that it ends, or keeps them all
+/// where there is none. It tells how many it took.
 fn take<O: Sink>(
     alloc: Global,
     manager: &mut Manager,
     reading: &mut Reading,
-    byte: u8,
+    bytes: &[u8],
     output: &mut O,
-) -> Result<(), Stop>
+) -> Result<usize, Stop>
     requires fit { IsFit manager.old reading.old.number 1 }
     requires clean { IsOneLine reading.old.pending.items }
-    ensures fed { LinesFed manager.old.limits (byte ∷ [])
+    requires some { 0 < length bytes.now }
+    ensures fed { FrontFed manager.old.limits bytes.now
         (point manager.old reading.old (O.held output.old))
         (point manager.new reading.new (O.held output.new))
         result }
@@ -116,12 +142,16 @@ fn take<O: Sink>(
     ensures number { reading.new.number ≤ reading.old.number + 1 }
     ensures cause { HasStopCause (O.faults output.old) (O.faults output.new) result }
 {
-    if byte == b'\n' {
-        return end_line(alloc, manager, reading, output);
-    }
-    match reading.pending.push(byte) {
-        Ok(()) => Ok(()),
-        Err(_) => Err(Stop::OutOfMemory),
+    match first_feed(bytes) {
+        Some(place) => {
+            hold(reading, &bytes[..place])?;
+            end_line(alloc, manager, reading, output)?;
+            Ok(place + 1)
+        }
+        None => {
+            hold(reading, bytes)?;
+            Ok(bytes.len())
+        }
     }
 }
 
@@ -143,9 +173,10 @@ pub fn feed<O: Sink>(
     ensures number { reading.new.number ≤ reading.old.number + length piece.now }
     ensures cause { HasStopCause (O.faults output.old) (O.faults output.new) result }
 {
-    for byte in piece {
-        match take(alloc, manager, reading, *byte, output) {
-            Ok(()) => {}
+    let mut taken = 0;
+    while taken < piece.len() {
+        match take(alloc, manager, reading, &piece[taken..], output) {
+            Ok(more) => taken += more,
             Err(stop) => return Err(stop),
         }
     }

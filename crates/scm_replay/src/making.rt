@@ -72,14 +72,23 @@ fn makes_room(manager: &mut Manager, step: &Step) -> bool
     }
 }
 
+/// Lets a step tell what became of its change.
+fn keep_as(step: &mut Step, now: Kept)
+    ensures { step.new ≡ with_kept step.old now }
+{
+    if let Step::Call { kept, .. } = step {
+        *kept = now;
+    }
+}
+
 /// Makes the step of a line that isn't a look in vain, if it may come and finds room.
 #[tactic(auto, unfolding(crate::specs::Outcomes::outcome_made))]
-fn made_in(manager: &mut Manager, line: Line) -> Result<Outcome, OutOfMemory>
+fn made_in(manager: &mut Manager, line: &mut Line) -> Result<Outcome, OutOfMemory>
     requires { IsFit manager.old 0 1 }
     ensures outcome { IfOk result (λ outcome. outcome
-        ≡ (outcome_made manager.old.limits (standing manager.old) line).0) }
+        ≡ (outcome_made manager.old.limits (standing manager.old) line.old).0) }
     ensures standing { IfOk result (λ outcome. standing manager.new
-        ≡ (outcome_made manager.old.limits (standing manager.old) line).1) }
+        ≡ (outcome_made manager.old.limits (standing manager.old) line.old).1) }
     ensures err { OnErr result (standing manager.new ≡ standing manager.old) }
     ensures keeps { Keeps manager.old manager.new 1 }
 {
@@ -93,17 +102,17 @@ fn made_in(manager: &mut Manager, line: Line) -> Result<Outcome, OutOfMemory>
         return Err(OutOfMemory);
     }
     let kept = kept_as(manager.makes_change(&line.step), line.fails);
-    let answer = manager.step(line.moment, line.step.with_kept(kept));
-    Ok(Outcome::Answered(answer))
+    keep_as(&mut line.step, kept);
+    Ok(Outcome::Answered(manager.step_at(line.moment, &mut line.step)))
 }
 
 /// Makes the step of a line, unless it looks in vain, may not come or finds no room.
-fn outcome_in(manager: &mut Manager, line: Line) -> Result<Outcome, OutOfMemory>
+fn outcome_in(manager: &mut Manager, line: &mut Line) -> Result<Outcome, OutOfMemory>
     requires { IsFit manager.old 0 1 }
     ensures outcome { IfOk result (λ outcome. outcome
-        ≡ (outcome_in manager.old.limits (standing manager.old) line).0) }
+        ≡ (outcome_in manager.old.limits (standing manager.old) line.old).0) }
     ensures standing { IfOk result (λ outcome. standing manager.new
-        ≡ (outcome_in manager.old.limits (standing manager.old) line).1) }
+        ≡ (outcome_in manager.old.limits (standing manager.old) line.old).1) }
     ensures err { OnErr result (standing manager.new ≡ standing manager.old) }
     ensures keeps { Keeps manager.old manager.new 1 }
 {
@@ -124,7 +133,7 @@ pub fn outcome_at(alloc: Global, manager: &mut Manager, text: &[u8]) -> Result<O
     ensures keeps { Keeps manager.old manager.new 1 }
 {
     match line_at(alloc, text)? {
-        Some(line) => outcome_in(manager, line),
+        Some(mut line) => outcome_in(manager, &mut line),
         None => Ok(Outcome::Bad),
     }
 }

@@ -13,10 +13,15 @@ pub fn is(word: &[u8], name: &str) -> bool
     word == name.as_bytes()
 }
 
+/// How many words a line has at most that says something: those of a report.
+const MOST_WORDS: usize = 10;
+
 fn split<'a>(alloc: Global, line: &'a [u8]) -> Result<Vec<&'a [u8]>, AllocError>
     ensures { IfOk result (λ words. map (λ word. word.now) words.items ≡ line_words line.now) }
 {
-    line.split(|b| *b == b' ').collect(alloc)
+    let mut words = Vec::with_capacity(alloc, MOST_WORDS)?;
+    words.extend(line.split(|b| *b == b' '))?;
+    Ok(words)
 }
 
 /// The words of a line.

@@ -7,41 +7,41 @@ use Rattle.scm_replay.specs.Outcomes.{standing, step_in}
 use Rattle.scm_replay.specs.declared.outcome.Outcome.TheVariants.{Answered}
 use Rattle.scm_replay.proofs.making.made_in.Goals as goal
 
-pub step-answer-requires-clause-may : goal.step-answer-requires-clause-may
-step-answer-requires-clause-may c =
-    rw (c.with_kept.ensures, c.kept_as-kept.ensures, c.makes_change.ensures)
-    (may_at c.args.manager.now.limits c.makes_room.new.manager.limits c.args.manager.now.flat c.makes_room.new.manager.flat c.args.line.moment c.args.line.step c.args.line.fails
+pub step_at-requires-clause-may : goal.step_at-requires-clause-may
+step_at-requires-clause-may c =
+    rw (c.keep_as.ensures, c.kept_as-kept.ensures, c.makes_change.ensures)
+    (may_at c.args.manager.now.limits c.makes_room.new.manager.limits c.args.manager.now.flat c.makes_room.new.manager.flat c.args.line.now.moment c.args.line.now.step c.args.line.now.fails
     c.makes_room.ensures.limits c.makes_room.ensures.flat (sym c.may.ensures ∙ c.if-not-may.false))
 
 pub returns-clause-outcome : goal.returns-clause-outcome
 returns-clause-outcome c =
     let old = c.args.manager.now in
-    let line = c.args.line in
+    let line = c.args.line.now in
     let made = made_there old.limits (standing old) line (sym c.may.ensures ∙ c.if-not-may.false) (sym c.finds_room.ensures ∙ c.if-not-finds_room.false) in
-    let told = told_over old.limits c.makes_room.new.manager.limits old.flat c.makes_room.new.manager.flat line c.makes_change.result c.kept_as-kept.result c.with_kept.result
-    c.makes_room.ensures.limits c.makes_room.ensures.flat c.makes_change.ensures c.kept_as-kept.ensures c.with_kept.ensures in
-    ap Answered (c.step-answer.ensures.answer ∙ ap (λ t. t.answer) told) ∙ sym (ap (λ o. o.0) made)
+    let told = told_over old.limits c.makes_room.new.manager.limits old.flat c.makes_room.new.manager.flat line c.makes_change.result c.kept_as-kept.result c.keep_as.new.step
+    c.makes_room.ensures.limits c.makes_room.ensures.flat c.makes_change.ensures c.kept_as-kept.ensures c.keep_as.ensures in
+    ap Answered (c.step_at.ensures.answer ∙ ap (λ t. t.answer) told) ∙ sym (ap (λ o. o.0) made)
 
 pub returns-clause-standing : goal.returns-clause-standing
 returns-clause-standing c =
     let old = c.args.manager.now in
-    let line = c.args.line in
+    let line = c.args.line.now in
     let made = made_there old.limits (standing old) line (sym c.may.ensures ∙ c.if-not-may.false) (sym c.finds_room.ensures ∙ c.if-not-finds_room.false) in
-    let told = told_over old.limits c.makes_room.new.manager.limits old.flat c.makes_room.new.manager.flat line c.makes_change.result c.kept_as-kept.result c.with_kept.result
-    c.makes_room.ensures.limits c.makes_room.ensures.flat c.makes_change.ensures c.kept_as-kept.ensures c.with_kept.ensures in
-    let same = ap text_of c.with_kept.ensures ∙ same_text line.step c.kept_as-kept.result in
-    stands_behind (standing old) (standing c.step-answer.new.self) line.step (step_of old.limits old.flat line.moment (step_in old.limits old.flat line))
-    (c.step-answer.ensures.flat ∙ ap (λ t. t.flat) told)
-    (c.step-answer.ensures.steps ∙ ap (λ n. n + 1) c.makes_room.ensures.steps)
-    (c.step-answer.ensures.text ∙ ap (λ n. n + text_of c.with_kept.result) c.makes_room.ensures.text ∙ ap (λ n. old.text + n) same)
+    let told = told_over old.limits c.makes_room.new.manager.limits old.flat c.makes_room.new.manager.flat line c.makes_change.result c.kept_as-kept.result c.keep_as.new.step
+    c.makes_room.ensures.limits c.makes_room.ensures.flat c.makes_change.ensures c.kept_as-kept.ensures c.keep_as.ensures in
+    let same = ap text_of c.keep_as.ensures ∙ same_text line.step c.kept_as-kept.result in
+    stands_behind (standing old) (standing c.step_at.new.self) line.step (step_of old.limits old.flat line.moment (step_in old.limits old.flat line))
+    (c.step_at.ensures.flat ∙ ap (λ t. t.flat) told)
+    (c.step_at.ensures.steps ∙ ap (λ n. n + 1) c.makes_room.ensures.steps)
+    (c.step_at.ensures.text ∙ ap (λ n. n + text_of c.keep_as.new.step) c.makes_room.ensures.text ∙ ap (λ n. old.text + n) same)
     ∙ sym (ap (λ o. o.1) made)
 
 pub returns-clause-keeps : goal.returns-clause-keeps
 returns-clause-keeps c =
     let fits = c.makes_room.ensures.fits c.if-not-makes_room.false in
-    let same = ap text_of c.with_kept.ensures ∙ same_text c.args.line.step c.kept_as-kept.result in
+    let same = ap text_of c.keep_as.ensures ∙ same_text c.args.line.now.step c.kept_as-kept.result in
     record {
-      limits = c.step-answer.ensures.limits ∙ c.makes_room.ensures.limits;
-      text = λ small. omega (arith, c.step-answer.ensures.text, fits, same);
-      steps = omega (arith, c.step-answer.ensures.steps, c.makes_room.ensures.steps);
+      limits = c.step_at.ensures.limits ∙ c.makes_room.ensures.limits;
+      text = λ small. omega (arith, c.step_at.ensures.text, fits, same);
+      steps = omega (arith, c.step_at.ensures.steps, c.makes_room.ensures.steps);
     }
