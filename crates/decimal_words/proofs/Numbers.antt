@@ -1,11 +1,14 @@
 -- Decimal forms.
-use Rattle.std.proofs.Common.{ℕ, ◌≡◌, ◌<◌, ◌^◌, Bool, true, false, cond, List, None, Some, refl, sym, ap, ◌∙◌, subst}
-use Rattle.std.specs.Prelude.{◌&&◌, nat_lt, bytes_eq, decimal, Result, Ok, IsUtf8}
-use Rattle.std.specs.Str.Parse.{digits_value, ParsesUnsigned}
-use Rattle.std.proofs.lemmas.Bool.{ltb-true, lt-ltb, true≢false}
+use Rattle.std.proofs.Common.{ℕ, ◌≡◌, ◌<◌, ◌≤◌, ◌*◌, ◌+◌, ◌^◌, Bool, true, false, cond, List, None, Some, Option, take, get_or, length, zero, suc, inl, inr, refl, sym, ap, ◌∙◌, subst, arith}
+use Rattle.std.specs.Prelude.{◌&&◌, ◌⊎◌, nat_lt, slice_index, bytes_eq, decimal, IfNone, IfSome}
+use Rattle.std.specs.Char.{digit_value}
+use Rattle.std.specs.Str.Parse.{AllDigits, digits_value}
+use Rattle.std.proofs.lemmas.Bool.{ltb-true, lt-ltb}
 use Rattle.std.proofs.lemmas.Slice.Eq.{bytes_eq-Decides}
-use Rattle.std.proofs.lemmas.Fmt.{decimal_is_IsNumeral, parse-decimal, IsAscii-decimal}
-use Rattle.std.proofs.lemmas.Str.{IsUtf8-from_ascii}
+use Rattle.std.proofs.lemmas.Int.Digits.{digits_value_more}
+use Rattle.std.proofs.lemmas.Fmt.{decimal_digit, decimal_is_IsNumeral, decimal-digits_value, first_decimal}
+use Rattle.std.proofs.lemmas.Str.{digit_value_digit}
+use Rattle.std.proofs.lemmas.Str.Parse.{digits_value-take-le, numerals_by_value, tells_digits, digit_at}
 use Rattle.decimal_words.specs.Numbers.{number_at}
 
 -- a text is the decimal form of its number
@@ -21,30 +24,44 @@ tested true false x h = refl
 tested false c x h = refl
 
 -- a text that no number has
-pub number_none : (text : List ℕ) → ((n : ℕ) → n < 2 ^ 64 → text ≡ decimal n → ⊥) → number_at text ≡ None
+number_none : (text : List ℕ) → ((n : ℕ) → n < 2 ^ 64 → text ≡ decimal n → ⊥) → number_at text ≡ None
 unfolding number_at
 number_none text h =
     let n = digits_value 10 text in
     tested (nat_lt n (2 ^ 64)) (bytes_eq text (decimal n)) n
     (λ small same. h n (ltb-true n (2 ^ 64) small) ((bytes_eq-Decides text (decimal n)).0 same))
 
--- a text that can't be read has no number
-pub number_unread : (text : List ℕ) → (IsUtf8 text → ⊥) → number_at text ≡ None
-number_unread text h = number_none text (λ n small e. h (subst IsUtf8 (sym e) (IsUtf8-from_ascii (decimal n) (IsAscii-decimal n small))))
+-- an empty text is no number, nor is one with a zero before others
+pub number_begun : (text : List ℕ) → (length text ≡ 0) ⊎ ((slice_index text 0 ≡ 48) × (1 < length text)) → number_at text ≡ None
+number_begun text h = number_none text (λ n small e. begun n small (ap length e) (ap (λ l. slice_index l 0) e) h)
+  where
+    begun : (n : ℕ) → n < 2 ^ 64 → length text ≡ length (decimal n) → slice_index text 0 ≡ slice_index (decimal n) 0
+        → (length text ≡ 0) ⊎ ((slice_index text 0 ≡ 48) × (1 < length text)) → ⊥
+    begun n small size first (inl none) = omega (arith, (decimal_is_IsNumeral n small).0.0, size)
+    begun zero small size first (inr led) = let one : length (decimal 0) ≡ 1 = ap length (decimal_digit 0 (omega arith)) in omega (arith, size, one, led.1)
+    begun (suc n) small size first (inr led) = omega (arith, first_decimal (suc n) (omega arith) small, first, led.0)
 
-same_ok : {E : Type 0} (a b : ℕ) (r : Result ℕ E) → r ≡ Ok a → r ≡ Ok b → a ≡ b
-same_ok a b r p q = cc
+-- digits that no zero leads are the decimal form of what they write; what can't be read so is none
+pub number_told : (text : List ℕ) (read : Option ℕ) → 0 < length text → (slice_index text 0 ≡ 48 → length text ≡ 1)
+    → IfSome read (λ n. AllDigits 10 text × (n ≡ digits_value 10 text) × (n < 2 ^ 64))
+    → IfNone read (AllDigits 10 text → 2 ^ 64 ≤ digits_value 10 text) → read ≡ number_at text
+number_told text (Some n) some lead (all, is, small) other =
+    sym (number_is text n small
+    (sym (decimal-digits_value (numerals_by_value (AllDigits 10) tells_digits) text all some lead (omega (arith, is))) ∙ ap decimal (sym is)))
+number_told text None some lead is other = sym (number_none text (λ n small e.
+    let k = decimal_is_IsNumeral n small in
+    omega (arith, other (subst (AllDigits 10) (sym e) k.0.1), ap (digits_value 10) e ∙ k.1)))
 
--- nor has one that isn't read as a number
-pub number_unparsed : {E : Type 0} (text digits : List ℕ) (r : Result ℕ E) → digits ≡ text → ParsesUnsigned 64 10 digits r → ((n : ℕ) → r ≡ Ok n → ⊥) → number_at text ≡ None
-number_unparsed text digits r same parses h = number_none text (λ n small e. h n (parse-decimal 64 n digits r small small (same ∙ e) parses))
-
--- nor one that is read as another number's form
-pub number_otherwise : {E : Type 0} (text digits : List ℕ) (r : Result ℕ E) (number : ℕ) → digits ≡ text → ParsesUnsigned 64 10 digits r → r ≡ Ok number
-    → bytes_eq text (decimal number) ≡ false → number_at text ≡ None
-number_otherwise text digits r number same parses is other = number_none text (λ n small e.
-    let m = same_ok n number r (parse-decimal 64 n digits r small small (same ∙ e) parses) is in
-    true≢false (sym ((bytes_eq-Decides text (decimal number)).1 (e ∙ ap decimal m)) ∙ other))
-
-pub number_read : (text form : List ℕ) (number : ℕ) → number < 2 ^ 64 → form ≡ decimal number → bytes_eq text form ≡ true → number_at text ≡ Some number
-number_read text form number small e same = number_is text number small ((bytes_eq-Decides text form).0 same ∙ e)
+-- a digit that is none, or is too much, spoils what follows too
+pub digit_lost : (text : List ℕ) (i number : ℕ) → i < length text → number ≡ digits_value 10 (take i text)
+    → (digit_value (get_or text i 0) < 10 → 2 ^ 64 ≤ number * 10 + digit_value (get_or text i 0))
+    → AllDigits 10 text → 2 ^ 64 ≤ digits_value 10 text
+digit_lost text i number lt is h all =
+    let range = digit_at text i all lt in
+    omega (
+      arith,
+      h (omega (arith, digit_value_digit (get_or text i 0) range)),
+      digits_value_more 10 text i lt,
+      digits_value-take-le 10 text (i + 1) (omega arith),
+      is,
+    )
