@@ -8,4 +8,4 @@ mod requests;
 
 pub use call::{Call, call_at, call_of};
 pub use replies::{read_reply, reply_bound, write_reply};
-pub use requests::{read_request, write_request};
+pub use requests::{read_request, read_request_by, write_request};

@@ -10,7 +10,7 @@ ghost use Rattle.scm_bodies.specs.Requests.{shape_of, asked_by, values_of, reque
 use crate::call::{Call, call_of};
 use ndr_body::BodyFault;
 use scm_model::Request;
-use scm_shapes::{Item, Values, read_body};
+use scm_shapes::{Item, Values, read_body_into};
 use scm_text::{Buffer, Items, OutOfMemory};
 use std::alloc::Global;
 
@@ -34,12 +34,28 @@ fn asked_by(alloc: Global, call: Call, values: &mut Values) -> Request
     }
 }
 
+/// The result of `read_request`, by values that serve body after body: none are made for each body,
+/// nor let go behind it. What lies in them before and behind plays no part.
+pub fn read_request_by(
+    alloc: Global,
+    call: Call,
+    body: &[u8],
+    values: &mut Values,
+) -> Result<Request, BodyFault>
+    ensures exact { Gives (λ r. r) result (request_at call body.now) }
+    ensures memory { ArePlain (shape_of call) → FindsMemory result }
+{
+    values.clear();
+    read_body_into(alloc, shape_of(call), body, values)?;
+    Ok(asked_by(alloc, call, values))
+}
+
 fn read(alloc: Global, call: Call, body: &[u8]) -> Result<Request, BodyFault>
     ensures exact { Gives (λ r. r) result (request_at call body.now) }
     ensures memory { ArePlain (shape_of call) → FindsMemory result }
 {
-    let mut values = read_body(alloc, shape_of(call), body)?;
-    Ok(asked_by(alloc, call, &mut values))
+    let mut values = Values::new(alloc);
+    read_request_by(alloc, call, body, &mut values)
 }
 
 /// What the body of a request asks.

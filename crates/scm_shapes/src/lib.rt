@@ -14,6 +14,6 @@ mod writing;
 
 pub use apart::Apart;
 pub use item::{Item, Piece, Value};
-pub use reading::read_body;
+pub use reading::{read_body, read_body_into};
 pub use values::Values;
 pub use writing::write_pieces;

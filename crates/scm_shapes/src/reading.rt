@@ -115,15 +115,31 @@ fn close(reader: &NdrReader, values: &Values) -> Result<(), BodyFault>
     }
 }
 
+/// Reads the values of a body of this shape where they are to lie, and none lies there yet.
 #[tactic(auto, unfolding(crate::specs::Shapes::body_values))]
+pub fn read_body_into(
+    alloc: Global,
+    shape: &[Item],
+    body: &[u8],
+    values: &mut Values,
+) -> Result<(), BodyFault>
+    requires none { values.old ≡ [] }
+    // No memory is taken for a few numbers and handles.
+    ensures memory { ArePlain shape.now → FindsMemory result }
+    // What is read is what the body holds, and which fault it is else.
+    ensures exact { Gives (λ _. values.new) result (body_values shape.now body.now) }
+{
+    let mut reader = NdrReader::new(body);
+    read_values(&mut reader, alloc, shape, values)?;
+    close(&reader, values)
+}
+
 fn values_of(alloc: Global, shape: &[Item], body: &[u8]) -> Result<Values, BodyFault>
     ensures values { Gives (λ v. v) result (body_values shape.now body.now) }
     ensures memory { ArePlain shape.now → FindsMemory result }
 {
-    let mut reader = NdrReader::new(body);
     let mut values = Values::new(alloc);
-    read_values(&mut reader, alloc, shape, &mut values)?;
-    close(&reader, &values)?;
+    read_body_into(alloc, shape, body, &mut values)?;
     Ok(values)
 }
 

@@ -77,6 +77,13 @@ impl Values {
         }
     }
 
+    /// Lets all values go, and keeps their room.
+    pub fn clear(&mut self)
+        ensures { self.new ≡ [] }
+    {
+        self.queue.clear();
+    }
+
     /// Adds a value behind the others. It takes no memory for the first 8.
     pub fn push(&mut self, value: Value) -> Result<(), OutOfMemory>
         ensures ok { OnOk result (self.new ≡ self.old ++ value ∷ []) }
