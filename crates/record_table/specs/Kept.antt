@@ -1,0 +1,81 @@
+-- The numbers that are kept under each text, and what is always true of a table's fields.
+use Rattle.std.specs.Prelude.{ℕ, ◌≡◌, ◌≤◌, Bool, List, IfSome, if◌then◌else◌}
+use Rattle.scm_text.specs.Fold.{same_text}
+use Rattle.number_lists.specs.Rising.{with_number, without_number}
+use Rattle.number_lists.specs.Under.{Under, Changes, at, room}
+use Rattle.scm_model.specs.declared.flat.Service.{Service}
+use Rattle.record_table.specs.declared.texts.KeptTexts.{KeptTexts}
+use Rattle.record_table.specs.declared.texts.Spare.{Spare}
+use Rattle.record_table.specs.declared.table.RecordTable.TheInside.{Inside}
+use Rattle.row_slab.specs.Rowed.{AreRisingBy}
+use Rattle.record_table.specs.Recorded.{Recorded, is_displayed, is_member, is_named, number_of, numbers_with}
+
+-- ## Lists under texts
+
+-- the list under each text is that of the services that have it
+abbrev pub Tells : (List ℕ → Service → Bool) → Under → List Service → Type 0
+Tells has_text lists rows = (text : List ℕ) → at lists text ≡ numbers_with (has_text text) rows
+
+-- each text has the same numbers under it
+abbrev pub Keeps : Under → Under → Type 0
+Keeps old new = (text : List ℕ) → at new text ≡ at old text
+
+-- a number leaves the list of one text and comes into that of another
+abbrev pub moved : List ℕ → List ℕ → ℕ → List ℕ → List ℕ → List ℕ
+moved before after number text numbers =
+    let less = if same_text before text then without_number numbers number else numbers in
+    if same_text after text then with_number less number else less
+
+abbrev pub Moves : Under → Under → List ℕ → List ℕ → ℕ → Type 0
+Moves old new before after number =
+    (text : List ℕ) → at new text ≡ moved before after number text (at old text)
+
+-- ## The same of names, display names and groups
+
+pub record AreOf (texts : KeptTexts) (rows : List Service) : Type 0 where
+  pub names : Tells is_named texts.names rows
+  pub displays : Tells is_displayed texts.displays rows
+  pub groups : Tells is_member texts.groups rows
+
+pub record KeepEach (old new : KeptTexts) : Type 0 where
+  pub names : Keeps old.names new.names
+  pub displays : Keeps old.displays new.displays
+  pub groups : Keeps old.groups new.groups
+
+-- the list under each text of a row changes
+pub record ChangeEach (old new : KeptTexts) (row : Spare) (change : List ℕ → List ℕ) : Type 0 where
+  pub names : Changes old.names new.names row.name change
+  pub displays : Changes old.displays new.displays row.display change
+  pub groups : Changes old.groups new.groups row.group change
+
+abbrev pub EnterEach : KeptTexts → KeptTexts → Spare → ℕ → Type 0
+EnterEach old new row number = ChangeEach old new row (λ numbers. with_number numbers number)
+
+abbrev pub LeaveEach : KeptTexts → KeptTexts → Spare → ℕ → Type 0
+LeaveEach old new row number = ChangeEach old new row (λ numbers. without_number numbers number)
+
+-- a number leaves the texts of one row and comes under those of another
+pub record MoveEach (old new : KeptTexts) (before after : Spare) (number : ℕ) : Type 0 where
+  pub names : Moves old.names new.names before.name after.name number
+  pub displays : Moves old.displays new.displays before.display after.display number
+  pub groups : Moves old.groups new.groups before.group after.group number
+
+-- there is room for a number under each text of a row
+pub record HasTexts (texts : KeptTexts) (row : Spare) : Type 0 where
+  pub name : 1 ≤ room texts.names row.name
+  pub display : 1 ≤ room texts.displays row.display
+  pub group : 1 ≤ room texts.groups row.group
+
+-- ## A table
+
+pub record HasRoom (table : Inside) (row : Spare) : Type 0 where
+  pub rows : 1 ≤ table.rows.room
+  pub texts : HasTexts table.texts row
+
+pub record IsKept (table : Inside) : Type 0 where
+  pub rising : AreRisingBy number_of table.rows.items
+  pub texts : AreOf table.texts table.rows.items
+  pub spare : IfSome table.spare (HasRoom table)
+
+abbrev pub recorded : Inside → Recorded
+recorded table = record { services = table.rows.items; spare = table.spare }

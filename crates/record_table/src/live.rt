@@ -1,0 +1,30 @@
+ghost use Rattle.record_table.specs.Recorded.{lived};
+ghost use Rattle.std.proofs.Common.{refl};
+
+use row_slab::Change;
+use scm_model::{Service, Status};
+
+/// What changes of a service while it lives.
+#[derive(Clone, Copy)]
+pub struct Live {
+    pub status: Status,
+    pub marked: bool,
+    pub process: u64,
+    pub failures: u32,
+    pub last_failure: u64,
+}
+
+impl Change<Service> for Live {
+    ghost changed = { λ live.
+        lived live.status live.marked live.process live.failures live.last_failure };
+
+    ghost keeps = { λ live row. refl };
+
+    fn change(&self, row: &mut Service) {
+        row.status = self.status;
+        row.marked = self.marked;
+        row.process = self.process;
+        row.failures = self.failures;
+        row.last_failure = self.last_failure;
+    }
+}

@@ -1,0 +1,303 @@
+ghost use Rattle.std.specs.Prelude.{◌≡◌, ◌+◌, ◌<◌, ◌^◌, List, find, length, map, option_copied, slice_get, is_some, Ok, OnOk, OnErr, Some};
+ghost use Rattle.std.specs.List.{AllByRecursion};
+ghost use Rattle.number_lists.specs.Rising.{AreRising};
+ghost use Rattle.row_slab.specs.Rowed.{AreRisingBy, is_above};
+ghost use Rattle.scm_model.specs.declared.flat.Service.{Service};
+ghost use Rattle.record_table.specs.Recorded.{altered, altered_each, change_at, changed_to, config_at, empty, first_with, has_number, inserted, is_displayed, is_member, is_named, lived, number_of, numbers_with, removed, replaced, reserved, service_at, spare_of, unreserved, with_config};
+
+use super::iter::Services;
+use super::live::Live;
+use super::texts::{
+    KeptTexts, Spare, enter_texts, leave_texts, move_texts, reserve_texts, tidy_texts,
+};
+use row_slab::{Change, Rows};
+use scm_model::{Config, Service, Status};
+use scm_text::{OutOfMemory, WText};
+use std::alloc::Global;
+use std::marker::Model;
+
+/// The services. Contracts see them in order of number, and the texts of the one that there is
+/// room for.
+#[derive(Drop)]
+pub struct RecordTable {
+    rows: Rows<Service>,
+    texts: KeptTexts,
+    spare: Option<Spare>,
+    alloc: Global,
+}
+
+impl Model for RecordTable {
+    ghost use Rattle.record_table.specs.Kept.{IsKept, recorded};
+    ghost use Rattle.record_table.specs.Recorded.{Recorded};
+
+    ghost Value = { Recorded };
+
+    ghost view = { recorded };
+
+    ghost invariant = { IsKept };
+}
+
+/// A service with another configuration.
+fn configured(row: &Service, config: Config) -> Service
+    ensures { result ≡ with_config config row.now }
+{
+    Service {
+        number: row.number,
+        config,
+        status: row.status,
+        marked: row.marked,
+        process: row.process,
+        failures: row.failures,
+        last_failure: row.last_failure,
+    }
+}
+
+/// The configuration of a service that is let go.
+fn config_of(row: Service) -> Config
+    ensures { result ≡ row.config }
+{
+    row.config
+}
+
+/// Gives the service with a number another configuration, and answers the one that it had.
+fn exchange(rows: &mut Rows<Service>, number: u64, config: Config) -> Option<Config>
+    requires { AreRisingBy number_of rows.old.items }
+    ensures config { result ≡ config_at rows.old.items number }
+    ensures items { rows.new.items ≡ change_at number (with_config config) rows.old.items }
+    ensures room { rows.new.room ≡ rows.old.room }
+{
+    let row = configured(rows.get(number)?, config);
+    match rows.replace(row) {
+        Some(row) => Some(config_of(row)),
+        None => None,
+    }
+}
+
+/// Changes the service at a place. Those before it were changed.
+fn change_next<C: Change<Service>>(rows: &mut Rows<Service>, place: usize, change: &C)
+    requires place { place < length rows.old.items }
+    requires rising { AreRisingBy number_of rows.old.items }
+    ensures items { (all : List Service) → rows.old.items ≡ changed_to place (C.changed change.now) all
+        → rows.new.items ≡ changed_to (place + 1) (C.changed change.now) all }
+    ensures room { rows.new.room ≡ rows.old.room }
+{
+    if let Some(row) = rows.at(place) {
+        let number = row.number;
+        rows.alter(number, change);
+    }
+}
+
+/// Changes each service.
+fn change_each<C: Change<Service>>(rows: &mut Rows<Service>, change: &C)
+    requires { AreRisingBy number_of rows.old.items }
+    ensures items { rows.new.items ≡ map (C.changed change.now) rows.old.items }
+    ensures room { rows.new.room ≡ rows.old.room }
+{
+    for place in 0..rows.len() {
+        change_next(rows, place, change);
+    }
+}
+
+impl RecordTable {
+    /// No services, which take no memory.
+    pub fn new(alloc: Global) -> Result<RecordTable, OutOfMemory>
+        ensures { result ≡ Ok empty }
+    {
+        Ok(RecordTable {
+            rows: Rows::new(alloc),
+            texts: KeptTexts::new(alloc),
+            spare: None,
+            alloc,
+        })
+    }
+
+    /// Makes room for one insertion or replacement with this configuration's name, display name and
+    /// group, and lets go what was made for another.
+    pub fn reserve(&mut self, config: &Config) -> Result<(), OutOfMemory>
+        ensures ok { OnOk result (self.new ≡ reserved self.old config.now) }
+        ensures err { OnErr result (self.new ≡ unreserved self.old) }
+    {
+        self.forget_spare();
+        let alloc = self.alloc;
+        let spare = Spare::of(config, alloc)?;
+        self.rows.reserve()?;
+        reserve_texts(&mut self.texts, alloc, &spare)?;
+        self.spare = Some(spare);
+        Ok(())
+    }
+
+    /// Lets the room for a service go. Texts that no service has are forgotten with it.
+    pub fn forget_spare(&mut self)
+        ensures { self.new ≡ unreserved self.old }
+    {
+        if let Some(spare) = self.spare.take() {
+            tidy_texts(&mut self.texts, &spare);
+        }
+    }
+
+    /// Appends a service, for which room was made. It takes no memory.
+    pub fn insert(&mut self, service: Service)
+        requires spare { self.old.spare ≡ Some (spare_of service.config) }
+        requires above { AllByRecursion (λ other. other.number < service.number) self.old.services }
+        ensures { self.new ≡ inserted self.old service }
+    {
+        let Some(spare) = self.spare.take() else {
+            return;
+        };
+        enter_texts(&mut self.texts, &spare, service.number);
+        self.rows.push(service);
+    }
+
+    /// Gives a service another configuration, for which room was made, and answers the one that it
+    /// had. It takes no memory.
+    pub fn replace(&mut self, number: u64, config: Config) -> Option<Config>
+        requires spare { self.old.spare ≡ Some (spare_of config) }
+        ensures config { result ≡ config_at self.old.services number }
+        ensures table { self.new ≡ replaced self.old number config }
+    {
+        let spare = self.spare.take()?;
+        let Some(before) = exchange(&mut self.rows, number, config) else {
+            tidy_texts(&mut self.texts, &spare);
+            return None;
+        };
+        move_texts(&mut self.texts, &before, &spare, number);
+        Some(before)
+    }
+
+    /// Takes the service with a number out.
+    pub fn remove(&mut self, number: u64) -> Option<Service>
+        ensures service { result ≡ find (has_number number) self.old.services }
+        ensures table { self.new ≡ removed self.old number }
+    {
+        self.forget_spare();
+        let row = self.rows.remove(number)?;
+        leave_texts(&mut self.texts, &row.config, number);
+        Some(row)
+    }
+
+    /// Changes the service with a number, but for its configuration. False where no service has it.
+    pub fn alter<C: Change<Service>>(&mut self, number: u64, change: &C) -> bool
+        requires { (row : Service) → (C.changed change.now row).config ≡ row.config }
+        ensures found { result ≡ is_some (find (has_number number) self.old.services) }
+        ensures table { self.new ≡ altered self.old number (C.changed change.now) }
+    {
+        self.rows.alter(number, change)
+    }
+
+    /// Changes each service, but for its configuration.
+    pub fn alter_each<C: Change<Service>>(&mut self, change: &C)
+        requires { (row : Service) → (C.changed change.now row).config ≡ row.config }
+        ensures { self.new ≡ altered_each self.old (C.changed change.now) }
+    {
+        change_each(&mut self.rows, change);
+    }
+
+    /// Sets what changes of a service while it lives. False where no service has the number.
+    pub fn set_live(
+        &mut self,
+        number: u64,
+        status: Status,
+        marked: bool,
+        process: u64,
+        failures: u32,
+        last_failure: u64,
+    ) -> bool
+        ensures found { result ≡ is_some (find (has_number number) self.old.services) }
+        ensures table { self.new ≡ altered self.old number
+            (lived status marked process failures last_failure) }
+    {
+        let live = Live {
+            status,
+            marked,
+            process,
+            failures,
+            last_failure,
+        };
+        self.alter(number, &live)
+    }
+
+    /// How many services there are.
+    pub fn len(&self) -> usize
+        ensures len { result ≡ length self.now.services }
+        ensures small { result < 2 ^ 63 }
+        ensures rising { AreRisingBy number_of self.now.services }
+    {
+        self.rows.len()
+    }
+
+    /// The services, in order of number.
+    pub fn iter(&self) -> Services<'_>
+        ensures items { result ≡ self.now.services }
+        ensures small { length self.now.services < 2 ^ 63 }
+    {
+        Services::of(self)
+    }
+
+    /// The service with a number.
+    pub fn get(&self, number: u64) -> Option<&Service>
+        ensures { option_copied result ≡ find (has_number number) self.now.services }
+    {
+        self.rows.get(number)
+    }
+
+    /// The service at a place in the order of numbers.
+    pub fn at(&self, place: usize) -> Option<&Service>
+        ensures { option_copied result ≡ slice_get self.now.services place }
+    {
+        self.rows.at(place)
+    }
+
+    /// The least number of a service above this one.
+    pub fn after(&self, number: u64) -> Option<u64>
+        ensures { result ≡ first_with (is_above number_of number) self.now.services }
+    {
+        self.rows.after(number)
+    }
+
+    /// The numbers of the services with the same name, rising.
+    pub fn named(&self, name: &WText) -> &[u64]
+        ensures numbers { result.now ≡ numbers_with (is_named name.now) self.now.services }
+        ensures rising { AreRising result.now }
+    {
+        self.texts.names.at(name)
+    }
+
+    /// The numbers of the services with the same display name, rising.
+    pub fn displayed(&self, display: &WText) -> &[u64]
+        ensures numbers { result.now ≡ numbers_with (is_displayed display.now) self.now.services }
+        ensures rising { AreRising result.now }
+    {
+        self.texts.displays.at(display)
+    }
+
+    /// The numbers of the services of a group, rising.
+    pub fn members(&self, group: &WText) -> &[u64]
+        ensures numbers { result.now ≡ numbers_with (is_member group.now) self.now.services }
+        ensures rising { AreRising result.now }
+    {
+        self.texts.groups.at(group)
+    }
+
+    /// The number of the first service with the same name.
+    pub fn by_name(&self, name: &WText) -> Option<u64>
+        ensures number { result ≡ first_with (is_named name.now) self.now.services }
+        ensures row { service_at self.now.services result ≡ find (is_named name.now) self.now.services }
+    {
+        self.texts.names.at(name).first().copied()
+    }
+
+    /// The number of the first service with the same display name.
+    pub fn by_display(&self, display: &WText) -> Option<u64>
+        ensures number { result ≡ first_with (is_displayed display.now) self.now.services }
+        ensures row { service_at self.now.services result ≡ find (is_displayed display.now) self.now.services }
+    {
+        self.texts.displays.at(display).first().copied()
+    }
+
+    /// The number of the service at a place among those of a group.
+    pub fn member_at(&self, group: &WText, place: usize) -> Option<u64>
+        ensures { result ≡ slice_get (numbers_with (is_member group.now) self.now.services) place }
+    {
+        self.members(group).get(place).copied()
+    }
+}
