@@ -27,7 +27,7 @@ none_below : (n : ℕ) (xs : List ℕ) → AllByRecursion (λ x. n < x) xs → b
 none_below n [] all = refl
 none_below n (x ∷ xs) all = rw (le-ltb x n (omega (arith, all.0))) (none_below n xs all.1)
 
-all_above : (n : ℕ) (xs : List ℕ) → AllByRecursion (λ x. n < x) xs → above n xs ≡ xs
+pub all_above : (n : ℕ) (xs : List ℕ) → AllByRecursion (λ x. n < x) xs → above n xs ≡ xs
 all_above n [] all = refl
 all_above n (x ∷ xs) all = rw (lt-ltb n x all.0) (ap (λ rest. x ∷ rest) (all_above n xs all.1))
 
@@ -126,7 +126,7 @@ added_met need rows new fresh =
 
 -- ## All of them are listed
 
-all_had : (xs : List ℕ) (P : ℕ → Type 0) → ((y : ℕ) → has xs y ≡ true → P y) → AllByRecursion P xs
+pub all_had : (xs : List ℕ) (P : ℕ → Type 0) → ((y : ℕ) → has xs y ≡ true → P y) → AllByRecursion P xs
 all_had [] P each = tt
 all_had (x ∷ xs) P each = (each x (rw (eq-eqb x x refl) refl), all_had xs P (λ y h. each y (or_right (eqb y x) (has xs y) h)))
 

@@ -110,6 +110,14 @@ impl DependencyIndex {
         })
     }
 
+    /// The rows, in order of number.
+    pub(crate) fn rows(&self) -> &[NeedRow]
+        ensures rows { result.now ≡ self.now.rows }
+        ensures rising { AreRisingBy number_of self.now.rows }
+    {
+        self.rows.as_slice()
+    }
+
     /// How many services have a row.
     pub fn len(&self) -> usize
         ensures { result ≡ length self.now.rows }

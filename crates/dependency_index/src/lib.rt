@@ -11,9 +11,7 @@ mod rows;
 mod steps;
 mod visit;
 
-pub use dependents::{
-    dependents_follow_their_rule, dependents_need_it_by_name, order_of_dependents,
-};
+pub use dependents::{dependents_follow_their_rule, dependents_need_it_by_name};
 pub use graph::{Graph, NeedRows, NewRow};
 pub use index::DependencyIndex;
 pub use naming::{StateLook, is_named};
