@@ -4,13 +4,14 @@ ghost use Rattle.std.specs.Option.{option_copied};
 ghost use Rattle.std.specs.List.{list_any};
 ghost use Rattle.scm_model.specs.Rows.{named};
 ghost use Rattle.scm_text.specs.Fold.{same_text};
+ghost use Rattle.start_plan.specs.Asleep.{ArePending};
 ghost use Rattle.start_plan.specs.Entered.{started_if, HasNumbers};
 ghost use Rattle.start_plan.specs.Moves.{cause_at, entering_at};
 ghost use Rattle.scm_model.specs.Ready.{is_fulfilled, is_ready, is_running, is_up};
 
 use scm_model::{LockRow, Need, Phase, Process, Service, Status, Wanted};
 use scm_text::{Items, OutOfMemory, WText, same};
-use start_plan::{Entering, Field};
+use start_plan::{Entering, Field, Plans};
 use std::alloc::Global;
 use std::marker::Model;
 
@@ -160,14 +161,20 @@ impl Bench {
         let _ = &self.next;
     }
 
-    pub fn set_lock(&mut self, lock: Option<LockRow>) {
+    pub fn set_lock(&mut self, lock: Option<LockRow>)
+        ensures { self.new.0.services ≡ self.old.0.services }
+    {
         self.lock = lock;
     }
 
-    /// Puts a service into a state.
-    pub fn put(&mut self, place: usize, state: u32) {
+    /// Puts a service into a state, and wakes the plans that sleep for it.
+    pub fn put(&mut self, plans: &mut Plans, place: usize, state: u32)
+        requires { ArePending self.old.0.services plans.old.awaited }
+        ensures { ArePending self.new.0.services plans.new.awaited }
+    {
         if place < self.services.len() {
             let row = &mut self.services[place];
+            plans.wake(row.number);
             row.status = status(row.status.kind, state);
         }
     }

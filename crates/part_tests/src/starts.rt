@@ -1,4 +1,5 @@
 ghost use Rattle.std.specs.Prelude.{◌≡◌, []};
+ghost use Rattle.start_plan.specs.Asleep.{ArePending};
 
 use crate::bench::{Bench, status};
 use crate::texts::{add, text};
@@ -148,6 +149,7 @@ fn numbers(alloc: Global, entries: &[u64]) -> Result<Items<u64>, OutOfMemory> {
 /// Begins plan 7 of a caller, for the last of its entries, with the word `x`.
 fn begin(alloc: Global, plans: &mut Plans, caller: u64, entries: &[u64]) -> Result<(), Fail>
     requires { plans.old.plans ≡ [] }
+    ensures { plans.new.awaited ≡ plans.old.awaited }
 {
     let (Ok(words), Ok(numbers)) = (words(alloc), numbers(alloc, entries)) else {
         return Err("memory".into());
@@ -167,13 +169,16 @@ fn begin(alloc: Global, plans: &mut Plans, caller: u64, entries: &[u64]) -> Resu
     Ok(())
 }
 
-fn befall(plans: &mut Plans, bench: &mut Bench, event: Event) {
+fn befall(plans: &mut Plans, bench: &mut Bench, event: Event)
+    requires { ArePending bench.old.0.services plans.old.awaited }
+    ensures { ArePending bench.new.0.services plans.new.awaited }
+{
     match event {
         Event::Settled => {
             bench.has_numbers();
             plans.settle(bench);
         }
-        Event::Put(place, state) => bench.put(place, state),
+        Event::Put(place, state) => bench.put(plans, place, state),
         Event::Locked => bench.set_lock(Some(LockRow {
             handle: 5,
             since: 0,
@@ -183,6 +188,14 @@ fn befall(plans: &mut Plans, bench: &mut Bench, event: Event) {
         Event::Failed(service, code) => plans.failed(service, code),
         Event::Expired => plans.expire(7),
         Event::Gone(caller) => plans.gone(caller),
+    }
+}
+
+fn befall_all(plans: &mut Plans, bench: &mut Bench, events: &[Event])
+    requires { ArePending bench.old.0.services plans.old.awaited }
+{
+    for event in events {
+        befall(plans, bench, *event);
     }
 }
 
@@ -203,9 +216,7 @@ fn settle(
 ) -> Result<Fate, Fail> {
     let mut plans = Plans::new(alloc)?;
     begin(alloc, &mut plans, caller, entries)?;
-    for event in events {
-        befall(&mut plans, bench, *event);
-    }
+    befall_all(&mut plans, bench, events);
     Ok(fate_of(&plans))
 }
 
@@ -380,10 +391,14 @@ fn is_taken(plans: &mut Plans) -> bool {
     }
 }
 
-fn go(bench: &mut Bench, plans: &mut Plans) -> Result<(), Fail> {
-    for event in [Event::Settled, Event::Put(0, RUNNING), Event::Settled] {
-        befall(plans, bench, event);
-    }
+fn go(bench: &mut Bench, plans: &mut Plans) -> Result<(), Fail>
+    requires { ArePending bench.old.0.services plans.old.awaited }
+{
+    befall_all(
+        plans,
+        bench,
+        &[Event::Settled, Event::Put(0, RUNNING), Event::Settled],
+    );
     if wanted(bench) != [(1, 0), (2, 1)] {
         return Err("other words".into());
     }

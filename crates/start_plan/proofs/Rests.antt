@@ -11,6 +11,7 @@ use Rattle.scm_model.specs.declared.flat.Service.{Service}
 use Rattle.start_plan.specs.Entered.{starting_in, started_if, with_entered}
 use Rattle.start_plan.specs.Moves.{cause_of, entering_at, has, is_pending, move_by, move_of}
 use Rattle.scm_model.specs.Ready.{state_in, state_of}
+use Rattle.start_plan.specs.Resting.{Rests, RestsAt}
 use Rattle.start_plan.specs.Settle.{moved, dropped, words_for, move_code, settle_entries, settle_plan, settle_all, settled, tidied, stays, is_due_still}
 use Rattle.start_plan.specs.declared.field.Entering.{Entering}
 use Rattle.start_plan.specs.declared.field.Entering.TheVariants as entering
@@ -19,17 +20,9 @@ use Rattle.start_plan.proofs.Keeps.{Keeps, IsEntry, all_filter, is_entry, keeps_
 use Rattle.start_plan.proofs.Enterings.{all_units}
 use Rattle.start_plan.proofs.Rows.{same_number, started_or}
 
--- a plan that is decided, has no entry left, or waits
-abbrev RestsAt : Limits → Flat → Plan → List ℕ → Type 0
-RestsAt l f plan [] = Unit {0}
-RestsAt l f plan (x ∷ xs) = move_of l f plan.tried x ≡ moves.Waits
-
-abbrev Rests : Limits → Flat → Plan → Type 0
-Rests l f plan = (is_some plan.code ≡ true) ⊎ RestsAt l f plan plan.entries
-
 -- ## States after an entering
 
-state_after : (n p x : ℕ) (rows : List Service) → (state_in (find (λ (row : Service). row.number == x) rows) ≡ 1)
+pub state_after : (n p x : ℕ) (rows : List Service) → (state_in (find (λ (row : Service). row.number == x) rows) ≡ 1)
     ⊎ (state_in (find (λ (row : Service). row.number == x) (map (started_if n p) rows)) ≡ state_in (find (λ (row : Service). row.number == x) rows))
 state_after n p x [] = inr refl
 state_after n p x (row ∷ rows) =
@@ -82,7 +75,7 @@ at_kept l f n words plan [] tried entry rests = tt
 at_kept l f n words plan (x ∷ xs) tried entry rests = waits_kept l f n words plan.tried tried x entry rests
 
 -- a plan that rests goes on resting
-rests_kept : (l : Limits) (plan : Plan) → Keeps l (λ f. Rests l f plan) (λ plan. Unit {0})
+pub rests_kept : (l : Limits) (plan : Plan) → Keeps l (λ f. Rests l f plan) (λ plan. Unit {0})
 rests_kept l plan = record {
   enters = λ f other n words entry rests. elim rests as (λ _. Rests l (with_entered f n words) plan) [
     | inl decided ↦ inl decided
@@ -131,7 +124,7 @@ entries_still l f plan (x ∷ xs) (inr waits) =
       | false ↦ rw waits refl
     ]
 
-plan_still : (l : Limits) (f : Flat) (plan : Plan) → Rests l f plan → settle_plan l f plan ≡ (f, plan)
+pub plan_still : (l : Limits) (f : Flat) (plan : Plan) → Rests l f plan → settle_plan l f plan ≡ (f, plan)
 plan_still l f plan rests = entries_still l f plan plan.entries rests
 
 all_still : (l : Limits) (f : Flat) (plans : List Plan) → AllByRecursion (Rests l f) plans → settle_all l f plans ≡ (f, plans)
