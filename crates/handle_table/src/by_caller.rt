@@ -79,6 +79,20 @@ fn first_in(list: &[Held], caller: u64) -> Option<u64>
     }
 }
 
+/// The greatest of a caller's numbers. No handle gets 2^64 - 1, which is looked for last.
+fn last_in(list: &[Held], caller: u64) -> Option<u64>
+    requires { AreOrdered list.now }
+    ensures some { IfSome result (λ number. has list.now caller number ≡ true) }
+    ensures none { IfNone result ((number : ℕ) → has list.now caller number ≡ false) }
+{
+    let behind = place_of(list, caller, u64::MAX);
+    if 0 < behind && list[behind - 1].caller == caller {
+        Some(list[behind - 1].number)
+    } else {
+        first_in(list, caller)
+    }
+}
+
 impl ByCaller {
     /// No numbers, which take no memory.
     pub fn new(alloc: Global) -> Self
@@ -100,12 +114,12 @@ impl ByCaller {
         }
     }
 
-    /// The least of a caller's numbers.
-    pub fn first_of(&self, caller: u64) -> Option<u64>
+    /// The greatest of a caller's numbers: fewer stand behind it than behind each other one.
+    pub fn last_of(&self, caller: u64) -> Option<u64>
         ensures some { IfSome result (λ number. has self.now.items caller number ≡ true) }
         ensures none { IfNone result ((number : ℕ) → has self.now.items caller number ≡ false) }
     {
-        first_in(self.list.as_slice(), caller)
+        last_in(self.list.as_slice(), caller)
     }
 
     /// Lists a number under its caller. It takes no memory.

@@ -190,18 +190,18 @@ impl HandleTable {
         ensures rows { self.new.rows ≡ filter (λ row. not (is_callers caller row)) self.old.rows }
         ensures next { self.new.next ≡ self.old.next }
     {
-        while let Some(number) = self.first_of(caller) {
+        while let Some(number) = self.last_of(caller) {
             let _row = self.remove(number);
         }
     }
 
-    /// The least of the numbers of a caller's handles.
-    fn first_of(&self, caller: u64) -> Option<u64>
+    /// The greatest of the numbers of a caller's handles. It leaves without a move of the others.
+    fn last_of(&self, caller: u64) -> Option<u64>
         ensures some { IfSome result (λ number. list_any (is_handle caller number) self.now.rows ≡ true) }
         ensures none { IfNone result ((number : ℕ) → list_any (is_handle caller number) self.now.rows ≡ false) }
         ensures rising { AreRisingBy (λ row. row.number) self.now.rows }
     {
         let _len = self.rows.len();
-        self.held.first_of(caller)
+        self.held.last_of(caller)
     }
 }
