@@ -1,6 +1,6 @@
 -- What the changes keep of texts and of the numbers of plans.
 use Rattle.std.proofs.Common.{ℕ, ◌≡◌, ◌+◌, ◌==◌, ◌&&◌, Bool, true, false, cond, List, [], ◌∷◌, ◌++◌, filter, map, get_or, sym, refl, subst, arith, ◌∙◌}
-use Rattle.std.specs.Prelude.{All, vec_capacity}
+use Rattle.std.specs.Prelude.{All}
 use Rattle.std.specs.List.{AllByRecursion}
 use Rattle.std.proofs.lemmas.List.Elements.{All-map}
 use Rattle.scm_model.specs.declared.flat.Config.{Config}
@@ -15,6 +15,7 @@ use Rattle.scm_rules.specs.Reports.{moved_by, reported_if}
 use Rattle.status_machine.specs.Moves.{take_report}
 use Rattle.scm_model.specs.declared.flat.Status.{Status}
 use Rattle.std.specs.Prelude.{Result, Ok, Err}
+use Rattle.start_plan.specs.Asleep.{ArePending}
 use Rattle.start_plan.specs.Decided.{decided_if, decided_in}
 use Rattle.start_plan.specs.Entered.{started_if}
 use Rattle.start_plan.specs.Settle.{is_due_still, settle_all, settled, stays, with_plans}
@@ -24,6 +25,7 @@ use Rattle.start_plan.proofs.Enterings.{all_units}
 use Rattle.scm_model.specs.declared.flat.Due.{Due}
 use Rattle.scm_tables.specs.Places.{HasPlaces}
 use Rattle.scm_tables.specs.Inside.{IsBelow, IsKept}
+use Rattle.scm_tables.specs.Owned.{AreOwners}
 use Rattle.scm_tables.specs.Processed.{Processed}
 use Rattle.scm_tables.specs.Tabled.{HasShort, HasShortTexts}
 use Rattle.scm_tables.specs.declared.tables.Tables.TheInside.{Inside}
@@ -131,37 +133,41 @@ settles l f g plans ended rows plans_are flat_is rows_are =
     rw (rows_are, flat_is, plans_are) (sym (settles_beside l f plans))
 
 -- lists that differ in plans, due rows and what no list tells are kept where their plans and due rows are
-pub other_plans : {t u : Inside} → IsKept t → u.next.service ≡ t.next.service → u.services.items ≡ t.services.items → u.index.rows ≡ t.index.rows → u.acyclic ≡ t.acyclic → u.leaving ≡ t.leaving
-    → u.limits.processes ≡ t.limits.processes → u.processes.capacity ≡ t.processes.capacity → u.processes.next ≡ t.processes.next → u.tried.items ≡ t.tried.items
+pub other_plans : {t u : Inside} → IsKept t → u.next.service ≡ t.next.service → u.services.services ≡ t.services.services → u.index.rows ≡ t.index.rows → u.acyclic ≡ t.acyclic → u.leaving ≡ t.leaving
+    → u.limits.processes ≡ t.limits.processes → u.processes ≡ t.processes → u.tried.items ≡ t.tried.items
     → u.start_room ≡ t.start_room → u.starts.items ≡ t.starts.items → u.commands.items ≡ t.commands.items
-    → AllByRecursion (IsBelow u.next.plan) u.plans.plans → HasPlaces t.services.items u.dues.items (vec_capacity u.dues) → IsKept u
-other_plans kept next rows index acyclic marked limit capacity listed tried wide starts commands plans dues = record {
+    → AllByRecursion (IsBelow u.next.plan) u.plans.plans → ArePending t.services.services u.plans.awaited → HasPlaces t.services.services u.dues.rows u.dues.capacity → IsKept u
+other_plans kept next rows index acyclic marked limit processes tried wide starts commands plans pending dues = record {
   rising = rw next (rw rows kept.rising);
-  owns = rw listed (rw rows kept.owns);
+  owns = rw processes (rw rows kept.owns);
+  listed = rw processes (rw rows kept.listed);
   texts = rw rows kept.texts;
   index = rw (index, rows) kept.index;
   needs = rw acyclic (rw rows kept.needs);
   marked = rw marked (rw rows kept.marked);
   marks = rw marked (rw rows kept.marks);
-  room = rw limit (rw capacity kept.room);
+  room = rw limit (rw processes kept.room);
   plans = plans;
+  pending = rw rows pending;
   untried = tried ∙ kept.untried;
   dues = rw rows dues;
   rooms = rw (wide, starts, commands) kept.rooms;
 }
 
--- lists that differ in processes are kept where there is room for as many and the next one has the same number
-pub other_processes : {t : Inside} → IsKept t → (all : Processed) → all.next ≡ t.processes.next → all.capacity ≡ t.processes.capacity → IsKept (record t { processes = all })
-other_processes kept all next capacity = record {
+-- lists that differ in processes are kept where there is room for as many, the next one has the same number, and those that are listed are of their services
+pub other_processes : {t : Inside} → IsKept t → (all : Processed) → {new : Processed} → all ≡ new → new.next ≡ t.processes.next → new.capacity ≡ t.processes.capacity → AreOwners new.processes t.services.services → IsKept (record t { processes = all })
+other_processes kept all is next capacity listed = record {
   rising = kept.rising;
-  owns = rw next kept.owns;
+  owns = rw (is, next) kept.owns;
+  listed = rw is listed;
   texts = kept.texts;
   index = kept.index;
   needs = kept.needs;
   marked = kept.marked;
   marks = kept.marks;
-  room = rw capacity kept.room;
+  room = rw (is, capacity) kept.room;
   plans = kept.plans;
+  pending = kept.pending;
   untried = kept.untried;
   dues = kept.dues;
   rooms = kept.rooms;

@@ -1,5 +1,8 @@
-pub mod Greatest
+pub mod Numbered
 pub mod Rising
+pub mod Sleeping
+pub mod Turns
+pub mod Showing
 pub mod Keeping
 pub mod Listing
 pub mod Wording
@@ -10,6 +13,7 @@ pub mod Bisecting
 pub mod Counting
 pub mod Changing
 pub mod Owning
+pub mod Permuted
 pub mod Placed
 pub mod Fired
 pub mod Failures

@@ -71,7 +71,7 @@ opened_texts first (config ∷ configs) short =
 
 -- ## The starts that become due by themselves
 
-count_cons : {X : Type 0} (q : X → Bool) (x : X) (xs : List X) → length (filter q (x ∷ xs)) ≡ one_if (q x) + length (filter q xs)
+pub count_cons : {X : Type 0} (q : X → Bool) (x : X) (xs : List X) → length (filter q (x ∷ xs)) ≡ one_if (q x) + length (filter q xs)
 count_cons q x xs = elim (q x) as (λ b. length (cond b (x ∷ filter q xs) (filter q xs)) ≡ one_if b + length (filter q xs)) [ true ↦ omega arith | false ↦ omega arith ]
 
 -- an order changes no count

@@ -1,29 +1,24 @@
 -- The services that processes are of: what the changes keep, and what is changed where one alone has a process.
-use Rattle.std.proofs.Common.{ℕ, ◌≡◌, ◌≢◌, ◌∙◌, ◌<◌, ◌+◌, ◌++◌, ◌==◌, ◌&&◌, ◌⊎◌, inl, inr, zero, suc, Bool, true, false, cond, List, [], ◌∷◌, Option, Some, Result, Ok, Err, filter, find, map, get_or, length, ap, sym, refl, subst, arith, eq-eqb, eqb-true}
-use Rattle.std.specs.Prelude.{All, AllPairs, IfSome, set}
-use Rattle.std.proofs.lemmas.Bool.{cases_order, ne_eqb}
-use Rattle.std.proofs.lemmas.List.{get_or-map, length-map}
-use Rattle.std.proofs.lemmas.List.Elements.{All-cons, All-filter, All-map, All-nil, All-push}
-use Rattle.std.proofs.lemmas.List.Kept.{AllPairs-filter}
-use Rattle.std.proofs.lemmas.List.Quantifiers.{all_pairs_push}
-use Rattle.std.proofs.lemmas.Option.{slice_get-get_or}
+use Rattle.std.proofs.Common.{ℕ, ◌≡◌, ◌≢◌, ◌∙◌, ◌<◌, ◌+◌, ◌++◌, ◌==◌, ◌&&◌, ◌⊎◌, inl, inr, Bool, true, false, cond, List, [], ◌∷◌, Option, Some, Result, Ok, Err, filter, find, map, get_or, length, sym, refl, subst, arith, eqb-true}
+use Rattle.std.specs.Prelude.{All, IfSome, drop, nat_lt, not, option_map}
+use Rattle.std.proofs.lemmas.List.Elements.{All-cons, All-filter, All-head, All-map, All-nil, All-push, All-tail}
 use Rattle.scm_model.specs.declared.flat.Config.{Config}
+use Rattle.scm_model.specs.declared.flat.Phase.TheVariants as phases
+use Rattle.scm_model.specs.declared.flat.Process.{Process}
 use Rattle.scm_model.specs.declared.flat.Service.{Service}
 use Rattle.scm_model.specs.declared.flat.Status.{Status}
 use Rattle.failure_actions.specs.Failing.{on_failure}
 use Rattle.scm_model.specs.Changes.{configured_if, new_service}
 use Rattle.scm_rules.specs.Failures.{counted_if}
 use Rattle.scm_rules.specs.Create.{new_status}
-use Rattle.scm_rules.specs.Launches.{fallen_if}
+use Rattle.scm_rules.specs.Controls.{controlled_if, relieved_if}
+use Rattle.scm_rules.specs.Launches.{fallen_if, launched_if, taken_if}
 use Rattle.scm_rules.specs.Opening.{services_from}
 use Rattle.scm_rules.specs.Reports.{moved_by, reported_if}
-use Rattle.start_plan.specs.Entered.{started_if, starting_in}
+use Rattle.start_plan.specs.Entered.{started_if, starting_in, wanted_process}
 use Rattle.status_machine.specs.Moves.{take_report}
-use Rattle.scm_tables.specs.Tabled.{HaveOwn, IsOnly}
-use Rattle.scm_tables.proofs.Bisecting.{none_changed}
-
-abbrev Apart : Service → Service → Type 0
-Apart a b = a.process ≡ b.process → a.process ≡ 0
+use Rattle.scm_tables.specs.Owned.{AreOwners, HaveOwn, NoOtherHas}
+use Rattle.scm_tables.proofs.Keeping.{started_number}
 
 -- ## What the changes keep
 
@@ -31,14 +26,12 @@ pub own_push : (next : ℕ) (rows : List Service) (row : Service) → HaveOwn ne
 own_push next rows row old none = record {
   some = old.some;
   below = All-push (λ (r : Service). r.process < next) rows row old.below (omega (arith, none, old.some));
-  apart = all_pairs_push Apart rows row old.apart (λ k d lt same. omega (arith, same, none));
 }
 
 pub own_filter : (next : ℕ) (p : Service → Bool) (rows : List Service) → HaveOwn next rows → HaveOwn next (filter p rows)
 own_filter next p rows old = record {
   some = old.some;
   below = All-filter p (λ (r : Service). r.process < next) rows old.below;
-  apart = AllPairs-filter Apart p rows old.apart;
 }
 
 -- as more processes are listed
@@ -46,16 +39,7 @@ pub own_more : (next : ℕ) (rows : List Service) → HaveOwn next rows → Have
 own_more next rows old = record {
   some = omega (arith, old.some);
   below = λ k d lt. omega (arith, old.below k d lt);
-  apart = old.apart;
 }
-
--- a fact of each two rows of a changed list
-pairs_map : (change : Service → Service) (rows : List Service) → ((i j : ℕ) (d : Service) → i < j → j < length rows → Apart (change (get_or rows i d)) (change (get_or rows j d))) → AllPairs Apart (map change rows)
-pairs_map change rows all i j d lt within =
-    let short : j < length rows = simp length-map at within in
-    let shorter : i < length rows = omega arith in
-    subst (λ (a : Service). Apart a (get_or (map change rows) j d)) (sym (get_or-map change rows i d d shorter))
-    (subst (λ (b : Service). Apart (change (get_or rows i d)) b) (sym (get_or-map change rows j d d short)) (all i j d lt short))
 
 -- a change that keeps each process or takes it away
 pub own_map : (next : ℕ) (change : Service → Service) → ((row : Service) → ((change row).process ≡ row.process) ⊎ ((change row).process ≡ 0)) → (rows : List Service) → HaveOwn next rows → HaveOwn next (map change rows)
@@ -64,13 +48,6 @@ own_map next change keeps rows old = record {
   below = All-map (λ (r : Service). r.process < next) change rows (λ k d lt. elim (keeps (get_or rows k d)) [
     | inl same ↦ omega (arith, same, old.below k d lt)
     | inr none ↦ omega (arith, none, old.some)
-  ]);
-  apart = pairs_map change rows (λ i j d lt short same. elim (keeps (get_or rows i d)) [
-    | inl p ↦ elim (keeps (get_or rows j d)) [
-      | inl q ↦ omega (arith, p, old.apart i j d lt short (omega (arith, same, p, q)))
-      | inr q ↦ omega (arith, same, q)
-    ]
-    | inr p ↦ p
   ]);
 }
 
@@ -104,22 +81,12 @@ started_process n next row =
       | false ↦ λ e. inl refl
     ] refl
 
-pub own_started : (n next : ℕ) (rows : List Service) → AllPairs (λ (a b : Service). a.number < b.number) rows → HaveOwn next rows → HaveOwn (next + 1) (map (started_if n next) rows)
-own_started n next rows rising old = record {
+pub own_started : (n next : ℕ) (rows : List Service) → HaveOwn next rows → HaveOwn (next + 1) (map (started_if n next) rows)
+own_started n next rows old = record {
   some = omega (arith, old.some);
   below = All-map (λ (r : Service). r.process < next + 1) (started_if n next) rows (λ k d lt. elim (started_process n next (get_or rows k d)) [
     | inl same ↦ omega (arith, same, old.below k d lt)
     | inr new ↦ omega (arith, new.0)
-  ]);
-  apart = pairs_map (started_if n next) rows (λ i j d lt short same. elim (started_process n next (get_or rows i d)) [
-    | inl p ↦ elim (started_process n next (get_or rows j d)) [
-      | inl q ↦ omega (arith, p, old.apart i j d lt short (omega (arith, same, p, q)))
-      | inr q ↦ absurd (omega (arith, same, p, q.0, old.below i d (omega (arith, lt, short))))
-    ]
-    | inr p ↦ elim (started_process n next (get_or rows j d)) [
-      | inl q ↦ absurd (omega (arith, same, p.0, q, old.below j d short))
-      | inr q ↦ absurd (omega (arith, p.1, q.1, rising i j d lt short))
-    ]
   ]);
 }
 
@@ -132,55 +99,85 @@ pub opened_own : (first : ℕ) (configs : List Config) → HaveOwn 1 (services_f
 opened_own first configs = record {
   some = omega arith;
   below = λ k d lt. omega (arith, none_from first configs k d lt);
-  apart = λ i j d lt within same. none_from first configs i d (omega (arith, lt, within));
 }
 
--- ## The one that has a process
+-- ## Listed processes
 
--- a row at a place, whatever stands in for one that isn't there
-at_any : (process : ℕ) (rows : List Service) (i : ℕ) (r d : Service) → i < length rows → (get_or rows i r).process ≡ process → (get_or rows i d).process ≡ process
-at_any process rows i r d within is =
-    subst (λ (o : Option Service). IfSome o (λ (row : Service). row.process ≡ process)) (slice_get-get_or rows i d within)
-    (subst (λ (o : Option Service). IfSome o (λ (row : Service). row.process ≡ process)) (sym (slice_get-get_or rows i r within)) is)
+-- a service, if it has a process, has this number
+abbrev IsThis : ℕ → ℕ → Service → Type 0
+IsThis process service row = row.process ≢ 0 → row.process ≡ process → row.number ≡ service
 
-pub only_at : (process : ℕ) (rows : List Service) (i : ℕ) (r : Service) → AllPairs (λ (a b : Service). a.process ≡ b.process → a.process ≡ 0) rows → i < length rows → (get_or rows i r).process ≡ process → process ≢ 0 → IsOnly process rows i
-only_at process rows i r apart within is some = record {
-  within = within;
-  has = λ d. at_any process rows i r d within is;
-  others = λ k d lt other same.
-      let here = at_any process rows i r d within is in
-      elim (cases_order k i) [
-        | inl equal ↦ other equal
-        | inr (inl less) ↦ some (omega (arith, same, apart k i d less within (same ∙ sym here)))
-        | inr (inr more) ↦ some (omega (arith, here, apart i k d more lt (here ∙ sym same)))
-      ];
-}
+-- the process that is given next
+pub nobody_yet : (next : ℕ) (rows : List Service) (service : ℕ) → HaveOwn next rows → NoOtherHas next rows service
+nobody_yet next rows service own k d lt some same = absurd (omega (arith, same, own.below k d lt))
 
-rest : (process : ℕ) (row : Service) (rows : List Service) (i : ℕ) → IsOnly process (row ∷ rows) (suc i) → IsOnly process rows i
-rest process row rows i only = record {
-  within = (let lt = only.within in omega (arith, lt));
-  has = λ d. only.has d;
-  others = λ k d lt other. only.others (suc k) d (omega (arith, lt)) (λ same. other (omega (arith, same)));
-}
+pub listed_more : (processes : List Process) (process : Process) (rows : List Service) → AreOwners processes rows → NoOtherHas process.number rows process.service → AreOwners (processes ++ process ∷ []) rows
+listed_more processes process rows old new = All-push (λ (p : Process). NoOtherHas p.number rows p.service) processes process old new
 
-pub only_found : (process : ℕ) (rows : List Service) (i : ℕ) (d : Service) → IsOnly process rows i → find (λ (row : Service). row.process == process) rows ≡ Some (get_or rows i d)
-only_found process [] i d only = absurd (let lt = only.within in omega (arith, lt))
-only_found process (row ∷ rows) zero d only = ap (λ b. cond b (Some row) (find (λ (r : Service). r.process == process) rows)) (eq-eqb row.process process (only.has d))
-only_found process (row ∷ rows) (suc i) d only =
-    ap (λ b. cond b (Some row) (find (λ (r : Service). r.process == process) rows)) (ne_eqb row.process process (only.others 0 row (omega arith) (λ same. omega (arith, same))))
-    ∙ only_found process rows i d (rest process row rows i only)
+pub listed_without : (number : ℕ) (processes : List Process) (rows : List Service) → AreOwners processes rows → AreOwners (filter (λ (row : Process). not (row.number == number)) processes) rows
+listed_without number processes rows old = All-filter (λ (row : Process). not (row.number == number)) (λ (p : Process). NoOtherHas p.number rows p.service) processes old
 
--- a change of the rows with a process changes it alone
-pub only_changed : (process : ℕ) (change : Service → Service) → ((row : Service) → row.process ≢ process → change row ≡ row) → (rows : List Service) (i : ℕ) (d : Service) → IsOnly process rows i → set rows i (change (get_or rows i d)) ≡ map change rows
-only_changed process change elsewhere [] i d only = absurd (let lt = only.within in omega (arith, lt))
-only_changed process change elsewhere (row ∷ rows) zero d only =
-    ap (λ (rs : List Service). change row ∷ rs) (sym (none_changed (λ (r : Service). r.process) process change elsewhere rows (λ k e lt. only.others (suc k) e (omega (arith, lt)) (λ same. omega (arith, same)))))
-only_changed process change elsewhere (row ∷ rows) (suc i) d only =
-    ap (λ (r : Service). r ∷ set rows i (change (get_or rows i d))) (sym (elsewhere row (only.others 0 row (omega arith) (λ same. omega (arith, same)))))
-    ∙ ap (λ (rs : List Service). change row ∷ rs) (only_changed process change elsewhere rows i d (rest process row rows i only))
+-- what of a process tells whose it is
+abbrev owned_as : Process → ℕ × ℕ
+owned_as process = (process.number, process.service)
 
-pub fallen_elsewhere : (process code : ℕ) (row : Service) → row.process ≢ process → fallen_if process code row ≡ row
-fallen_elsewhere process code row other = rw (ne_eqb row.process process other) refl
+-- a change that keeps each process's number and service
+pub listed_changed : (change : Process → Process) → ((p : Process) → owned_as (change p) ≡ owned_as p) → (processes : List Process) (rows : List Service) → AreOwners processes rows → AreOwners (map change processes) rows
+listed_changed change same processes rows old =
+    All-map (λ (p : Process). NoOtherHas p.number rows p.service) change processes (λ k d lt. subst (λ (n : ℕ × ℕ). NoOtherHas n.0 rows n.1) (sym (same (get_or processes k d))) (old k d lt))
 
-pub reported_elsewhere : (process : ℕ) (report : Status) (row : Service) → row.process ≢ process → reported_if process report row ≡ row
-reported_elsewhere process report row other = rw (ne_eqb row.process process other) refl
+pub taken_same : (n : ℕ) (p : Process) → owned_as (taken_if n p) ≡ owned_as p
+taken_same n p = elim (p.number == n) as (λ b. owned_as (cond b (record p { phase = phases.Taken }) p) ≡ owned_as p) [ true ↦ refl | false ↦ refl ]
+
+pub launched_same : (n pid : ℕ) (p : Process) → owned_as (launched_if n pid p) ≡ owned_as p
+launched_same n pid p = elim (p.number == n) as (λ b. owned_as (cond b (record p { phase = phases.Launched; pid = pid }) p) ≡ owned_as p) [ true ↦ refl | false ↦ refl ]
+
+pub controlled_same : (limit n code : ℕ) (p : Process) → owned_as (controlled_if limit n code p) ≡ owned_as p
+controlled_same limit n code p =
+    elim (p.number == n && nat_lt (length p.controls) limit) as (λ b. owned_as (cond b (record p { controls = p.controls ++ code ∷ [] }) p) ≡ owned_as p) [ true ↦ refl | false ↦ refl ]
+
+pub relieved_same : (n : ℕ) (p : Process) → owned_as (relieved_if n p) ≡ owned_as p
+relieved_same n p = elim (p.number == n) as (λ b. owned_as (cond b (record p { controls = drop 1 p.controls }) p) ≡ owned_as p) [ true ↦ refl | false ↦ refl ]
+
+pub listed_push : (processes : List Process) (rows : List Service) (row : Service) → AreOwners processes rows → row.process ≡ 0 → AreOwners processes (rows ++ row ∷ [])
+listed_push processes rows row old none k d lt = let p = get_or processes k d in All-push (IsThis p.number p.service) rows row (old k d lt) (λ some same. absurd (some none))
+
+pub listed_filter : (processes : List Process) (q : Service → Bool) (rows : List Service) → AreOwners processes rows → AreOwners processes (filter q rows)
+listed_filter processes q rows old k d lt = let p = get_or processes k d in All-filter q (IsThis p.number p.service) rows (old k d lt)
+
+-- a change that keeps each number, and each process or takes it away
+pub listed_map : (processes : List Process) (change : Service → Service) → ((row : Service) → (change row).number ≡ row.number) → ((row : Service) → ((change row).process ≡ row.process) ⊎ ((change row).process ≡ 0)) → (rows : List Service) → AreOwners processes rows → AreOwners processes (map change rows)
+listed_map processes change numbers keeps rows old k d lt =
+    let p = get_or processes k d in
+    All-map (IsThis p.number p.service) change rows (λ i e within some same. elim (keeps (get_or rows i e)) [
+      | inl kept ↦ numbers (get_or rows i e) ∙ old k d lt i e within (λ none. some (kept ∙ none)) (sym kept ∙ same)
+      | inr none ↦ absurd (some none)
+    ])
+
+-- one service is started by a process that is listed next
+pub listed_started : (n next : ℕ) (processes : List Process) (rows : List Service) → AreOwners processes rows → HaveOwn next rows → All (λ (p : Process). p.number < next) processes
+    → AreOwners (processes ++ wanted_process next n ∷ []) (map (started_if n next) rows)
+listed_started n next processes rows old own above =
+    listed_more processes (wanted_process next n) (map (started_if n next) rows)
+    (λ k d lt. let p = get_or processes k d in All-map (IsThis p.number p.service) (started_if n next) rows (λ i e within some same. elim (started_process n next (get_or rows i e)) [
+      | inl kept ↦ started_number n next (get_or rows i e) ∙ old k d lt i e within (λ none. some (kept ∙ none)) (sym kept ∙ same)
+      | inr new ↦ absurd (omega (arith, same, new.0, above k d lt))
+    ]))
+    (All-map (IsThis next n) (started_if n next) rows (λ i e within some same. elim (started_process n next (get_or rows i e)) [
+      | inl kept ↦ absurd (omega (arith, kept, same, own.below i e within))
+      | inr new ↦ started_number n next (get_or rows i e) ∙ new.1
+    ]))
+
+told_by : (process : ℕ) (processes : List Process) (rows : List Service) → AreOwners processes rows → IfSome (option_map (λ (p : Process). p.service) (find (λ (p : Process). p.number == process) processes)) (NoOtherHas process rows)
+told_by process [] rows old = tt
+told_by process (p ∷ ps) rows old =
+    let P = λ (q : Process). NoOtherHas q.number rows q.service in
+    elim (p.number == process) as (λ b. (p.number == process) ≡ b → IfSome (option_map (λ (q : Process). q.service) (cond b (Some p) (find (λ (q : Process). q.number == process) ps))) (NoOtherHas process rows)) [
+      | true ↦ λ e. subst (λ (n : ℕ). NoOtherHas n rows p.service) (eqb-true p.number process e) (All-head P p ps old)
+      | false ↦ λ e. told_by process ps rows (All-tail P p ps old)
+    ] refl
+
+-- what the service that a process is listed of tells
+pub told_of : {of : Option ℕ} {seen : List Service} (process : ℕ) (processes : List Process) (rows : List Service) → of ≡ option_map (λ (p : Process). p.service) (find (λ (p : Process). p.number == process) processes) → seen ≡ rows → AreOwners processes rows → IfSome of (NoOtherHas process seen)
+told_of {of} {seen} process processes rows is same old =
+    subst (λ (o : Option ℕ). IfSome o (NoOtherHas process seen)) (sym is) (subst (λ (all : List Service). IfSome (option_map (λ (p : Process). p.service) (find (λ (p : Process). p.number == process) processes)) (NoOtherHas process all)) (sym same) (told_by process processes rows old))

@@ -1,7 +1,7 @@
 -- Places in the list of what becomes due: what the changes keep of them.
 use Rattle.std.proofs.Common.{ℕ, ◌≡◌, ◌∙◌, ◌≤◌, ◌<◌, ◌+◌, ◌-◌, ◌==◌, ◌||◌, not, Bool, true, false, cond, List, [], ◌∷◌, ◌++◌, filter, map, length, ap, sym, refl, arith, eqb-true, length-append}
 use Rattle.std.specs.List.{list_any}
-use Rattle.std.specs.Prelude.{min}
+use Rattle.std.specs.Prelude.{min, Option, None, Some}
 use Rattle.std.proofs.lemmas.Bool.{false≢true}
 use Rattle.std.proofs.lemmas.List.Filters.{length-filter_both}
 use Rattle.std.proofs.lemmas.List.Elements.{filter-append}
@@ -9,8 +9,12 @@ use Rattle.scm_model.specs.declared.flat.Due.{Due}
 use Rattle.scm_model.specs.declared.flat.DueKind.{DueKind}
 use Rattle.scm_model.specs.declared.flat.DueKind.TheVariants as dues
 use Rattle.scm_model.specs.declared.flat.Service.{Service}
+use Rattle.scm_model.specs.Found.{if_found}
+use Rattle.scm_model.specs.declared.flat.Plan.{Plan}
+use Rattle.due_list.specs.Dues.{Dues, is_kept, keeping, without}
+use Rattle.start_plan.specs.Settle.{is_due_still, is_undecided}
 use Rattle.scm_rules.specs.Due.{beside, is_due_of, of_others}
-use Rattle.scm_tables.specs.Places.{HasPlaces, places, strays}
+use Rattle.scm_tables.specs.Places.{HasPlaces, places, still_due, strays}
 
 -- ## Filters
 
@@ -83,6 +87,19 @@ places_of row services rows = omega (arith, ap (λ (ds : List Due). length ds) (
 no_strays : (rows : List Due) → places [] rows ≡ length rows
 no_strays rows = (let e : length (strays [] rows) ≡ length rows = ap (λ (ds : List Due). length ds) (all_kept rows) in omega (arith, e))
 
+-- ## Plans that are decided
+
+kind_kept : (plans : List Plan) (kind : DueKind) → is_kept (λ n. list_any (is_undecided n) plans) kind ≡ is_due_still plans kind
+kind_kept plans (dues.Deadline plan) = refl
+kind_kept plans (dues.Start service) = refl
+kind_kept plans (dues.Command service) = refl
+kind_kept plans (dues.Reboot service) = refl
+
+pub plans_kept : (plans : List Plan) (d : Dues) → keeping (λ n. list_any (is_undecided n) plans) d ≡ still_due plans d
+plans_kept plans d =
+    ap (λ (rows : List Due). record d { rows = rows })
+    (filter_same (λ (due : Due). is_kept (λ n. list_any (is_undecided n) plans) due.kind) (λ (due : Due). is_due_still plans due.kind) (λ due. kind_kept plans due.kind) d.rows)
+
 -- ## Places
 
 -- all rows stand in places
@@ -124,6 +141,16 @@ filter_keeps p {services} {rows} {capacity} has = record {
   one = one_of_fewer p rows has.one;
   fit = omega (arith, fewer_places p services rows, has.fit);
 }
+
+pub left_keeps_places : (found : Option Due) (services : List Service) (d : Dues) → HasPlaces services d.rows d.capacity
+    → HasPlaces services (if_found without found d).rows (if_found without found d).capacity
+left_keeps_places None services d has = has
+left_keeps_places (Some row) services d has = filter_keeps (λ (other : Due). not (other.number == row.number)) has
+
+pub left_free : (found : Option Due) (services : List Service) (d : Dues)
+    → d.capacity - places services d.rows ≤ (if_found without found d).capacity - places services (if_found without found d).rows
+left_free None services d = omega arith
+left_free (Some row) services d = omega (arith, fewer_places (λ (other : Due). not (other.number == row.number)) services d.rows)
 
 -- a deadline takes a place more
 pub deadline_places : (services : List Service) (rows : List Due) (due : Due) → ((number : ℕ) → is_due_of number due.kind ≡ false) → places services (rows ++ due ∷ []) ≡ places services rows + 1

@@ -5,13 +5,13 @@ use Rattle.std.proofs.lemmas.List.{get_or-map, length-map}
 use Rattle.std.proofs.lemmas.List.Elements.{All-filter, All-push, All-map}
 use Rattle.std.proofs.lemmas.List.Kept.{AllPairs-filter}
 use Rattle.std.proofs.lemmas.List.Quantifiers.{all_pairs_push}
-use Rattle.failure_actions.specs.Failing.{on_failure}
 use Rattle.scm_model.specs.declared.flat.Config.{Config}
 use Rattle.scm_model.specs.declared.flat.Service.{Service}
 use Rattle.scm_model.specs.Changes.{configured_if, marked_if}
 use Rattle.scm_rules.specs.Failures.{counted_if}
-use Rattle.start_plan.specs.Entered.{started_if, starting_in}
+use Rattle.start_plan.specs.Entered.{started_if}
 use Rattle.scm_tables.specs.Tabled.{AreInOrder, AreRising}
+use Rattle.scm_tables.specs.Turned.{counted, marked, started}
 
 module _ {R : Type 0} (number_of : R → ℕ) where
   pub ordered_push : (next : ℕ) (rows : List R) (row : R) → AreInOrder number_of next rows → number_of row ≡ next → AreInOrder number_of (next + 1) (rows ++ row ∷ [])
@@ -72,26 +72,17 @@ or_false b = elim b as (λ b. (b || false) ≡ b) [ true ↦ refl | false ↦ re
 or_true : (b : Bool) → (b || true) ≡ true
 or_true b = elim b as (λ b. (b || true) ≡ true) [ true ↦ refl | false ↦ refl ]
 
-abbrev pub marked : Service → Service
-marked row = record row { marked = true }
-
 pub marked_here : (n : ℕ) (row : Service) → row.number ≡ n → marked_if n row ≡ marked row
 marked_here n row is = rw (eq-eqb row.number n is) (ap (λ (b : Bool). record row { marked = b }) (or_true row.marked))
 
 pub marked_elsewhere : (n : ℕ) (row : Service) → row.number ≢ n → marked_if n row ≡ row
 marked_elsewhere n row other = rw (ne_eqb row.number n other) (ap (λ (b : Bool). record row { marked = b }) (or_false row.marked))
 
-abbrev pub started : ℕ → Service → Service
-started process row = cond (row.status.state == 1) (starting_in process row) row
-
 pub started_here : (n process : ℕ) (row : Service) → row.number ≡ n → started_if n process row ≡ started process row
 started_here n process row is = rw (eq-eqb row.number n is) refl
 
 pub started_elsewhere : (n process : ℕ) (row : Service) → row.number ≢ n → started_if n process row ≡ row
 started_elsewhere n process row other = rw (ne_eqb row.number n other) refl
-
-abbrev pub counted : ℕ → Service → Service
-counted moment row = record row { failures = (on_failure row.config row.failures row.last_failure moment).failures; last_failure = moment }
 
 pub counted_here : (n moment : ℕ) (row : Service) → row.number ≡ n → counted_if n moment row ≡ counted moment row
 counted_here n moment row is = rw (eq-eqb row.number n is) refl

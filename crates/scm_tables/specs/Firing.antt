@@ -8,7 +8,7 @@ use Rattle.scm_model.specs.declared.flat.Limits.{Limits}
 use Rattle.scm_model.specs.declared.flat.Service.{Service}
 use Rattle.scm_rules.specs.Needs.{start_order}
 use Rattle.scm_rules.specs.Start.{new_plan, with_plan}
-use Rattle.scm_rules.specs.Ticks.{can_run, can_start}
+use Rattle.scm_rules.specs.Ticks.{can_run, can_start, without_due}
 use Rattle.start_plan.specs.Entered.{HasNumbers}
 use Rattle.scm_tables.specs.Tabled.{Tabled}
 
@@ -72,6 +72,10 @@ abbrev pub with_begun : ℕ → Flat → Flat
 with_begun target f = with_plan f (new_plan f 0 target (start_order f target) [])
 
 -- ## Rows that take place
+
+-- a row that is due has left
+abbrev pub without_row : Due → Flat → Flat
+without_row row f = without_due row.number f
 
 -- all rows can take place: there is room and there are numbers
 pub record CanFire (t : Tabled) : Type 0 where

@@ -1,4 +1,6 @@
 pub mod Tabled
+pub mod Owned
+pub mod Turned
 pub mod Listed
 pub mod Processed
 pub mod Lines
@@ -13,3 +15,4 @@ pub mod Started
 pub mod Lined
 pub mod Marked
 pub mod Needing
+pub mod Woken

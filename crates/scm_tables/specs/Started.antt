@@ -5,12 +5,11 @@ use Rattle.scm_model.specs.declared.flat.DueKind.TheVariants as dues
 use Rattle.scm_rules.specs.Failures.{moment_after}
 use Rattle.start_triggers.specs.declared.order.AutoStart.{AutoStart}
 
+abbrev pub moment_of : ℕ → AutoStart → ℕ
+moment_of moment start = if start.delayed then moment_after moment 120000 else moment
+
 abbrev pub due_of : ℕ → ℕ → AutoStart → Due
-due_of number moment start = record {
-  moment = if start.delayed then moment_after moment 120000 else moment;
-  number = number;
-  kind = dues.Start start.number;
-}
+due_of number moment start = record { moment = moment_of moment start; number = number; kind = dues.Start start.number }
 
 -- one for each, with numbers from this one on
 abbrev pub dues_from : ℕ → ℕ → List AutoStart → List Due

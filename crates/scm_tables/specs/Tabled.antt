@@ -1,16 +1,23 @@
 -- The manager's lists, and for how many rows more there is room in them.
-use Rattle.std.specs.Prelude.{ℕ, ◌≡◌, ◌≢◌, ◌<◌, ◌≤◌, List, Option, Some, All, AllPairs, length, slice_index_or}
+use Rattle.std.specs.Prelude.{ℕ, ◌≡◌, ◌<◌, ◌≤◌, List, Option, Some, All, AllPairs, length}
 use Rattle.dependency_index.specs.declared.keeping.Spare.{Spare as NeedSpare}
 use Rattle.dependency_index.specs.Indexed.{spare_of}
+use Rattle.record_table.specs.declared.texts.Spare.{Spare as RowSpare}
+use Rattle.record_table.specs.Recorded.{spare_of as texts_of}
 use Rattle.scm_model.specs.declared.flat.Config.{Config}
 use Rattle.scm_model.specs.declared.flat.Flat.{Flat}
 use Rattle.scm_model.specs.declared.flat.Limits.{Limits}
 use Rattle.scm_model.specs.declared.flat.Service.{Service}
 
--- for how many rows more there is memory, and for the texts and needs of which service that comes or changes
+-- the texts and needs of the service that comes or changes, and the texts by which it is found
+pub record NeedRoom : Type 0 where
+  pub index : Option NeedSpare
+  pub rows : Option RowSpare
+
+-- for how many rows more there is memory, and for which service that comes or changes
 pub record Spare : Type 0 where
   pub services : ℕ  -- each with a place for what becomes due of it
-  pub needs : Option NeedSpare
+  pub needs : NeedRoom
   pub handles : ℕ
   pub callers : ℕ
   pub registrations : ℕ
@@ -34,27 +41,21 @@ pub record AreInOrder {R : Type 0} (number_of : R → ℕ) (next : ℕ) (rows : 
 abbrev pub AreRising : ℕ → List Service → Type 0
 AreRising next rows = AreInOrder (λ (row : Service). row.number) next rows
 
--- a process is the current one of at most one service, and was given its number
-pub record HaveOwn (next : ℕ) (rows : List Service) : Type 0 where
-  pub some : 0 < next
-  pub below : All (λ (row : Service). row.process < next) rows
-  pub apart : AllPairs (λ (a b : Service). a.process ≡ b.process → a.process ≡ 0) rows
-
--- the service at a place alone has a process
-pub record IsOnly (process : ℕ) (rows : List Service) (place : ℕ) : Type 0 where
-  pub within : place < length rows
-  pub has : (d : Service) → (slice_index_or rows place d).process ≡ process
-  pub others : (k : ℕ) (d : Service) → k < length rows → k ≢ place → (slice_index_or rows k d).process ≢ process
-
 -- a path and a command that can be launched, and a name that registrations can be told
 pub record HasShortTexts (config : Config) : Type 0 where
   pub path : length config.path ≤ 2048
   pub command : length config.command ≤ 2048
   pub name : length config.name ≤ 256
 
--- there is room for the texts and needs of a service that gets this configuration
+-- the room for a service that gets this configuration
+abbrev pub need_room : Config → NeedRoom
+need_room config = record {
+  index = Some (spare_of config.name config.group config.needs);
+  rows = Some (texts_of config);
+}
+
 abbrev pub HasNeedRoom : Spare → Config → Type 0
-HasNeedRoom spare config = spare.needs ≡ Some (spare_of config.name config.group config.needs)
+HasNeedRoom spare config = spare.needs ≡ need_room config
 
 abbrev pub HasShort : Service → Type 0
 HasShort row = HasShortTexts row.config

@@ -1,8 +1,8 @@
--- Tags in a group.
-use Rattle.std.specs.Prelude.{ℕ, List, if◌then◌else◌}
-use Rattle.scm_text.specs.Fold.{same_text}
+-- Tags of services.
+use Rattle.std.specs.Prelude.{ℕ, Option, None, Some}
 use Rattle.scm_model.specs.declared.flat.Service.{Service}
 
--- the tag of a service in the group, or 0
-abbrev pub tag_in : List ℕ → Service → ℕ
-tag_in group row = if same_text row.config.group group then row.config.tag else 0
+-- the tag of a service, or 0 where there is none
+abbrev pub tag_of : Option Service → ℕ
+tag_of None = 0
+tag_of (Some row) = row.config.tag

@@ -9,13 +9,12 @@ ghost use Rattle.scm_rules.specs.Reports.{with_report, with_report_of};
 ghost use Rattle.scm_rules.specs.Launches.{with_fallen};
 ghost use Rattle.scm_tables.specs.Failed.{failure_of, taken_by, taken_by_service, with_failed};
 
-use super::due_rows::keep_beside;
 use super::noticing::{note_fall, note_report};
-use super::service_rows::{count_in, current_in, fall_in, report_in, row_with};
+use super::service_rows::{count_in, current_in, fall_in, report_in, wake_in};
 use super::tables::Tables;
 use failure_actions::{due_action, on_failure};
 use scm_model::codes::{ERROR_PROCESS_ABORTED, SERVICE_STOPPED};
-use scm_model::{Action, Due, DueKind, Service, Status};
+use scm_model::{Action, DueKind, Service, Status};
 use status_machine::take_report;
 
 /// A service that failed, and what is to be done.
@@ -72,13 +71,9 @@ impl Tables {
         ensures flat { self.new.flat ≡ with_due_after millis kind self.old.flat }
         ensures limits { self.new.limits ≡ self.old.limits }
     {
-        keep_beside(&mut self.dues, kind);
-        self.dues.push_reserved(Due {
-            moment: self.moment.saturating_add(millis as u64),
-            number: self.next.due,
-            kind,
-        });
-        self.next.due += 1;
+        let _number = self
+            .dues
+            .add(self.moment.saturating_add(millis as u64), kind);
     }
 
     /// An action of a service becomes due after its delay.
@@ -127,10 +122,11 @@ impl Tables {
         let of = self.processes.service_of(process);
         note_fall(
             &mut self.registrations,
-            current_in(self.services.as_slice(), of, process),
+            current_in(&self.services, of, process),
             process,
             code,
         );
+        wake_in(&mut self.plans, of, process);
         fall_in(&mut self.services, of, process, code);
     }
 
@@ -154,10 +150,11 @@ impl Tables {
         let of = self.processes.service_of(process);
         note_report(
             &mut self.registrations,
-            current_in(self.services.as_slice(), of, process),
+            current_in(&self.services, of, process),
             report,
             &self.processes,
         );
+        wake_in(&mut self.plans, of, process);
         report_in(&mut self.services, of, process, report);
     }
 
@@ -178,12 +175,14 @@ impl Tables {
         ensures flat { self.new.flat ≡ taken_by_service self.old.flat (service_of self.old.flat service) report.now }
         ensures limits { self.new.limits ≡ self.old.limits }
     {
-        let Some(row) = row_with(self.services.as_slice(), service) else {
+        let Some(row) = self.services.get(service) else {
             return;
         };
         let process = row.process;
         note_report(&mut self.registrations, Some(row), report, &self.processes);
-        report_in(&mut self.services, Some(service), process, report);
+        let of = self.processes.service_of(process);
+        wake_in(&mut self.plans, of, process);
+        report_in(&mut self.services, of, process, report);
     }
 
     /// A service takes a report as if its current process had made it, if it is there, which may be a failure of it; its registrations are

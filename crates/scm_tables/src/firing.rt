@@ -2,18 +2,17 @@ ghost use Rattle.std.specs.Prelude.{ℕ, ◌≡◌, ◌≤◌, ◌+◌, All, IfS
 ghost use Rattle.scm_model.specs.Found.{if_found};
 ghost use Rattle.scm_model.specs.Rows.{service_of};
 ghost use Rattle.scm_rules.specs.Due.{next_due};
-ghost use Rattle.scm_rules.specs.Ticks.{can_start, fire, first_fired, ticked, with_command, with_restart, without_due};
-ghost use Rattle.scm_tables.specs.Firing.{CanFire, CanFireOne, HasFires, HasPlanNumbers, HasStarts, commands_in, runs, startable, starts_in, with_begun};
+ghost use Rattle.scm_rules.specs.Ticks.{can_start, fire, first_fired, ticked, with_command, with_restart};
+ghost use Rattle.scm_tables.specs.Firing.{CanFire, CanFireOne, HasFires, HasPlanNumbers, HasStarts, commands_in, runs, startable, starts_in, with_begun, without_row};
 ghost use Rattle.start_plan.specs.Entered.{HasNumbers};
 ghost use Rattle.scm_tables.specs.Rooms.{IsCommandRoom, IsStartRoom};
 
-use super::due_rows::{commands_in, drop_due, first_due, starts_in};
+use super::due_rows::{commands_in, starts_in};
 use super::lines::Line;
 use super::rooms::{CommandRoom, StartRoom, fill_commands, fill_starts};
-use super::service_rows::row_with;
 use super::tables::Tables;
 use scm_model::codes::{SERVICE_DISABLED, SERVICE_STOPPED};
-use scm_model::{DueKind, Plan, Service};
+use scm_model::{Due, DueKind, Plan, Service};
 use scm_text::{Items, OutOfMemory};
 
 /// Takes the room of a plan without a caller.
@@ -241,21 +240,22 @@ impl Tables {
         if !self.can_run(self.service(service)) {
             return;
         }
-        let Some(row) = row_with(self.services.as_slice(), service) else {
+        let Some(row) = self.services.get(service) else {
             return;
         };
         let line = Line::of_command(take_command_room(&mut self.commands), &row.config.command);
         self.processes.list(0, line);
     }
 
-    /// A row leaves.
-    fn drop_due(&mut self, number: u64)
-        ensures flat { self.new.flat ≡ without_due number self.old.flat }
+    /// The row that is due first leaves, if one is due.
+    fn take_due(&mut self) -> Option<Due>
+        ensures row { result ≡ next_due self.old.flat }
+        ensures flat { self.new.flat ≡ if_found without_row result self.old.flat }
         ensures limits { self.new.limits ≡ self.old.limits }
         ensures spare { self.new.spare ≡ record self.old.spare { services = self.new.spare.services; dues = self.new.spare.dues } }
         ensures dues { self.old.spare.dues ≤ self.new.spare.dues }
     {
-        drop_due(&mut self.dues, number);
+        self.dues.take_due(self.moment)
     }
 
     /// What a row does once it is due.
@@ -281,10 +281,9 @@ impl Tables {
         ensures limits { self.new.limits ≡ self.old.limits }
         ensures left { CanFire self.new }
     {
-        let Some(row) = first_due(self.dues.as_slice(), self.moment) else {
+        let Some(row) = self.take_due() else {
             return false;
         };
-        self.drop_due(row.number);
         self.fire(row.kind);
         true
     }

@@ -8,6 +8,7 @@ mod failing;
 mod firing;
 mod indexing;
 mod lines;
+mod looking;
 mod needing;
 mod noticing;
 mod opening;
@@ -20,6 +21,7 @@ mod running;
 mod service_rows;
 mod settling;
 mod tables;
+mod turning;
 
 ghost use Rattle.std.specs.Prelude.{◌≡◌};
 ghost use Rattle.scm_rules.specs.Rights.{mask_lacks};

@@ -8,7 +8,7 @@ ghost use Rattle.start_plan.specs.Entered.{told_of_start};
 ghost use Rattle.scm_tables.specs.Tabled.{HasShort};
 
 use super::processes::Processes;
-use super::service_rows::bare_status;
+use super::turning::bare_status;
 use notify_queue::NotifyQueue;
 use scm_model::codes::{
     SERVICE_CONTINUE_PENDING, SERVICE_NOTIFY_CONTINUE_PENDING, SERVICE_NOTIFY_DELETE_PENDING,

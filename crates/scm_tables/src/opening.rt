@@ -1,12 +1,15 @@
-ghost use Rattle.std.specs.Prelude.{◌≡◌, ◌≤◌, ◌<◌, ◌+◌, ◌^◌, IfOk, length, vec_capacity};
+ghost use Rattle.std.specs.Prelude.{◌≡◌, ◌≤◌, ◌<◌, ◌+◌, ◌^◌, ◌++◌, ◌∷◌, [], AllPairs, IfOk, OnOk, length};
+ghost use Rattle.std.specs.List.{AllByRecursion};
 ghost use Rattle.scm_model.specs.Changes.{new_service};
 ghost use Rattle.scm_rules.specs.Create.{new_status};
 ghost use Rattle.scm_rules.specs.Opening.{services_from, starts_from};
-ghost use Rattle.scm_tables.specs.Started.{due_of, dues_from};
+ghost use Rattle.scm_tables.specs.Started.{dues_from, moment_of};
 ghost use Rattle.start_triggers.specs.Order.{auto_rows};
 
+use due_list::DueList;
+use record_table::RecordTable;
 use scm_model::codes::{ERROR_SERVICE_NEVER_STARTED, SERVICE_STOPPED};
-use scm_model::{Config, Due, DueKind, Service, Status};
+use scm_model::{Config, DueKind, Service, Status};
 use scm_text::{Items, OutOfMemory, WText};
 use start_triggers::{AutoStart, auto_starts};
 use std::alloc::Global;
@@ -63,21 +66,39 @@ pub fn services_of(alloc: Global, configs: Items<Config>) -> Result<Vec<Service>
     Ok(rows)
 }
 
+/// Appends a service to a table.
+fn put_in(table: &mut RecordTable, service: Service) -> Result<(), OutOfMemory>
+    requires { AllByRecursion (λ other. other.number < service.number) table.old.services }
+    ensures { OnOk result (table.new.services ≡ table.old.services ++ service ∷ []) }
+{
+    table.reserve(&service.config)?;
+    table.insert(service);
+    Ok(())
+}
+
+/// The table of some services, in order of number.
+pub fn table_of(alloc: Global, services: Vec<Service>) -> Result<RecordTable, OutOfMemory>
+    requires { AllPairs (λ a b. a.number < b.number) services.items }
+    ensures { IfOk result (λ table. table.services ≡ services.items) }
+{
+    let mut table = RecordTable::new(alloc)?;
+    for service in services {
+        put_in(&mut table, service)?;
+    }
+    Ok(table)
+}
+
 /// How many milliseconds a delayed start comes after the others.
 const DELAY: u64 = 120_000;
 
-/// A start that becomes due by itself.
-fn due_of(number: u64, start: &AutoStart, moment: u64) -> Due
-    ensures { result ≡ due_of number moment start.now }
+/// When a start becomes due by itself.
+fn moment_of(start: &AutoStart, moment: u64) -> u64
+    ensures { result ≡ moment_of moment start.now }
 {
-    Due {
-        moment: if start.delayed {
-            moment.saturating_add(DELAY)
-        } else {
-            moment
-        },
-        number,
-        kind: DueKind::Start(start.number),
+    if start.delayed {
+        moment.saturating_add(DELAY)
+    } else {
+        moment
     }
 }
 
@@ -87,19 +108,18 @@ fn dues_of(
     starts: &[AutoStart],
     more: usize,
     moment: u64,
-) -> Result<Vec<Due>, OutOfMemory>
+) -> Result<DueList, OutOfMemory>
     requires { more < 2 ^ 63 }
-    ensures rows { IfOk result (λ rows. rows.items ≡ dues_from 1 moment starts.now) }
-    ensures room { IfOk result (λ rows. length rows.items + more ≤ vec_capacity rows) }
+    ensures rows { IfOk result (λ dues. dues.rows ≡ dues_from 1 moment starts.now) }
+    ensures next { IfOk result (λ dues. dues.next ≡ length dues.rows + 1) }
+    ensures room { IfOk result (λ dues. length dues.rows + more ≤ dues.capacity) }
 {
-    let Ok(mut rows) = Vec::with_capacity(alloc, starts.len() + more) else {
-        return Err(OutOfMemory);
-    };
+    let mut dues = DueList::new(alloc);
+    dues.reserve(starts.len() + more)?;
     for start in starts {
-        let number = rows.len() as u64 + 1;
-        rows.push_reserved(due_of(number, start, moment));
+        let _number = dues.push(moment_of(start, moment), DueKind::Start(start.number));
     }
-    Ok(rows)
+    Ok(dues)
 }
 
 /// The starts that become due when a manager begins: of the services that start automatically, those of the listed groups first. There is
@@ -109,10 +129,11 @@ pub fn automatic_starts(
     services: &[Service],
     groups: &[WText],
     moment: u64,
-) -> Result<Vec<Due>, OutOfMemory>
+) -> Result<DueList, OutOfMemory>
     requires { length services.now < 2 ^ 63 }
-    ensures rows { IfOk result (λ rows. rows.items ≡ starts_from 1 moment (auto_rows services.now groups.now)) }
-    ensures room { IfOk result (λ rows. length rows.items + length services.now ≤ vec_capacity rows) }
+    ensures rows { IfOk result (λ dues. dues.rows ≡ starts_from 1 moment (auto_rows services.now groups.now)) }
+    ensures next { IfOk result (λ dues. dues.next ≡ length dues.rows + 1) }
+    ensures room { IfOk result (λ dues. length dues.rows + length services.now ≤ dues.capacity) }
 {
     let starts = auto_starts(alloc, services, groups)?;
     dues_of(alloc, starts.as_slice(), services.len(), moment)

@@ -12,10 +12,9 @@ ghost use Rattle.start_plan.specs.Decided.{plan_caller, code_of, is_target};
 ghost use Rattle.scm_tables.specs.Lines.{first_line};
 ghost use Rattle.scm_tables.specs.Listed.{wanted_of, without_words};
 
-use super::due_rows::is_any_due;
 use super::process_rows::ProcessRow;
 use super::tables::Tables;
-use scm_model::{Due, DueKind, Plan, Service};
+use scm_model::{DueKind, Plan, Service};
 use scm_text::{Items, OutOfMemory, TextRoom, WText};
 use std::mem::replace;
 
@@ -183,7 +182,6 @@ impl Tables {
         self.plans.gone(caller);
     }
 
-    #[tactic(auto, using(crate::proofs::Placed::reserved))]
     /// Makes room for so many rows more that become due, beside a place for each service.
     pub(crate) fn reserve_dues(&mut self, more: u32) -> Result<(), OutOfMemory>
         ensures flat { self.new.flat ≡ self.old.flat }
@@ -192,14 +190,7 @@ impl Tables {
         ensures spare { self.new.spare ≡ record self.old.spare { services = self.new.spare.services; dues = self.new.spare.dues } }
         ensures more { self.old.spare.dues ≤ self.new.spare.dues }
     {
-        if self
-            .dues
-            .reserve(self.services.len() + more as usize)
-            .is_err()
-        {
-            return Err(OutOfMemory);
-        }
-        Ok(())
+        self.dues.reserve(self.services.len() + more as usize)
     }
 
     /// Makes room for a plan more that tries so many services, and for its deadline.
@@ -262,20 +253,18 @@ impl Tables {
         ensures commands { self.new.spare.commands ≡ self.old.spare.commands }
     {
         self.plans.begin(plan, tried);
-        self.dues.push_reserved(Due {
-            moment: self.moment.saturating_add(PATIENCE),
-            number: self.next.due,
-            kind: DueKind::Deadline(self.next.plan),
-        });
+        let deadline = DueKind::Deadline(self.next.plan);
+        let _number = self
+            .dues
+            .push(self.moment.saturating_add(PATIENCE), deadline);
         self.next.plan += 1;
-        self.next.due += 1;
     }
 
     /// Whether a row is due at a moment.
     pub fn is_due(&self, moment: u64) -> bool
         ensures { result ≡ list_any (is_due moment) self.now.flat.dues }
     {
-        is_any_due(self.dues.as_slice(), moment)
+        self.dues.is_due(moment)
     }
 
     /// How many steps are owed, up to 2^64 - 1.
@@ -315,9 +304,8 @@ impl Tables {
         ensures { result ≡ min (total (owed_by_due self.now.flat) self.now.flat.dues) (2 ^ 64 - 1) }
     {
         let mut owed = 0u64;
-        for place in 0..self.dues.len() {
-            let kind = self.dues[place].kind;
-            owed = owed.saturating_add(self.owed_by_kind(kind));
+        for row in self.dues.as_slice() {
+            owed = owed.saturating_add(self.owed_by_kind(row.kind));
         }
         owed
     }

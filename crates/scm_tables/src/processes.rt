@@ -1,4 +1,4 @@
-ghost use Rattle.std.specs.Prelude.{◌≡◌, ◌≤◌, ◌<◌, ◌-◌, ◌==◌, ◌^◌, [], find, length, min, nat_le, option_copied, option_map, slice_get, IfOk};
+ghost use Rattle.std.specs.Prelude.{◌≡◌, ◌≤◌, ◌<◌, ◌-◌, ◌==◌, ◌^◌, [], find, length, min, nat_le, option_copied, option_map, slice_get, All, IfOk};
 ghost use Rattle.scm_model.specs.Notices.{pid_in};
 ghost use Rattle.scm_rules.specs.Controls.{controlled_if, controls_in, first_control, relieved_if};
 ghost use Rattle.scm_rules.specs.Launches.{first_wanted, is_launched, is_taken, launched_if, taken_if};
@@ -62,9 +62,10 @@ impl Processes {
         limit as usize <= self.rows.len()
     }
 
-    /// The number of the next process.
+    /// The number of the next process, which is above those of all that are listed.
     pub fn next(&self) -> u64
-        ensures { result ≡ self.now.next }
+        ensures number { result ≡ self.now.next }
+        ensures above { All (λ row. row.number < self.now.next) self.now.processes }
     {
         self.next
     }

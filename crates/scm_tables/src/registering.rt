@@ -43,7 +43,7 @@ impl Tables {
         let opened = self.opened(caller, handle);
         register_in(
             &mut self.registrations,
-            row_in(self.services.as_slice(), opened),
+            row_in(&self.services, opened),
             &self.processes,
             number,
             caller,

@@ -3,7 +3,7 @@ ghost use Rattle.scm_rules.specs.Controls.{active_among, controls_of, first_cont
 ghost use Rattle.scm_rules.specs.Query.{status_in};
 ghost use Rattle.scm_rules.specs.Launches.{current_of, is_launched, process_of};
 
-use super::service_rows::{active_in, current_in};
+use super::service_rows::current_in;
 use super::tables::Tables;
 use scm_model::{Service, Status, zero_status};
 
@@ -29,11 +29,7 @@ impl Tables {
     pub fn current(&self, process: u64) -> Option<&Service>
         ensures { option_copied result ≡ current_of self.now.flat process }
     {
-        current_in(
-            self.services.as_slice(),
-            self.service_of_process(process),
-            process,
-        )
+        current_in(&self.services, self.processes.service_of(process), process)
     }
 
     /// How many services name a service as a need and aren't STOPPED, in 32 bits.
@@ -41,7 +37,10 @@ impl Tables {
         ensures { result ≡ active_among self.now.flat.services (option_copied service.entry) }
     {
         match service {
-            Some(row) => active_in(self.services.as_slice(), &row.config.name),
+            Some(row) => {
+                let active = self.active_among(self.index.named_by(&row.config.name));
+                active.min(u32::MAX as usize) as u32
+            }
             None => 0,
         }
     }

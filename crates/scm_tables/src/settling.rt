@@ -9,7 +9,7 @@ ghost use Rattle.start_plan.specs.Settle.{settled};
 use super::due_rows::keep_due;
 use super::lines::Line;
 use super::noticing::note_start;
-use super::service_rows::{has_running, row_with, start_in};
+use super::service_rows::start_in;
 use super::tables::Tables;
 use dependency_index::StateOf;
 use scm_model::codes::{
@@ -38,7 +38,7 @@ impl Tables {
     {
         match need {
             Need::Service(name) => is_up(self.named(name)),
-            Need::Group(group) => has_running(self.services.as_slice(), group),
+            Need::Group(group) => self.is_any_running(self.services.members(group)),
         }
     }
 
@@ -129,11 +129,7 @@ impl Field for Tables {
     }
 
     fn enter(&mut self, service: u64, words: Items<WText>) {
-        note_start(
-            &mut self.registrations,
-            row_with(self.services.as_slice(), service),
-            service,
-        );
+        note_start(&mut self.registrations, self.services.get(service), service);
         start_in(&mut self.services, service, self.processes.next());
         self.processes.list(service, Line::of_service(words));
     }

@@ -14,41 +14,43 @@ ghost use Rattle.scm_tables.specs.Tabled.{HasNeedRoom, HasShortTexts};
 use super::caller_rows::{caller_in, drop_caller_row};
 use super::needing::{change_needs, index_of, is_acyclic, reserve_search, stays_acyclic};
 use super::noticing::{note_leaving, note_mark, with_pid};
-use super::opening::{automatic_starts, services_of};
+use super::opening::{automatic_starts, services_of, table_of};
 use super::processes::Processes;
 use super::rooms::{CommandRoom, StartRoom};
 use super::service_rows::{
-    Marked, configure_in, displayed_in, drop_service, greatest_tag_in, is_shown_by_another_in,
-    is_shown_in, mark_in, named_in, row_at, row_with, running_in,
+    Marked, configure_in, displayed_in, is_shown_by_another_in, is_shown_in, mark_in, named_in,
+    running_in,
 };
 use database_lock::DatabaseLock;
 use dependency_index::DependencyIndex;
+use due_list::DueList;
 use handle_table::HandleTable;
 use marked_delete::Leaving;
 use notify_queue::NotifyQueue;
+use record_table::{RecordTable, Services};
 use scm_model::codes::SERVICE_NOTIFY_CREATED;
 use scm_model::{
-    Caller, Config, Due, HandleKind, HandleRow, Limits, LockRow, Opened, Principal, Service, Status,
+    Caller, Config, HandleKind, HandleRow, Limits, LockRow, Opened, Principal, Service, Status,
 };
 use scm_text::{Buffer, Items, OutOfMemory, WText};
 use start_plan::Plans;
 use std::alloc::Global;
 use std::marker::Model;
 
-/// The numbers that are given next. Those of handles and of processes their tables keep.
+/// The numbers that are given next. Those of handles, of processes and of what becomes due their
+/// tables keep.
 #[derive(Clone, Copy)]
 pub struct Numbers {
     pub service: u64,
     pub plan: u64,
     pub registration: u64,
-    pub due: u64,
     pub caller: u64,
 }
 
 /// The manager's lists. Contracts see the flat state, the limits, and for how many rows more there is room.
 #[derive(Drop)]
 pub struct Tables {
-    pub(crate) services: Vec<Service>,
+    pub(crate) services: RecordTable,
     /// Which service needs which.
     pub(crate) index: DependencyIndex,
     /// Whether the services' needs are known to have no cycle.
@@ -63,7 +65,7 @@ pub struct Tables {
     /// For what the next plan will have tried.
     pub(crate) tried: Vec<u64>,
     pub(crate) registrations: NotifyQueue,
-    pub(crate) dues: Vec<Due>,
+    pub(crate) dues: DueList,
     /// For how many services each room of a plan without a caller is large enough.
     pub(crate) start_room: usize,
     pub(crate) starts: Vec<StartRoom>,
@@ -88,17 +90,15 @@ impl Model for Tables {
     ghost invariant = { IsKept };
 }
 
-/// The numbers that are given first, behind those of so many services and rows that become due.
-fn first_numbers(services: u64, dues: u64) -> Numbers
-    requires services { services < 2 ^ 63 }
-    requires dues { dues < 2 ^ 63 }
-    ensures { all_numbers result 1 1 ≡ record (empty_at 0).next { service = services + 1; due = dues + 1 } }
+/// The numbers that are given first, behind those of so many services.
+fn first_numbers(services: u64) -> Numbers
+    requires { services < 2 ^ 63 }
+    ensures { all_numbers result 1 1 1 ≡ record (empty_at 0).next { service = services + 1 } }
 {
     Numbers {
         service: services + 1,
         plan: 1,
         registration: 1,
-        due: dues + 1,
         caller: 1,
     }
 }
@@ -135,7 +135,8 @@ impl Tables {
         let mut searched = Buffer::with_room(alloc, services.len() + 1)?;
         let index = index_of(alloc, services.as_slice())?;
         let acyclic = is_acyclic(&index, &mut searched);
-        let next = first_numbers(services.len() as u64, dues.len() as u64);
+        let next = first_numbers(services.len() as u64);
+        let services = table_of(alloc, services)?;
         Ok(Tables {
             services,
             index,
@@ -397,66 +398,67 @@ impl Tables {
     }
 
     /// The services, in order of number.
-    pub fn rows(&self) -> &[Service]
-        ensures { result.now ≡ self.now.flat.services }
+    pub fn rows(&self) -> Services<'_>
+        ensures items { result ≡ self.now.flat.services }
+        ensures small { length self.now.flat.services < 2 ^ 63 }
     {
-        self.services.as_slice()
+        self.services.iter()
     }
 
     /// How many services are RUNNING.
     pub fn running(&self) -> usize
         ensures { result ≡ length (filter (λ row. row.status.state == SERVICE_RUNNING) self.now.flat.services) }
     {
-        running_in(self.services.as_slice())
+        running_in(&self.services)
     }
 
     /// The service with a number.
     pub fn service(&self, number: u64) -> Option<&Service>
         ensures { option_copied result ≡ service_of self.now.flat number }
     {
-        row_with(self.services.as_slice(), number)
+        self.services.get(number)
     }
 
     /// The service at a place.
     pub fn row_at(&self, place: usize) -> Option<&Service>
         ensures { option_copied result ≡ slice_get self.now.flat.services place }
     {
-        row_at(self.services.as_slice(), place)
+        self.services.at(place)
     }
 
     /// The service with the same name.
     pub fn named(&self, name: &WText) -> Option<&Service>
         ensures { option_copied result ≡ named self.now.flat name.now }
     {
-        named_in(self.services.as_slice(), name)
+        named_in(&self.services, name)
     }
 
     /// The service with the same display name.
     pub fn displayed(&self, display: &WText) -> Option<&Service>
         ensures { option_copied result ≡ displayed self.now.flat display.now }
     {
-        displayed_in(self.services.as_slice(), display)
+        displayed_in(&self.services, display)
     }
 
     /// Whether a text is the same as the name or the display name of another service.
     pub fn is_shown_by_another(&self, number: u64, text: &WText) -> bool
         ensures { result ≡ is_shown_by_another self.now.flat number text.now }
     {
-        is_shown_by_another_in(self.services.as_slice(), number, text)
+        is_shown_by_another_in(&self.services, number, text)
     }
 
     /// Whether a text is the same as the name or the display name of a service.
     pub fn is_shown(&self, text: &WText) -> bool
         ensures { result ≡ is_shown self.now.flat text.now }
     {
-        is_shown_in(self.services.as_slice(), text)
+        is_shown_in(&self.services, text)
     }
 
     /// The tag of a service more in a group.
     pub fn next_tag(&self, group: &WText) -> u32
         ensures { result ≡ next_tag self.now.flat group.now }
     {
-        let greatest = greatest_tag_in(self.services.as_slice(), group);
+        let greatest = self.greatest_tag(self.services.members(group));
         greatest.saturating_add(1)
     }
 
@@ -469,9 +471,6 @@ impl Tables {
         ensures limits { self.new.limits ≡ self.old.limits }
     {
         self.reserve_dues(1)?;
-        if self.services.reserve(1).is_err() {
-            return Err(OutOfMemory);
-        }
         self.leaving.reserve(self.services.len() + 1)?;
         reserve_search(&mut self.searched, self.services.len())
     }
@@ -485,6 +484,7 @@ impl Tables {
         ensures limits { self.new.limits ≡ self.old.limits }
     {
         self.index.forget_spare();
+        self.services.reserve(config)?;
         self.index
             .reserve(self.alloc, &config.name, &config.group, &config.needs)
     }
@@ -525,7 +525,7 @@ impl Tables {
         );
         self.index
             .set_needs(number, &config.name, &config.group, &config.needs);
-        self.services.push_reserved(Service {
+        self.services.insert(Service {
             number,
             config,
             status,
@@ -561,7 +561,7 @@ impl Tables {
         ensures flat { self.new.flat ≡ with_marked self.old.flat service }
         ensures limits { self.new.limits ≡ self.old.limits }
     {
-        let Some(row) = row_with(self.services.as_slice(), service) else {
+        let Some(row) = self.services.get(service) else {
             return;
         };
         let number = row.number;
@@ -578,16 +578,15 @@ impl Tables {
         ensures fewer { IsTrue result → length self.new.flat.services < length self.old.flat.services }
         ensures limits { self.new.limits ≡ self.old.limits }
     {
-        let services = self.services.as_slice();
         let marked = Marked {
-            services,
+            services: &self.services,
             handles: &self.handles,
         };
         let Some(number) = self.leaving.purge(&marked) else {
             return false;
         };
-        note_leaving(&mut self.registrations, row_with(services, number));
-        drop_service(&mut self.services, number);
+        note_leaving(&mut self.registrations, self.services.get(number));
+        let _gone = self.services.remove(number);
         self.index.drop_service(number);
         true
     }

@@ -1,6 +1,10 @@
-use Rattle.std.proofs.Common.{rules}
-use Rattle.std.proofs.lemmas.Fn.{filter_same}
+use Rattle.std.proofs.Common.{◌∙◌, rules}
+use Rattle.std.specs.List.{list_any}
+use Rattle.start_plan.specs.Settle.{is_undecided}
+use Rattle.scm_tables.proofs.Placed.{plans_kept}
 use Rattle.scm_tables.proofs.due_rows.keep_due.Goals as goal
 
-pub returns-clause-rows : goal.returns-clause-rows
-returns-clause-rows c = filter_same _ _ _ (λ row kept f k. search rules) _ _ c.retain.ensures.filtered
+pub returns : goal.returns
+returns c =
+    let plans = c.args.plans.now.plans in
+    c.keep_plans.ensures (λ n. list_any (is_undecided n) plans) (λ plan answer told. search rules) ∙ plans_kept plans c.args.dues.now

@@ -1,17 +1,6 @@
-use Rattle.std.proofs.Common.{List, subst}
-use Rattle.scm_model.specs.declared.flat.Service.{Service}
-use Rattle.scm_rules.specs.Launches.{fallen_if}
-use Rattle.scm_tables.specs.Tabled.{IsOnly}
-use Rattle.scm_tables.proofs.Owning.{only_changed, fallen_elsewhere}
+use Rattle.std.proofs.Common.{◌∙◌}
+use Rattle.scm_tables.proofs.Turns.{fallen_all}
 use Rattle.scm_tables.proofs.service_rows.fall_in.Goals as goal
 
-pub place_with-requires-clause-ordered : goal.place_with-requires-clause-ordered
-place_with-requires-clause-ordered c = rw c.as_slice.ensures.value c.requires.ordered
-
-pub place_with-requires-clause-apart : goal.place_with-requires-clause-apart
-place_with-requires-clause-apart c = rw c.as_slice.ensures.value c.requires.apart
-
-pub returns-in-Some : goal.returns-in-Some
-returns-in-Some c =
-    let only = subst (λ (rows : List Service). IsOnly c.args.process rows c.in-Some.place) c.as_slice.ensures.value c.in-Some.ensures in
-    rw (c.fall_row.ensures, c.index_mut.ensures.value) (only_changed c.args.process (fallen_if c.args.process c.args.code) (fallen_elsewhere c.args.process c.args.code) c.args.rows.now.items c.in-Some.place c.index_mut.result.now only)
+pub returns : goal.returns
+returns c = c.change_with.ensures ∙ fallen_all c.args.process c.args.code c.args.rows.now.services

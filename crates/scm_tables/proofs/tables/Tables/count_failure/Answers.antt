@@ -5,9 +5,10 @@ use Rattle.scm_tables.proofs.NeedRows.{same_rows}
 use Rattle.scm_tables.proofs.Failures.{counted_config, counted_mark, counted_needs, counted_number}
 use Rattle.scm_tables.proofs.Keeping.{texts_map}
 use Rattle.scm_tables.proofs.Placed.{map_keeps}
+use Rattle.scm_tables.proofs.Sleeping.{counted_state, pending_map}
 use Rattle.scm_tables.proofs.Rising.{rising_map}
 use Rattle.scm_tables.proofs.Marks.{marks_map, room_map}
-use Rattle.scm_tables.proofs.Owning.{counted_process, own_map}
+use Rattle.scm_tables.proofs.Owning.{counted_process, listed_map, own_map}
 use Rattle.scm_tables.proofs.tables.Tables.count_failure.Goals as goal
 
 pub invariant_of-self : goal.invariant_of-self
@@ -18,6 +19,7 @@ invariant_of-self c =
     record {
       rising = rw c.count_in.ensures (rising_map _ (counted_if number moment) (counted_number number moment) _ kept.rising);
       owns = rw c.count_in.ensures (own_map _ (counted_if number moment) (λ row. inl (counted_process number moment row)) _ kept.owns);
+      listed = rw c.count_in.ensures (listed_map _ (counted_if number moment) (counted_number number moment) (λ row. inl (counted_process number moment row)) _ kept.listed);
       texts = rw c.count_in.ensures (texts_map (counted_if number moment) (counted_config number moment) _ kept.texts);
       index = rw c.count_in.ensures (kept.index ∙ same_rows (counted_if number moment) (counted_needs number moment) _);
       needs = λ t. rw c.count_in.ensures (same_graph (counted_if number moment) (counted_needs number moment) _ (kept.needs t));
@@ -25,10 +27,8 @@ invariant_of-self c =
       marks = rw c.count_in.ensures (room_map (counted_if number moment) _ _ kept.marks);
       room = kept.room;
       plans = kept.plans;
+      pending = rw c.count_in.ensures (pending_map (counted_if number moment) (counted_number number moment) (counted_state number moment) c.self.inside.services.services _ kept.pending);
       untried = kept.untried;
       dues = rw c.count_in.ensures (map_keeps (counted_if number moment) (counted_number number moment) kept.dues);
       rooms = kept.rooms;
     }
-
-pub count_in-requires : goal.count_in-requires
-count_in-requires c = c.self.invariant.rising.rising

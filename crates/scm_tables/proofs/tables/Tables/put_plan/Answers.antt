@@ -4,10 +4,10 @@ use Rattle.scm_tables.proofs.Keeping.{below_more, other_plans}
 use Rattle.scm_tables.proofs.Placed.{deadline_keeps, one_fewer, within}
 use Rattle.scm_tables.proofs.tables.Tables.put_plan.Goals as goal
 
-pub push_reserved-requires : goal.push_reserved-requires
-push_reserved-requires c =
+pub push-number-requires-clause-room : goal.push-number-requires-clause-room
+push-number-requires-clause-room c =
     let room = subst (λ (t : Tabled). 1 ≤ t.spare.dues) (sym c.self.view_is) c.requires.dues in
-    let all = within c.self.inside.services.items c.self.inside.dues.items c.self.invariant.dues.one in
+    let all = within c.self.inside.services.services c.self.inside.dues.rows c.self.invariant.dues.one in
     omega (arith, room, all)
 
 pub invariant_of-self : goal.invariant_of-self
@@ -15,10 +15,10 @@ invariant_of-self c =
     let kept = c.self.invariant in
     let room = subst (λ (t : Tabled). 1 ≤ t.spare.dues) (sym c.self.view_is) c.requires.dues in
     let number = subst (λ (t : Tabled). c.args.plan.number ≡ t.flat.next.plan) (sym c.self.view_is) c.requires.number in
-    other_plans kept refl refl refl refl refl refl refl refl refl refl refl refl (rw c.begin.ensures.plans (below_more _ _ _ kept.plans number))
-    (rw (c.push_reserved.ensures.items, c.push_reserved.ensures.capacity) (deadline_keeps _ (λ n. refl) kept.dues (omega (arith, room))))
+    other_plans kept refl refl refl refl refl refl refl refl refl refl refl (rw c.begin.ensures.plans (below_more _ _ _ kept.plans number)) (rw c.begin.ensures.awaited kept.pending)
+    (rw c.push-number.ensures.after (deadline_keeps _ (λ n. refl) kept.dues (omega (arith, room))))
 
 pub returns-clause-dues : goal.returns-clause-dues
 returns-clause-dues c =
     let room = subst (λ (t : Tabled). 1 ≤ t.spare.dues) (sym c.self.view_is) c.requires.dues in
-    rw (← c.self.view_is, c.push_reserved.ensures.items, c.push_reserved.ensures.capacity) (one_fewer c.self.inside.services.items c.self.inside.dues.items _ _ _ _ room)
+    rw (← c.self.view_is, c.push-number.ensures.after) (one_fewer c.self.inside.services.services c.self.inside.dues.rows _ _ _ _ room)

@@ -1,4 +1,4 @@
-use Rattle.std.proofs.Common.{◌≡◌, ◌∙◌, ◌==◌, ap, find, subst, sym, Option, Some}
+use Rattle.std.proofs.Common.{◌≡◌, ◌∙◌, ◌==◌, ap, subst, sym, Option, Some}
 use Rattle.std.specs.Prelude.{IfSome}
 use Rattle.scm_model.specs.declared.flat.Service.{Service}
 use Rattle.scm_model.specs.Rows.{service_of}
@@ -7,27 +7,24 @@ use Rattle.scm_tables.specs.Firing.{runs}
 use Rattle.scm_tables.specs.Tabled.{HasShort, Tabled}
 use Rattle.scm_tables.proofs.Fired.{runs_one}
 use Rattle.scm_tables.proofs.Wording.{found_has}
-use Rattle.scm_tables.proofs.Owning.{own_more}
+use Rattle.scm_tables.proofs.Owning.{listed_more, nobody_yet, own_more}
 use Rattle.scm_tables.proofs.tables.Tables.run_command.Goals as goal
 
 pub of_command-line-requires-clause-command : goal.of_command-line-requires-clause-command
 of_command-line-requires-clause-command c =
-    let found = c.in-Some.ensures ∙ ap (find (λ (row : Service). row.number == c.args.service)) c.as_slice.ensures.value in
-    let short : HasShort c.in-Some.row.now = subst (λ (o : Option Service). IfSome o HasShort) (sym found) (found_has HasShort (λ (row : Service). row.number == c.args.service) c.self.inside.services.items c.self.invariant.texts) in
+    let found = c.in-Some.ensures in
+    let short : HasShort c.in-Some.row.now = subst (λ (o : Option Service). IfSome o HasShort) (sym found) (found_has HasShort (λ (row : Service). row.number == c.args.service) c.self.inside.services.services c.self.invariant.texts) in
     short.command
 
 pub returns-clause-flat : goal.returns-clause-flat
 returns-clause-flat c =
     let row = c.in-Some.row.now in
     let before = c.args.self.now in
-    let found = c.in-Some.ensures ∙ ap (find (λ (r : Service). r.number == c.args.service)) c.as_slice.ensures.value in
+    let found = c.in-Some.ensures in
     let is = subst (λ (t : Tabled). service_of t.flat c.args.service ≡ Some row) c.self.view_is (sym found) in
     let can = sym (c.can_run.ensures ∙ ap (runs before.limits before.flat) c.service.ensures) ∙ c.if-not-can_run.false in
     let runs = ap (λ (t : Tabled). with_wanted_command row.config.command t.flat) c.self.view_is ∙ runs_one before.limits before.flat (service_of before.flat c.args.service) row is can in
     rw (c.list.ensures, c.of_command-line.ensures) runs
-
-pub row_with-requires : goal.row_with-requires
-row_with-requires c = rw c.as_slice.ensures.value c.self.invariant.rising.rising
 
 pub invariant_of-self : goal.invariant_of-self
 invariant_of-self c =
@@ -35,6 +32,7 @@ invariant_of-self c =
     record {
       rising = kept.rising;
       owns = rw c.list.ensures (own_more _ _ kept.owns);
+      listed = rw c.list.ensures (listed_more _ _ _ kept.listed (nobody_yet _ _ _ kept.owns));
       texts = kept.texts;
       index = kept.index;
       needs = kept.needs;
@@ -42,6 +40,7 @@ invariant_of-self c =
       marks = kept.marks;
       room = rw c.list.ensures kept.room;
       plans = kept.plans;
+      pending = kept.pending;
       untried = kept.untried;
       dues = kept.dues;
       rooms = record { starts_fit = kept.rooms.starts_fit; commands_fit = c.take_command_room.ensures.rooms };

@@ -3,6 +3,7 @@ use Rattle.std.specs.List.{AllByRecursion}
 use Rattle.scm_model.specs.declared.flat.Due.{Due}
 use Rattle.scm_model.specs.declared.flat.Flat.{Flat}
 use Rattle.scm_model.specs.declared.flat.Plan.{Plan}
+use Rattle.start_plan.specs.Asleep.{ArePending}
 use Rattle.start_plan.specs.Planned.{Planned}
 use Rattle.start_plan.specs.Settle.{is_due_still, settled, with_plans}
 use Rattle.scm_tables.specs.Inside.{IsBelow, tabled}
@@ -17,11 +18,12 @@ returns-clause-flat c =
     let f = with_plans (tabled c.self.inside).flat c.replace-plans.new.dest.plans in
     let old = c.self.inside.plans.plans in
     let was = ap (λ (p : Planned). p.plans) c.replace-plans.ensures.value in
-    ap (λ (t : Tabled). record t.flat { plans = c.settle.new.self.plans; dues = c.keep_due.new.rows.items }) c.self-2.view_is
-    ∙ settles l f c.settle.new.field.flat c.replace-plans.result.plans c.settle.new.self.plans c.keep_due.new.rows.items c.settle.ensures.plans c.settle.ensures.flat
-    (c.keep_due.ensures.rows ∙ ap (λ (t : Tabled). filter (λ (due : Due). is_due_still c.settle.new.self.plans due.kind) t.flat.dues) c.self-2.view_is)
+    let rows = filter (λ (due : Due). is_due_still c.settle.new.self.plans due.kind) c.self-2.inside.dues.rows in
+    rw c.keep_due.ensures (ap (λ (t : Tabled). record t.flat { plans = c.settle.new.self.plans; dues = rows }) c.self-2.view_is
+    ∙ settles l f c.settle.new.field.flat c.replace-plans.result.plans c.settle.new.self.plans rows c.settle.ensures.plans c.settle.ensures.flat
+    (ap (λ (t : Tabled). filter (λ (due : Due). is_due_still c.settle.new.self.plans due.kind) t.flat.dues) c.self-2.view_is)
     ∙ ap (λ (ps : List Plan). settled l (with_plans f ps)) was
-    ∙ ap (λ (t : Tabled). settled t.limits t.flat) c.self.view_is
+    ∙ ap (λ (t : Tabled). settled t.limits t.flat) c.self.view_is)
 
 pub invariant_of-self-2 : goal.invariant_of-self-2
 invariant_of-self-2 c =
@@ -31,5 +33,6 @@ invariant_of-self-2 c =
     let was = ap (λ (p : Planned). p.plans) c.replace-plans.ensures.value in
     let next = ap (λ (t : Tabled). t.flat.next.plan) c.self-2.view_is ∙ ap (λ (g : Flat). g.next.plan) c.settle.ensures.flat ∙ next_settled l f c.replace-plans.result.plans in
     let below = below_settled l f c.self.inside.next.plan c.replace-plans.result.plans (subst (λ (ps : List Plan). AllByRecursion (IsBelow c.self.inside.next.plan) ps) (sym was) c.self.invariant.plans) in
-    other_plans kept refl refl refl refl refl refl refl refl refl refl refl refl (subst (λ n. AllByRecursion (IsBelow n) c.settle.new.self.plans) (sym next) (subst (λ (ps : List Plan). AllByRecursion (IsBelow c.self.inside.next.plan) ps) (sym c.settle.ensures.plans) below))
-    (rw (c.keep_due.ensures.rows, c.keep_due.ensures.capacity) (filter_keeps _ kept.dues))
+    other_plans kept refl refl refl refl refl refl refl refl refl refl refl (subst (λ n. AllByRecursion (IsBelow n) c.settle.new.self.plans) (sym next) (subst (λ (ps : List Plan). AllByRecursion (IsBelow c.self.inside.next.plan) ps) (sym c.settle.ensures.plans) below))
+    (subst (λ (t : Tabled). ArePending t.flat.services c.settle.new.self.awaited) (sym c.self-2.view_is) c.settle.ensures.pending)
+    (rw c.keep_due.ensures (filter_keeps _ kept.dues))

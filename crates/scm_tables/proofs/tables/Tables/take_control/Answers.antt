@@ -1,10 +1,10 @@
-use Rattle.std.proofs.Common.{refl, ap}
-use Rattle.scm_tables.specs.Processed.{Processed}
+use Rattle.std.proofs.Common.{refl}
 use Rattle.scm_tables.proofs.Keeping.{other_processes}
+use Rattle.scm_tables.proofs.Owning.{listed_changed, relieved_same}
 use Rattle.scm_tables.proofs.tables.Tables.take_control.Goals as goal
 
 pub returns-clause-flat : goal.returns-clause-flat
 returns-clause-flat c = rw (← c.self.view_is, c.relieve.ensures) refl
 
 pub invariant_of-self : goal.invariant_of-self
-invariant_of-self c = other_processes c.self.invariant c.relieve.new.self (ap (λ (t : Processed). t.next) c.relieve.ensures) (ap (λ (t : Processed). t.capacity) c.relieve.ensures)
+invariant_of-self c = other_processes c.self.invariant c.relieve.new.self c.relieve.ensures refl refl (listed_changed _ (relieved_same c.args.process) _ _ c.self.invariant.listed)

@@ -1,6 +1,0 @@
-use Rattle.std.proofs.Common.{rules}
-use Rattle.std.proofs.lemmas.Fn.{filter_same}
-use Rattle.scm_tables.proofs.due_rows.drop_due.Goals as goal
-
-pub returns-clause-rows : goal.returns-clause-rows
-returns-clause-rows c = filter_same _ _ _ (λ row kept f k. search rules) _ _ c.retain.ensures.filtered

@@ -1,8 +1,0 @@
-use Rattle.std.proofs.Common.{◌≡◌, ◌||◌, drop}
-use Rattle.std.specs.List.{list_any}
-use Rattle.scm_text.specs.Fold.{same_text}
-use Rattle.scm_tables.proofs.service_rows.is_shown_in.Given as goal
-
--- the rows that are left decide
-abbrev pub invariant-loop-row : goal.invariant-loop-row
-invariant-loop-row l = list_any (λ row. same_text row.config.name l.text || same_text row.config.display l.text) l.rows ≡ list_any (λ row. same_text row.config.name l.text || same_text row.config.display l.text) (drop l.row-index l.rows)
