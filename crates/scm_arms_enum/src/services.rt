@@ -4,6 +4,7 @@ ghost use Rattle.scm_rules.specs.EnumServices.{enum_services_reply, is_asked};
 
 use super::replying::page_reply;
 use super::stating::{are_states, is_in_states, push};
+use record_table::Services;
 use scm_model::codes::{
     ERROR_ACCESS_DENIED, ERROR_INVALID_HANDLE, ERROR_INVALID_PARAMETER,
     SC_MANAGER_ENUMERATE_SERVICE,
@@ -23,14 +24,14 @@ fn is_asked(kinds: u32, states: u32, behind: u32, service: &Service) -> bool
 }
 
 /// The services behind a number that are asked for.
-fn services_behind(
-    services: &[Service],
+fn services_behind<'a>(
+    services: Services<'a>,
     kinds: u32,
     states: u32,
     behind: u32,
     alloc: Global,
-) -> Result<Vec<&Service>, OutOfMemory>
-    ensures { IfOk result (λ rows. map (λ s. s.now) rows.items ≡ filter (is_asked kinds states behind) services.now) }
+) -> Result<Vec<&'a Service>, OutOfMemory>
+    ensures { IfOk result (λ rows. map (λ s. s.now) rows.items ≡ filter (is_asked kinds states behind) services.entry) }
 {
     let mut rows = Vec::new(alloc);
     for row in services {

@@ -36,11 +36,12 @@ fn is_started_at(row: &Service, subtype: &[u8; 16]) -> bool
     }
 }
 
-/// How many of some services have a trigger that starts them.
-pub fn started_in(rows: &[Service], subtype: &[u8; 16]) -> usize
-    ensures { result ≡ started_among subtype.now rows.now }
+/// How many services have a trigger that starts them.
+pub fn started_in(tables: &Tables, subtype: &[u8; 16]) -> usize
+    ensures { result ≡ started_among subtype.now tables.now.flat.services }
 {
-    rows.iter()
+    tables
+        .rows()
         .filter(|row| is_started_at(row, subtype))
         .count()
 }
@@ -50,7 +51,7 @@ pub fn raise_starts(tables: &Tables, caller: u64, subtype: &[u8; 16]) -> usize
     ensures { result ≡ raise_starts tables.now.flat caller subtype.now }
 {
     if raise_verdict(tables, caller) == 0 {
-        started_in(tables.rows(), subtype)
+        started_in(tables, subtype)
     } else {
         0
     }

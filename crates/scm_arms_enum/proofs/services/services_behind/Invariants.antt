@@ -1,8 +1,8 @@
-use Rattle.std.proofs.Common.{◌≡◌, ◌++◌, drop, filter, map}
+use Rattle.std.proofs.Common.{◌≡◌, ◌++◌, filter, map}
 use Rattle.scm_rules.specs.EnumServices.{is_asked}
 use Rattle.scm_arms_enum.proofs.services.services_behind.Given as goal
 
 -- with those that are left they are all that are asked for
 abbrev pub invariant-loop-row : goal.invariant-loop-row
 invariant-loop-row l =
-    map (λ s. s.now) l.rows.items ++ filter (is_asked l.kinds l.states l.behind) (drop l.row-index l.services) ≡ filter (is_asked l.kinds l.states l.behind) l.services
+    map (λ s. s.now) l.rows.items ++ filter (is_asked l.kinds l.states l.behind) l.row-iterator ≡ filter (is_asked l.kinds l.states l.behind) l.fn.services
