@@ -1,6 +1,6 @@
 ghost use Rattle.std.specs.Prelude.{◌≡◌, ◌≤◌, ◌<◌, ◌^◌};
 ghost use Rattle.scm_model.specs.declared.steps.Step.TheVariants.{Call};
-ghost use Rattle.scm_rules.specs.Steps.{at_moment, effect_of, step_of};
+ghost use Rattle.scm_rules.specs.Steps.{at_moment, effect_of, finished, step_of};
 ghost use Rattle.scm_core.specs.Room.{HasNumbers, HasRoomFor, HasRoomForCall, IsMadeFor, made_for};
 
 use super::made::Made;
@@ -164,6 +164,25 @@ fn effect(tables: &mut Tables, alloc: Global, step: &mut Step, made: &mut Made) 
     }
 }
 
+/// Keeps an answer in place of another.
+fn keep(answer: &mut Answer, now: Answer)
+    ensures { answer.new ≡ now }
+{
+    *answer = now;
+}
+
+/// A start that settling decided is answered at once. Each other answer stays where it lies.
+fn finish_begun(tables: &mut Tables, answer: &mut Answer)
+    ensures answer { answer.new ≡ (finished tables.old.flat answer.old).answer }
+    ensures flat { tables.new.flat ≡ (finished tables.old.flat answer.old).flat }
+    ensures limits { tables.new.limits ≡ tables.old.limits }
+{
+    if let Answer::Begun(plan) = answer {
+        let begun = Answer::Begun(*plan);
+        keep(answer, finish(tables, begun));
+    }
+}
+
 #[tactic(auto, using(crate::proofs::Beforehand::is_made_at, crate::proofs::Beforehand::has_room_at, crate::proofs::Numbers::numbers_at, crate::proofs::Numbers::processes_at, crate::proofs::Numbers::numbers_left))]
 /// Does a step: its effect, then the plans are settled, a start that this decided is answered, and marked services leave. `made` was
 /// made for it beforehand.
@@ -185,9 +204,9 @@ pub fn act(
     ensures limits { tables.new.limits ≡ tables.old.limits }
 {
     begin(tables, moment, step);
-    let answer = effect(tables, alloc, step, made);
+    let mut answer = effect(tables, alloc, step, made);
     tables.settle();
-    let answer = finish(tables, answer);
+    finish_begun(tables, &mut answer);
     tables.purge();
     answer
 }

@@ -1,4 +1,4 @@
-ghost use Rattle.std.specs.Prelude.{◌≡◌, IfOk, OnOk, Some};
+ghost use Rattle.std.specs.Prelude.{◌≡◌, IfOk, IsTrue, OnOk, Some};
 ghost use Rattle.scm_model.specs.declared.calls.Request.TheVariants as request;
 ghost use Rattle.scm_model.specs.declared.steps.Change.TheVariants.{Created};
 ghost use Rattle.scm_rules.specs.Verdicts.{unless_refused};
@@ -216,6 +216,56 @@ fn keep(made: &mut Made, now: Made)
     *made = now;
 }
 
+/// Whether nothing was made.
+fn is_nothing(made: &Made) -> bool
+    ensures { IsTrue result → made.now ≡ nothing_made }
+{
+    matches!(
+        made,
+        Made {
+            name: None,
+            config: None,
+            code: 0,
+            change: None,
+            entries: None,
+            reply: None,
+        }
+    )
+}
+
+/// Lets go what was made before.
+#[inline(never)]
+fn let_go(made: &mut Made)
+    ensures { made.new ≡ nothing_made }
+{
+    keep(made, nothing_made());
+}
+
+/// The same. Mostly nothing was made, and then nothing is written.
+fn clear(made: &mut Made)
+    ensures { made.new ≡ nothing_made }
+{
+    if !is_nothing(made) {
+        let_go(made);
+    }
+}
+
+/// Makes what a call needs that may need something, in place of what was made before. It stands
+/// alone because of its frame, which is large.
+#[inline(never)]
+fn make_anew(
+    tables: &Tables,
+    caller: u64,
+    request: &Request,
+    alloc: Global,
+    made: &mut Made,
+) -> Result<(), OutOfMemory>
+    ensures { OnOk result (made.new ≡ made_for tables.now.limits tables.now.flat caller request.now) }
+{
+    keep(made, make_for_call(tables, caller, request, alloc)?);
+    Ok(())
+}
+
 /// Makes what a call needs, in place of what was made before.
 fn remake(
     tables: &Tables,
@@ -234,10 +284,12 @@ fn remake(
         | Request::SetStatus { .. }
         | Request::Unlock { .. }
         | Request::OpenManager { .. }
-        | Request::OpenService { .. } => keep(made, nothing_made()),
-        _ => keep(made, make_for_call(tables, caller, request, alloc)?),
+        | Request::OpenService { .. } => {
+            clear(made);
+            Ok(())
+        }
+        _ => make_anew(tables, caller, request, alloc, made),
     }
-    Ok(())
 }
 
 /// Makes what a step needs, in place of what was made before.

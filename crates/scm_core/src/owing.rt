@@ -105,7 +105,7 @@ impl Manager {
     fn owed_by_raise(&self, subtype: &[u8; 16]) -> u64
         ensures { result ≡ min (owed_by_raise self.now.flat subtype.now) (2 ^ 64 - 1) }
     {
-        let started = started_in(self.tables.rows(), subtype) as u64;
+        let started = started_in(&self.tables, subtype) as u64;
         self.services().saturating_mul(3).saturating_mul(started)
     }
 
