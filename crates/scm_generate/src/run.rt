@@ -48,18 +48,18 @@ fn launch_in(step: &Step) -> u64
     }
 }
 
-/// Makes a step, whatever it answers.
-fn act(manager: &mut Manager, step: Step)
-    requires may { IsTrue (may manager.old.limits manager.old.flat 0 step) }
-    requires room { WasMadeFor manager.old.room step }
+/// Makes a step where it lies, whatever it answers.
+fn act(manager: &mut Manager, step: &mut Step)
+    requires may { IsTrue (may manager.old.limits manager.old.flat 0 step.old) }
+    requires room { WasMadeFor manager.old.room step.old }
     requires steps { manager.old.steps < 2 ^ 50 }
-    requires text { manager.old.text + text_of step < 2 ^ 63 }
-    ensures flat { manager.new.flat ≡ (step_of manager.old.limits manager.old.flat 0 step).flat }
+    requires text { manager.old.text + text_of step.old < 2 ^ 63 }
+    ensures flat { manager.new.flat ≡ (step_of manager.old.limits manager.old.flat 0 step.old).flat }
     ensures limits { manager.new.limits ≡ manager.old.limits }
     ensures steps { manager.new.steps ≡ manager.old.steps + 1 }
-    ensures text { manager.new.text ≡ manager.old.text + text_of step }
+    ensures text { manager.new.text ≡ manager.old.text + text_of step.old }
 {
-    let _answer = manager.step(MOMENT, step);
+    let _answer = manager.step_at(MOMENT, step);
 }
 
 impl Run {
@@ -77,14 +77,14 @@ impl Run {
     }
 
     /// Makes a step that may be made now.
-    pub fn make(&mut self, step: Step) -> Result<(), OutOfMemory>
+    pub fn make(&mut self, mut step: Step) -> Result<(), OutOfMemory>
         requires { IsOpenTo self.old (at_once step ∷ []) }
         ensures { OnOk result (Makes self.old (at_once step ∷ []) self.new) }
     {
         self.manager.reserve_for(&step)?;
         self.launches += launch_in(&step);
         self.steps += 1;
-        act(&mut self.manager, step);
+        act(&mut self.manager, &mut step);
         Ok(())
     }
 

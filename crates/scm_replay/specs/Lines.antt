@@ -1,5 +1,5 @@
 -- What a line says: at which moment which step is to be made.
-use Rattle.std.specs.Prelude.{ℕ, ◌^◌, List, [], ◌∷◌, Option, None, Some, option_map, bytes_eq, codes, if◌then◌else◌}
+use Rattle.std.specs.Prelude.{ℕ, ◌≡◌, ◌^◌, Bool, true, false, List, [], ◌∷◌, Option, None, Some, option_map, bytes_eq, codes, if◌then◌else◌}
 use Rattle.std.specs.Result.{result_ok}
 use Rattle.scm_model.specs.declared.flat.Principal.TheVariants.{Admin, User}
 use Rattle.scm_model.specs.declared.flat.Status.{Status}
@@ -16,6 +16,13 @@ use Rattle.scm_replay.specs.declared.verb.Verb.{Verb}
 use Rattle.scm_replay.specs.declared.verb.Verb.TheVariants as verb
 use Rattle.scm_replay.specs.Verbs.{fails_by, verb_at}
 use Rattle.scm_replay.specs.Words.{◌>>=◌, line_words, hex_at}
+
+-- ## What is read into its place
+
+-- what was looked for stands there now, if it was found
+abbrev pub Leaves : {A : Type 0} → (found : Bool) → (now : A) → Option A → Type 0
+Leaves true now told = told ≡ Some now
+Leaves false now told = told ≡ None
 
 -- ## What stands behind a verb
 

@@ -1,4 +1,4 @@
-ghost use Rattle.std.specs.Prelude.{◌≡◌, IfOk, decimal, string_bytes};
+ghost use Rattle.std.specs.Prelude.{◌≡◌, IfOk, OnOk, decimal, string_bytes};
 ghost use Rattle.hex.specs.Hex.{encode_lower};
 ghost use Rattle.scm_bodies.specs.Replies.{reply_bytes};
 ghost use Rattle.scm_model.specs.declared.steps.Answer.TheVariants as answers;
@@ -10,37 +10,34 @@ use scm_model::{Answer, Reply};
 use scm_text::{Buffer, OutOfMemory};
 use std::alloc::{AllocError, Global};
 
-/// Room for the words of a line that stand before what is told, and for its line feed.
-const FRONT: usize = 16;
-
 /// Room for the body of most replies.
 const BODY: usize = 64;
 
-fn line_of(alloc: Global, front: &str, rest: &[u8]) -> Result<Vec<u8>, AllocError>
-    ensures { IfOk result (λ line. line.items ≡ line_with front.now rest.now) }
+/// Puts two texts into a line, in place of what it was.
+fn put_two(line: &mut Vec<u8>, front: &str, rest: &[u8]) -> Result<(), AllocError>
+    ensures { OnOk result (line.new.items ≡ line_with front.now rest.now) }
 {
-    let mut line = Vec::with_capacity(alloc, rest.len().saturating_add(FRONT))?;
+    line.clear();
     line.extend_from_slice(front.as_bytes())?;
     line.extend_from_slice(rest)?;
-    line.extend_from_slice(b"\n")?;
-    Ok(line)
+    line.extend_from_slice(b"\n")
 }
 
-/// Two texts as one line.
-fn line_with(alloc: Global, front: &str, rest: &[u8]) -> Result<Vec<u8>, OutOfMemory>
-    ensures { IfOk result (λ line. line.items ≡ line_with front.now rest.now) }
+/// The same, without the reason of an error.
+fn put_line(line: &mut Vec<u8>, front: &str, rest: &[u8]) -> Result<(), OutOfMemory>
+    ensures { OnOk result (line.new.items ≡ line_with front.now rest.now) }
 {
-    match line_of(alloc, front, rest) {
-        Ok(line) => Ok(line),
+    match put_two(line, front, rest) {
+        Ok(()) => Ok(()),
         Err(_) => Err(OutOfMemory),
     }
 }
 
-/// A text and a number as one line.
-fn numbered(alloc: Global, front: &str, number: u64) -> Result<Vec<u8>, OutOfMemory>
-    ensures { IfOk result (λ line. line.items ≡ line_with front.now (decimal number)) }
+/// Puts a text and a number into a line.
+fn put_number(line: &mut Vec<u8>, front: &str, number: u64) -> Result<(), OutOfMemory>
+    ensures { OnOk result (line.new.items ≡ line_with front.now (decimal number)) }
 {
-    line_with(alloc, front, itoa::Buffer::new().format(number).as_bytes())
+    put_line(line, front, itoa::Buffer::new().format(number).as_bytes())
 }
 
 /// The body of a reply.
@@ -62,40 +59,46 @@ fn hex_of(alloc: Global, bytes: &[u8]) -> Result<String, OutOfMemory>
     }
 }
 
-/// The line that tells a reply.
-fn reply_line(alloc: Global, reply: &Reply) -> Result<Vec<u8>, OutOfMemory>
-    ensures { IfOk result (λ line. line.items ≡ told_line (answers.Reply reply.now)) }
+/// Puts what tells a reply into a line.
+fn put_reply(alloc: Global, line: &mut Vec<u8>, reply: &Reply) -> Result<(), OutOfMemory>
+    ensures { OnOk result (line.new.items ≡ told_line (answers.Reply reply.now)) }
 {
     let body = body_of(alloc, reply)?;
     let text = hex_of(alloc, body.as_slice())?;
-    line_with(alloc, "reply ", text.as_bytes())
+    put_line(line, "reply ", text.as_bytes())
 }
 
-/// The line that tells what a step answered.
-fn told_line(alloc: Global, answer: &Answer) -> Result<Vec<u8>, OutOfMemory>
-    ensures { IfOk result (λ line. line.items ≡ told_line answer.now) }
+/// Puts what tells what a step answered into a line.
+fn put_told(alloc: Global, line: &mut Vec<u8>, answer: &Answer) -> Result<(), OutOfMemory>
+    ensures { OnOk result (line.new.items ≡ told_line answer.now) }
 {
     match answer {
-        Answer::Caller(number) => numbered(alloc, "caller ", *number),
-        Answer::Reply(reply) => reply_line(alloc, reply),
-        Answer::Begun(plan) => numbered(alloc, "plan ", *plan),
-        Answer::Launch(process) => numbered(alloc, "launch ", *process),
-        Answer::Control(code) => numbered(alloc, "control ", u64::from(*code)),
-        Answer::Refused(code) => numbered(alloc, "refused ", u64::from(*code)),
-        Answer::Stale => line_with(alloc, "stale", b""),
-        Answer::Done => line_with(alloc, "done", b""),
+        Answer::Caller(number) => put_number(line, "caller ", *number),
+        Answer::Reply(reply) => put_reply(alloc, line, reply),
+        Answer::Begun(plan) => put_number(line, "plan ", *plan),
+        Answer::Launch(process) => put_number(line, "launch ", *process),
+        Answer::Control(code) => put_number(line, "control ", u64::from(*code)),
+        Answer::Refused(code) => put_number(line, "refused ", u64::from(*code)),
+        Answer::Stale => put_line(line, "stale", b""),
+        Answer::Done => put_line(line, "done", b""),
     }
 }
 
-/// The line that answers the line of this number.
-pub fn answer_line(alloc: Global, number: u64, outcome: &Outcome) -> Result<Vec<u8>, OutOfMemory>
-    ensures { IfOk result (λ line. line.items ≡ answer_line number outcome.now) }
+/// Puts the line that answers the line of this number in place of another. Its memory serves line
+/// after line.
+pub fn put_answer(
+    alloc: Global,
+    line: &mut Vec<u8>,
+    number: u64,
+    outcome: &Outcome,
+) -> Result<(), OutOfMemory>
+    ensures { OnOk result (line.new.items ≡ answer_line number outcome.now) }
 {
     match outcome {
-        Outcome::Answered(answer) => told_line(alloc, answer),
-        Outcome::InVain(missed) => line_with(alloc, missed.word(), b""),
-        Outcome::TooMany => line_with(alloc, "toomany", b""),
-        Outcome::Full => line_with(alloc, "full", b""),
-        Outcome::Bad => numbered(alloc, "bad line ", number),
+        Outcome::Answered(answer) => put_told(alloc, line, answer),
+        Outcome::InVain(missed) => put_line(line, missed.word(), b""),
+        Outcome::TooMany => put_line(line, "toomany", b""),
+        Outcome::Full => put_line(line, "full", b""),
+        Outcome::Bad => put_number(line, "bad line ", number),
     }
 }

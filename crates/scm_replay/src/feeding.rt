@@ -4,11 +4,14 @@ ghost use Rattle.scm_replay.specs.declared.stop.Stop.TheVariants as stop;
 ghost use Rattle.scm_replay.specs.Outcomes.{standing};
 ghost use Rattle.scm_replay.specs.Replay.{IsOneLine};
 
-use super::answers::answer_line;
+use super::answers::put_answer;
 use super::making::outcome_at;
+use super::outcome::Outcome;
 use super::stop::Stop;
+use memchr::memchr;
 use outside::{Failed, Sink, write_all};
 use scm_core::Manager;
+use scm_shapes::Values;
 use std::alloc::Global;
 
 /// What was read of the next line, and its number, counted from 1.
@@ -16,6 +19,10 @@ use std::alloc::Global;
 pub struct Reading {
     pub pending: Vec<u8>,
     pub number: u64,
+    /// The values of the body that was read last.
+    pub values: Values,
+    /// The last answer.
+    pub text: Vec<u8>,
 }
 
 /// Why writing stopped.
@@ -28,12 +35,14 @@ fn stopped(written: Result<(), Failed>) -> Result<(), Stop>
     }
 }
 
-/// Answers a line. A bad one is answered too.
+/// Answers a line. A bad one is answered too. The answer is put into `text` first.
 fn answer<O: Sink>(
     alloc: Global,
     manager: &mut Manager,
     number: u64,
     line: &[u8],
+    values: &mut Values,
+    text: &mut Vec<u8>,
     output: &mut O,
 ) -> Result<(), Stop>
     requires { IsFit manager.old 0 1 }
@@ -43,10 +52,11 @@ fn answer<O: Sink>(
     ensures keeps { Keeps manager.old manager.new 1 }
     ensures cause { HasStopCause (O.faults output.old) (O.faults output.new) result }
 {
-    let Ok(outcome) = outcome_at(alloc, manager, line) else {
+    let mut outcome = Outcome::Bad;
+    let Ok(()) = outcome_at(alloc, manager, line, values, &mut outcome) else {
         return Err(Stop::OutOfMemory);
     };
-    let Ok(text) = answer_line(alloc, number, &outcome) else {
+    let Ok(()) = put_answer(alloc, text, number, &outcome) else {
         return Err(Stop::OutOfMemory);
     };
     stopped(write_all(output, text.as_slice()))?;
@@ -102,6 +112,8 @@ fn end_line<O: Sink>(
         manager,
         reading.number,
         reading.pending.as_slice(),
+        &mut reading.values,
+        &mut reading.text,
         output,
     ) {
         Ok(()) => {
@@ -119,7 +131,7 @@ fn first_feed(bytes: &[u8]) -> Option<usize>
     ensures none { IfNone result (IsOneLine bytes.now) }
     ensures bound { IfSome result (λ place. place < length bytes.now) }
 {
-    bytes.iter().position(|b| *b == b'\n')
+    memchr(b'\n', bytes)
 }
 
 /// Takes the bytes up to the first line feed and answers the line that it ends, or keeps them all

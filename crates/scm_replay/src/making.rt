@@ -1,4 +1,4 @@
-ghost use Rattle.std.specs.Prelude.{◌≡◌, ◌+◌, ◌<◌, ◌^◌, IfOk, IsTrue, OnErr, Some};
+ghost use Rattle.std.specs.Prelude.{◌≡◌, ◌+◌, ◌<◌, ◌^◌, IsTrue, OnErr, OnOk, Some};
 ghost use Rattle.scm_model.specs.Entries.{unkept, with_kept};
 ghost use Rattle.scm_model.specs.Texts.{text_of};
 ghost use Rattle.scm_replay.specs.Along.{IsFit, Keeps};
@@ -8,9 +8,10 @@ ghost use Rattle.scm_replay.specs.Outcomes.{finds_room, kept_as, outcome_made, o
 use super::line::Line;
 use super::looking::missed_by;
 use super::outcome::Outcome;
-use super::reading::line_at;
+use super::reading::read_line;
 use scm_core::Manager;
 use scm_model::{Kept, Step};
+use scm_shapes::Values;
 use scm_text::OutOfMemory;
 use std::alloc::Global;
 
@@ -81,59 +82,112 @@ fn keep_as(step: &mut Step, now: Kept)
     }
 }
 
+/// Puts an outcome in place of another.
+#[inline(always)]
+fn put(outcome: &mut Outcome, now: Outcome)
+    ensures { outcome.new ≡ now }
+{
+    *outcome = now;
+}
+
 /// Makes the step of a line that isn't a look in vain, if it may come and finds room.
 #[tactic(auto, unfolding(crate::specs::Outcomes::outcome_made))]
-fn made_in(manager: &mut Manager, line: &mut Line) -> Result<Outcome, OutOfMemory>
+fn made_in(manager: &mut Manager, line: &mut Line, outcome: &mut Outcome) -> Result<(), OutOfMemory>
     requires { IsFit manager.old 0 1 }
-    ensures outcome { IfOk result (λ outcome. outcome
+    ensures outcome { OnOk result (outcome.new
         ≡ (outcome_made manager.old.limits (standing manager.old) line.old).0) }
-    ensures standing { IfOk result (λ outcome. standing manager.new
+    ensures standing { OnOk result (standing manager.new
         ≡ (outcome_made manager.old.limits (standing manager.old) line.old).1) }
     ensures err { OnErr result (standing manager.new ≡ standing manager.old) }
     ensures keeps { Keeps manager.old manager.new 1 }
 {
     if !manager.may(line.moment, &line.step) {
-        return Ok(unmet(&line.step));
+        put(outcome, unmet(&line.step));
+        return Ok(());
     }
     if !finds_room(manager, &line.step) {
-        return Ok(Outcome::Full);
+        put(outcome, Outcome::Full);
+        return Ok(());
     }
     if !makes_room(manager, &line.step) {
         return Err(OutOfMemory);
     }
     let kept = kept_as(manager.makes_change(&line.step), line.fails);
     keep_as(&mut line.step, kept);
-    Ok(Outcome::Answered(manager.step_at(line.moment, &mut line.step)))
+    let answer = manager.step_at(line.moment, &mut line.step);
+    put(outcome, Outcome::Answered(answer));
+    Ok(())
 }
 
 /// Makes the step of a line, unless it looks in vain, may not come or finds no room.
-fn outcome_in(manager: &mut Manager, line: &mut Line) -> Result<Outcome, OutOfMemory>
+fn outcome_in(
+    manager: &mut Manager,
+    line: &mut Line,
+    outcome: &mut Outcome,
+) -> Result<(), OutOfMemory>
     requires { IsFit manager.old 0 1 }
-    ensures outcome { IfOk result (λ outcome. outcome
+    ensures outcome { OnOk result (outcome.new
         ≡ (outcome_in manager.old.limits (standing manager.old) line.old).0) }
-    ensures standing { IfOk result (λ outcome. standing manager.new
+    ensures standing { OnOk result (standing manager.new
         ≡ (outcome_in manager.old.limits (standing manager.old) line.old).1) }
     ensures err { OnErr result (standing manager.new ≡ standing manager.old) }
     ensures keeps { Keeps manager.old manager.new 1 }
 {
     match missed_by(manager, line.moment, &line.step) {
-        Some(missed) => Ok(Outcome::InVain(missed)),
-        None => made_in(manager, line),
+        Some(missed) => {
+            put(outcome, Outcome::InVain(missed));
+            Ok(())
+        }
+        None => made_in(manager, line, outcome),
     }
 }
 
-/// Makes the step of a text, if it is a line and its step may come and finds room.
-pub fn outcome_at(alloc: Global, manager: &mut Manager, text: &[u8]) -> Result<Outcome, OutOfMemory>
+/// Reads a text into a line, and makes its step, if it is one and its step may come and finds room.
+fn outcome_by(
+    alloc: Global,
+    manager: &mut Manager,
+    text: &[u8],
+    values: &mut Values,
+    line: &mut Line,
+    outcome: &mut Outcome,
+) -> Result<(), OutOfMemory>
     requires { IsFit manager.old 0 1 }
-    ensures outcome { IfOk result (λ outcome. outcome
+    ensures outcome { OnOk result (outcome.new
         ≡ (outcome_at manager.old.limits (standing manager.old) text.now).0) }
-    ensures standing { IfOk result (λ outcome. standing manager.new
+    ensures standing { OnOk result (standing manager.new
         ≡ (outcome_at manager.old.limits (standing manager.old) text.now).1) }
     ensures err { OnErr result (standing manager.new ≡ standing manager.old) }
     ensures keeps { Keeps manager.old manager.new 1 }
 {
-    match line_at(alloc, text)? {
-        Some(mut line) => outcome_in(manager, &mut line),
-        None => Ok(Outcome::Bad),
+    if read_line(alloc, text, values, line)? {
+        outcome_in(manager, line, outcome)
+    } else {
+        put(outcome, Outcome::Bad);
+        Ok(())
     }
+}
+
+/// Makes the step of a text, if it is a line and its step may come and finds room. What it comes to
+/// is left in `outcome`: an outcome has 160 bytes and a line 200, so none of them is handed about.
+pub fn outcome_at(
+    alloc: Global,
+    manager: &mut Manager,
+    text: &[u8],
+    values: &mut Values,
+    outcome: &mut Outcome,
+) -> Result<(), OutOfMemory>
+    requires { IsFit manager.old 0 1 }
+    ensures outcome { OnOk result (outcome.new
+        ≡ (outcome_at manager.old.limits (standing manager.old) text.now).0) }
+    ensures standing { OnOk result (standing manager.new
+        ≡ (outcome_at manager.old.limits (standing manager.old) text.now).1) }
+    ensures err { OnErr result (standing manager.new ≡ standing manager.old) }
+    ensures keeps { Keeps manager.old manager.new 1 }
+{
+    let mut line = Line {
+        moment: 0,
+        step: Step::Tick,
+        fails: false,
+    };
+    outcome_by(alloc, manager, text, values, &mut line, outcome)
 }

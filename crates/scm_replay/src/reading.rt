@@ -5,7 +5,7 @@ ghost use Rattle.scm_model.specs.declared.steps.Step.TheVariants.{ControlTaken, 
 ghost use Rattle.decimal_words.specs.Numbers.{number_at, number_below};
 ghost use Rattle.ndr_body.specs.declared.fault.BodyFault.{BodyFault};
 ghost use Rattle.ndr_body.specs.Reading.{Gives};
-ghost use Rattle.scm_replay.specs.Lines.{call_in_words, end_at, joined_at, launched_at, line_at, line_in, line_in_words};
+ghost use Rattle.scm_replay.specs.Lines.{Leaves, call_in_words, end_at, joined_at, launched_at, line_at, line_in, line_in_words};
 ghost use Rattle.scm_replay.specs.Lines.{plain_at, raise_in_words, report_at, request_in, status_in_words, step_at, unlaunched_at};
 
 use super::line::Line;
@@ -15,6 +15,7 @@ use decimal_words::{number_at, number_below};
 use ndr_body::BodyFault;
 use scm_calls::read_raise;
 use scm_model::{Kept, Principal, Request, Status, Step};
+use scm_shapes::Values;
 use scm_text::OutOfMemory;
 use std::alloc::Global;
 
@@ -63,42 +64,74 @@ fn or_none(read: Result<Request, BodyFault>) -> Result<Option<Request>, OutOfMem
 
 /// What a body asks, if its call can be read and it is such a body.
 #[tactic(auto, unfolding(crate::specs::Lines::request_in))]
-fn request_in(alloc: Global, opnum: u16, body: &[u8]) -> Result<Option<Request>, OutOfMemory>
+fn request_in(
+    alloc: Global,
+    opnum: u16,
+    body: &[u8],
+    values: &mut Values,
+) -> Result<Option<Request>, OutOfMemory>
     ensures { IfOk result (λ request. request ≡ request_in opnum body.now) }
 {
     match scm_bodies::call_at(opnum) {
-        Some(call) => or_none(scm_bodies::read_request(alloc, call, body)),
+        Some(call) => or_none(scm_bodies::read_request_by(alloc, call, body, values)),
         None => Ok(None),
     }
 }
 
-/// A call, by the words behind its verb.
+/// Puts a step in place of another.
+#[inline(always)]
+fn put(step: &mut Step, now: Step)
+    ensures { step.new ≡ now }
+{
+    *step = now;
+}
+
+/// Puts a step that was found in place of another, and tells whether one was.
+#[inline(always)]
+fn put_found(step: &mut Step, now: Option<Step>) -> bool
+    ensures { Leaves result step.new now }
+{
+    match now {
+        Some(now) => {
+            put(step, now);
+            true
+        }
+        None => false,
+    }
+}
+
+/// Reads a call, by the words behind its verb.
 #[tactic(auto, unfolding(crate::specs::Lines::call_in_words))]
-fn call_at(
+fn read_call(
     alloc: Global,
     who: &[u8],
     opnum: &[u8],
     body: &[u8],
-) -> Result<Option<Step>, OutOfMemory>
-    ensures { IfOk result (λ step. step ≡ call_in_words who.now opnum.now body.now) }
+    values: &mut Values,
+    step: &mut Step,
+) -> Result<bool, OutOfMemory>
+    ensures { IfOk result (λ found. Leaves found step.new
+        (call_in_words who.now opnum.now body.now)) }
 {
     let Some(caller) = number_at(who) else {
-        return Ok(None);
+        return Ok(false);
     };
     let Some(opnum) = number_below(65536, opnum) else {
-        return Ok(None);
+        return Ok(false);
     };
     let Some(bytes) = bytes_at(alloc, body)? else {
-        return Ok(None);
+        return Ok(false);
     };
-    let Some(request) = request_in(alloc, opnum as u16, bytes.as_slice())? else {
-        return Ok(None);
+    let Some(request) = request_in(alloc, opnum as u16, bytes.as_slice(), values)? else {
+        return Ok(false);
     };
-    Ok(Some(Step::Call {
+    let call = Step::Call {
         caller,
         request,
         kept: Kept::NotAsked,
-    }))
+    };
+    put(step, call);
+    Ok(true)
 }
 
 /// The end of a start, by the words behind its verb.
@@ -250,58 +283,79 @@ fn plain_at(verb: Verb, words: &[&[u8]]) -> Option<Step>
     }
 }
 
-/// The step of a verb and the words behind it.
-fn step_at(alloc: Global, verb: Verb, words: &[&[u8]]) -> Result<Option<Step>, OutOfMemory>
-    ensures { IfOk result (λ step. step ≡ step_at verb (map (λ word. word.now) words.now)) }
+/// Reads the step of a verb and the words behind it.
+fn read_step(
+    alloc: Global,
+    verb: Verb,
+    words: &[&[u8]],
+    values: &mut Values,
+    step: &mut Step,
+) -> Result<bool, OutOfMemory>
+    ensures { IfOk result (λ found. Leaves found step.new
+        (step_at verb (map (λ word. word.now) words.now))) }
 {
     match (verb, words) {
-        (Verb::Call | Verb::FailCall, [who, opnum, body]) => call_at(alloc, who, opnum, body),
-        (Verb::Raise, [who, subtype]) => raise_at(alloc, who, subtype),
-        _ => Ok(plain_at(verb, words)),
+        (Verb::Call | Verb::FailCall, [who, opnum, body]) => {
+            read_call(alloc, who, opnum, body, values, step)
+        }
+        (Verb::Raise, [who, subtype]) => Ok(put_found(step, raise_at(alloc, who, subtype)?)),
+        _ => Ok(put_found(step, plain_at(verb, words))),
     }
 }
 
-/// A line, by its first two words and those behind them.
+/// Reads a line, by its first two words and those behind them.
 #[tactic(auto, unfolding(crate::specs::Lines::line_in_words))]
-fn line_of(
+fn read_words(
     alloc: Global,
     moment: &[u8],
     name: &[u8],
     words: &[&[u8]],
-) -> Result<Option<Line>, OutOfMemory>
-    ensures { IfOk result (λ line. line
-        ≡ line_in_words moment.now name.now (map (λ word. word.now) words.now)) }
+    values: &mut Values,
+    line: &mut Line,
+) -> Result<bool, OutOfMemory>
+    ensures { IfOk result (λ found. Leaves found line.new
+        (line_in_words moment.now name.now (map (λ word. word.now) words.now))) }
 {
     let Some(moment) = number_at(moment) else {
-        return Ok(None);
+        return Ok(false);
     };
     let Some(verb) = verb_at(name) else {
-        return Ok(None);
+        return Ok(false);
     };
-    let Some(step) = step_at(alloc, verb, words)? else {
-        return Ok(None);
-    };
-    Ok(Some(Line {
-        moment,
-        step,
-        fails: verb.fails(),
-    }))
+    if !read_step(alloc, verb, words, values, &mut line.step)? {
+        return Ok(false);
+    }
+    line.moment = moment;
+    line.fails = verb.fails();
+    Ok(true)
 }
 
-/// A line of some words.
-fn line_in(alloc: Global, words: &[&[u8]]) -> Result<Option<Line>, OutOfMemory>
-    ensures { IfOk result (λ line. line ≡ line_in (map (λ word. word.now) words.now)) }
+/// Reads a line of some words.
+fn read_in(
+    alloc: Global,
+    words: &[&[u8]],
+    values: &mut Values,
+    line: &mut Line,
+) -> Result<bool, OutOfMemory>
+    ensures { IfOk result (λ found. Leaves found line.new
+        (line_in (map (λ word. word.now) words.now))) }
 {
     match words {
-        [moment, name, words @ ..] => line_of(alloc, moment, name, words),
-        _ => Ok(None),
+        [moment, name, words @ ..] => read_words(alloc, moment, name, words, values, line),
+        _ => Ok(false),
     }
 }
 
-/// What a line says, or nothing of a text that is none.
-pub fn line_at(alloc: Global, text: &[u8]) -> Result<Option<Line>, OutOfMemory>
-    ensures { IfOk result (λ line. line ≡ line_at text.now) }
+/// Reads what a text says into a line, and tells whether it is one. The values of a body lie in
+/// `values` for a while.
+pub fn read_line(
+    alloc: Global,
+    text: &[u8],
+    values: &mut Values,
+    line: &mut Line,
+) -> Result<bool, OutOfMemory>
+    ensures { IfOk result (λ found. Leaves found line.new (line_at text.now)) }
 {
     let words = words_of(alloc, text)?;
-    line_in(alloc, words.as_slice())
+    read_in(alloc, words.as_slice(), values, line)
 }

@@ -11,6 +11,7 @@ use super::stop::Stop;
 use feed_loop::{Fed, feed_all};
 use outside::{Sink, Source};
 use scm_core::Manager;
+use scm_shapes::Values;
 use std::alloc::Global;
 
 /// How a run ends whose feeding ended so, where nothing stands behind the last line or something does.
@@ -56,6 +57,8 @@ pub fn replay<I: Source, O: Sink>(
         reading: Reading {
             pending: Vec::new(alloc),
             number: 1,
+            values: Values::new(alloc),
+            text: Vec::new(alloc),
         },
     };
     let mut read = 0u64;

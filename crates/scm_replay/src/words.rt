@@ -40,10 +40,15 @@ fn is_upper(b: u8) -> bool
     65 <= b && b <= 90
 }
 
+/// It looks at each byte, so that many are looked at at once.
 fn has_upper(text: &[u8]) -> bool
     ensures { result ≡ list_any is_upper text.now }
 {
-    text.iter().any(|b| is_upper(*b))
+    let mut found = false;
+    for b in text {
+        found |= is_upper(*b);
+    }
+    found
 }
 
 /// The bytes that a word in hexadecimal stands for.
