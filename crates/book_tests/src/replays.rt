@@ -160,7 +160,11 @@ fn are_told(alloc: Global, manager: &mut Manager, trail: &Trail, visits: &mut [V
 /// Whether a manager that begins as the book's did tells all callers the same again.
 fn is_one_history(alloc: Global, trail: &Trail, visits: &mut [Visit]) -> bool {
     match new_manager(alloc, limits(4_194_304)) {
-        Ok(mut manager) => are_told(alloc, &mut manager, trail, visits),
+        Ok(mut manager) => {
+            let told = are_told(alloc, &mut manager, trail, visits);
+            manager.close();
+            told
+        }
         Err(_) => false,
     }
 }

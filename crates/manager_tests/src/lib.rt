@@ -7,6 +7,8 @@ mod generates;
 #[cfg(test)]
 mod limits;
 #[cfg(test)]
+mod needs;
+#[cfg(test)]
 mod replays;
 #[cfg(test)]
 mod steps;

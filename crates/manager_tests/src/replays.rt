@@ -113,7 +113,11 @@ fn expect(
     requires { AreSmall limits }
 {
     match new_manager(alloc, limits) {
-        Ok(mut manager) => so(is_run(alloc, &mut manager, lines, how, answers)),
+        Ok(mut manager) => {
+            let ended = is_run(alloc, &mut manager, lines, how, answers);
+            manager.close();
+            so(ended)
+        }
         Err(_) => Err("no memory".into()),
     }
 }

@@ -277,7 +277,11 @@ fn run(alloc: Global, manager: &mut Manager, rows: &[Row]) -> Result<(), Fail> {
 
 fn expect(alloc: Global, rows: &[Row]) -> Result<(), Fail> {
     match new_manager(alloc, LIMITS) {
-        Ok(mut manager) => run(alloc, &mut manager, rows),
+        Ok(mut manager) => {
+            let told = run(alloc, &mut manager, rows);
+            manager.close();
+            told
+        }
         Err(_) => Err("no memory".into()),
     }
 }
