@@ -3,12 +3,10 @@
 use handle_table::HandleTable;
 use scm_model::{HandleKind, HandleRow};
 use scm_text::OutOfMemory;
-use std::alloc::Global;
 use std::test::Fail;
 
 /// Two handles of caller 7, of the manager and of service 4, and one of caller 8 of that service.
-fn three(alloc: Global) -> Result<HandleTable, OutOfMemory> {
-    let mut table = HandleTable::new(alloc);
+fn add_three(table: &mut HandleTable) -> Result<(), OutOfMemory> {
     for (caller, kind) in [
         (7, HandleKind::Manager),
         (7, HandleKind::Service(4)),
@@ -19,7 +17,7 @@ fn three(alloc: Global) -> Result<HandleTable, OutOfMemory> {
             let _number = table.add(caller, kind, 0x14);
         }
     }
-    Ok(table)
+    Ok(())
 }
 
 /// What is known of the table: how many handles callers 7 and 8 have, how many are of service 4,
@@ -68,7 +66,7 @@ fn take_place(table: &mut HandleTable, event: Event) {
     }
 }
 
-/// An event, and what is known then: who closes another's handle closes nothing.
+/// An event, and what is known then: a caller that closes another's handle closes nothing.
 const EVENTS: [(Event, (usize, usize), usize, Option<u64>, Option<u32>); 4] = [
     (Event::Nothing, (2, 1), 2, Some(8), Some(0x14)),
     (Event::Closes(8, 2), (2, 1), 2, Some(8), Some(0x14)),
@@ -76,7 +74,7 @@ const EVENTS: [(Event, (usize, usize), usize, Option<u64>, Option<u32>); 4] = [
     (Event::Goes(8), (1, 0), 0, None, None),
 ];
 
-/// Whether behind each event what is stated is known.
+/// Whether what is stated is known after each event.
 fn is_so(table: &mut HandleTable) -> bool {
     for (event, held, of_service, owner, granted) in EVENTS {
         take_place(table, event);
@@ -95,10 +93,10 @@ fn is_so(table: &mut HandleTable) -> bool {
 
 #[test]
 fn a_caller_has_its_own_handles_until_it_goes(rt: HostRuntime) -> Result<(), Fail> {
-    let Ok(mut table) = three(rt.alloc()) else {
-        return Err("no memory".into());
-    };
-    if is_so(&mut table) {
+    let mut table = HandleTable::new(rt.alloc());
+    let is_well = add_three(&mut table).is_ok() && is_so(&mut table);
+    drop(table);
+    if is_well {
         Ok(())
     } else {
         Err("something else is known".into())

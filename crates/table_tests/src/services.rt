@@ -8,15 +8,26 @@ use scm_text::{Items, OutOfMemory, WText};
 use std::alloc::Global;
 use std::test::Fail;
 
-/// A text in ASCII.
-fn text(alloc: Global, ascii: &str) -> Result<WText, OutOfMemory> {
-    let mut text = WText::new(alloc);
+/// Appends letters in ASCII.
+fn append(text: &mut WText, ascii: &str) -> Result<(), OutOfMemory> {
     for byte in ascii.as_bytes() {
         if 0 < *byte {
             text.append_unit(u16::from(*byte))?;
         }
     }
-    Ok(text)
+    Ok(())
+}
+
+/// A text in ASCII.
+fn text(alloc: Global, ascii: &str) -> Result<WText, OutOfMemory> {
+    let mut text = WText::new(alloc);
+    match append(&mut text, ascii) {
+        Ok(()) => Ok(text),
+        Err(why) => {
+            drop(text);
+            Err(why)
+        }
+    }
 }
 
 /// The name, the display name and the group of a service.
@@ -77,13 +88,20 @@ fn put(table: &mut RecordTable, row: Service) -> Result<(), OutOfMemory>
     requires { AllByRecursion (λ other. other.number < row.number) table.old.services }
     ensures { OnOk result (table.new.services ≡ table.old.services ++ row ∷ []) }
 {
-    table.reserve(&row.config)?;
-    table.insert(row);
-    Ok(())
+    match table.reserve(&row.config) {
+        Ok(()) => {
+            table.insert(row);
+            Ok(())
+        }
+        Err(why) => {
+            drop(row);
+            Err(why)
+        }
+    }
 }
 
 /// A service comes into an empty table and leaves. Whether it was found while it was there, and not
-/// behind that.
+/// after that.
 fn comes_and_leaves(table: &mut RecordTable, row: Service) -> Result<bool, OutOfMemory>
     requires { table.old.services ≡ [] }
     ensures { OnOk result (table.new.services ≡ []) }
@@ -91,11 +109,13 @@ fn comes_and_leaves(table: &mut RecordTable, row: Service) -> Result<bool, OutOf
     let number = row.number;
     put(table, row)?;
     let was_there = table.get(number).is_some() && table.len() == 1;
-    let left = table.remove(number).is_some();
+    let gone = table.remove(number);
+    let left = gone.is_some();
+    drop(gone);
     Ok(was_there && left && table.get(number).is_none())
 }
 
-/// Whether so many services in turn are found while they are there, and not behind that.
+/// Whether so many services in turn are found while they are there, and not after that.
 fn are_found_in_turn(
     alloc: Global,
     table: &mut RecordTable,
@@ -123,7 +143,11 @@ fn so(is_so: Result<bool, OutOfMemory>) -> Result<(), Fail> {
 #[test]
 fn who_left_is_found_no_more(rt: HostRuntime) -> Result<(), Fail> {
     match RecordTable::new(rt.alloc()) {
-        Ok(mut table) => so(are_found_in_turn(rt.alloc(), &mut table, 513)),
+        Ok(mut table) => {
+            let told = are_found_in_turn(rt.alloc(), &mut table, 513);
+            drop(table);
+            so(told)
+        }
         Err(_) => so(Err(OutOfMemory)),
     }
 }
@@ -157,18 +181,25 @@ fn rename_one(alloc: Global, table: &mut RecordTable) -> Result<(), OutOfMemory>
     put(table, made(alloc, 2, ("Mail", "Post", "Front"))?)?;
     put(table, made(alloc, 3, ("Db", "Store", "FRONT"))?)?;
     rename(table, 1, config(alloc, ("Site", "SHOP", ""))?)?;
-    let _gone = table.remove(2);
+    drop(table.remove(2));
     Ok(())
 }
 
 /// A service gets other texts.
 fn rename(table: &mut RecordTable, number: u64, config: Config) -> Result<(), OutOfMemory> {
-    table.reserve(&config)?;
-    let _before = table.replace(number, config);
-    Ok(())
+    match table.reserve(&config) {
+        Ok(()) => {
+            drop(table.replace(number, config));
+            Ok(())
+        }
+        Err(why) => {
+            drop(config);
+            Err(why)
+        }
+    }
 }
 
-/// A look, and who is found.
+/// A look, and the service that is found.
 const LOOKS: [(Look, Option<u64>); 11] = [
     (Look::Name("site"), Some(1)),
     (Look::Name("Web"), None),
@@ -202,7 +233,11 @@ fn are_found_by_texts(alloc: Global, table: &mut RecordTable) -> Result<bool, Ou
 #[test]
 fn a_service_is_found_by_the_texts_that_it_has(rt: HostRuntime) -> Result<(), Fail> {
     match RecordTable::new(rt.alloc()) {
-        Ok(mut table) => so(are_found_by_texts(rt.alloc(), &mut table)),
+        Ok(mut table) => {
+            let told = are_found_by_texts(rt.alloc(), &mut table);
+            drop(table);
+            so(told)
+        }
         Err(_) => so(Err(OutOfMemory)),
     }
 }
