@@ -1,27 +1,67 @@
-use crate::values::{append, keeper, plain, text};
+use crate::values::{append, append_ascii, keeper, name, plain, text, unnamed};
 use record_journal::{Journal, MemoryKeeper};
 use scm_model::{Action, Change, Config, Need};
 use scm_text::{Items, OutOfMemory};
-use std::alloc::{AllocError, Global};
+use std::alloc::Global;
+use std::mem::replace;
 use std::test::*;
 
-/// The bytes of hex digits, in groups of at most eight bytes.
-pub fn bytes_of(alloc: Global, digits: &str) -> Result<Vec<u8>, AllocError> {
-    let mut bytes = Vec::new(alloc);
-    for group in digits.split(' ') {
-        let number = u64::from_str_radix(group, 16).unwrap_or(0).to_be_bytes();
-        let front = 8usize.saturating_sub(group.len() / 2);
-        bytes.extend_from_slice(number.get(front..).unwrap_or(&[]))?;
-    }
-    Ok(bytes)
-}
+/// What a journal begins with.
+pub const HEADER: &[u8] = &[0x53, 0x43, 0x4D, 0x4A, 1, 0, 0, 0];
+
+/// The header, and the removal of `Db`.
+const HEADER_AND_REMOVED: &[u8] = &[
+    0x53, 0x43, 0x4D, 0x4A, 1, 0, 0, 0, // header
+    3, 8, 0, 0, 0, // a removal, and how many bytes follow
+    2, 0, 0, 0, 0x44, 0, 0x62, 0, // name
+];
+
+/// The creation of `A`.
+pub const CREATED: &[u8] = &[
+    1, 0x3D, 0, 0, 0, // a creation, and how many bytes follow
+    1, 0, 0, 0, 0x41, 0, // name
+    1, 0, 0, 0, 0x41, 0, // display name
+    0x10, 0, 0, 0, // type
+    3, 0, 0, 0, // start
+    1, 0, 0, 0, // error control
+    2, 0, 0, 0, 0x2F, 0, 0x61, 0, // path
+    0, 0, 0, 0, // group
+    0, 0, 0, 0, // tag
+    0, 0, 0, 0, // needs
+    0, 0, 0, 0, // description
+    0, 0, 0, 0, // reset period
+    0, 0, 0, 0, // actions
+    0, 0, 0, 0, // command
+    0, // whether a stop with an error is a failure
+];
+
+/// The change of `W`.
+const CHANGED: &[u8] = &[
+    2, 0x5D, 0, 0, 0, // a change, and how many bytes follow
+    1, 0, 0, 0, 0x57, 0, // name
+    1, 0, 0, 0, 0x57, 0, // display name
+    0x10, 0, 0, 0, // type
+    3, 0, 0, 0, // start
+    1, 0, 0, 0, // error control
+    3, 0, 0, 0, 0x78, 0, 0x20, 0, 0x79, 0, // path
+    1, 0, 0, 0, 0x47, 0, // group
+    5, 1, 0, 0, // tag
+    2, 0, 0, 0, // needs: a service and a group
+    0, 2, 0, 0, 0, 0x44, 0, 0x62, 0, //
+    1, 1, 0, 0, 0, 0x4E, 0, //
+    1, 0, 0, 0, 0x64, 0, // description
+    0xFF, 0xFF, 0xFF, 0xFF, // reset period
+    1, 0, 0, 0, 1, 0, 0, 0, 0xE8, 3, 0, 0, // actions
+    1, 0, 0, 0, 0x63, 0, // command
+    1, // whether a stop with an error is a failure
+];
 
 fn removed(alloc: Global) -> Result<Change, OutOfMemory> {
     Ok(Change::Removed(text(alloc, "Db")?))
 }
 
 fn created(alloc: Global) -> Result<Change, OutOfMemory> {
-    Ok(Change::Created(plain(alloc, "A", "/a")?))
+    Ok(Change::Created(plain(alloc)?))
 }
 
 /// The service `Db` and the group `N`.
@@ -47,58 +87,37 @@ fn actions(alloc: Global) -> Result<Items<Action>, OutOfMemory> {
     }
 }
 
-/// A service that needs another and a group, is restarted at failures, and has a description.
-fn rich(alloc: Global) -> Result<Config, OutOfMemory> {
-    match (
-        text(alloc, "W"),
-        text(alloc, "W"),
-        text(alloc, "x y"),
-        text(alloc, "G"),
-        needs(alloc),
-        text(alloc, "d"),
-        actions(alloc),
-        text(alloc, "c"),
-    ) {
-        (
-            Ok(name),
-            Ok(display),
-            Ok(path),
-            Ok(group),
-            Ok(needs),
-            Ok(description),
-            Ok(actions),
-            Ok(command),
-        ) => Ok(Config {
-            name,
-            display,
-            kind: 0x10,
-            start: 3,
-            error: 1,
-            path,
-            group,
-            tag: 0x105,
-            needs,
-            description,
-            reset: 0xFFFF_FFFF,
-            actions,
-            command,
-            on_exit: true,
-            delayed: true,
-            triggers: Items::new(alloc),
-        }),
-        _ => Err(OutOfMemory),
-    }
+/// A service that needs another and a group, and is restarted at failures, but for its texts.
+fn needing(alloc: Global) -> Result<Config, OutOfMemory> {
+    let (Ok(needs), Ok(actions)) = (needs(alloc), actions(alloc)) else {
+        return Err(OutOfMemory);
+    };
+    let mut config = unnamed(alloc);
+    config.tag = 0x105;
+    config.reset = 0xFFFF_FFFF;
+    config.on_exit = true;
+    config.delayed = true;
+    drop(replace(&mut config.needs, needs));
+    drop(replace(&mut config.actions, actions));
+    Ok(config)
+}
+
+/// Its texts.
+fn fill(config: &mut Config) -> Result<(), OutOfMemory> {
+    name(config, "W", "x y")?;
+    append_ascii(&mut config.group, "G")?;
+    append_ascii(&mut config.description, "d")?;
+    append_ascii(&mut config.command, "c")
 }
 
 fn changed(alloc: Global) -> Result<Change, OutOfMemory> {
-    Ok(Change::Changed(rich(alloc)?))
-}
-
-/// Whether these are the bytes from a place on.
-pub fn end_in(alloc: Global, bytes: &[u8], from: usize, digits: &str) -> bool {
-    match (bytes.get(from..), bytes_of(alloc, digits)) {
-        (Some(more), Ok(want)) => more == want.as_slice(),
-        _ => false,
+    let mut config = needing(alloc)?;
+    match fill(&mut config) {
+        Ok(()) => Ok(Change::Changed(config)),
+        Err(why) => {
+            drop(config);
+            Err(why)
+        }
     }
 }
 
@@ -107,45 +126,33 @@ fn adds(
     alloc: Global,
     journal: &mut Journal,
     keeper: &mut MemoryKeeper,
-    change: Result<Change, OutOfMemory>,
-    digits: &str,
+    change: Change,
+    want: &[u8],
 ) -> bool {
-    let Ok(change) = change else {
-        return false;
-    };
     let before = keeper.bytes().len();
-    append(alloc, journal, keeper, change).is_ok() && end_in(alloc, keeper.bytes(), before, digits)
+    append(alloc, journal, keeper, change).is_ok() && keeper.bytes().get(before..) == Some(want)
 }
 
-/// The header, and the entry of `removed`.
-const HEADER_AND_REMOVED: &str = "53434d4a01000000 03 08000000 02000000 4400 6200";
-
-/// The entry of `created`.
-pub const CREATED: &str =
-    "01 3d000000 01000000 4100 01000000 4100 10000000 03000000 01000000 02000000 2f00 6100 \
-     00000000 00000000 00000000 00000000 00000000 00000000 00000000 00";
-
-/// The entry of `changed`.
-const CHANGED: &str =
-    "02 5d000000 01000000 5700 01000000 5700 10000000 03000000 01000000 03000000 7800 2000 \
-     7900 01000000 4700 05010000 02000000 00 02000000 4400 6200 01 01000000 4e00 01000000 6400 \
-     ffffffff 01000000 01000000 e8030000 01000000 6300 01";
+/// Whether the entries of three changes have the stated bytes.
+fn are_stated(alloc: Global, keeper: &mut MemoryKeeper) -> Result<bool, OutOfMemory> {
+    let mut journal = Journal::empty();
+    let is_removed = adds(
+        alloc,
+        &mut journal,
+        keeper,
+        removed(alloc)?,
+        HEADER_AND_REMOVED,
+    );
+    let is_created = adds(alloc, &mut journal, keeper, created(alloc)?, CREATED);
+    let is_changed = adds(alloc, &mut journal, keeper, changed(alloc)?, CHANGED);
+    Ok(is_removed && is_created && is_changed)
+}
 
 #[test]
 fn entries_have_the_stated_bytes(rt: HostRuntime) -> Result<(), Fail> {
-    let alloc = rt.alloc();
-    let mut keeper = keeper(alloc, &[], 0, &[])?;
-    let mut journal = Journal::empty();
-    assert!(rt;
-        adds(
-            alloc,
-            &mut journal,
-            &mut keeper,
-            removed(alloc),
-            HEADER_AND_REMOVED
-        )
-    );
-    assert!(rt; adds(alloc, &mut journal, &mut keeper, created(alloc), CREATED));
-    assert!(rt; adds(alloc, &mut journal, &mut keeper, changed(alloc), CHANGED));
+    let mut keeper = keeper(rt.alloc(), &[], 0, &[])?;
+    let are_stated = are_stated(rt.alloc(), &mut keeper);
+    drop(keeper);
+    assert!(rt; are_stated?);
     Ok(())
 }

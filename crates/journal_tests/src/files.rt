@@ -13,14 +13,18 @@ fn opened<R: Files + Drop>(
     path: &str,
 ) -> Option<(usize, u64)> {
     match open_journal(alloc, keeper, Some(path)) {
-        Ok(opened) => Some((opened.configs.len(), opened.journal.good)),
+        Ok(opened) => {
+            let told = (opened.configs.len(), opened.journal.good);
+            drop(opened);
+            Some(told)
+        }
         Err(_) => None,
     }
 }
 
 /// Appends the creation of a service to an empty journal, and says whether it is kept.
 fn creates<R: Files + Drop>(alloc: Global, keeper: &mut FileKeeper<R>) -> bool {
-    let Ok(config) = plain(alloc, "A", "/a") else {
+    let Ok(config) = plain(alloc) else {
         return false;
     };
     append(
@@ -32,12 +36,28 @@ fn creates<R: Files + Drop>(alloc: Global, keeper: &mut FileKeeper<R>) -> bool {
     .is_ok()
 }
 
-/// What is appended to a file, what an opening then finds, and how long the file is behind it.
-const ROWS: [(&[u8], Option<(usize, u64)>, usize); 3] = [
+/// What is appended to a file, what an opening then finds, and how long the file is then.
+type Row = (&'static [u8], Option<(usize, u64)>, usize);
+
+const ROWS: [Row; 3] = [
     (&[], Some((1, 74)), 74),
     (&[3, 6, 0, 0], Some((1, 74)), 74),
     (&[7, 0, 0, 0, 0], None, 79),
 ];
+
+/// Appends to a file, and says whether another keeper then finds what it should.
+fn is_found<R: Files + Drop>(
+    alloc: Global,
+    keeper: &mut FileKeeper<R>,
+    mut other: FileKeeper<R>,
+    path: &str,
+    row: &Row,
+) -> bool {
+    let is_appended = keeper.append(row.0).is_ok();
+    let found = opened(alloc, &mut other, path);
+    drop(other);
+    is_appended && found == row.1
+}
 
 #[test]
 fn a_file_keeps_a_journal(rt: HostRuntime) -> Result<(), Fail> {
@@ -46,13 +66,18 @@ fn a_file_keeps_a_journal(rt: HostRuntime) -> Result<(), Fail> {
     let path = path.as_str();
     let _ = fs::remove_file(&rt, path);
     let mut keeper = FileKeeper::new(alloc, rt);
-    assert_eq!(rt; opened(alloc, &mut keeper, path), Some((0, 0)));
+    assert!(rt; opened(alloc, &mut keeper, path) == Some((0, 0)));
     assert!(rt; creates(alloc, &mut keeper));
-    for (bytes, found, left) in ROWS {
-        assert!(rt; keeper.append(bytes).is_ok());
-        assert_eq!(rt; opened(alloc, &mut FileKeeper::new(alloc, rt), path), found);
-        assert_eq!(rt; fs::read(&rt, path)?.len(), left);
+    for row in &ROWS {
+        let other = FileKeeper::new(alloc, rt);
+        assert!(rt; is_found(alloc, &mut keeper, other, path, row));
+        let length = match fs::read(&rt, path) {
+            Ok(bytes) => bytes.len(),
+            Err(_) => 0,
+        };
+        assert!(rt; length == row.2);
     }
+    drop(keeper);
     fs::remove_file(&rt, path)?;
     Ok(())
 }

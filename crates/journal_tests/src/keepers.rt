@@ -1,5 +1,5 @@
-use crate::values::keeper;
 use record_journal::{Fate, Keeper, MemoryKeeper};
+use std::alloc::AllocError;
 use std::test::*;
 
 /// A call of a keeper.
@@ -23,25 +23,49 @@ fn succeeds(keeper: &mut MemoryKeeper, call: Call) -> bool {
     }
 }
 
+const FAILS: Fate = Fate::Fails { done: 2 };
+
+/// A call, what becomes of it, and the bytes that the keeper then holds.
+const CALLS: [(Call, Fate, &str); 10] = [
+    (Call::Open, Fate::Succeeds, "abc"),
+    (Call::OpenWithoutPath, FAILS, "abc"),
+    (Call::Read, FAILS, "abc"),
+    (Call::Read, Fate::Succeeds, "abc"),
+    (Call::Append("xyz"), FAILS, "abcxy"),
+    (Call::Cut(4), FAILS, "abcx"),
+    (Call::Cut(3), Fate::Fails { done: 0 }, "abcx"),
+    (Call::Cut(9), Fate::Succeeds, "abcx"),
+    (Call::Append("!"), Fate::Succeeds, "abcx!"),
+    (Call::OpenWithoutPath, Fate::Succeeds, ""),
+];
+
+/// The fates of the calls, as a keeper takes them.
+fn list_fates(fates: &mut Vec<Fate>) -> Result<(), AllocError> {
+    for (_, fate, _) in CALLS.iter().rev() {
+        fates.push(*fate)?;
+    }
+    Ok(())
+}
+
+/// Whether each call comes to its fate.
+fn come_to_fates(keeper: &mut MemoryKeeper) -> bool {
+    for (call, fate, bytes) in &CALLS {
+        if succeeds(keeper, *call) != (*fate == Fate::Succeeds)
+            || keeper.bytes() != bytes.as_bytes()
+        {
+            return false;
+        }
+    }
+    true
+}
+
 #[test]
 fn calls_come_to_their_fates_in_order(rt: HostRuntime) -> Result<(), Fail> {
-    let fails = Fate::Fails { done: 2 };
-    let rows = [
-        (Call::Open, Fate::Succeeds, "abc"),
-        (Call::OpenWithoutPath, fails, "abc"),
-        (Call::Read, fails, "abc"),
-        (Call::Read, Fate::Succeeds, "abc"),
-        (Call::Append("xyz"), fails, "abcxy"),
-        (Call::Cut(4), fails, "abcx"),
-        (Call::Cut(3), Fate::Fails { done: 0 }, "abcx"),
-        (Call::Cut(9), Fate::Succeeds, "abcx"),
-        (Call::Append("!"), Fate::Succeeds, "abcx!"),
-        (Call::OpenWithoutPath, Fate::Succeeds, ""),
-    ];
-    let mut keeper = keeper(rt.alloc(), b"abc", 0, &rows.map(|(_, fate, _)| fate))?;
-    for (call, fate, bytes) in rows {
-        assert_eq!(rt; succeeds(&mut keeper, call), fate == Fate::Succeeds);
-        assert_eq!(rt; keeper.bytes(), bytes.as_bytes());
-    }
+    let mut fates = Vec::new(rt.alloc());
+    list_fates(&mut fates)?;
+    let mut keeper = MemoryKeeper::new(Vec::from_slice(rt.alloc(), b"abc")?, fates);
+    let come_to_fates = come_to_fates(&mut keeper);
+    drop(keeper);
+    assert!(rt; come_to_fates);
     Ok(())
 }

@@ -1,12 +1,12 @@
-use crate::bytes::{CREATED, bytes_of};
+use crate::bytes::{CREATED, HEADER};
 use crate::values::keeper;
 use record_journal::{Fate, JournalFault, MemoryKeeper, Restored, open_journal};
 use scm_text::WText;
-use std::alloc::Global;
+use std::alloc::{AllocError, Global};
 use std::test::*;
 
 /// What an opening comes to.
-#[derive(Clone, Copy, PartialEq, Eq)]
+#[derive(Clone, Copy)]
 enum Answer {
     /// Services of these names, of one letter each, from so many bytes.
     Opens(&'static str, u64),
@@ -31,72 +31,125 @@ fn has_names(opened: &Restored, names: &str) -> bool {
     configs.len() == letters.len()
 }
 
-/// Whether an opening comes to this.
-fn comes_to(alloc: Global, keeper: &mut MemoryKeeper, answer: Answer) -> bool {
-    match (open_journal(alloc, keeper, Some("journal")), answer) {
-        (Ok(opened), Answer::Opens(names, kept)) => {
-            has_names(&opened, names) && opened.journal.good == kept && !opened.journal.dirty
+/// Whether what was read is this.
+fn is_opened(opened: &Restored, answer: Answer) -> bool {
+    match answer {
+        Answer::Opens(names, kept) => {
+            has_names(opened, names) && opened.journal.good == kept && !opened.journal.dirty
         }
-        (Err(JournalFault::Damaged(place)), Answer::DamagedAt(at)) => place == at,
-        (Err(JournalFault::Failed), Answer::Fails) => true,
+        Answer::DamagedAt(_) | Answer::Fails => false,
+    }
+}
+
+fn is_refused(fault: JournalFault, answer: Answer) -> bool {
+    match (fault, answer) {
+        (JournalFault::Damaged(place), Answer::DamagedAt(at)) => place == at,
+        (JournalFault::Failed, Answer::Fails) => true,
         _ => false,
     }
 }
 
-/// Whether a keeper of these bytes whose calls come to these fates is opened to this, and how many
+/// Whether an opening comes to this.
+fn comes_to(alloc: Global, keeper: &mut MemoryKeeper, answer: Answer) -> bool {
+    match open_journal(alloc, keeper, Some("journal")) {
+        Ok(opened) => {
+            let is_opened = is_opened(&opened, answer);
+            drop(opened);
+            is_opened
+        }
+        Err(fault) => is_refused(fault, answer),
+    }
+}
+
+/// Whether a keeper of these bytes whose calls come to these fates is opened to this, and so many
 /// of its bytes are left.
 fn opens(
     alloc: Global,
-    digits: &[&str],
+    bytes: &[u8],
     fates: &[Fate],
     answer: Answer,
-) -> Result<Option<usize>, Fail> {
-    let mut bytes = Vec::new(alloc);
-    for part in digits {
-        bytes.extend_from_slice(bytes_of(alloc, part)?.as_slice())?;
-    }
-    let mut keeper = keeper(alloc, bytes.as_slice(), 0, fates)?;
+    left: usize,
+) -> Result<bool, AllocError> {
+    let mut keeper = keeper(alloc, bytes, 0, fates)?;
     let comes = comes_to(alloc, &mut keeper, answer);
-    let left = keeper.bytes().len();
-    let same = bytes.get(..left) == Some(keeper.bytes());
-    Ok(if comes && same { Some(left) } else { None })
+    let are_left = bytes.get(..left) == Some(keeper.bytes());
+    drop(keeper);
+    Ok(comes && are_left)
 }
 
-const HEADER: &str = "53434d4a01000000";
+/// The same of the parts of a journal.
+fn opens_parts(
+    alloc: Global,
+    parts: &[&[u8]],
+    fates: &[Fate],
+    answer: Answer,
+    left: usize,
+) -> Result<bool, AllocError> {
+    let mut bytes = Vec::new(alloc);
+    for part in parts {
+        bytes.extend_from_slice(part)?;
+    }
+    opens(alloc, &bytes, fates, answer, left)
+}
 
 /// The service `A`, of 66 bytes.
-const A: &str = CREATED;
+const A: &[u8] = CREATED;
 
 /// The same with the display name `B`.
-const B_SHOWN: &str =
-    "02 3d000000 01000000 4100 01000000 4200 10000000 03000000 01000000 02000000 2f00 6100 \
-     00000000 00000000 00000000 00000000 00000000 00000000 00000000 00";
+const B_SHOWN: &[u8] = &[
+    2, 0x3D, 0, 0, 0, // a change
+    1, 0, 0, 0, 0x41, 0, // name
+    1, 0, 0, 0, 0x42, 0, // display name
+    0x10, 0, 0, 0, 3, 0, 0, 0, 1, 0, 0, 0, // type, start and error control
+    2, 0, 0, 0, 0x2F, 0, 0x61, 0, // path
+    0, 0, 0, 0, 0, 0, 0, 0, // group and tag
+    0, 0, 0, 0, // needs
+    0, 0, 0, 0, 0, 0, 0, 0, 0, 0, 0, 0, 0, 0, 0, 0, 0, // description, failures
+];
 
 /// The service `B`, which needs `A`, of 73 bytes.
-const B: &str =
-    "01 44000000 01000000 4200 01000000 4200 10000000 03000000 01000000 02000000 2f00 6100 \
-     00000000 00000000 01000000 00 01000000 4100 00000000 00000000 00000000 00000000 00";
+const B: &[u8] = &[
+    1, 0x44, 0, 0, 0, // a creation
+    1, 0, 0, 0, 0x42, 0, // name
+    1, 0, 0, 0, 0x42, 0, // display name
+    0x10, 0, 0, 0, 3, 0, 0, 0, 1, 0, 0, 0, // type, start and error control
+    2, 0, 0, 0, 0x2F, 0, 0x61, 0, // path
+    0, 0, 0, 0, 0, 0, 0, 0, // group and tag
+    1, 0, 0, 0, 0, 1, 0, 0, 0, 0x41, 0, // needs
+    0, 0, 0, 0, 0, 0, 0, 0, 0, 0, 0, 0, 0, 0, 0, 0, 0, // description, failures
+];
 
 /// `A`, which needs `B` from then on.
-const A_NEEDS_B: &str =
-    "02 44000000 01000000 4100 01000000 4100 10000000 03000000 01000000 02000000 2f00 6100 \
-     00000000 00000000 01000000 00 01000000 4200 00000000 00000000 00000000 00000000 00";
+const A_NEEDS_B: &[u8] = &[
+    2, 0x44, 0, 0, 0, // a change
+    1, 0, 0, 0, 0x41, 0, // name
+    1, 0, 0, 0, 0x41, 0, // display name
+    0x10, 0, 0, 0, 3, 0, 0, 0, 1, 0, 0, 0, // type, start and error control
+    2, 0, 0, 0, 0x2F, 0, 0x61, 0, // path
+    0, 0, 0, 0, 0, 0, 0, 0, // group and tag
+    1, 0, 0, 0, 0, 1, 0, 0, 0, 0x42, 0, // needs
+    0, 0, 0, 0, 0, 0, 0, 0, 0, 0, 0, 0, 0, 0, 0, 0, 0, // description, failures
+];
 
 /// `a` is removed, whose name is `A` too.
-const NO_A: &str = "03 06000000 01000000 6100";
+const NO_A: &[u8] = &[3, 6, 0, 0, 0, 1, 0, 0, 0, 0x61, 0];
 
-const NO_DB: &str = "03 08000000 02000000 4400 6200";
+const NO_DB: &[u8] = &[3, 8, 0, 0, 0, 2, 0, 0, 0, 0x44, 0, 0x62, 0];
 
 /// What stands, what an opening comes to, and how many bytes are left.
-const ROWS: [(&[&str], Answer, usize); 18] = [
+const ROWS: [(&[&[u8]], Answer, usize); 18] = [
     (&[], Answer::Opens("", 0), 0),
-    (&["53434d4a0100"], Answer::Opens("", 0), 0),
-    (&["53434d4b"], Answer::DamagedAt(0), 4),
-    (&["53434d4a02000000"], Answer::DamagedAt(0), 8),
+    (&[&[0x53, 0x43, 0x4D, 0x4A, 1, 0]], Answer::Opens("", 0), 0),
+    (&[&[0x53, 0x43, 0x4D, 0x4B]], Answer::DamagedAt(0), 4),
+    (
+        &[&[0x53, 0x43, 0x4D, 0x4A, 2, 0, 0, 0]],
+        Answer::DamagedAt(0),
+        8,
+    ),
     (&[HEADER], Answer::Opens("", 8), 8),
     (&[HEADER, NO_DB], Answer::DamagedAt(8), 21),
     (
-        &[HEADER, "03 08000000 02000000 4400 62"],
+        &[HEADER, &[3, 8, 0, 0, 0, 2, 0, 0, 0, 0x44, 0, 0x62]],
         Answer::Opens("", 8),
         8,
     ),
@@ -110,14 +163,17 @@ const ROWS: [(&[&str], Answer, usize); 18] = [
     (&[HEADER, B, B_SHOWN], Answer::DamagedAt(81), 147),
     (&[HEADER, A, B_SHOWN, B], Answer::DamagedAt(140), 213),
     // a kind that there isn't is damage, but for an unfinished last entry
-    (&[HEADER, A, "07 00000000"], Answer::DamagedAt(74), 79),
-    (&[HEADER, A, "07 01000000"], Answer::Opens("A", 74), 74),
+    (&[HEADER, A, &[7, 0, 0, 0, 0]], Answer::DamagedAt(74), 79),
+    (&[HEADER, A, &[7, 1, 0, 0, 0]], Answer::Opens("A", 74), 74),
 ];
 
 #[test]
 fn a_journal_is_read_up_to_an_unfinished_entry_or_damage(rt: HostRuntime) -> Result<(), Fail> {
-    for (digits, answer, left) in ROWS {
-        assert_eq!(rt; opens(rt.alloc(), digits, &[], answer)?, Some(left));
+    for (place, (parts, answer, left)) in ROWS.iter().enumerate() {
+        assert!(rt;
+            opens_parts(rt.alloc(), parts, &[], *answer, *left)?,
+            "row {place}"
+        );
     }
     Ok(())
 }
@@ -137,10 +193,11 @@ const FAULTS: [([Fate; 3], usize); 4] = [
 
 #[test]
 fn a_fault_of_the_keeper_is_told(rt: HostRuntime) -> Result<(), Fail> {
-    for (fates, left) in FAULTS {
-        assert_eq!(rt;
-            opens(rt.alloc(), &[HEADER, A, "01"], &fates, Answer::Fails)?,
-            Some(left)
+    for (fates, left) in &FAULTS {
+        let parts: [&[u8]; 3] = [HEADER, A, &[1]];
+        assert!(rt;
+            opens_parts(rt.alloc(), &parts, fates, Answer::Fails, *left)?,
+            "{left}"
         );
     }
     Ok(())

@@ -2,20 +2,14 @@
 use record_journal::{Fate, Journal, KeepFault, Keeper, MemoryKeeper};
 use scm_model::{Change, Config};
 use scm_text::{Items, OutOfMemory, WText};
-use std::alloc::Global;
-use std::test::Fail;
+use std::alloc::{AllocError, Global};
 
-fn append_unit(text: &mut WText, byte: u8) -> Result<(), OutOfMemory> {
-    if 0 < byte {
-        text.append_unit(u16::from(byte))
-    } else {
-        Ok(())
-    }
-}
-
-fn append_all(text: &mut WText, ascii: &str) -> Result<(), OutOfMemory> {
+/// Appends letters in ASCII. A 0 is left out.
+pub fn append_ascii(text: &mut WText, ascii: &str) -> Result<(), OutOfMemory> {
     for byte in ascii.as_bytes() {
-        append_unit(text, *byte)?;
+        if 0 < *byte {
+            text.append_unit(u16::from(*byte))?;
+        }
     }
     Ok(())
 }
@@ -23,35 +17,65 @@ fn append_all(text: &mut WText, ascii: &str) -> Result<(), OutOfMemory> {
 /// A text in ASCII. A 0 is left out.
 pub fn text(alloc: Global, ascii: &str) -> Result<WText, OutOfMemory> {
     let mut text = WText::new(alloc);
-    match append_all(&mut text, ascii) {
+    match append_ascii(&mut text, ascii) {
         Ok(()) => Ok(text),
-        Err(fault) => Err(fault),
+        Err(why) => {
+            drop(text);
+            Err(why)
+        }
     }
 }
 
-/// A service with this name, display name and path.
-pub fn plain(alloc: Global, name: &str, path: &str) -> Result<Config, OutOfMemory> {
-    match (text(alloc, name), text(alloc, name), text(alloc, path)) {
-        (Ok(name), Ok(display), Ok(path)) => Ok(Config {
-            name,
-            display,
-            kind: 0x10,
-            start: 3,
-            error: 1,
-            path,
-            group: WText::new(alloc),
-            tag: 0,
-            needs: Items::new(alloc),
-            description: WText::new(alloc),
-            reset: 0,
-            actions: Items::new(alloc),
-            command: WText::new(alloc),
-            on_exit: false,
-            delayed: false,
-            triggers: Items::new(alloc),
-        }),
-        _ => Err(OutOfMemory),
+/// A configuration without texts.
+pub fn unnamed(alloc: Global) -> Config {
+    Config {
+        name: WText::new(alloc),
+        display: WText::new(alloc),
+        kind: 0x10,
+        start: 3,
+        error: 1,
+        path: WText::new(alloc),
+        group: WText::new(alloc),
+        tag: 0,
+        needs: Items::new(alloc),
+        description: WText::new(alloc),
+        reset: 0,
+        actions: Items::new(alloc),
+        command: WText::new(alloc),
+        on_exit: false,
+        delayed: false,
+        triggers: Items::new(alloc),
     }
+}
+
+/// Names a configuration, with the same display name, and gives it a path.
+pub fn name(config: &mut Config, name: &str, path: &str) -> Result<(), OutOfMemory> {
+    append_ascii(&mut config.name, name)?;
+    append_ascii(&mut config.display, name)?;
+    append_ascii(&mut config.path, path)
+}
+
+/// A service `A` with the path `/a`.
+pub fn plain(alloc: Global) -> Result<Config, OutOfMemory> {
+    let mut config = unnamed(alloc);
+    match name(&mut config, "A", "/a") {
+        Ok(()) => Ok(config),
+        Err(why) => {
+            drop(config);
+            Err(why)
+        }
+    }
+}
+
+/// Fates in the order in which a keeper takes them from their end, after so many calls that
+/// succeed.
+fn taken(alloc: Global, before: usize, fates: &[Fate]) -> Result<Vec<Fate>, AllocError> {
+    let mut all = Vec::from_slice(alloc, fates)?;
+    all.reverse();
+    for _ in 0..before {
+        all.push(Fate::Succeeds)?;
+    }
+    Ok(all)
 }
 
 /// A keeper that holds these bytes. Its calls come to these fates, in their order, after so many
@@ -61,13 +85,11 @@ pub fn keeper(
     bytes: &[u8],
     before: usize,
     fates: &[Fate],
-) -> Result<MemoryKeeper, Fail> {
-    let mut all = Vec::from_slice(alloc, fates)?;
-    all.reverse();
-    for _ in 0..before {
-        all.push(Fate::Succeeds)?;
+) -> Result<MemoryKeeper, AllocError> {
+    match (Vec::from_slice(alloc, bytes), taken(alloc, before, fates)) {
+        (Ok(bytes), Ok(fates)) => Ok(MemoryKeeper::new(bytes, fates)),
+        _ => Err(AllocError),
     }
-    Ok(MemoryKeeper::new(Vec::from_slice(alloc, bytes)?, all))
 }
 
 /// Appends a change, and lets it go.
@@ -77,5 +99,7 @@ pub fn append<K: Keeper>(
     keeper: &mut K,
     change: Change,
 ) -> Result<(), KeepFault> {
-    journal.append(alloc, keeper, &change)
+    let kept = journal.append(alloc, keeper, &change);
+    drop(change);
+    kept
 }
