@@ -1,5 +1,5 @@
 use process_runner::split_command;
-use scm_text::{Items, WText};
+use scm_text::{Items, Text, WText};
 use std::alloc::Global;
 use std::test::Fail;
 
@@ -15,20 +15,36 @@ fn one(alloc: Global, text: &str) -> Result<Items<WText>, Fail> {
     Ok(list)
 }
 
-/// The words of a line and one word more, in brackets.
-fn words_in(alloc: Global, line: &str, more: &str) -> Result<String, Fail> {
-    let line = units(alloc, line)?;
-    let more = one(alloc, more)?;
-    let words = split_command(alloc, line.as_slice(), &more)
-        .ok()
-        .ok_or("memory")?;
+/// Words in brackets.
+fn bracketed(alloc: Global, words: &[Text]) -> Result<String, Fail> {
     let mut all = String::new(alloc);
-    for word in words.as_slice() {
+    for word in words {
         all.push_str("[")?;
         all.push_str(word.as_str())?;
         all.push_str("]")?;
     }
     Ok(all)
+}
+
+/// The words of a line and the words after it, in brackets.
+fn split(alloc: Global, line: &[u16], more: &Items<WText>) -> Result<String, Fail> {
+    let Ok(words) = split_command(alloc, line, more) else {
+        return Err("memory".into());
+    };
+    let all = bracketed(alloc, words.as_slice());
+    drop(words);
+    all
+}
+
+/// The words of a line and one word more, in brackets.
+fn words_in(alloc: Global, line: &str, more: &str) -> Result<String, Fail> {
+    let more = one(alloc, more)?;
+    let all = match units(alloc, line) {
+        Ok(line) => split(alloc, line.as_slice(), &more),
+        Err(fault) => Err(fault),
+    };
+    drop(more);
+    all
 }
 
 #[test]

@@ -1,31 +1,32 @@
 use child_link::{control_line, read_line_step};
-use scm_model::{Status, Step};
+use scm_model::Step;
 use std::test::Fail;
 
 /// The process whose lines are read.
 const PROCESS: u64 = 7;
 
-/// The status that a step reports of the process.
-fn reported(step: &Option<Step>) -> Option<Status> {
+/// The seven numbers of the status that a step reports of the process.
+fn reported(step: &Option<Step>) -> Option<[u32; 7]> {
     match step {
-        Some(Step::Report { process, status }) if *process == PROCESS => Some(*status),
+        Some(Step::Report { process, status: s }) if *process == PROCESS => Some([
+            s.kind,
+            s.state,
+            s.accepted,
+            s.win32,
+            s.specific,
+            s.checkpoint,
+            s.hint,
+        ]),
         _ => None,
     }
 }
 
-/// The seven numbers of the status that a line reports.
+/// The same of the step that a line is.
 fn numbers_in(line: &str) -> Option<[u32; 7]> {
     let step = read_line_step(line.as_bytes(), PROCESS);
-    let s = reported(&step)?;
-    Some([
-        s.kind,
-        s.state,
-        s.accepted,
-        s.win32,
-        s.specific,
-        s.checkpoint,
-        s.hint,
-    ])
+    let numbers = reported(&step);
+    drop(step);
+    numbers
 }
 
 #[test]

@@ -1,25 +1,32 @@
 ghost use Rattle.std.specs.Prelude.{◌≡◌};
 
-use outside::{Failed, Sink, Source};
+use outside::{Sink, Source};
 use scm_listener::{Accepted, Listener, Numbered, PortListener};
 use std::io::{Read, Write};
 use std::net::{Net, TcpListener, TcpStream};
-use std::test::Fail;
+
+/// Whether one byte is read, and one is written.
+fn is_answered<I: Source, O: Sink>(input: &mut I, output: &mut O) -> bool {
+    let mut byte = [0u8; 2];
+    let is_read = matches!(input.read(&mut byte), Ok(1));
+    let is_written = matches!(output.write(b"b"), Ok(1));
+    is_read && byte[0] == b'a' && is_written
+}
 
 /// Answers one byte of the next connection, ends it and notes it.
 fn answers<R: Net<Listener = TcpListener, Stream = TcpStream>>(
     listener: &mut PortListener<R>,
-) -> Result<bool, Failed> {
-    let Accepted::Conn(mut input, mut output) = listener.accept() else {
-        return Ok(false);
-    };
-    let mut byte = [0u8; 2];
-    let read = input.end.read(&mut byte)?;
-    let written = output.end.write(b"b")?;
-    let numbered = input.number == 0;
-    let past = end_of(listener, input, output);
-    listener.note(past);
-    Ok(numbered && read == 1 && byte[0] == b'a' && written == 1)
+) -> bool {
+    match listener.accept() {
+        Accepted::Conn(mut input, mut output) => {
+            let numbered = input.number == 0;
+            let answered = is_answered(&mut input.end, &mut output.end);
+            let past = end_of(listener, input, output);
+            listener.note(past);
+            numbered && answered
+        }
+        _ => false,
+    }
 }
 
 fn end_of<N: Listener>(_listener: &N, input: Numbered<N::In>, output: Numbered<N::Out>) -> N::Past
@@ -31,34 +38,39 @@ fn end_of<N: Listener>(_listener: &N, input: Numbered<N::In>, output: Numbered<N
 /// Whether a byte comes back from the port, and then the end.
 fn echoes<R: Net<Listener = TcpListener, Stream = TcpStream>>(
     listener: &mut PortListener<R>,
-    mut peer: TcpStream,
+    peer: &mut TcpStream,
 ) -> bool {
-    let written = peer.write(b"a");
-    let answered = answers(listener);
+    let is_written = matches!(peer.write(b"a"), Ok(1));
+    let is_answered = answers(listener);
     let mut byte = [0u8; 2];
-    let read = peer.read(&mut byte);
-    let end = peer.read(&mut [0u8; 1]);
-    matches!(written, Ok(1))
-        && matches!(answered, Ok(true))
-        && matches!(read, Ok(1))
-        && byte[0] == b'b'
-        && matches!(end, Ok(0))
+    let is_read = matches!(peer.read(&mut byte), Ok(1));
+    let ends = matches!(peer.read(&mut [0u8; 1]), Ok(0));
+    is_written && is_answered && is_read && byte[0] == b'b' && ends
 }
 
-/// One exchange over a port that takes one connection, behind which it is closed.
+/// Whether a byte comes back from the listener's port, of the loopback, and the port then is closed.
+fn is_exchanged<R: Net<Listener = TcpListener, Stream = TcpStream>>(
+    net: &R,
+    listener: &mut PortListener<R>,
+) -> bool {
+    let Some(address) = listener.local_addr() else {
+        return false;
+    };
+    let Ok(mut peer) = TcpStream::connect(net, address) else {
+        return false;
+    };
+    let echoed = echoes(listener, &mut peer);
+    drop(peer);
+    let closed = matches!(&listener.accept(), Accepted::Closed);
+    address.ip().is_loopback() && echoed && closed
+}
+
+/// One exchange over a port that takes one connection, after which it is closed.
 #[test]
-fn an_exchange_over_a_port(rt: HostRuntime) -> Result<(), Fail> {
+fn an_exchange_over_a_port(rt: HostRuntime) {
     let mut listener = PortListener::new(rt);
     let listens = listener.listen(0, Some(1)).is_ok();
-    let Some(address) = listener.local_addr() else {
-        return Err("no address".into());
-    };
-    let peer = TcpStream::connect(&rt, address)?;
-    let local = address.ip().is_loopback();
-    let echoed = echoes(&mut listener, peer);
-    let closed = matches!(&listener.accept(), Accepted::Closed);
-    if !listens || !local || !echoed || !closed {
-        return Err("another exchange".into());
-    }
-    Ok(())
+    let exchanged = is_exchanged(&rt, &mut listener);
+    drop(listener);
+    assert!(rt; listens && exchanged);
 }
