@@ -8,6 +8,3 @@ mod runs;
 pub use calls::{Visitor, join, make, pause, visit};
 pub use roll::{Line, Roll, What};
 pub use runs::{Crowd, Told, Whole, alone, many, one_visit, visits};
-
-#[cfg(test)]
-mod tests;
