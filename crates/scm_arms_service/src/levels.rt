@@ -7,12 +7,14 @@ use super::replacing::text_or;
 use scm_model::{Action, Config, Info, Trigger, TriggerIn};
 use scm_text::{Items, OutOfMemory, WText};
 use std::alloc::Global;
+use std::mem::replace;
 
 /// A configuration with another description.
-fn with_description(old: Config, description: WText) -> Config
+fn with_description(mut old: Config, description: WText) -> Config
     ensures { result ≡ record old { description = description } }
 {
-    Config { description, ..old }
+    drop(replace(&mut old.description, description));
+    old
 }
 
 /// A configuration with the description that is asked for, or the old one.
@@ -83,15 +85,18 @@ fn failing_of(
 }
 
 /// A configuration with something else that is done after failures.
-fn with_failing(old: Config, failing: Failing) -> Config
+fn with_failing(mut old: Config, failing: Failing) -> Config
     ensures { result ≡ with_failing old failing }
 {
-    Config {
-        reset: failing.reset,
-        command: failing.command,
-        actions: failing.actions,
-        ..old
-    }
+    let Failing {
+        reset,
+        command,
+        actions,
+    } = failing;
+    old.reset = reset;
+    drop(replace(&mut old.command, command));
+    drop(replace(&mut old.actions, actions));
+    old
 }
 
 /// A configuration with what is asked to be done after failures.
@@ -152,10 +157,11 @@ fn triggers_of(list: &[TriggerIn], alloc: Global) -> Result<Items<Trigger>, OutO
 }
 
 /// A configuration with other triggers.
-fn with_triggers(old: Config, triggers: Items<Trigger>) -> Config
+fn with_triggers(mut old: Config, triggers: Items<Trigger>) -> Config
     ensures { result ≡ record old { triggers = triggers } }
 {
-    Config { triggers, ..old }
+    drop(replace(&mut old.triggers, triggers));
+    old
 }
 
 /// A configuration with the triggers that are asked for.

@@ -10,6 +10,7 @@ use scm_tables::Tables;
 use scm_text::{Items, OutOfMemory, WText};
 use service_record::record_bytes;
 use std::alloc::Global;
+use std::mem::replace;
 
 /// The number that is asked for, or the old one.
 fn number_or(old: u32, asked: u32) -> u32
@@ -90,21 +91,30 @@ fn parts_of(
 }
 
 /// A configuration with other parts.
-fn with_parts(old: Config, parts: Parts) -> Config
+fn with_parts(mut old: Config, parts: Parts) -> Config
     ensures { result ≡ with_parts old parts }
 {
-    Config {
-        display: parts.display,
-        kind: parts.kind,
-        start: parts.start,
-        error: parts.error,
-        path: parts.path,
-        group: parts.group,
-        tag: parts.tag,
-        needs: parts.needs,
-        delayed: parts.delayed,
-        ..old
-    }
+    let Parts {
+        display,
+        kind,
+        start,
+        error,
+        path,
+        group,
+        tag,
+        needs,
+        delayed,
+    } = parts;
+    drop(replace(&mut old.display, display));
+    old.kind = kind;
+    old.start = start;
+    old.error = error;
+    drop(replace(&mut old.path, path));
+    drop(replace(&mut old.group, group));
+    old.tag = tag;
+    drop(replace(&mut old.needs, needs));
+    old.delayed = delayed;
+    old
 }
 
 /// The new configuration.

@@ -27,7 +27,6 @@ use std::marker::Model;
 
 /// The service manager. Contracts see its flat state, its limits, how many steps were made and
 /// their text, and the step that room was made for.
-#[derive(Drop)]
 pub struct Manager {
     pub(crate) tables: Tables,
     pub(crate) steps: u64,
@@ -35,6 +34,23 @@ pub struct Manager {
     room: Option<Promised>,
     made: Made,
     alloc: Global,
+}
+
+/// A drop of its own: a function that owns one drops it by a call, which is proved once.
+impl Drop for Manager {
+    fn drop(self) {
+        let Manager {
+            tables,
+            steps: _steps,
+            text: _text,
+            room,
+            made,
+            alloc: _alloc,
+        } = self;
+        drop(tables);
+        drop(room);
+        drop(made);
+    }
 }
 
 impl Model for Manager {

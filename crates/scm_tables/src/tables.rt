@@ -48,7 +48,6 @@ pub struct Numbers {
 }
 
 /// The manager's lists. Contracts see the flat state, the limits, and for how many rows more there is room.
-#[derive(Drop)]
 pub struct Tables {
     pub(crate) services: RecordTable,
     /// Which service needs which.
@@ -77,6 +76,49 @@ pub struct Tables {
     pub(crate) reboots: u64,
     pub(crate) limits: Limits,
     pub(crate) alloc: Global,
+}
+
+/// A drop of its own: a function that owns one drops it by a call, which is proved once.
+impl Drop for Tables {
+    fn drop(self) {
+        let Tables {
+            services,
+            index,
+            acyclic: _acyclic,
+            leaving,
+            searched,
+            handles,
+            processes,
+            plans,
+            tried,
+            registrations,
+            dues,
+            start_room: _start_room,
+            starts,
+            commands,
+            callers,
+            lock,
+            moment: _moment,
+            next: _next,
+            reboots: _reboots,
+            limits: _limits,
+            alloc: _alloc,
+        } = self;
+        drop(services);
+        drop(index);
+        drop(leaving);
+        drop(searched);
+        drop(handles);
+        drop(processes);
+        drop(plans);
+        drop(tried);
+        drop(registrations);
+        drop(dues);
+        drop(starts);
+        drop(commands);
+        drop(callers);
+        drop(lock);
+    }
 }
 
 impl Model for Tables {

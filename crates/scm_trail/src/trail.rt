@@ -17,13 +17,26 @@ const CHUNK: u64 = 4096;
 ///
 /// They lie in chunks of 4,096 rows of 32 bytes, so that no entry is ever moved. Where chunks are
 /// added, only their list may be copied, which has 24 bytes a chunk.
-#[derive(Drop)]
 pub struct Trail {
     chunks: Vec<Buffer<(u64, Note)>>,
     len: u64,
     room: u64,
     text: u64,
     text_room: u64,
+}
+
+/// A drop of its own: a function that owns one drops it by a call, which is proved once.
+impl Drop for Trail {
+    fn drop(self) {
+        let Trail {
+            chunks,
+            len: _len,
+            room: _room,
+            text: _text,
+            text_room: _text_room,
+        } = self;
+        drop(chunks);
+    }
 }
 
 impl Model for Trail {
