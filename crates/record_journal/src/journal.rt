@@ -11,7 +11,7 @@ use scm_model::Change;
 use std::alloc::Global;
 
 /// Where a journal ends.
-#[derive(Debug, Drop, PartialEq, Eq)]
+#[derive(Drop, PartialEq, Eq)]
 pub struct Journal {
     /// How many bytes are kept.
     pub good: u64,

@@ -8,7 +8,7 @@ use outside::Failed;
 use scm_text::Items;
 
 /// Why bytes are not kept, or not read.
-#[derive(Clone, Copy, Debug, PartialEq, Eq)]
+#[derive(Clone, Copy, PartialEq, Eq)]
 pub enum KeepFault {
     /// The keeper failed, and its count of faults rose.
     Failed,

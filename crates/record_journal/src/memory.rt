@@ -12,7 +12,7 @@ use scm_text::Items;
 use std::marker::Model;
 
 /// What becomes of a call.
-#[derive(Clone, Copy, Debug, PartialEq, Eq)]
+#[derive(Clone, Copy, PartialEq, Eq)]
 pub enum Fate {
     Succeeds,
     /// It fails when it has done so much: an append has appended that many bytes, all at the most;

@@ -23,7 +23,7 @@ pub struct Restored {
 }
 
 /// Why a journal isn't read.
-#[derive(Clone, Copy, Debug, PartialEq, Eq)]
+#[derive(Clone, Copy, PartialEq, Eq)]
 pub enum JournalFault {
     /// The keeper failed, and its count of faults rose.
     Failed,

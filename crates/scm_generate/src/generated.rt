@@ -1,5 +1,5 @@
 /// How the making of the list and the printing of its summary ended.
-#[derive(Clone, Copy, Debug, PartialEq, Eq)]
+#[derive(Clone, Copy, PartialEq, Eq)]
 pub enum Generated {
     /// All steps were made, and the summary is written.
     Ended,

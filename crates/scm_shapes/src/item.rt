@@ -3,7 +3,7 @@ use scm_model::{Info, Shown};
 use scm_text::{Items, WText};
 
 /// A kind of item in a body.
-#[derive(Clone, Copy, Debug, PartialEq, Eq)]
+#[derive(Clone, Copy, PartialEq, Eq)]
 pub enum Item {
     /// A context handle.
     Handle,

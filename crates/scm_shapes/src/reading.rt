@@ -57,13 +57,13 @@ fn read_item(reader: &mut NdrReader, alloc: Global, item: Item) -> Result<Value,
         Item::Text => Ok(Value::Text(reader.text(alloc)?)),
         Item::SomeText => Ok(Value::SomeText(reader.some_text(alloc)?)),
         Item::UnkeptText => {
-            let _text = reader.some_text(alloc)?;
+            drop(reader.some_text(alloc)?);
             Ok(Value::UnkeptText)
         }
         Item::SomeNumber => Ok(Value::SomeNumber(reader.some_number()?)),
         Item::SomeBytes => Ok(Value::SomeBytes(read_sized(reader, alloc)?)),
         Item::UnkeptBytes => {
-            let _held = read_sized(reader, alloc)?;
+            drop(read_sized(reader, alloc)?);
             Ok(Value::UnkeptBytes)
         }
         Item::Bytes => {

@@ -65,7 +65,9 @@ fn leaves_open(value: &Value) -> bool
 }
 
 /// Lets a value go that isn't of the kind that is asked for, or that there is no memory for.
-fn let_go(_value: Option<Value>) {}
+fn let_go(value: Option<Value>) {
+    drop(value);
+}
 
 impl Values {
     /// None yet, and room for 8.
