@@ -9,16 +9,31 @@ use scm_arms_notify::{close_notify, get_notify, notify};
 use scm_arms_process::{control, end, raise, report, set_status, take_control};
 use scm_arms_service::{change, change2, create, delete, query};
 use scm_arms_start::{end_start, fail_launch, finish, launched, start, take_launch, tick};
-use scm_model::{Answer, Kept, Request, Step};
+use scm_model::{Answer, Kept, NewService, Request, Step};
 use scm_tables::Tables;
+use scm_text::WText;
 use std::alloc::Global;
-use std::mem;
+use std::mem::replace;
 
-/// What the arm of a creation or of a start takes out of its request.
-fn taken(request: &mut Request) -> Request
-    ensures { result ≡ request.old }
+/// What the arm of a creation takes out of its request.
+fn taken(new: &mut NewService, alloc: Global) -> NewService
+    ensures { result ≡ new.old }
 {
-    mem::replace(request, Request::Close { handle: 0 })
+    let nothing = NewService {
+        handle: 0,
+        name: WText::new(alloc),
+        display: None,
+        access: 0,
+        kind: 0,
+        start: 0,
+        error: 0,
+        path: WText::new(alloc),
+        group: None,
+        tag: None,
+        needs: None,
+        account: None,
+    };
+    replace(new, nothing)
 }
 
 /// Does a call.
@@ -61,10 +76,8 @@ fn call(
             let config = made.config.take();
             Answer::Reply(change2(tables, caller, *handle, info, code, config, kept))
         }
-        Request::Create(_) => {
-            let Request::Create(new) = taken(request) else {
-                unreachable!()
-            };
+        Request::Create(new) => {
+            let new = taken(new, alloc);
             let config = made.config.take();
             Answer::Reply(create(tables, &limits, caller, new, code, config, kept))
         }
@@ -80,11 +93,9 @@ fn call(
             let owner = made.name.take().unwrap();
             Answer::Reply(query_lock(tables, caller, *handle, *size, owner))
         }
-        Request::Start { .. } => {
-            let Request::Start { handle, words } = taken(request) else {
-                unreachable!()
-            };
-            start(tables, alloc, caller, handle, words, made.entries.take())
+        Request::Start { handle, words } => {
+            let words = words.take();
+            start(tables, alloc, caller, *handle, words, made.entries.take())
         }
         Request::Notify { handle, mask } => {
             Answer::Reply(notify(tables, &limits, caller, *handle, *mask))
@@ -168,7 +179,7 @@ fn effect(tables: &mut Tables, alloc: Global, step: &mut Step, made: &mut Made) 
 fn keep(answer: &mut Answer, now: Answer)
     ensures { answer.new ≡ now }
 {
-    *answer = now;
+    drop(replace(answer, now));
 }
 
 /// A start that settling decided is answered at once. Each other answer stays where it lies.

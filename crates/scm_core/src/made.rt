@@ -17,7 +17,6 @@ use scm_text::{Items, OutOfMemory, WText};
 use std::alloc::Global;
 
 /// What is made for a step beforehand, so that the step itself takes no memory.
-#[derive(Drop)]
 pub struct Made {
     /// The name of who holds the lock.
     pub name: Option<WText>,
@@ -31,6 +30,25 @@ pub struct Made {
     pub entries: Option<Items<u64>>,
     /// The reply to a call that only reads.
     pub reply: Option<Reply>,
+}
+
+/// A drop of its own: a function that owns one drops it by a call, which is proved once.
+impl Drop for Made {
+    fn drop(self) {
+        let Made {
+            name,
+            config,
+            code: _code,
+            change,
+            entries,
+            reply,
+        } = self;
+        drop(name);
+        drop(config);
+        drop(change);
+        drop(entries);
+        drop(reply);
+    }
 }
 
 #[inline(always)]
@@ -52,7 +70,11 @@ fn made_of_name(name: WText) -> Made
 {
     Made {
         name: Some(name),
-        ..nothing_made()
+        config: None,
+        code: 0,
+        change: None,
+        entries: None,
+        reply: None,
     }
 }
 
@@ -79,8 +101,12 @@ fn made_of_entries(entries: Items<u64>) -> Made
     ensures { result ≡ record nothing_made { entries = Some entries } }
 {
     Made {
+        name: None,
+        config: None,
+        code: 0,
+        change: None,
         entries: Some(entries),
-        ..nothing_made()
+        reply: None,
     }
 }
 
@@ -88,8 +114,12 @@ fn made_of_reply(reply: Reply) -> Made
     ensures { result ≡ record nothing_made { reply = Some reply } }
 {
     Made {
+        name: None,
+        config: None,
+        code: 0,
+        change: None,
+        entries: None,
         reply: Some(reply),
-        ..nothing_made()
     }
 }
 

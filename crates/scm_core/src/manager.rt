@@ -245,7 +245,9 @@ impl Manager {
         ensures text { self.new.text ≡ self.old.text + text_of step }
         ensures room { self.new.room ≡ None }
     {
-        self.step_at(moment, &mut step)
+        let answer = self.step_at(moment, &mut step);
+        drop(step);
+        answer
     }
 
     /// The same of a step where it lies, which is used up: what it is then plays no part.
@@ -279,7 +281,8 @@ impl Manager {
         self.tables.write_first_path(path);
         forget(&mut self.room);
         let words = self.tables.take_words();
-        let _taken = self.step(moment, Step::LaunchTaken);
+        let taken = self.step(moment, Step::LaunchTaken);
+        drop(taken);
         Some((process, words))
     }
 }

@@ -189,5 +189,7 @@ pub fn outcome_at(
         step: Step::Tick,
         fails: false,
     };
-    outcome_by(alloc, manager, text, values, &mut line, outcome)
+    let made = outcome_by(alloc, manager, text, values, &mut line, outcome);
+    drop(line);
+    made
 }

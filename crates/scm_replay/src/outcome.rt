@@ -5,7 +5,6 @@ use super::missed::Missed;
 use scm_model::Answer;
 
 /// What a line comes to.
-#[derive(Drop)]
 pub enum Outcome {
     /// Its step was made.
     Answered(Answer),
@@ -17,6 +16,17 @@ pub enum Outcome {
     Full,
     /// It is no line, or its step may not come. No step was made.
     Bad,
+}
+
+/// A drop of its own: what owns one, or puts another in its place, drops it by a call, which is
+/// proved once.
+impl Drop for Outcome {
+    fn drop(self) {
+        match self {
+            Outcome::Answered(answer) => drop(answer),
+            Outcome::InVain(_) | Outcome::TooMany | Outcome::Full | Outcome::Bad => {}
+        }
+    }
 }
 
 impl Outcome {

@@ -18,6 +18,7 @@ use scm_model::{Kept, Principal, Request, Status, Step};
 use scm_shapes::Values;
 use scm_text::OutOfMemory;
 use std::alloc::Global;
+use std::mem::replace;
 
 /// Who joins.
 #[tactic(auto, unfolding(crate::specs::Lines::joined_at))]
@@ -83,7 +84,7 @@ fn request_in(
 fn put(step: &mut Step, now: Step)
     ensures { step.new ≡ now }
 {
-    *step = now;
+    drop(replace(step, now));
 }
 
 /// Puts a step that was found in place of another, and tells whether one was.

@@ -1,5 +1,5 @@
 /// How a run over lines ended.
-#[derive(Clone, Copy, Debug, PartialEq, Eq)]
+#[derive(Clone, Copy, PartialEq, Eq)]
 pub enum Replayed {
     /// The source ended behind a line feed, or at once.
     Ended,

@@ -63,5 +63,7 @@ pub fn replay<I: Source, O: Sink>(
     };
     let mut read = 0u64;
     let fed = feed_all(&mut replayer, manager, output, input, &mut read);
-    replayed_as(fed, replayer.reading.pending.is_empty())
+    let at_rest = replayer.reading.pending.is_empty();
+    drop(replayer);
+    replayed_as(fed, at_rest)
 }

@@ -1,5 +1,5 @@
 /// Why bytes that are there aren't answered on.
-#[derive(Clone, Copy, Debug, PartialEq, Eq)]
+#[derive(Clone, Copy, PartialEq, Eq)]
 pub enum Stop {
     /// A line is bad, and was answered so.
     BadLine,

@@ -4,7 +4,7 @@ ghost use Rattle.scm_replay.specs.Verbs.{fails_by, verb_at};
 use super::words::is;
 
 /// The word that says what a line's step is.
-#[derive(Clone, Copy, Debug, PartialEq, Eq)]
+#[derive(Clone, Copy, PartialEq, Eq)]
 pub enum Verb {
     Join,
     Call,
