@@ -3,7 +3,7 @@ use crate::pass::Pass;
 use scm_model::Reply;
 
 /// Why a caller doesn't join.
-#[derive(Clone, Copy, Debug, Drop, PartialEq, Eq)]
+#[derive(Clone, Copy, Drop, PartialEq, Eq)]
 pub enum JoinFault {
     /// There are as many callers as there may be.
     TooMany,

@@ -8,11 +8,19 @@ use std::alloc::Global;
 /// A step, and its note for the trail. The manager uses up the one, and the trail keeps the other.
 /// There is no note where there was no memory for it. It is made before the turn is taken, so that
 /// no request is copied with the turn held.
-#[derive(Drop)]
 pub struct Doubled {
     pub step: Step,
     pub note: Option<Note>,
     ghost same: { ForSome note (λ other. other ≡ step) },
+}
+
+/// A drop of its own: a function that owns one drops it by a call, which is proved once.
+impl Drop for Doubled {
+    fn drop(self) {
+        let Doubled { step, note } = self;
+        drop(step);
+        drop(note);
+    }
 }
 
 /// The note of a step, if there is memory for it.

@@ -1,5 +1,5 @@
 /// Why a step that may come isn't made, and isn't owed.
-#[derive(Clone, Copy, Debug, Drop, PartialEq, Eq)]
+#[derive(Clone, Copy, Drop)]
 pub enum MakeFault {
     /// The limits have no room for it.
     Full,
@@ -8,7 +8,7 @@ pub enum MakeFault {
 }
 
 /// Why a step isn't made that isn't owed.
-#[derive(Clone, Copy, Debug, Drop, PartialEq, Eq)]
+#[derive(Clone, Copy, Drop)]
 pub enum StepFault {
     /// It may not come in the state of that look.
     NotNow,

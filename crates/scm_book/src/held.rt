@@ -227,7 +227,10 @@ impl<K: Keeper> Held<K> {
         ensures err { OnErr result (IsAsItWas self.old self.new) }
         ensures why { IfErr result (λ fault. Why self.old step fault) }
     {
-        self.make_doubled(moment, &mut Doubled::new(self.alloc, step))
+        let mut doubled = Doubled::new(self.alloc, step);
+        let made = self.make_doubled(moment, &mut doubled);
+        drop(doubled);
+        made
     }
 
     /// Makes a step that is owed. Its room was made when it came to be owed, so it always takes
@@ -239,6 +242,9 @@ impl<K: Keeper> Held<K> {
         requires room { 1 ≤ self.old.trail.room }
         ensures { Adds self.old self.new moment (owed_step owed) result }
     {
-        self.grow(moment, &mut owed.step(), owed.note())
+        let mut step = owed.step();
+        let answer = self.grow(moment, &mut step, owed.note());
+        drop(step);
+        answer
     }
 }

@@ -19,12 +19,20 @@ use std::sync::Wait;
 const PATH_UNITS: u32 = 2048;
 
 /// Where a launch leaves its line. The memory for the path is made before the turn is taken.
-#[derive(Drop)]
 pub struct LaunchRoom {
     /// The program's path, in UTF-16 units. It has room for 2,048.
     pub path: TextRoom,
     /// The words that follow it on the command line.
     pub words: Items<WText>,
+}
+
+/// A drop of its own: a function that owns one drops it by a call, which is proved once.
+impl Drop for LaunchRoom {
+    fn drop(self) {
+        let LaunchRoom { path, words } = self;
+        drop(path);
+        drop(words);
+    }
 }
 
 impl LaunchRoom {

@@ -7,7 +7,7 @@ use scm_trail::Note;
 
 /// A step that is owed: it takes place without being asked for, and its room was made when it came
 /// to be owed. It holds no memory.
-#[derive(Clone, Copy, Debug, PartialEq, Eq)]
+#[derive(Clone, Copy)]
 pub enum Owed {
     /// A start that waited is answered.
     EndStart { caller: u64, plan: u64 },
@@ -43,7 +43,10 @@ impl Owed {
     pub fn note(self) -> Note
         ensures { result ≡ owed_step self }
     {
-        brief_note(&self.step())
+        let step = self.step();
+        let note = brief_note(&step);
+        drop(step);
+        note
     }
 }
 

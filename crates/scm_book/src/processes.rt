@@ -15,7 +15,7 @@ use scm_model::Answer;
 use std::sync::Wait;
 
 /// What a look for a launch finds.
-#[derive(Clone, Copy, Debug, Drop, PartialEq, Eq)]
+#[derive(Clone, Copy, Drop, PartialEq, Eq)]
 pub enum LaunchLook {
     /// The process that was taken in hand. Its line lies in the room that was handed in.
     Launch(u64),
@@ -24,7 +24,7 @@ pub enum LaunchLook {
 }
 
 /// What the end of a process comes to.
-#[derive(Clone, Copy, Debug, Drop, PartialEq, Eq)]
+#[derive(Clone, Copy, Drop, PartialEq, Eq)]
 pub enum EndedEnd {
     Taken,
     /// The process isn't its service's current one. No service changes.

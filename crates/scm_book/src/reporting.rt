@@ -21,7 +21,7 @@ use scm_model::{Answer, Status, Step};
 use std::sync::Wait;
 
 /// What a report comes to.
-#[derive(Clone, Copy, Debug, Drop, PartialEq, Eq)]
+#[derive(Clone, Copy, Drop, PartialEq, Eq)]
 pub enum ReportEnd {
     Taken,
     /// The service makes no such move: `ERROR_INVALID_DATA` (13). No service changes.
@@ -35,7 +35,7 @@ pub enum ReportEnd {
 }
 
 /// What a look for a control comes to.
-#[derive(Clone, Copy, Debug, Drop, PartialEq, Eq)]
+#[derive(Clone, Copy, Drop, PartialEq, Eq)]
 pub enum ControlLook {
     /// The control that waited first, which waits no longer.
     Control(u32),
@@ -50,7 +50,7 @@ pub enum ControlLook {
 }
 
 /// What a look for what is due comes to.
-#[derive(Clone, Copy, Debug, Drop, PartialEq, Eq)]
+#[derive(Clone, Copy, Drop, PartialEq, Eq)]
 pub enum TickEnd {
     Ticked,
     /// Nothing is due. No step was made.
