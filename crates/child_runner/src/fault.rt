@@ -8,7 +8,7 @@ use scm_model::codes::{
 };
 
 /// Why a process that was taken in hand wasn't launched.
-#[derive(Clone, Copy, Debug, PartialEq, Eq)]
+#[derive(Clone, Copy)]
 pub enum LaunchFault {
     /// The spawner failed so.
     Spawn(SpawnFault),

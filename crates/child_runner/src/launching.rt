@@ -38,7 +38,9 @@ fn start<P: Spawner>(
     let Ok(words) = split_command(alloc, line.path.units(), &line.words) else {
         return Err(LaunchFault::OutOfMemory);
     };
-    match spawner.start(&words) {
+    let started = spawner.start(&words);
+    drop(words);
+    match started {
         Ok(child) => Ok(child),
         Err(fault) => Err(LaunchFault::Spawn(fault)),
     }

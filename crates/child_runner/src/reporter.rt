@@ -9,13 +9,26 @@ use std::convert::Infallible;
 use std::sync::Wait;
 
 /// Takes the pieces of a process's output, and makes the reports that its lines are by a pass.
-#[derive(Drop)]
 pub struct Reporter<'a, R: Wait, K: Keeper, C: Clock> {
     pub rt: &'a R,
     pub book: &'a Book<K>,
     pub process: u64,
     pub clock: &'a C,
     pub line: LineCutter,
+}
+
+/// A drop of its own: a function that owns one drops it by a call, which is proved once.
+impl<'a, R: Wait, K: Keeper, C: Clock> Drop for Reporter<'a, R, K, C> {
+    fn drop(self) {
+        let Reporter {
+            rt: _rt,
+            book: _book,
+            process: _process,
+            clock: _clock,
+            line,
+        } = self;
+        drop(line);
+    }
 }
 
 impl<'a, R: Wait, K: Keeper, C: Clock> Eater<Pass, ()> for Reporter<'a, R, K, C> {

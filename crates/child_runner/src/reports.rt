@@ -27,7 +27,9 @@ fn status_in(line: &[u8], process: u64) -> Option<Status>
     ensures { result ≡ reported line.now }
 {
     let step = read_line_step(line, process)?;
-    status_of(&step)
+    let status = status_of(&step);
+    drop(step);
+    status
 }
 
 /// Makes a report of a process.

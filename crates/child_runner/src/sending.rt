@@ -11,7 +11,7 @@ use std::alloc::Global;
 use std::sync::Wait;
 
 /// What ended the sending of a process's controls.
-#[derive(Clone, Copy, Debug, Drop, PartialEq, Eq)]
+#[derive(Clone, Copy, Drop, PartialEq, Eq)]
 pub enum ControlsSent {
     /// The process isn't listed: it ended, and gets no control more.
     Over,
@@ -41,7 +41,9 @@ fn send_line<F: Feed>(alloc: Global, feed: &mut F, code: u32) -> Option<Controls
     let Ok(line) = control_line(alloc, code) else {
         return Some(ControlsSent::OutOfMemory);
     };
-    match write_all(feed, line.as_slice()) {
+    let written = write_all(feed, line.as_slice());
+    drop(line);
+    match written {
         Ok(()) => None,
         Err(_) => Some(ControlsSent::WriteFault),
     }

@@ -1,7 +1,7 @@
 use scm_book::Spent;
 
 /// How the serving of a child ended.
-#[derive(Clone, Copy, Debug, PartialEq, Eq)]
+#[derive(Clone, Copy)]
 pub enum ChildServed {
     /// Its output ended, and all reports of it were made.
     Ended,

@@ -73,9 +73,21 @@ fn replied<D: Desk>(alloc: Global, desk: &mut D, request: Request) -> Result<Buf
     ensures ok { IfOk result (λ body. Replied D.called desk.old desk.new (Call request) body.items) }
     ensures err { IfErr result (Unanswered D.rests D.full desk.old desk.new (Call request)) }
 {
-    let out = room_for(alloc, reply_bound(&request) as usize)?;
-    let reply = desk.call(request)?;
-    Ok(written(&reply, out))
+    let Ok(out) = room_for(alloc, reply_bound(&request) as usize) else {
+        drop(request);
+        return Err(Lacks::OutOfMemory);
+    };
+    match desk.call(request) {
+        Ok(reply) => {
+            let body = written(&reply, out);
+            drop(reply);
+            Ok(body)
+        }
+        Err(lacks) => {
+            drop(out);
+            Err(lacks)
+        }
+    }
 }
 
 /// The body of a code that a raise is answered, for which there is room.

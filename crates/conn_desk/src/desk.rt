@@ -9,7 +9,7 @@ ghost use Rattle.conn_desk.specs.Desks.{CallAnswered};
 use scm_model::{Reply, Request};
 
 /// Why a request has no answer.
-#[derive(Clone, Copy, Debug, PartialEq, Eq)]
+#[derive(Clone, Copy)]
 pub enum Lacks {
     /// There is no room for what it would make.
     Full,

@@ -1,7 +1,7 @@
 use rpc_pdu::PduKind;
 
 /// How the serving of a connection ended.
-#[derive(Clone, Copy, Debug, PartialEq, Eq)]
+#[derive(Clone, Copy, PartialEq, Eq)]
 pub enum Served {
     /// The source ended, and no PDU and no request was begun.
     Ended,

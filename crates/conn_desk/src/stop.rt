@@ -1,7 +1,7 @@
 use rpc_pdu::PduKind;
 
 /// Why a connection isn't served on, although bytes are there.
-#[derive(Clone, Copy, Debug, PartialEq, Eq)]
+#[derive(Clone, Copy)]
 pub enum Stop {
     /// The PDU at this place of the stream is bad.
     Bad(u64, PduKind),

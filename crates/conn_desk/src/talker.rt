@@ -8,10 +8,20 @@ use rpc_session::Session;
 use std::alloc::Global;
 
 /// Takes the pieces of a connection, and answers the items that they make whole, at a desk.
-#[derive(Drop)]
 pub struct Talker {
     pub alloc: Global,
     pub session: Session,
+}
+
+/// A drop of its own: a function that owns one drops it by a call, which is proved once.
+impl Drop for Talker {
+    fn drop(self) {
+        let Talker {
+            alloc: _alloc,
+            session,
+        } = self;
+        drop(session);
+    }
 }
 
 impl<D: Desk, O: Sink> Eater<D, O> for Talker {
