@@ -81,7 +81,8 @@ fn join<'a, R: Threads, K: Keeper>(rt: &R, book: &Book<K>, by: &mut Pass, runner
     ensures book { IsOf book.now by.new }
     ensures sees { SeesOn book.now.opening by.old by.new }
 {
-    let Runner { handle, is_done: _ } = runner;
+    let Runner { handle, is_done } = runner;
+    drop(is_done);
     take_both(book, by, handle.join(rt));
 }
 
@@ -241,6 +242,7 @@ where
     {
         let past = run(rt, alloc, book, child, clock, quit);
         flag.store(true, Ordering::SeqCst);
+        drop(flag);
         past
     };
     match scope.spawn_with(OfBook { book }, worker) {
@@ -438,6 +440,7 @@ where
                 &mut runners,
             );
             join_all(rt, book, &mut by, &mut runners);
+            drop(runners);
             let spent = book.gone(rt, by, clock.now());
             Launched { spent, spawner }
         },

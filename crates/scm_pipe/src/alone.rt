@@ -46,10 +46,11 @@ fn finished<R: Wait, K: Keeper>(rt: &R, book: Book<K>, last: Spent, how: Served)
         IsKept K.held K.faults book.opening last.seen result.keeper }
 {
     let Closed {
-        trail: _,
+        trail,
         keeper,
         services: _,
     } = book.close(rt, last);
+    drop(trail);
     Piped { how, keeper }
 }
 

@@ -70,6 +70,7 @@ where
     {
         let worked = work::<R, K, N, C>(rt, alloc, book, pass, input, output, clock);
         flag.store(1, SeqCst);
+        drop(flag);
         worked
     };
     match scope.spawn_with(promise, worker) {

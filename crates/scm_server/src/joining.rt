@@ -91,7 +91,8 @@ fn join_at<R: Threads, K: Keeper, N: Listener, C: Clock>(
         workers.new.items) result }
 {
     let _ = clock;
-    let Worker { handle, done: _ } = workers.remove(at);
+    let Worker { handle, done } = workers.remove(at);
+    drop(done);
     take_back(book, by, listener, handle.join(rt))
 }
 

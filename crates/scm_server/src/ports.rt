@@ -89,6 +89,7 @@ where
         clock,
     );
     let last = join_all(rt, book, &mut pass, &mut listener, &mut workers, clock);
+    drop(workers);
     Port {
         listener,
         pass,

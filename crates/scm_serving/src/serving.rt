@@ -84,8 +84,10 @@ fn closed<R: Wait, K: Keeper, N, P>(
         keeper,
         services,
     } = book.close(rt, last);
+    let end = book_end(alloc, end, &trail, services);
+    drop(trail);
     BookServed {
-        end: book_end(alloc, end, &trail, services),
+        end,
         keeper,
         admin,
         user,

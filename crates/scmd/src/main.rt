@@ -12,28 +12,45 @@ use scm_listener::{Listener, PortListener};
 use scm_text::{Items, Text};
 use scmd_top::{NoWords, World, scmd_with};
 use std::alloc::Global;
-use std::io::ErrorKind;
+use std::env::{self, Args};
+use std::io::{self, ErrorKind};
 use std::process::ExitCode;
 use std::rt::Env;
 use std::sync::Wait;
 use std::thread::Threads;
 use std::time;
 
+/// Why the words can't be had.
+fn no_words(fault: io::Error) -> NoWords {
+    let kind = fault.kind();
+    drop(fault);
+    match kind {
+        ErrorKind::InvalidData => NoWords::NotText,
+        _ => NoWords::OutOfMemory,
+    }
+}
+
+/// Adds the words after the first.
+fn add_words(args: Args, words: &mut Vec<Text>) -> Result<(), NoWords> {
+    for word in args.skip(1) {
+        if words.push(Text::from_string(word)).is_err() {
+            return Err(NoWords::OutOfMemory);
+        }
+    }
+    Ok(())
+}
+
 /// The words after the program's name.
 fn arguments<R: Env + AllocGlobal>(rt: &R) -> Result<Items<Text>, NoWords> {
-    let args = match std::env::args(rt) {
-        Ok(args) => args,
-        Err(fault) if fault.kind() == ErrorKind::InvalidData => return Err(NoWords::NotText),
-        Err(_) => return Err(NoWords::OutOfMemory),
-    };
-    let alloc: Global = rt.alloc();
-    let mut words = Vec::new(alloc);
-    for word in args.skip(1) {
-        let Ok(()) = words.push(Text::from_string(word)) else {
-            return Err(NoWords::OutOfMemory);
-        };
+    let args = env::args(rt).map_err(no_words)?;
+    let mut words = Vec::new(rt.alloc());
+    match add_words(args, &mut words) {
+        Ok(()) => Ok(Items::from_vec(words)),
+        Err(fault) => {
+            drop(words);
+            Err(fault)
+        }
     }
-    Ok(Items::from_vec(words))
 }
 
 /// The whole program. Its bounds give it no leave to write to standard error, nor to any place that
@@ -53,7 +70,8 @@ where
     P: Spawner<Link = L, Feed = F> + Send + Drop,
     C: Clock + Sync + Drop,
 {
-    let (status, _world) = scmd_with(rt, rt.alloc(), arguments(rt), world);
+    let (status, world) = scmd_with(rt, rt.alloc(), arguments(rt), world);
+    drop(world);
     ExitCode::from(status)
 }
 
