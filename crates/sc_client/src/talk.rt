@@ -27,7 +27,6 @@ const ACCEPTANCE: [u8; 24] = [
 ];
 
 /// How far a client came with its peer.
-#[derive(Drop)]
 pub struct Talk {
     /// Whether the bind was accepted.
     pub bound: bool,
@@ -37,13 +36,29 @@ pub struct Talk {
     pub part: Items<u8>,
 }
 
+impl Drop for Talk {
+    fn drop(self) {
+        let Talk {
+            bound: _,
+            heard,
+            part,
+        } = self;
+        drop(heard);
+        drop(part);
+    }
+}
+
 /// The call that is to be answered next.
 #[tactic(auto, unfolding(crate::specs::Talks::expected))]
 fn expected(alloc: Global, command: &Command, heard: &[Heard]) -> Result<Option<Call>, OutOfMemory>
     ensures { IfOk result (λ call. call ≡ expected command.now heard.now) }
 {
     match next_request(alloc, command, heard)? {
-        Some(asked) => Ok(call_of(&asked)),
+        Some(asked) => {
+            let call = call_of(&asked);
+            drop(asked);
+            Ok(call)
+        }
         None => Ok(None),
     }
 }

@@ -56,9 +56,12 @@ pub fn ask_next<T: Sink>(
         return Ok(false);
     };
     let Ok(call) = u32::try_from(heard.len() + 2) else {
+        drop(asked);
         return Err(ClientFault::OutOfMemory);
     };
-    let text = request_text(alloc, call, &asked)?;
+    let text = request_text(alloc, call, &asked);
+    drop(asked);
+    let text = text?;
     match write_all(sink, text.as_slice()) {
         Ok(()) => Ok(true),
         Err(_) => Err(ClientFault::WriteFault),

@@ -144,16 +144,6 @@ fn copy_of_text(alloc: Global, text: &Option<WText>) -> Result<Option<WText>, Ou
     }
 }
 
-/// A copy of a text, or the empty one.
-fn text_or_empty(alloc: Global, text: &Option<WText>) -> Result<WText, OutOfMemory>
-    ensures { IfOk result (λ copy. copy ≡ unwrap_or text.now []) }
-{
-    match text {
-        Some(text) => text.copy(alloc),
-        None => Ok(WText::new(alloc)),
-    }
-}
-
 /// A copy of actions that may be absent.
 fn copy_of_actions(
     alloc: Global,
@@ -170,6 +160,38 @@ fn copy_of_actions(
     }
 }
 
+/// The texts and lists of settings as a request has them.
+#[derive(Drop)]
+struct Copies {
+    display: Option<WText>,
+    path: Option<WText>,
+    group: Option<WText>,
+    needs: Option<Items<u8>>,
+    account: Option<WText>,
+}
+
+/// Copies of the texts and lists of settings.
+fn copies_of(alloc: Global, settings: &Settings) -> Result<Copies, OutOfMemory>
+    ensures display { IfOk result (λ copies. copies.display ≡ settings.now.display) }
+    ensures path { IfOk result (λ copies. copies.path ≡ settings.now.path) }
+    ensures group { IfOk result (λ copies. copies.group ≡ settings.now.group) }
+    ensures needs { IfOk result (λ copies. copies.needs ≡ option_map needs_bytes settings.now.needs) }
+    ensures account { IfOk result (λ copies. copies.account ≡ settings.now.account) }
+{
+    let display = copy_of_text(alloc, &settings.display)?;
+    let path = copy_of_text(alloc, &settings.path)?;
+    let group = copy_of_text(alloc, &settings.group)?;
+    let needs = some_needs(alloc, &settings.needs)?;
+    let account = copy_of_text(alloc, &settings.account)?;
+    Ok(Copies {
+        display,
+        path,
+        group,
+        needs,
+        account,
+    })
+}
+
 /// What a creation asks.
 fn creation(
     alloc: Global,
@@ -180,11 +202,13 @@ fn creation(
     ensures { IfOk result (λ new. new ≡ creation name.now settings.now handle) }
 {
     let name = name.copy(alloc)?;
-    let display = copy_of_text(alloc, &settings.display)?;
-    let path = text_or_empty(alloc, &settings.path)?;
-    let group = copy_of_text(alloc, &settings.group)?;
-    let needs = some_needs(alloc, &settings.needs)?;
-    let account = copy_of_text(alloc, &settings.account)?;
+    let Copies {
+        display,
+        path,
+        group,
+        needs,
+        account,
+    } = copies_of(alloc, settings)?;
     Ok(NewService {
         handle,
         name,
@@ -193,7 +217,7 @@ fn creation(
         kind: settings.kind.unwrap_or(SERVICE_WIN32_OWN_PROCESS),
         start: start_or(settings.start, SERVICE_DEMAND_START),
         error: settings.error.unwrap_or(SERVICE_ERROR_NORMAL),
-        path,
+        path: path.unwrap_or(WText::new(alloc)),
         group,
         tag: tag_asked(settings.tag),
         needs,
@@ -205,11 +229,13 @@ fn creation(
 fn change(alloc: Global, settings: &Settings, handle: u64) -> Result<ChangeService, OutOfMemory>
     ensures { IfOk result (λ asked. asked ≡ change settings.now handle) }
 {
-    let path = copy_of_text(alloc, &settings.path)?;
-    let group = copy_of_text(alloc, &settings.group)?;
-    let needs = some_needs(alloc, &settings.needs)?;
-    let account = copy_of_text(alloc, &settings.account)?;
-    let display = copy_of_text(alloc, &settings.display)?;
+    let Copies {
+        display,
+        path,
+        group,
+        needs,
+        account,
+    } = copies_of(alloc, settings)?;
     Ok(ChangeService {
         handle,
         kind: settings.kind.unwrap_or(SERVICE_NO_CHANGE),

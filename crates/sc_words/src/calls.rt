@@ -9,7 +9,7 @@ use scm_model::Reply;
 use scm_model::codes::ERROR_SUCCESS;
 
 /// A call of the manager, under the name that is printed.
-#[derive(Clone, Copy, Debug, PartialEq, Eq)]
+#[derive(Clone, Copy, PartialEq, Eq)]
 pub enum Method {
     OpenSCManager,
     OpenService,
@@ -23,11 +23,19 @@ pub enum Method {
 }
 
 /// What the peer answered a request.
-#[derive(Drop)]
 pub enum Heard {
     Reply(Reply),
     /// The status of a fault (C706, appendix E).
     Fault(u32),
+}
+
+impl Drop for Heard {
+    fn drop(self) {
+        match self {
+            Heard::Reply(reply) => drop(reply),
+            Heard::Fault(_) => {}
+        }
+    }
 }
 
 /// Where the calls of a task stand.

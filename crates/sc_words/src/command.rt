@@ -2,7 +2,6 @@ use super::settings::Settings;
 use scm_text::{Items, Text, WText};
 
 /// What a command does with its service.
-#[derive(Drop)]
 pub enum Task {
     Create(Settings),
     Config(Settings),
@@ -16,12 +15,37 @@ pub enum Task {
     Delete,
 }
 
+impl Drop for Task {
+    fn drop(self) {
+        match self {
+            Task::Create(settings) | Task::Config(settings) | Task::Failure(settings) => {
+                drop(settings);
+            }
+            Task::Description(text) => drop(text),
+            Task::Start(words) => drop(words),
+            Task::Control(_) | Task::Query | Task::Delete => {}
+        }
+    }
+}
+
 /// A command to a manager.
-#[derive(Drop)]
 pub struct Command {
     /// Where the manager listens, as `127.0.0.1:4000`.
     pub address: Text,
     /// The service's name.
     pub name: WText,
     pub task: Task,
+}
+
+impl Drop for Command {
+    fn drop(self) {
+        let Command {
+            address,
+            name,
+            task,
+        } = self;
+        drop(address);
+        drop(name);
+        drop(task);
+    }
 }

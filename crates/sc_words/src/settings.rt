@@ -15,7 +15,7 @@ use scm_text::{Items, Text, WText};
 use std::alloc::Global;
 
 /// A word that says what the next word is. It ends in `=`.
-#[derive(Clone, Copy, Debug, PartialEq, Eq)]
+#[derive(Clone, Copy, PartialEq, Eq)]
 pub enum Key {
     BinPath,
     Type,
@@ -32,7 +32,6 @@ pub enum Key {
 }
 
 /// What the keys of a command say. What no key says is absent.
-#[derive(Drop)]
 pub struct Settings {
     pub path: Option<WText>,
     /// The type, as in a configuration.
@@ -53,36 +52,50 @@ pub struct Settings {
     pub command: Option<WText>,
 }
 
+impl Drop for Settings {
+    fn drop(self) {
+        let Settings {
+            path,
+            kind: _,
+            start: _,
+            error: _,
+            group,
+            tag: _,
+            needs,
+            display,
+            account,
+            reset: _,
+            actions,
+            command,
+        } = self;
+        drop(path);
+        drop(group);
+        drop(needs);
+        drop(display);
+        drop(account);
+        drop(actions);
+        drop(command);
+    }
+}
+
 /// The key that a word is.
 fn key_named(word: &str) -> Option<Key>
     ensures { result ≡ key_named word.now }
 {
-    if word == "binPath=" {
-        Some(Key::BinPath)
-    } else if word == "type=" {
-        Some(Key::Type)
-    } else if word == "start=" {
-        Some(Key::Start)
-    } else if word == "error=" {
-        Some(Key::Error)
-    } else if word == "group=" {
-        Some(Key::Group)
-    } else if word == "tag=" {
-        Some(Key::Tag)
-    } else if word == "depend=" {
-        Some(Key::Depend)
-    } else if word == "DisplayName=" {
-        Some(Key::DisplayName)
-    } else if word == "obj=" {
-        Some(Key::Obj)
-    } else if word == "reset=" {
-        Some(Key::Reset)
-    } else if word == "actions=" {
-        Some(Key::Actions)
-    } else if word == "command=" {
-        Some(Key::Command)
-    } else {
-        None
+    match word {
+        "binPath=" => Some(Key::BinPath),
+        "type=" => Some(Key::Type),
+        "start=" => Some(Key::Start),
+        "error=" => Some(Key::Error),
+        "group=" => Some(Key::Group),
+        "tag=" => Some(Key::Tag),
+        "depend=" => Some(Key::Depend),
+        "DisplayName=" => Some(Key::DisplayName),
+        "obj=" => Some(Key::Obj),
+        "reset=" => Some(Key::Reset),
+        "actions=" => Some(Key::Actions),
+        "command=" => Some(Key::Command),
+        _ => None,
     }
 }
 

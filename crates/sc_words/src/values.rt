@@ -12,7 +12,7 @@ use scm_text::{Items, OutOfMemory, WText};
 use std::alloc::{AllocError, Global};
 
 /// When a service is started.
-#[derive(Clone, Copy, Debug, PartialEq, Eq)]
+#[derive(Clone, Copy, PartialEq, Eq)]
 pub enum StartType {
     Auto,
     Demand,
@@ -25,12 +25,10 @@ pub enum StartType {
 pub fn kind_named(word: &str) -> Option<u32>
     ensures { result ≡ kind_named word.now }
 {
-    if word == "own" {
-        Some(SERVICE_WIN32_OWN_PROCESS)
-    } else if word == "share" {
-        Some(SERVICE_WIN32_SHARE_PROCESS)
-    } else {
-        None
+    match word {
+        "own" => Some(SERVICE_WIN32_OWN_PROCESS),
+        "share" => Some(SERVICE_WIN32_SHARE_PROCESS),
+        _ => None,
     }
 }
 
@@ -38,16 +36,12 @@ pub fn kind_named(word: &str) -> Option<u32>
 pub fn start_named(word: &str) -> Option<StartType>
     ensures { result ≡ start_named word.now }
 {
-    if word == "auto" {
-        Some(StartType::Auto)
-    } else if word == "demand" {
-        Some(StartType::Demand)
-    } else if word == "disabled" {
-        Some(StartType::Disabled)
-    } else if word == "delayed-auto" {
-        Some(StartType::DelayedAuto)
-    } else {
-        None
+    match word {
+        "auto" => Some(StartType::Auto),
+        "demand" => Some(StartType::Demand),
+        "disabled" => Some(StartType::Disabled),
+        "delayed-auto" => Some(StartType::DelayedAuto),
+        _ => None,
     }
 }
 
@@ -55,16 +49,12 @@ pub fn start_named(word: &str) -> Option<StartType>
 pub fn error_named(word: &str) -> Option<u32>
     ensures { result ≡ error_named word.now }
 {
-    if word == "ignore" {
-        Some(SERVICE_ERROR_IGNORE)
-    } else if word == "normal" {
-        Some(SERVICE_ERROR_NORMAL)
-    } else if word == "severe" {
-        Some(SERVICE_ERROR_SEVERE)
-    } else if word == "critical" {
-        Some(SERVICE_ERROR_CRITICAL)
-    } else {
-        None
+    match word {
+        "ignore" => Some(SERVICE_ERROR_IGNORE),
+        "normal" => Some(SERVICE_ERROR_NORMAL),
+        "severe" => Some(SERVICE_ERROR_SEVERE),
+        "critical" => Some(SERVICE_ERROR_CRITICAL),
+        _ => None,
     }
 }
 
@@ -72,12 +62,10 @@ pub fn error_named(word: &str) -> Option<u32>
 pub fn flag_named(word: &str) -> Option<bool>
     ensures { result ≡ flag_named word.now }
 {
-    if word == "yes" {
-        Some(true)
-    } else if word == "no" {
-        Some(false)
-    } else {
-        None
+    match word {
+        "yes" => Some(true),
+        "no" => Some(false),
+        _ => None,
     }
 }
 
@@ -161,16 +149,12 @@ pub fn seconds_at(word: &str) -> Option<u32>
 fn what_named(word: &str) -> Option<u32>
     ensures { result ≡ what_named word.now }
 {
-    if word == "none" {
-        Some(0)
-    } else if word == "restart" {
-        Some(1)
-    } else if word == "reboot" {
-        Some(2)
-    } else if word == "run" {
-        Some(3)
-    } else {
-        None
+    match word {
+        "none" => Some(0),
+        "restart" => Some(1),
+        "reboot" => Some(2),
+        "run" => Some(3),
+        _ => None,
     }
 }
 
