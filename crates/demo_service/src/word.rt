@@ -20,20 +20,14 @@ pub enum Word {
 pub fn word_at(text: &str) -> Option<Word>
     ensures { result ≡ word_at text.now }
 {
-    if text == "pending" {
-        Some(Word::Report(SERVICE_START_PENDING))
-    } else if text == "running" {
-        Some(Word::Report(SERVICE_RUNNING))
-    } else if text == "paused" {
-        Some(Word::Report(SERVICE_PAUSED))
-    } else if text == "stopping" {
-        Some(Word::Report(SERVICE_STOP_PENDING))
-    } else if text == "stopped" {
-        Some(Word::Report(SERVICE_STOPPED))
-    } else if text == "wait" {
-        Some(Word::Wait)
-    } else {
-        None
+    match text {
+        "pending" => Some(Word::Report(SERVICE_START_PENDING)),
+        "running" => Some(Word::Report(SERVICE_RUNNING)),
+        "paused" => Some(Word::Report(SERVICE_PAUSED)),
+        "stopping" => Some(Word::Report(SERVICE_STOP_PENDING)),
+        "stopped" => Some(Word::Report(SERVICE_STOPPED)),
+        "wait" => Some(Word::Wait),
+        _ => None,
     }
 }
 

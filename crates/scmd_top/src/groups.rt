@@ -1,5 +1,5 @@
 //! The groups whose services start first.
-ghost use Rattle.std.specs.Prelude.{◌≡◌, ◌++◌, IfOk, OnOk};
+ghost use Rattle.std.specs.Prelude.{◌≡◌, ◌++◌, [], IfOk, OnOk};
 ghost use Rattle.scmd_top.specs.Groups.{group_named, groups_in, groups_of};
 ghost use Rattle.scmd_top.specs.Parts.{lent};
 
@@ -14,10 +14,24 @@ fn add_group(alloc: Global, groups: &mut Items<WText>, name: &str) -> Result<(),
     match word_text(alloc, name)? {
         Some(group) => match groups.push(group) {
             Ok(()) => Ok(()),
-            Err(_) => Err(OutOfMemory),
+            Err(full) => {
+                drop(full);
+                Err(OutOfMemory)
+            }
         },
         None => Ok(()),
     }
+}
+
+/// Adds the groups of a list, in order, to none.
+fn add_groups(alloc: Global, groups: &mut Items<WText>, list: &str) -> Result<(), OutOfMemory>
+    requires none { groups.old ≡ [] }
+    ensures { OnOk result (groups.new ≡ groups_of list.now) }
+{
+    for name in list.split(',') {
+        add_group(alloc, groups, name)?;
+    }
+    Ok(())
 }
 
 /// The groups of a list, in order.
@@ -25,10 +39,13 @@ fn groups_of(alloc: Global, list: &str) -> Result<Items<WText>, OutOfMemory>
     ensures { IfOk result (λ groups. groups ≡ groups_of list.now) }
 {
     let mut groups = Items::new(alloc);
-    for name in list.split(',') {
-        add_group(alloc, &mut groups, name)?;
+    match add_groups(alloc, &mut groups, list) {
+        Ok(()) => Ok(groups),
+        Err(fault) => {
+            drop(groups);
+            Err(fault)
+        }
     }
-    Ok(groups)
 }
 
 /// The groups of a list, if there is one.

@@ -26,10 +26,14 @@ fn written<O: Sink>(end: BookEnd, output: &mut O) -> u8
     ensures output { O.faults output.old ≤ O.faults output.new }
 {
     match end {
-        BookEnd::Ended(text) => match write_all(output, text.as_slice()) {
-            Ok(()) => 0,
-            Err(Failed) => 2,
-        },
+        BookEnd::Ended(text) => {
+            let how = write_all(output, text.as_slice());
+            drop(text);
+            match how {
+                Ok(()) => 0,
+                Err(Failed) => 2,
+            }
+        }
         BookEnd::OutOfMemory => 8,
         BookEnd::ListenFault => 10,
     }

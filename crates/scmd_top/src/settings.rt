@@ -12,7 +12,7 @@ use scm_replay::number_at;
 use scm_text::Text;
 
 /// What an option says.
-#[derive(Clone, Copy, Debug, PartialEq, Eq)]
+#[derive(Clone, Copy)]
 pub enum Setting {
     AdminPort,
     UserPort,
@@ -27,7 +27,7 @@ pub enum Setting {
 }
 
 /// What options say, so far as they were read.
-#[derive(Clone, Copy, Debug, PartialEq, Eq)]
+#[derive(Clone, Copy)]
 pub struct Settings {
     pub admin: Option<u16>,
     pub user: Option<u16>,
@@ -46,22 +46,15 @@ pub struct Settings {
 fn setting_named(word: &str) -> Option<Setting>
     ensures { result ≡ setting_named word.now }
 {
-    if word == "--admin" {
-        Some(Setting::AdminPort)
-    } else if word == "--user" {
-        Some(Setting::UserPort)
-    } else if word == "--take-admin" {
-        Some(Setting::AdminTake)
-    } else if word == "--take-user" {
-        Some(Setting::UserTake)
-    } else if word == "--as" {
-        Some(Setting::As)
-    } else if word == "--db" {
-        Some(Setting::File)
-    } else if word == "--groups" {
-        Some(Setting::Groups)
-    } else {
-        None
+    match word {
+        "--admin" => Some(Setting::AdminPort),
+        "--user" => Some(Setting::UserPort),
+        "--take-admin" => Some(Setting::AdminTake),
+        "--take-user" => Some(Setting::UserTake),
+        "--as" => Some(Setting::As),
+        "--db" => Some(Setting::File),
+        "--groups" => Some(Setting::Groups),
+        _ => None,
     }
 }
 
@@ -109,12 +102,10 @@ fn count_at(value: &str) -> Option<u64>
 fn principal_named(value: &str) -> Option<Principal>
     ensures { result ≡ principal_named value.now }
 {
-    if value == "admin" {
-        Some(Principal::Admin)
-    } else if value == "user" {
-        Some(Principal::User)
-    } else {
-        None
+    match value {
+        "admin" => Some(Principal::Admin),
+        "user" => Some(Principal::User),
+        _ => None,
     }
 }
 

@@ -11,7 +11,7 @@ use scm_replay::number_at;
 use scm_text::{Items, Text};
 
 /// Why the words of the program can't be had.
-#[derive(Clone, Copy, Debug, PartialEq, Eq)]
+#[derive(Clone, Copy)]
 pub enum NoWords {
     /// One of them isn't UTF-8.
     NotText,
@@ -19,7 +19,7 @@ pub enum NoWords {
 }
 
 /// What the program is to do.
-#[derive(Clone, Copy, Debug, PartialEq, Eq)]
+#[derive(Clone, Copy)]
 pub enum Job {
     /// Serves one connection from the input to the output.
     Pipe { principal: Principal },
@@ -135,19 +135,13 @@ pub fn job_of(words: &Items<Text>) -> Option<Job>
 {
     match words.as_slice() {
         [] => None,
-        [word, rest @ ..] => {
-            if word.as_str() == "pipe" {
-                with_pipe(rest)
-            } else if word.as_str() == "replay" {
-                with_replay(rest)
-            } else if word.as_str() == "generate" {
-                generate_with(rest)
-            } else if word.as_str() == "serve" {
-                with_serve(rest)
-            } else {
-                None
-            }
-        }
+        [word, rest @ ..] => match word.as_str() {
+            "pipe" => with_pipe(rest),
+            "replay" => with_replay(rest),
+            "generate" => generate_with(rest),
+            "serve" => with_serve(rest),
+            _ => None,
+        },
     }
 }
 

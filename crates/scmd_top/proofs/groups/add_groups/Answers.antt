@@ -3,7 +3,7 @@ use Rattle.std.proofs.lemmas.Iterator.Consumers.{YieldsList-end}
 use Rattle.std.proofs.lemmas.Iterator.Splits.{YieldsList-from_str_split}
 use Rattle.std.specs.List.{flat_map}
 use Rattle.scmd_top.specs.Groups.{group_named}
-use Rattle.scmd_top.proofs.groups.groups_of.Goals as goal
+use Rattle.scmd_top.proofs.groups.add_groups.Goals as goal
 
 pub returns : goal.returns
 returns c =
