@@ -2,22 +2,34 @@ use scm_model::{Kept, Request, Step};
 use scm_text::{OutOfMemory, WText};
 use scm_trail::{Note, Trail};
 use std::alloc::Global;
-use std::test::Fail;
 
 /// A step as a history keeps it.
 fn note_of(alloc: Global, step: Step) -> Result<Note, OutOfMemory> {
     let note = Note::new(alloc, &step);
+    drop(step);
     note
+}
+
+/// Makes room for an entry of so much text.
+fn reserve(trail: &mut Trail, text: u128) -> Result<(), OutOfMemory> {
+    let Ok(text) = u64::try_from(text) else {
+        return Err(OutOfMemory);
+    };
+    trail.reserve(1, text)
 }
 
 /// Appends an entry, with room that it makes.
 fn add(trail: &mut Trail, moment: u64, note: Note) -> Result<(), OutOfMemory> {
-    let Ok(text) = u64::try_from(note.text()) else {
-        return Err(OutOfMemory);
-    };
-    trail.reserve(1, text)?;
-    trail.push(moment, note);
-    Ok(())
+    match reserve(trail, note.text()) {
+        Ok(()) => {
+            trail.push(moment, note);
+            Ok(())
+        }
+        Err(why) => {
+            drop(note);
+            Err(why)
+        }
+    }
 }
 
 /// Appends so many entries without text. The moment of each is three times its caller's number.
@@ -30,7 +42,7 @@ fn fill(alloc: Global, trail: &mut Trail, count: u64) -> Result<(), OutOfMemory>
 }
 
 /// What the tests tell steps by.
-#[derive(Clone, Copy, Debug, PartialEq, Eq)]
+#[derive(Clone, Copy, PartialEq, Eq)]
 enum Seen {
     /// This caller goes.
     Gone(u64),
@@ -59,6 +71,7 @@ fn look(step: &Step) -> Seen {
 fn look_in(entry: (u64, Step)) -> (u64, Seen) {
     let (moment, step) = entry;
     let told = look(&step);
+    drop(step);
     (moment, told)
 }
 
@@ -73,17 +86,25 @@ fn look_at(trail: &Trail, place: u64) -> Option<(u64, Seen)> {
     }
 }
 
-#[test]
-fn entries_are_read_back_at_their_places(rt: HostRuntime) -> Result<(), Fail> {
-    let mut trail = Trail::new(rt.alloc());
-    fill(rt.alloc(), &mut trail, 5000).ok().ok_or("memory")?;
-    assert_eq!(rt; trail.len(), 5000);
-    assert_eq!(rt; trail.text(), 0);
-    for (place, moment) in [(0, 0), (4095, 12285), (4096, 12288), (4999, 14997)] {
-        assert_eq!(rt; look_at(&trail, place), Some((moment, Seen::Gone(place))));
+/// Whether 5000 entries are there, each at its place.
+fn are_read_back(alloc: Global, trail: &mut Trail) -> bool {
+    if fill(alloc, trail, 5000).is_err() || (trail.len(), trail.text()) != (5000, 0) {
+        return false;
     }
-    assert_eq!(rt; look_at(&trail, 5000), None);
-    Ok(())
+    for (place, moment) in [(0, 0), (4095, 12285), (4096, 12288), (4999, 14997)] {
+        if look_at(trail, place) != Some((moment, Seen::Gone(place))) {
+            return false;
+        }
+    }
+    look_at(trail, 5000).is_none()
+}
+
+#[test]
+fn entries_are_read_back_at_their_places(rt: HostRuntime) {
+    let mut trail = Trail::new(rt.alloc());
+    let are_read_back = are_read_back(rt.alloc(), &mut trail);
+    drop(trail);
+    assert!(rt; are_read_back);
 }
 
 /// A call in vain for a handle of the service of this name.
@@ -99,23 +120,21 @@ fn asking(name: WText) -> Step {
     }
 }
 
-/// A history of a launch that is taken, and of such a call.
-fn history(alloc: Global) -> Result<Trail, OutOfMemory> {
+/// Appends a launch that is taken, and such a call.
+fn ask(alloc: Global, trail: &mut Trail) -> Result<(), OutOfMemory> {
+    add(trail, 5, note_of(alloc, Step::LaunchTaken)?)?;
     let Ok(name) = WText::from_units(alloc, &[65, 66, 67]) else {
         return Err(OutOfMemory);
     };
-    let call = note_of(alloc, asking(name))?;
-    let launch = note_of(alloc, Step::LaunchTaken)?;
-    let mut trail = Trail::new(alloc);
-    add(&mut trail, 5, launch)?;
-    add(&mut trail, 7, call)?;
-    Ok(trail)
+    add(trail, 7, note_of(alloc, asking(name))?)
 }
 
 #[test]
-fn text_is_counted_and_copied(rt: HostRuntime) -> Result<(), Fail> {
-    let trail = history(rt.alloc()).ok().ok_or("memory")?;
-    assert_eq!(rt; trail.text(), 6);
-    assert_eq!(rt; look_at(&trail, 1), Some((7, Seen::Asking)));
-    Ok(())
+fn text_is_counted_and_copied(rt: HostRuntime) {
+    let mut trail = Trail::new(rt.alloc());
+    let is_told = ask(rt.alloc(), &mut trail).is_ok()
+        && trail.text() == 6
+        && look_at(&trail, 1) == Some((7, Seen::Asking));
+    drop(trail);
+    assert!(rt; is_told);
 }

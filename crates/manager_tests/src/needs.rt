@@ -4,10 +4,11 @@ ghost use Rattle.std.specs.Prelude.{◌≡◌};
 ghost use Rattle.scm_replay.specs.Replay.{IsFresh};
 
 use crate::limits::{LIMITS, new_manager};
+use crate::replays::run;
 use dependency_index::{DependencyIndex, StateLook, Steps};
-use outside::{MemorySink, MemorySource};
+use outside::MemorySink;
 use scm_core::Manager;
-use scm_replay::{Replayed, replay};
+use scm_replay::Replayed;
 use scm_text::WText;
 use std::alloc::{AllocError, Global};
 use std::cell::Cell;
@@ -21,7 +22,7 @@ const BEGIN: &str = "0 join admin\n0 call 1 15 00000000000000003f000f00\n";
 /// The creation of a service, up to its name, whose one unit follows.
 const CREATE: &str = "0 call 1 12 0000000001000000000000000000000000000000020000000000000002000000";
 
-/// Behind the name: an own process, started on demand, its path, no group and no tag.
+/// After the name: an own process, started on demand, its path, no group and no tag.
 const PATH: &str = "000000000000ff010f0010000000030000000100000002000000000000000200000070000000\
     0000000000000000";
 
@@ -62,13 +63,12 @@ fn push_creation(lines: &mut String, number: u64) -> Result<(), AllocError> {
     })
 }
 
-fn creations(alloc: Global) -> Result<String, AllocError> {
-    let mut lines = String::new(alloc);
+fn push_creations(lines: &mut String) -> Result<(), AllocError> {
     lines.push_str(BEGIN)?;
     for number in 1..513 {
-        push_creation(&mut lines, number)?;
+        push_creation(lines, number)?;
     }
-    Ok(lines)
+    Ok(())
 }
 
 /// Each service runs. Looks are counted.
@@ -105,10 +105,10 @@ fn active<L: Ledger>(index: &DependencyIndex, blank: Blank) -> (u32, u32)
 fn has_run(alloc: Global, manager: &mut Manager, lines: &str) -> Result<bool, AllocError>
     requires { IsFresh manager.old }
 {
-    let bytes = Vec::from_slice(alloc, lines.as_bytes())?;
-    let mut input = MemorySource::new(bytes, Vec::new(alloc));
     let mut output = MemorySink::new(alloc, Vec::new(alloc));
-    Ok(replay(alloc, manager, &mut input, &mut output) == Replayed::Ended)
+    let ended = run(alloc, manager, lines, &mut output);
+    drop(output);
+    Ok(ended? == Replayed::Ended)
 }
 
 fn is_lent(manager: &Manager, name: &WText) -> bool {
@@ -153,9 +153,12 @@ fn so(is_lent: Result<bool, AllocError>) -> Result<(), Fail> {
 
 #[test]
 fn three_of_many_name_a_service_and_no_more_are_looked_at(rt: HostRuntime) -> Result<(), Fail> {
-    let lines = creations(rt.alloc())?;
+    let mut lines = String::new(rt.alloc());
+    push_creations(&mut lines)?;
     let Ok(name) = WText::from_units(rt.alloc(), &[0x62]) else {
         return Err("no memory".into());
     };
-    expect(rt.alloc(), lines.as_str(), &name)
+    let expected = expect(rt.alloc(), lines.as_str(), &name);
+    drop(name);
+    expected
 }

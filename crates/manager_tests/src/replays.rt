@@ -77,6 +77,22 @@ const BAD: [Row; 17] = [
     ("the same", "0 unlaunched 1 2"),
 ];
 
+/// How a manager's run over these lines ends, whose answers go into a sink.
+pub fn run(
+    alloc: Global,
+    manager: &mut Manager,
+    lines: &str,
+    output: &mut MemorySink,
+) -> Result<Replayed, AllocError>
+    requires { IsFresh manager.old }
+{
+    let bytes = Vec::from_slice(alloc, lines.as_bytes())?;
+    let mut input = MemorySource::new(bytes, Vec::new(alloc));
+    let ended = replay(alloc, manager, &mut input, output);
+    drop(input);
+    Ok(ended)
+}
+
 /// Whether a manager's run over these lines ends so with these answers.
 fn is_run(
     alloc: Global,
@@ -87,11 +103,11 @@ fn is_run(
 ) -> Result<bool, AllocError>
     requires { IsFresh manager.old }
 {
-    let bytes = Vec::from_slice(alloc, lines.as_bytes())?;
-    let mut input = MemorySource::new(bytes, Vec::new(alloc));
     let mut output = MemorySink::new(alloc, Vec::new(alloc));
-    let ended = replay(alloc, manager, &mut input, &mut output);
-    Ok(ended == how && output.bytes() == answers.as_bytes())
+    let ended = run(alloc, manager, lines, &mut output);
+    let are_so = output.bytes() == answers.as_bytes();
+    drop(output);
+    Ok(ended? == how && are_so)
 }
 
 fn so(is_run: Result<bool, AllocError>) -> Result<(), Fail> {

@@ -41,7 +41,7 @@ enum Event {
 }
 
 /// What an event is answered.
-#[derive(Clone, Copy, Debug, PartialEq, Eq)]
+#[derive(Clone, Copy, PartialEq, Eq)]
 enum Told {
     Caller(u64),
     /// The code of a reply.
@@ -61,14 +61,23 @@ fn letter(alloc: Global, letter: u8) -> Result<WText, OutOfMemory> {
     }
 }
 
-/// The services of these letters, as a body has them.
-fn needs(alloc: Global, letters: &str) -> Result<Option<Items<u8>>, OutOfMemory> {
-    let mut bytes = Items::new(alloc);
+fn append_each(bytes: &mut Items<u8>, letters: &str) -> Result<(), OutOfMemory> {
     for letter in letters.as_bytes() {
         bytes.append(&[*letter, 0, 0, 0])?;
     }
-    bytes.append(&[0, 0])?;
-    Ok(Some(bytes))
+    bytes.append(&[0, 0])
+}
+
+/// The services of these letters, as a body has them.
+fn needs(alloc: Global, letters: &str) -> Result<Items<u8>, OutOfMemory> {
+    let mut bytes = Items::new(alloc);
+    match append_each(&mut bytes, letters) {
+        Ok(()) => Ok(bytes),
+        Err(why) => {
+            drop(bytes);
+            Err(why)
+        }
+    }
 }
 
 fn creation(alloc: Global, name: u8, needed: &str) -> Result<Request, OutOfMemory> {
@@ -90,9 +99,17 @@ fn creation(alloc: Global, name: u8, needed: &str) -> Result<Request, OutOfMemor
         path,
         group: None,
         tag: None,
-        needs,
+        needs: Some(needs),
         account: None,
     }))
+}
+
+fn opening(alloc: Global, handle: u64, name: u8) -> Result<Request, OutOfMemory> {
+    Ok(Request::OpenService {
+        handle,
+        name: letter(alloc, name)?,
+        access: 0,
+    })
 }
 
 fn call(caller: u64, request: Request) -> Step {
@@ -115,42 +132,6 @@ fn in_state(state: u32) -> Status {
     }
 }
 
-/// The call of an event, if it is one.
-fn call_of(alloc: Global, event: Event) -> Result<Option<Step>, OutOfMemory> {
-    Ok(Some(match event {
-        Event::OpensManager(caller) => {
-            let access = 0xF003F;
-            call(
-                caller,
-                Request::OpenManager {
-                    database: None,
-                    access,
-                },
-            )
-        }
-        Event::Creates(name, needed) => call(1, creation(alloc, name, needed)?),
-        Event::Opens(caller, handle, name) => {
-            let name = letter(alloc, name)?;
-            call(
-                caller,
-                Request::OpenService {
-                    handle,
-                    name,
-                    access: 0,
-                },
-            )
-        }
-        Event::Closes(handle) => call(1, Request::Close { handle }),
-        Event::Deletes(handle) => call(1, Request::Delete { handle }),
-        Event::Starts(handle) => {
-            let words = Some(Items::new(alloc));
-            call(1, Request::Start { handle, words })
-        }
-        Event::Stops(handle) => call(1, Request::Control { handle, control: 1 }),
-        _ => return Ok(None),
-    }))
-}
-
 /// The step of an event that is no call.
 fn step_of(event: Event) -> Step {
     match event {
@@ -170,6 +151,32 @@ fn step_of(event: Event) -> Step {
         Event::Ticks => Step::Tick,
         _ => Step::LaunchTaken,
     }
+}
+
+/// The step of an event.
+fn made(alloc: Global, event: Event) -> Result<Step, OutOfMemory> {
+    Ok(match event {
+        Event::OpensManager(caller) => call(
+            caller,
+            Request::OpenManager {
+                database: None,
+                access: 0xF003F,
+            },
+        ),
+        Event::Creates(name, needed) => call(1, creation(alloc, name, needed)?),
+        Event::Opens(caller, handle, name) => call(caller, opening(alloc, handle, name)?),
+        Event::Closes(handle) => call(1, Request::Close { handle }),
+        Event::Deletes(handle) => call(1, Request::Delete { handle }),
+        Event::Starts(handle) => call(
+            1,
+            Request::Start {
+                handle,
+                words: Some(Items::new(alloc)),
+            },
+        ),
+        Event::Stops(handle) => call(1, Request::Control { handle, control: 1 }),
+        other => step_of(other),
+    })
 }
 
 fn code_of(reply: &Reply) -> u32 {
@@ -202,7 +209,7 @@ fn told_by(answer: &Answer) -> Told {
     }
 }
 
-/// Whether the step makes a change. That it does is told without want of memory.
+/// Whether the step makes a change. Without memory it makes none.
 fn makes_change(manager: &mut Manager, step: &Step) -> bool {
     if manager.reserve_for(step).is_err() {
         return false;
@@ -228,37 +235,41 @@ fn done(manager: &mut Manager, moment: u64, step: Step) -> Result<Told, Fail> {
     let is_kept = makes_change(manager, &step);
     let step = step.with_kept(if is_kept { Kept::Kept } else { Kept::NotAsked });
     if !is_admitted(manager, moment, &step) {
+        drop(step);
         return Err("the step may not be made".into());
     }
     let answer = manager.step(moment, step);
-    Ok(told_by(&answer))
+    let told = told_by(&answer);
+    drop(answer);
+    Ok(told)
 }
 
 /// Takes the launch that is wanted first, which has the one letter of a service for its path, and
 /// no words.
 fn take(alloc: Global, manager: &mut Manager, moment: u64) -> Result<Told, Fail> {
-    let Ok(mut path) = TextRoom::new(alloc, 2048) else {
-        return Err("no memory".into());
-    };
     if !manager.fits(&Step::LaunchTaken) {
         return Err("too many steps".into());
     }
-    match manager.take_launch(moment, &mut path) {
+    let Ok(mut path) = TextRoom::new(alloc, 2048) else {
+        return Err("no memory".into());
+    };
+    let launch = manager.take_launch(moment, &mut path);
+    let told = match &launch {
         Some((process, words)) if path.units().len() == 1 && words.len() == 0 => {
-            Ok(Told::Launch(process))
+            Ok(Told::Launch(*process))
         }
         _ => Err("another launch".into()),
-    }
+    };
+    drop(launch);
+    drop(path);
+    told
 }
 
 /// What an event is answered at a moment.
 fn answered(alloc: Global, manager: &mut Manager, moment: u64, event: Event) -> Result<Told, Fail> {
-    if let Event::Takes = event {
-        return take(alloc, manager, moment);
-    }
-    match call_of(alloc, event)? {
-        Some(call) => done(manager, moment, call),
-        None => done(manager, moment, step_of(event)),
+    match event {
+        Event::Takes => take(alloc, manager, moment),
+        event => done(manager, moment, made(alloc, event)?),
     }
 }
 

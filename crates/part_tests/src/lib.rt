@@ -17,6 +17,6 @@ mod records;
 #[cfg(test)]
 mod starts;
 #[cfg(test)]
-mod texts;
-#[cfg(test)]
 mod unasked;
+#[cfg(test)]
+mod values;

@@ -1,8 +1,9 @@
-ghost use Rattle.std.specs.Prelude.{◌≡◌, OnOk};
+ghost use Rattle.std.specs.Prelude.{◌≡◌, [], OnOk};
 ghost use Rattle.scm_model.specs.Needs.{needs_of};
 ghost use Rattle.scm_model.specs.Walks.{IsAcyclic};
 
-use crate::texts::{add, text};
+use crate::values::{Needed, needs, text};
+use Needed::{Group, Service};
 use dependency_index::{DependencyIndex, StateLook, StateOf, Steps};
 use scm_model::Need;
 use scm_text::{Buffer, Items, OutOfMemory, WText};
@@ -11,36 +12,23 @@ use std::marker::Brand;
 use std::sync::ledger::{Blank, Ledger};
 use std::test::Fail;
 
-/// Needs by their names, with `+` before the name of a group, and spaces between them.
-fn needs(alloc: Global, names: &str) -> Result<Items<Need>, OutOfMemory> {
-    let mut needs = Items::new(alloc);
-    for name in names.split(' ') {
-        match name.strip_prefix('+') {
-            Some(group) => add(&mut needs, Need::Group(text(alloc, group)?))?,
-            None if name.is_empty() => {}
-            None => add(&mut needs, Need::Service(text(alloc, name)?))?,
-        }
-    }
-    Ok(needs)
-}
-
 /// Services in list order: each with its number, its name, its group and its needs.
-type Row = (u64, &'static str, &'static str, &'static str);
+type Row = (u64, &'static str, &'static str, &'static [Needed]);
 
 /// `c` needs `b`, `b` needs the group of `a` and `d`, which need nothing.
 const GROUPED: [Row; 4] = [
-    (1, "c", "", "b"),
-    (2, "a", "g", ""),
-    (3, "b", "", "+g"),
-    (4, "d", "g", ""),
+    (1, "c", "", &[Service("b")]),
+    (2, "a", "g", &[]),
+    (3, "b", "", &[Group("g")]),
+    (4, "d", "g", &[]),
 ];
 
 /// `b` needs `a`, and `c` needs `d` and `b`.
 const CHAINED: [Row; 4] = [
-    (1, "a", "", ""),
-    (2, "d", "", ""),
-    (3, "b", "", "a"),
-    (4, "c", "", "d b"),
+    (1, "a", "", &[]),
+    (2, "d", "", &[]),
+    (3, "b", "", &[Service("a")]),
+    (4, "c", "", &[Service("d"), Service("b")]),
 ];
 
 /// The texts and the needs of a row in memory.
@@ -51,7 +39,12 @@ struct Parts {
     needs: Items<Need>,
 }
 
-fn in_memory(alloc: Global, name: &str, group: &str, needed: &str) -> Result<Parts, OutOfMemory> {
+fn in_memory(
+    alloc: Global,
+    name: &str,
+    group: &str,
+    needed: &[Needed],
+) -> Result<Parts, OutOfMemory> {
     match (text(alloc, name), text(alloc, group), needs(alloc, needed)) {
         (Ok(name), Ok(group), Ok(needs)) => Ok(Parts { name, group, needs }),
         _ => Err(OutOfMemory),
@@ -64,14 +57,14 @@ fn put_parts(
     index: &mut DependencyIndex,
     number: u64,
     parts: &Parts,
+    room: &mut Buffer<u64>,
 ) -> Result<(), Fail>
+    requires items { room.old.items ≡ [] }
+    requires room { room.old.room ≡ 8 }
     ensures { OnOk result (IsAcyclic (needs_of index.new.rows)) }
 {
     index.reserve(alloc, &parts.name, &parts.group, &parts.needs)?;
-    let mut room = Buffer::with_room(alloc, 8)?;
-    if 7 < index.len()
-        || index.would_cycle(number, &parts.name, &parts.group, &parts.needs, &mut room)
-    {
+    if 7 < index.len() || index.would_cycle(number, &parts.name, &parts.group, &parts.needs, room) {
         return Err("a cycle".into());
     }
     if !index.is_next(number) {
@@ -86,18 +79,18 @@ fn put(alloc: Global, index: &mut DependencyIndex, row: Row) -> Result<(), Fail>
     ensures { OnOk result (IsAcyclic (needs_of index.new.rows)) }
 {
     let (number, name, group, needed) = row;
-    match in_memory(alloc, name, group, needed) {
-        Ok(parts) => put_parts(alloc, index, number, &parts),
-        Err(_) => Err("memory".into()),
+    match (
+        in_memory(alloc, name, group, needed),
+        Buffer::with_room(alloc, 8),
+    ) {
+        (Ok(parts), Ok(mut room)) => {
+            let put = put_parts(alloc, index, number, &parts, &mut room);
+            drop(parts);
+            drop(room);
+            put
+        }
+        _ => Err("memory".into()),
     }
-}
-
-fn grouped(alloc: Global) -> Result<DependencyIndex, Fail> {
-    let mut index = DependencyIndex::new(alloc)?;
-    for row in GROUPED {
-        put(alloc, &mut index, row)?;
-    }
-    Ok(index)
 }
 
 /// A service is RUNNING and all others are STOPPED.
@@ -127,21 +120,19 @@ impl StateLook for OneRuns {
     }
 }
 
-/// The services that are started for one, in their order, where another runs.
-fn order(
-    alloc: Global,
-    index: &DependencyIndex,
-    service: u64,
-    runs: u64,
-) -> Result<Buffer<u64>, Fail> {
-    let mut room = Buffer::with_room(alloc, 8)?;
+/// Whether these services are started for one, in this order, where another runs.
+fn is_order(alloc: Global, index: &DependencyIndex, service: u64, runs: u64, want: &[u64]) -> bool {
+    let Ok(mut room) = Buffer::with_room(alloc, 8) else {
+        return false;
+    };
     if index.is_listed(service) && index.len() <= 8 {
         index.order_of(service, &OneRuns { service: runs }, &mut room);
     }
-    Ok(room)
+    room.as_slice() == want
 }
 
-fn are_ordered(alloc: Global, index: &mut DependencyIndex) -> Result<(), Fail> {
+/// What a service needs is started before it.
+fn are_ordered(alloc: Global, index: &mut DependencyIndex) -> bool {
     // A service that leaves, one that is started, which other one runs, and what is started.
     let rows = [
         (0, 1, 0, [2, 4, 3, 1].as_slice()),
@@ -151,31 +142,27 @@ fn are_ordered(alloc: Global, index: &mut DependencyIndex) -> Result<(), Fail> {
     ];
     for (leaves, service, runs, want) in rows {
         index.drop_service(leaves);
-        if order(alloc, index, service, runs)?.as_slice() != want {
-            return Err("another order".into());
+        if !is_order(alloc, index, service, runs, want) {
+            return false;
         }
     }
-    Ok(())
+    true
 }
 
-#[test]
-fn what_a_service_needs_is_started_before_it(rt: HostRuntime) -> Result<(), Fail> {
-    let mut index = grouped(rt.alloc())?;
-    are_ordered(rt.alloc(), &mut index)
-}
-
-/// Whether a service would close a cycle.
+/// Whether a service would close a cycle. Nothing is told of many services.
 fn would_cycle(
-    alloc: Global,
     index: &DependencyIndex,
     number: u64,
     parts: &Parts,
-) -> Result<bool, Fail> {
-    let mut room = Buffer::with_room(alloc, 8)?;
+    room: &mut Buffer<u64>,
+) -> Option<bool>
+    requires items { room.old.items ≡ [] }
+    requires room { room.old.room ≡ 8 }
+{
     if 7 < index.len() {
-        return Err("many services".into());
+        return None;
     }
-    Ok(index.would_cycle(number, &parts.name, &parts.group, &parts.needs, &mut room))
+    Some(index.would_cycle(number, &parts.name, &parts.group, &parts.needs, room))
 }
 
 /// Whether a service of the group with these needs would close a cycle.
@@ -184,34 +171,37 @@ fn closes(
     index: &DependencyIndex,
     number: u64,
     name: &str,
-    needed: &str,
-) -> Result<bool, Fail> {
-    match in_memory(alloc, name, "g", needed) {
-        Ok(parts) => would_cycle(alloc, index, number, &parts),
-        Err(_) => Err("memory".into()),
+    needed: &[Needed],
+) -> Option<bool> {
+    match (
+        in_memory(alloc, name, "g", needed),
+        Buffer::with_room(alloc, 8),
+    ) {
+        (Ok(parts), Ok(mut room)) => {
+            let closes = would_cycle(index, number, &parts, &mut room);
+            drop(parts);
+            drop(room);
+            closes
+        }
+        _ => None,
     }
 }
 
-fn are_cycles(alloc: Global, index: &DependencyIndex) -> Result<(), Fail> {
+/// A row that closes a cycle is told.
+fn are_cycles(alloc: Global, index: &DependencyIndex) -> bool {
     // A new configuration of `a`, which `c` needs by way of the group, and a new member of it.
     let rows = [
-        (2, "a", "c", true),
-        (5, "e", "c", true),
-        (5, "e", "+g", true),
-        (5, "e", "", false),
+        (2, "a", [Service("c")].as_slice(), true),
+        (5, "e", &[Service("c")], true),
+        (5, "e", &[Group("g")], true),
+        (5, "e", &[], false),
     ];
     for (number, name, needed, want) in rows {
-        if closes(alloc, index, number, name, needed)? != want {
-            return Err("another answer".into());
+        if closes(alloc, index, number, name, needed) != Some(want) {
+            return false;
         }
     }
-    Ok(())
-}
-
-#[test]
-fn a_row_that_closes_a_cycle_is_told(rt: HostRuntime) -> Result<(), Fail> {
-    let index = grouped(rt.alloc())?;
-    are_cycles(rt.alloc(), &index)
+    true
 }
 
 /// How many services need this one by name and don't run, where one runs.
@@ -224,15 +214,40 @@ fn active<L: Ledger>(index: &DependencyIndex, service: u64, runs: u64, blank: Bl
     index.active_dependents(service, &OneRuns { service: runs }, &mut steps)
 }
 
-#[test]
-fn only_who_names_a_service_counts(rt: HostRuntime) -> Result<(), Fail> {
-    let index = grouped(rt.alloc())?;
+/// Only a service that names another counts.
+fn are_counted(index: &DependencyIndex) -> bool {
     // A service, which other one runs, and how many keep a STOP of it away: 1 names 3, and 3 needs
     // the group of 2.
     for (service, runs, want) in [(3, 1, 1), (3, 0, 0), (2, 3, 0)] {
-        assert_eq!(rt; active::<Brand>(&index, service, runs, Blank::new(1)), want);
+        if active::<Brand>(index, service, runs, Blank::new(1)) != want {
+            return false;
+        }
+    }
+    true
+}
+
+fn told_of_groups(alloc: Global, index: &mut DependencyIndex) -> Result<(), Fail> {
+    for row in GROUPED {
+        put(alloc, index, row)?;
+    }
+    if !are_cycles(alloc, index) {
+        return Err("another row closes a cycle".into());
+    }
+    if !are_counted(index) {
+        return Err("another count".into());
+    }
+    if !are_ordered(alloc, index) {
+        return Err("another order".into());
     }
     Ok(())
+}
+
+#[test]
+fn a_group_is_needed_and_its_members_are_not_named(rt: HostRuntime) -> Result<(), Fail> {
+    let mut index = DependencyIndex::new(rt.alloc())?;
+    let told = told_of_groups(rt.alloc(), &mut index);
+    drop(index);
+    told
 }
 
 fn chain(alloc: Global, index: &mut DependencyIndex) -> Result<(), Fail>
@@ -244,16 +259,23 @@ fn chain(alloc: Global, index: &mut DependencyIndex) -> Result<(), Fail>
     put(alloc, index, CHAINED[3])
 }
 
-fn are_dependents(alloc: Global, index: &DependencyIndex) -> Result<(), Fail>
+/// Whether these services need one, in this order.
+fn is_needed_by(alloc: Global, index: &DependencyIndex, service: u64, want: &[u64]) -> bool
     requires { IsAcyclic (needs_of index.now.rows) }
 {
-    if 8 < index.len() {
-        return Err("many services".into());
-    }
-    for (service, want) in [(1, [4, 3].as_slice()), (2, &[4]), (4, &[])] {
-        let mut room = Buffer::with_room(alloc, 8)?;
+    let Ok(mut room) = Buffer::with_room(alloc, 8) else {
+        return false;
+    };
+    if index.len() <= 8 {
         index.dependents(service, &mut room);
-        if room.as_slice() != want {
+    }
+    room.as_slice() == want
+}
+
+fn told_of_names(alloc: Global, index: &mut DependencyIndex) -> Result<(), Fail> {
+    chain(alloc, index)?;
+    for (service, want) in [(1, [4, 3].as_slice()), (2, &[4]), (4, &[])] {
+        if !is_needed_by(alloc, index, service, want) {
             return Err("other dependents".into());
         }
     }
@@ -263,6 +285,7 @@ fn are_dependents(alloc: Global, index: &DependencyIndex) -> Result<(), Fail>
 #[test]
 fn what_needs_a_service_is_stopped_before_it(rt: HostRuntime) -> Result<(), Fail> {
     let mut index = DependencyIndex::new(rt.alloc())?;
-    chain(rt.alloc(), &mut index)?;
-    are_dependents(rt.alloc(), &index)
+    let told = told_of_names(rt.alloc(), &mut index);
+    drop(index);
+    told
 }

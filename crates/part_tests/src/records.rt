@@ -1,8 +1,8 @@
-use crate::texts::{text, text_and};
-use scm_model::{Action, Config, Need};
+use crate::values::{Needed, append, append_units, needs, text};
+use scm_model::{Action, Config};
 use scm_text::{Items, OutOfMemory, WText};
 use service_record::{RecordFault, check_change, check_new, read_record, record_bytes};
-use std::alloc::Global;
+use std::alloc::{AllocError, Global};
 use std::test::Fail;
 
 /// The configuration of a service `x` that runs `y z`, needs the group `g` and is restarted a
@@ -24,13 +24,7 @@ const RECORD: [u8; 80] = [
     1, // whether a stop with an error is a failure
 ];
 
-fn needs(alloc: Global) -> Result<Items<Need>, OutOfMemory> {
-    match Vec::from_array(alloc, [Need::Group(text(alloc, "g")?)]) {
-        Ok(needs) => Ok(Items::from_vec(needs)),
-        Err(_) => Err(OutOfMemory),
-    }
-}
-
+/// A restart a second after a failure.
 fn actions(alloc: Global) -> Result<Items<Action>, OutOfMemory> {
     let restart = Action {
         what: 1,
@@ -42,40 +36,55 @@ fn actions(alloc: Global) -> Result<Items<Action>, OutOfMemory> {
     }
 }
 
+/// The configuration, but for its texts.
+fn unnamed(alloc: Global) -> Result<Config, OutOfMemory> {
+    let (Ok(needs), Ok(actions)) = (needs(alloc, &[Needed::Group("g")]), actions(alloc)) else {
+        return Err(OutOfMemory);
+    };
+    Ok(Config {
+        name: WText::new(alloc),
+        display: WText::new(alloc),
+        kind: 0x10,
+        start: 3,
+        error: 1,
+        path: WText::new(alloc),
+        group: WText::new(alloc),
+        tag: 0x105,
+        needs,
+        description: WText::new(alloc),
+        reset: 0xFFFF_FFFF,
+        actions,
+        command: WText::new(alloc),
+        on_exit: true,
+        delayed: false,
+        triggers: Items::new(alloc),
+    })
+}
+
+/// Its texts: a name, and a path that ends in units.
+fn fill(config: &mut Config, name: &str, path: &str, more: &[u16]) -> Result<(), OutOfMemory> {
+    append(&mut config.name, name)?;
+    append(&mut config.path, path)?;
+    append_units(&mut config.path, more)?;
+    append(&mut config.group, "h")?;
+    append_units(&mut config.command, &[0x163])
+}
+
 /// The configuration of a service with this name that runs this path, and else the same.
-fn configured(alloc: Global, name: &str, path: WText) -> Result<Config, OutOfMemory> {
-    match (
-        text(alloc, name),
-        text(alloc, "h"),
-        text_and(alloc, "", &[0x163]),
-        needs(alloc),
-        actions(alloc),
-    ) {
-        (Ok(name), Ok(group), Ok(command), Ok(needs), Ok(actions)) => Ok(Config {
-            name,
-            display: WText::new(alloc),
-            kind: 0x10,
-            start: 3,
-            error: 1,
-            path,
-            group,
-            tag: 0x105,
-            needs,
-            description: WText::new(alloc),
-            reset: 0xFFFF_FFFF,
-            actions,
-            command,
-            on_exit: true,
-            delayed: false,
-            triggers: Items::new(alloc),
-        }),
-        _ => Err(OutOfMemory),
+fn configured(alloc: Global, name: &str, path: &str, more: &[u16]) -> Result<Config, OutOfMemory> {
+    let mut config = unnamed(alloc)?;
+    match fill(&mut config, name, path, more) {
+        Ok(()) => Ok(config),
+        Err(why) => {
+            drop(config);
+            Err(why)
+        }
     }
 }
 
 /// The same configuration, but for its name.
 fn sample(alloc: Global, name: &str) -> Result<Config, OutOfMemory> {
-    configured(alloc, name, text(alloc, "y z")?)
+    configured(alloc, name, "y z", &[])
 }
 
 /// Whether a configuration has the stated bytes.
@@ -88,14 +97,22 @@ fn is_stated(alloc: Global, config: &Config) -> bool {
 
 fn is_written(alloc: Global) -> bool {
     match sample(alloc, "x") {
-        Ok(config) => is_stated(alloc, &config),
+        Ok(config) => {
+            let is_stated = is_stated(alloc, &config);
+            drop(config);
+            is_stated
+        }
         Err(_) => false,
     }
 }
 
 fn is_read(alloc: Global) -> bool {
     match read_record(alloc, &RECORD) {
-        Ok(config) => is_stated(alloc, &config),
+        Ok(config) => {
+            let is_stated = is_stated(alloc, &config);
+            drop(config);
+            is_stated
+        }
         Err(_) => false,
     }
 }
@@ -106,18 +123,32 @@ fn a_configuration_has_the_stated_bytes_and_they_are_read(rt: HostRuntime) {
     assert!(rt; is_read(rt.alloc()));
 }
 
-/// Where the item is wrong that is the first one in a record of so many bytes, of which one is
-/// another.
-fn wrong(alloc: Global, length: usize, place: usize, byte: u8) -> Result<Option<usize>, Fail> {
-    let mut bytes = RECORD.to_vec(alloc)?;
+/// Where the first wrong item of these bytes begins.
+fn first_wrong(alloc: Global, bytes: &[u8]) -> Option<usize> {
+    match read_record(alloc, bytes) {
+        Ok(config) => {
+            drop(config);
+            None
+        }
+        Err(RecordFault::Bad(place)) => Some(place),
+        Err(RecordFault::OutOfMemory) => None,
+    }
+}
+
+/// The record in so many bytes, of which one is another.
+fn change(bytes: &mut Vec<u8>, length: usize, place: usize, byte: u8) -> Result<(), AllocError> {
     bytes.resize(length, 0)?;
     if place < bytes.len() {
         bytes[place] = byte;
     }
-    match read_record(alloc, bytes.as_slice()).err() {
-        Some(RecordFault::Bad(place)) => Ok(Some(place)),
-        _ => Ok(None),
-    }
+    Ok(())
+}
+
+/// Where the first wrong item of a record begins that is changed so.
+fn wrong(alloc: Global, length: usize, place: usize, byte: u8) -> Result<Option<usize>, Fail> {
+    let mut bytes = RECORD.to_vec(alloc)?;
+    change(&mut bytes, length, place, byte)?;
+    Ok(first_wrong(alloc, bytes.as_slice()))
 }
 
 #[test]
@@ -138,7 +169,7 @@ fn the_first_wrong_item_is_told(rt: HostRuntime) -> Result<(), Fail> {
     Ok(())
 }
 
-/// A name, a path, units behind that and an account, and what they are refused with.
+/// A name, a path and the units at its end, an account, and what they are refused with.
 type Row = (
     &'static str,
     &'static str,
@@ -163,18 +194,16 @@ const REFUSED: [Row; 9] = [
     ("x", "x", &[0xD83D, 0xDE00], "", 0),
 ];
 
-fn refusal(config: &Config, account: &WText) -> u32 {
-    check_new(config, Some(account))
-}
-
 /// What such a configuration is refused with. Nothing is told without memory.
 fn refusal_of(alloc: Global, row: Row) -> Option<u32> {
-    let (name, path, behind, account, _) = row;
-    let Ok(path) = text_and(alloc, path, behind) else {
-        return None;
-    };
-    match (configured(alloc, name, path), text(alloc, account)) {
-        (Ok(config), Ok(account)) => Some(refusal(&config, &account)),
+    let (name, path, more, account, _) = row;
+    match (configured(alloc, name, path, more), text(alloc, account)) {
+        (Ok(config), Ok(account)) => {
+            let refusal = check_new(&config, Some(&account));
+            drop(config);
+            drop(account);
+            Some(refusal)
+        }
         _ => None,
     }
 }
@@ -193,7 +222,12 @@ fn judged(good: &Config, bad: &Config) -> (u32, u32) {
 
 fn judged_from_the_sample(alloc: Global) -> Option<(u32, u32)> {
     match (sample(alloc, "x"), sample(alloc, "a\\b")) {
-        (Ok(good), Ok(bad)) => Some(judged(&good, &bad)),
+        (Ok(good), Ok(bad)) => {
+            let judged = judged(&good, &bad);
+            drop(good);
+            drop(bad);
+            Some(judged)
+        }
         _ => None,
     }
 }

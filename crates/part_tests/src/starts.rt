@@ -1,8 +1,11 @@
 ghost use Rattle.std.specs.Prelude.{◌≡◌, []};
 ghost use Rattle.start_plan.specs.Asleep.{ArePending};
 
-use crate::bench::{Bench, status};
-use crate::texts::{add, text};
+use crate::bench::Bench;
+use crate::values::{Needed, add, append, config, needs, stopped, text};
+use Event::{Expired, Failed, Freed, Gone, Launched, Locked, Put, Settled};
+use Fate::{Absent, Decided, Undecided};
+use Setup::{Full, Group, Pair};
 use scm_model::{Config, LockRow, Need, Plan, Service};
 use scm_text::{Items, OutOfMemory, WText};
 use start_plan::Plans;
@@ -47,81 +50,64 @@ enum Event {
 }
 
 /// What a plan has come to.
-#[derive(Clone, Copy, Debug, PartialEq, Eq)]
+#[derive(Clone, Copy, PartialEq, Eq)]
 enum Fate {
     Undecided,
     Decided(u32),
     Absent,
 }
 
-/// A stopped service of its own process, in the group.
-fn service(
-    alloc: Global,
-    number: u64,
-    name: &str,
-    start: u32,
-    needs: Items<Need>,
-) -> Result<Service, OutOfMemory> {
-    let (Ok(name), Ok(display), Ok(group)) = (
-        text(alloc, name),
-        text(alloc, name),
-        text(alloc, "g"),
-    ) else {
-        return Err(OutOfMemory);
-    };
-    let config = Config {
-        name,
-        display,
-        kind: 0x10,
-        start,
-        error: 1,
-        path: WText::new(alloc),
-        group,
-        tag: 0,
-        needs,
-        description: WText::new(alloc),
-        reset: 0,
-        actions: Items::new(alloc),
-        command: WText::new(alloc),
-        on_exit: false,
-        delayed: false,
-        triggers: Items::new(alloc),
-    };
-    Ok(Service {
-        number,
-        config,
-        status: status(0x10, STOPPED),
-        marked: false,
-        process: 0,
-        failures: 0,
-        last_failure: 0,
-    })
+/// The texts of a service in the group.
+fn set_texts(config: &mut Config, name: &str) -> Result<(), OutOfMemory> {
+    append(&mut config.name, name)?;
+    append(&mut config.display, name)?;
+    append(&mut config.group, "g")
 }
 
-fn needs(alloc: Global, setup: Setup) -> Result<Items<Need>, OutOfMemory> {
-    let mut needs = Items::new(alloc);
-    match setup {
-        Setup::Group => add(&mut needs, Need::Group(text(alloc, "g")?))?,
-        Setup::Pair | Setup::Disabled | Setup::Full => {
-            add(&mut needs, Need::Service(text(alloc, "a")?))?
+/// The configuration of a service of its own process, in the group.
+fn named(alloc: Global, name: &str, start: u32, needs: Items<Need>) -> Result<Config, OutOfMemory> {
+    let mut config = config(alloc, start, needs);
+    match set_texts(&mut config, name) {
+        Ok(()) => Ok(config),
+        Err(why) => {
+            drop(config);
+            Err(why)
         }
     }
-    Ok(needs)
+}
+
+/// What `b` needs.
+fn needed(setup: Setup) -> Needed {
+    match setup {
+        Setup::Group => Needed::Group("g"),
+        Setup::Pair | Setup::Disabled | Setup::Full => Needed::Service("a"),
+    }
+}
+
+/// How `a` is started.
+fn start(setup: Setup) -> u32 {
+    match setup {
+        Setup::Pair | Setup::Full | Setup::Group => ON_DEMAND,
+        Setup::Disabled => DISABLED,
+    }
+}
+
+fn add_both(alloc: Global, services: &mut Items<Service>, setup: Setup) -> Result<(), OutOfMemory> {
+    let first = named(alloc, "a", start(setup), Items::new(alloc))?;
+    add(services, stopped(1, first))?;
+    let needs = needs(alloc, &[needed(setup)])?;
+    add(services, stopped(2, named(alloc, "b", ON_DEMAND, needs)?))
 }
 
 fn services(alloc: Global, setup: Setup) -> Result<Items<Service>, OutOfMemory> {
-    let start = match setup {
-        Setup::Pair | Setup::Full | Setup::Group => ON_DEMAND,
-        Setup::Disabled => DISABLED,
-    };
     let mut services = Items::new(alloc);
-    let needs = needs(alloc, setup)?;
-    add(
-        &mut services,
-        service(alloc, 1, "a", start, Items::new(alloc))?,
-    )?;
-    add(&mut services, service(alloc, 2, "b", ON_DEMAND, needs)?)?;
-    Ok(services)
+    match add_both(alloc, &mut services, setup) {
+        Ok(()) => Ok(services),
+        Err(why) => {
+            drop(services);
+            Err(why)
+        }
+    }
 }
 
 fn bench(alloc: Global, setup: Setup) -> Result<Bench, OutOfMemory> {
@@ -132,35 +118,32 @@ fn bench(alloc: Global, setup: Setup) -> Result<Bench, OutOfMemory> {
     Bench::new(alloc, services(alloc, setup)?.into_vec(), limit)
 }
 
+/// The one word `x`.
 fn words(alloc: Global) -> Result<Items<WText>, OutOfMemory> {
-    let mut words = Items::new(alloc);
-    add(&mut words, text(alloc, "x")?)?;
-    Ok(words)
-}
-
-fn numbers(alloc: Global, entries: &[u64]) -> Result<Items<u64>, OutOfMemory> {
-    let mut numbers = Items::new(alloc);
-    for entry in entries {
-        add(&mut numbers, *entry)?;
+    match Vec::from_array(alloc, [text(alloc, "x")?]) {
+        Ok(words) => Ok(Items::from_vec(words)),
+        Err(_) => Err(OutOfMemory),
     }
-    Ok(numbers)
 }
 
 /// Begins plan 7 of a caller, for the last of its entries, with the word `x`.
-fn begin(alloc: Global, plans: &mut Plans, caller: u64, entries: &[u64]) -> Result<(), Fail>
+fn begin(alloc: Global, plans: &mut Plans, caller: u64, entries: &[u64]) -> Result<(), OutOfMemory>
     requires { plans.old.plans ≡ [] }
     ensures { plans.new.awaited ≡ plans.old.awaited }
 {
-    let (Ok(words), Ok(numbers)) = (words(alloc), numbers(alloc, entries)) else {
-        return Err("memory".into());
-    };
-    let tried = Vec::with_capacity(alloc, numbers.len())?;
     plans.reserve(1)?;
+    let (Ok(words), Ok(listed), Ok(tried)) = (
+        words(alloc),
+        entries.to_vec(alloc),
+        Vec::with_capacity(alloc, entries.len()),
+    ) else {
+        return Err(OutOfMemory);
+    };
     let plan = Plan {
         number: 7,
         caller,
         target: entries.last().copied().unwrap_or(0),
-        entries: numbers,
+        entries: Items::from_vec(listed),
         tried: Items::new(alloc),
         words,
         code: None,
@@ -207,164 +190,163 @@ fn fate_of(plans: &Plans) -> Fate {
     }
 }
 
-fn settle(
-    alloc: Global,
-    bench: &mut Bench,
-    caller: u64,
-    entries: &[u64],
-    events: &[Event],
-) -> Result<Fate, Fail> {
-    let mut plans = Plans::new(alloc)?;
-    begin(alloc, &mut plans, caller, entries)?;
-    befall_all(&mut plans, bench, events);
-    Ok(fate_of(&plans))
+/// The services, the plan's caller and entries, what befalls them; what becomes of the plan, and
+/// the states.
+type Row = (Setup, u64, &'static [u64], &'static [Event], Fate, [u32; 2]);
+
+/// Whether a row comes to what it states.
+fn is_come_to(alloc: Global, plans: &mut Plans, bench: &mut Bench, row: &Row) -> bool
+    requires plans { plans.old.plans ≡ [] }
+    requires awaited { plans.old.awaited ≡ [] }
+{
+    let (_, caller, entries, events, fate, states) = row;
+    if begin(alloc, plans, *caller, entries).is_err() {
+        return false;
+    }
+    befall_all(plans, bench, events);
+    fate_of(plans) == *fate && bench.states() == *states
 }
 
-/// What the plan of a caller with these entries comes to, and the states of the services.
-fn come_to(
-    alloc: Global,
-    setup: Setup,
-    caller: u64,
-    entries: &[u64],
-    events: &[Event],
-) -> Result<(Fate, [u32; 2]), Fail> {
-    let mut bench = bench(alloc, setup)?;
-    let fate = settle(alloc, &mut bench, caller, entries, events)?;
-    Ok((fate, bench.states()))
+/// The same of new services and no other plans.
+fn comes_to(alloc: Global, row: &Row) -> bool {
+    let mut plans = Plans::none(alloc);
+    let is_so = match bench(alloc, row.0) {
+        Ok(mut bench) => {
+            let is_so = is_come_to(alloc, &mut plans, &mut bench, row);
+            drop(bench);
+            is_so
+        }
+        Err(OutOfMemory) => false,
+    };
+    drop(plans);
+    is_so
 }
+
+const BOTH: &[u64] = &[1, 2];
+
+const ROWS: [Row; 18] = [
+    // A service starts after what it needs.
+    (
+        Pair,
+        3,
+        BOTH,
+        &[Settled],
+        Undecided,
+        [START_PENDING, STOPPED],
+    ),
+    (
+        Pair,
+        3,
+        BOTH,
+        &[Settled, Put(0, RUNNING), Settled],
+        Undecided,
+        [RUNNING, START_PENDING],
+    ),
+    (
+        Pair,
+        3,
+        BOTH,
+        &[Put(0, RUNNING), Settled, Launched(2)],
+        Decided(0),
+        [RUNNING, START_PENDING],
+    ),
+    (
+        Pair,
+        3,
+        BOTH,
+        &[Settled, Put(0, STOPPED), Settled],
+        Decided(1068),
+        [STOPPED, STOPPED],
+    ),
+    (
+        Pair,
+        3,
+        &[2],
+        &[Put(1, RUNNING), Settled],
+        Decided(0),
+        [STOPPED, RUNNING],
+    ),
+    // Why a target fails: its need, no process for it, or that it isn't there.
+    (
+        Setup::Disabled,
+        3,
+        BOTH,
+        &[Settled],
+        Decided(1068),
+        [STOPPED, STOPPED],
+    ),
+    (
+        Full,
+        3,
+        &[2],
+        &[Put(0, RUNNING), Settled],
+        Decided(1054),
+        [RUNNING, STOPPED],
+    ),
+    (Pair, 3, &[9], &[Settled], Decided(1072), [STOPPED, STOPPED]),
+    // A group needs a running member.
+    (
+        Group,
+        3,
+        &[2],
+        &[Settled],
+        Decided(1068),
+        [STOPPED, STOPPED],
+    ),
+    (
+        Group,
+        3,
+        &[2],
+        &[Put(0, RUNNING), Settled],
+        Undecided,
+        [RUNNING, START_PENDING],
+    ),
+    // A start waits while the database is locked.
+    (
+        Pair,
+        3,
+        BOTH,
+        &[Locked, Settled],
+        Undecided,
+        [STOPPED, STOPPED],
+    ),
+    (
+        Pair,
+        3,
+        BOTH,
+        &[Locked, Settled, Freed, Settled],
+        Undecided,
+        [START_PENDING, STOPPED],
+    ),
+    // A decision stays, and is the target's own.
+    (
+        Pair,
+        3,
+        &[2],
+        &[Failed(1, 2)],
+        Undecided,
+        [STOPPED, STOPPED],
+    ),
+    (
+        Pair,
+        3,
+        &[2],
+        &[Failed(2, 2), Launched(2), Expired],
+        Decided(2),
+        [STOPPED, STOPPED],
+    ),
+    (Pair, 3, &[2], &[Expired], Decided(1053), [STOPPED, STOPPED]),
+    // Plans leave with their caller, and those of none as they are decided.
+    (Pair, 3, &[2], &[Gone(4)], Undecided, [STOPPED, STOPPED]),
+    (Pair, 3, &[2], &[Gone(3)], Absent, [STOPPED, STOPPED]),
+    (Pair, 0, &[2], &[Launched(2)], Absent, [STOPPED, STOPPED]),
+];
 
 #[test]
-fn plans_come_to_their_ends(rt: HostRuntime) -> Result<(), Fail> {
-    use Event::*;
-    use Fate::*;
-    use Setup::*;
-    let both: &[u64] = &[1, 2];
-    // The services, the plan's caller and entries, what befalls them; what becomes of the plan, and
-    // the states.
-    let rows = [
-        // A service starts after what it needs.
-        (
-            Pair,
-            3,
-            both,
-            [Settled].as_slice(),
-            Undecided,
-            [START_PENDING, STOPPED],
-        ),
-        (
-            Pair,
-            3,
-            both,
-            &[Settled, Put(0, RUNNING), Settled],
-            Undecided,
-            [RUNNING, START_PENDING],
-        ),
-        (
-            Pair,
-            3,
-            both,
-            &[Put(0, RUNNING), Settled, Launched(2)],
-            Decided(0),
-            [RUNNING, START_PENDING],
-        ),
-        (
-            Pair,
-            3,
-            both,
-            &[Settled, Put(0, STOPPED), Settled],
-            Decided(1068),
-            [STOPPED, STOPPED],
-        ),
-        (
-            Pair,
-            3,
-            &[2],
-            &[Put(1, RUNNING), Settled],
-            Decided(0),
-            [STOPPED, RUNNING],
-        ),
-        // Why a target fails: its need, no process for it, or that it isn't there.
-        (
-            Disabled,
-            3,
-            both,
-            &[Settled],
-            Decided(1068),
-            [STOPPED, STOPPED],
-        ),
-        (
-            Full,
-            3,
-            &[2],
-            &[Put(0, RUNNING), Settled],
-            Decided(1054),
-            [RUNNING, STOPPED],
-        ),
-        (Pair, 3, &[9], &[Settled], Decided(1072), [STOPPED, STOPPED]),
-        // A group needs a running member.
-        (
-            Group,
-            3,
-            &[2],
-            &[Settled],
-            Decided(1068),
-            [STOPPED, STOPPED],
-        ),
-        (
-            Group,
-            3,
-            &[2],
-            &[Put(0, RUNNING), Settled],
-            Undecided,
-            [RUNNING, START_PENDING],
-        ),
-        // A start waits while the database is locked.
-        (
-            Pair,
-            3,
-            both,
-            &[Locked, Settled],
-            Undecided,
-            [STOPPED, STOPPED],
-        ),
-        (
-            Pair,
-            3,
-            both,
-            &[Locked, Settled, Freed, Settled],
-            Undecided,
-            [START_PENDING, STOPPED],
-        ),
-        // A decision stays, and is the target's own.
-        (
-            Pair,
-            3,
-            &[2],
-            &[Failed(1, 2)],
-            Undecided,
-            [STOPPED, STOPPED],
-        ),
-        (
-            Pair,
-            3,
-            &[2],
-            &[Failed(2, 2), Launched(2), Expired],
-            Decided(2),
-            [STOPPED, STOPPED],
-        ),
-        (Pair, 3, &[2], &[Expired], Decided(1053), [STOPPED, STOPPED]),
-        // Plans leave with their caller, and those of none as they are decided.
-        (Pair, 3, &[2], &[Gone(4)], Undecided, [STOPPED, STOPPED]),
-        (Pair, 3, &[2], &[Gone(3)], Absent, [STOPPED, STOPPED]),
-        (Pair, 0, &[2], &[Launched(2)], Absent, [STOPPED, STOPPED]),
-    ];
-    for (setup, caller, entries, events, want, states) in rows {
-        assert_eq!(rt;
-            come_to(rt.alloc(), setup, caller, entries, events)?,
-            (want, states)
-        );
+fn plans_come_to_their_ends(rt: HostRuntime) {
+    for (place, row) in ROWS.iter().enumerate() {
+        assert!(rt; comes_to(rt.alloc(), row), "row {place}");
     }
-    Ok(())
 }
 
 /// The processes that are to be launched, and how many words each has.
@@ -378,47 +360,54 @@ fn wanted(bench: &Bench) -> [(u64, usize); 2] {
     each
 }
 
-/// Whether plan 7 is taken with what it should have by then.
-fn is_taken(plans: &mut Plans) -> bool {
-    match plans.take(7) {
-        Some(plan) => {
-            (plan.number, plan.caller, plan.target, plan.code) == (7, 3, 2, None)
-                && plan.entries.as_slice() == [2].as_slice()
-                && plan.tried.as_slice() == [1, 2].as_slice()
-                && plan.words.len() == 0
-        }
-        None => false,
-    }
+/// Whether plan 7 is what it should be by then.
+fn is_expected(plan: &Plan) -> bool {
+    (plan.number, plan.caller, plan.target, plan.code) == (7, 3, 2, None)
+        && plan.entries.as_slice() == [2].as_slice()
+        && plan.tried.as_slice() == [1, 2].as_slice()
+        && plan.words.len() == 0
 }
 
-fn go(bench: &mut Bench, plans: &mut Plans) -> Result<(), Fail>
-    requires { ArePending bench.old.0.services plans.old.awaited }
+/// Whether plan 7 is taken with what it should have by then.
+fn is_taken(plans: &mut Plans) -> bool {
+    let taken = plans.take(7);
+    let is_so = match &taken {
+        Some(plan) => is_expected(plan),
+        None => false,
+    };
+    drop(taken);
+    is_so
+}
+
+/// Whether the words go with the target, and the plan is taken once.
+fn is_taken_once(alloc: Global, plans: &mut Plans, bench: &mut Bench) -> bool
+    requires plans { plans.old.plans ≡ [] }
+    requires awaited { plans.old.awaited ≡ [] }
 {
-    befall_all(
-        plans,
-        bench,
-        &[Event::Settled, Event::Put(0, RUNNING), Event::Settled],
-    );
-    if wanted(bench) != [(1, 0), (2, 1)] {
-        return Err("other words".into());
+    let events = [Settled, Put(0, RUNNING), Settled];
+    if begin(alloc, plans, 3, BOTH).is_err() {
+        return false;
     }
-    if (plans.is_target(1), plans.is_target(2)) != (false, true) {
-        return Err("other targets".into());
-    }
-    if (plans.caller_of(7), plans.caller_of(8)) != (Some(3), None) {
-        return Err("other callers".into());
-    }
-    if is_taken(plans) && !is_taken(plans) {
-        Ok(())
-    } else {
-        Err("another plan".into())
-    }
+    befall_all(plans, bench, &events);
+    wanted(bench) == [(1, 0), (2, 1)]
+        && (plans.is_target(1), plans.is_target(2)) == (false, true)
+        && (plans.caller_of(7), plans.caller_of(8)) == (Some(3), None)
+        && is_taken(plans)
+        && !is_taken(plans)
 }
 
 #[test]
 fn the_words_go_with_the_target_and_a_plan_is_taken_once(rt: HostRuntime) -> Result<(), Fail> {
     let mut plans = Plans::new(rt.alloc())?;
-    begin(rt.alloc(), &mut plans, 3, &[1, 2])?;
-    let mut bench = bench(rt.alloc(), Setup::Pair)?;
-    go(&mut bench, &mut plans)
+    let is_so = match bench(rt.alloc(), Pair) {
+        Ok(mut bench) => {
+            let is_so = is_taken_once(rt.alloc(), &mut plans, &mut bench);
+            drop(bench);
+            is_so
+        }
+        Err(OutOfMemory) => false,
+    };
+    drop(plans);
+    assert!(rt; is_so);
+    Ok(())
 }

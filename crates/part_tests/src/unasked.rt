@@ -1,33 +1,13 @@
-use crate::bench::status;
-use crate::texts::{add, text};
+use crate::values::{add, config, stopped, text};
 use failure_actions::{Failure, on_failure};
 use scm_model::{Action, Config, Service};
 use scm_text::{Items, OutOfMemory, WText};
 use start_triggers::auto_order;
 use std::alloc::Global;
-use std::test::Fail;
+use std::mem::replace;
 
-/// The configuration of an automatic service, whose failures are counted anew after a minute.
-fn config(alloc: Global, group: WText, tag: u32, actions: Items<Action>) -> Config {
-    Config {
-        name: WText::new(alloc),
-        display: WText::new(alloc),
-        kind: 0x10,
-        start: 2,
-        error: 1,
-        path: WText::new(alloc),
-        group,
-        tag,
-        needs: Items::new(alloc),
-        description: WText::new(alloc),
-        reset: 60,
-        actions,
-        command: WText::new(alloc),
-        on_exit: false,
-        delayed: false,
-        triggers: Items::new(alloc),
-    }
-}
+/// The service is started with the machine.
+const AUTOMATIC: u32 = 2;
 
 fn restart(delay: u32) -> Action {
     Action { what: 1, delay }
@@ -60,71 +40,72 @@ fn other(config: &Config, rows: &[Row]) -> Option<u64> {
     None
 }
 
-fn other_of(alloc: Global, rows: &[Row]) -> Result<Option<u64>, OutOfMemory> {
-    let actions = restarts(alloc)?;
-    Ok(other(&config(alloc, WText::new(alloc), 0, actions), rows))
+/// Whether the failures of an automatic service come to this, which are counted anew after a
+/// minute.
+fn are_counted(alloc: Global, rows: &[Row]) -> bool {
+    let Ok(actions) = restarts(alloc) else {
+        return false;
+    };
+    let mut config = config(alloc, AUTOMATIC, Items::new(alloc));
+    config.reset = 60;
+    drop(replace(&mut config.actions, actions));
+    let other = other(&config, rows);
+    drop(config);
+    other.is_none()
 }
 
 #[test]
-fn failures_count_until_the_reset_period_is_over(rt: HostRuntime) -> Result<(), Fail> {
+fn failures_count_until_the_reset_period_is_over(rt: HostRuntime) {
     let rows = [(0, 1, 1000), (59_000, 2, 2000), (119_000, 1, 1000)];
-    assert_eq!(rt; other_of(rt.alloc(), &rows)?, None);
+    assert!(rt; are_counted(rt.alloc(), &rows));
+}
+
+/// A stopped automatic service of this group.
+fn service(alloc: Global, number: u64, group: WText, tag: u32) -> Service {
+    let mut config = config(alloc, AUTOMATIC, Items::new(alloc));
+    drop(replace(&mut config.group, group));
+    config.tag = tag;
+    stopped(number, config)
+}
+
+/// A number, a group and a tag.
+type Grouped = (u64, &'static str, u32);
+
+fn add_each(
+    alloc: Global,
+    services: &mut Items<Service>,
+    rows: &[Grouped],
+) -> Result<(), OutOfMemory> {
+    for (number, group, tag) in rows {
+        let group = text(alloc, group)?;
+        add(services, service(alloc, *number, group, *tag))?;
+    }
     Ok(())
 }
 
-/// A stopped automatic service.
-fn service(alloc: Global, number: u64, group: WText, tag: u32) -> Service {
-    Service {
-        number,
-        config: config(alloc, group, tag, Items::new(alloc)),
-        status: status(0x10, 1),
-        marked: false,
-        process: 0,
-        failures: 0,
-        last_failure: 0,
-    }
-}
-
-/// Services of groups, with tags.
-fn services(
-    alloc: Global,
-    rows: &[(u64, &'static str, u32)],
-) -> Result<Items<Service>, OutOfMemory> {
-    let mut services = Items::new(alloc);
-    for (number, group, tag) in rows {
-        let group = text(alloc, group)?;
-        add(&mut services, service(alloc, *number, group, *tag))?;
-    }
-    Ok(services)
-}
-
-/// The one group that is listed.
-fn groups(alloc: Global) -> Result<Items<WText>, OutOfMemory> {
-    let mut groups = Items::new(alloc);
-    add(&mut groups, text(alloc, "G1")?)?;
-    Ok(groups)
-}
-
-fn is_order(alloc: Global, services: &[Service], groups: &[WText], want: &[u64]) -> bool {
-    match auto_order(alloc, services, groups) {
+fn is_order(alloc: Global, services: &[Service], group: WText, want: &[u64]) -> bool {
+    let groups = [group];
+    let order = auto_order(alloc, services, &groups);
+    drop(groups);
+    match order {
         Ok(order) => order.as_slice() == want,
         Err(_) => false,
     }
 }
 
-/// Whether such services start in an order.
-fn is_order_of(alloc: Global, rows: &[(u64, &'static str, u32)], want: &[u64]) -> bool {
-    match (services(alloc, rows), groups(alloc)) {
-        (Ok(services), Ok(groups)) => {
-            is_order(alloc, services.as_slice(), groups.as_slice(), want)
-        }
+/// Whether such services start in an order, where the group `G1` is listed.
+fn is_order_of(alloc: Global, rows: &[Grouped], want: &[u64]) -> bool {
+    let mut services = Items::new(alloc);
+    let is_so = match (add_each(alloc, &mut services, rows), text(alloc, "G1")) {
+        (Ok(()), Ok(group)) => is_order(alloc, services.as_slice(), group, want),
         _ => false,
-    }
+    };
+    drop(services);
+    is_so
 }
 
 #[test]
 fn services_start_by_groups_and_tags(rt: HostRuntime) {
-    // A number, a group and a tag.
     let rows = [(1, "", 0), (2, "G1", 2), (3, "g1", 1), (4, "G2", 0)];
     assert!(rt; is_order_of(rt.alloc(), &rows, &[3, 2, 4, 1]));
 }
