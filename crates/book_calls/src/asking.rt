@@ -43,14 +43,12 @@ fn text(alloc: Global, units: &[u16]) -> Result<WText, OutOfMemory> {
     }
 }
 
-fn creation(alloc: Global, handle: u64, name: u16) -> Result<Request, OutOfMemory>
-    ensures start { IfOk result (λ request. is_start request ≡ false) }
-    ensures ranged { IfOk result (λ request. IsTrue (in_range request)) }
+/// Creates a service of this name and path.
+fn created(handle: u64, name: WText, path: WText) -> Request
+    ensures start { is_start result ≡ false }
+    ensures ranged { IsTrue (in_range result) }
 {
-    let (Ok(name), Ok(path)) = (text(alloc, &[name]), text(alloc, &[0x2F, 0x61])) else {
-        return Err(OutOfMemory);
-    };
-    Ok(Request::Create(NewService {
+    Request::Create(NewService {
         handle,
         name,
         display: None,
@@ -63,7 +61,21 @@ fn creation(alloc: Global, handle: u64, name: u16) -> Result<Request, OutOfMemor
         tag: None,
         needs: None,
         account: None,
-    }))
+    })
+}
+
+fn creation(alloc: Global, handle: u64, name: u16) -> Result<Request, OutOfMemory>
+    ensures start { IfOk result (λ request. is_start request ≡ false) }
+    ensures ranged { IfOk result (λ request. IsTrue (in_range request)) }
+{
+    let path = text(alloc, &[0x2F, 0x61])?;
+    match text(alloc, &[name]) {
+        Ok(name) => Ok(created(handle, name, path)),
+        Err(fault) => {
+            drop(path);
+            Err(fault)
+        }
+    }
 }
 
 /// The request of a call.
@@ -119,7 +131,11 @@ pub fn told_by(reply: &Reply) -> Told {
 /// What a call comes to in short.
 fn end_of(ended: CallEnd) -> Result<Told, MakeFault> {
     match ended {
-        CallEnd::Answered(reply) => Ok(told_by(&reply)),
+        CallEnd::Answered(reply) => {
+            let told = told_by(&reply);
+            drop(reply);
+            Ok(told)
+        }
         CallEnd::Full => Err(MakeFault::Full),
         CallEnd::OutOfMemory => Err(MakeFault::OutOfMemory),
     }

@@ -5,10 +5,11 @@ ghost use Rattle.scm_core.specs.Managed.{AreSmall};
 ghost use Rattle.scm_book.specs.Passes.{IsOf};
 
 use record_journal::{Fate, Journal, MemoryKeeper};
-use scm_book::{Book, JoinFault, Opened, Pass};
+use scm_book::{Book, Closed, JoinFault, Opened, Pass, Spent};
 use scm_core::Manager;
 use scm_model::{Limits, Principal};
 use scm_text::{Items, OutOfMemory};
+use scm_trail::Trail;
 use std::alloc::Global;
 use std::sync::Wait;
 
@@ -36,8 +37,30 @@ pub fn new_manager(alloc: Global, limits: Limits) -> Result<Manager, OutOfMemory
     ensures small { IfOk result (λ manager. AreSmall manager.limits) }
     ensures steps { IfOk result (λ manager. manager.steps ≡ 0) }
     ensures text { IfOk result (λ manager. manager.text ≡ 0) }
+    ensures limits { IfOk result (λ manager. manager.limits ≡ limits) }
 {
     Manager::new(alloc, limits, Items::new(alloc), Items::new(alloc), 0)
+}
+
+/// A book over a manager that has made no step, and an empty keeper whose calls come to these
+/// fates.
+fn opened(alloc: Global, manager: Manager, fates: Vec<Fate>) -> Option<Opened<MemoryKeeper>>
+    requires begins { IsOpening manager.limits manager.flat }
+    requires small { AreSmall manager.limits }
+    requires steps { manager.steps ≡ 0 }
+    requires text { manager.text ≡ 0 }
+    ensures book { IfSome result (λ new. IsOf new.book new.pass) }
+    ensures nobody { IfSome result (λ new. new.pass.caller ≡ 0) }
+    ensures alone { IfSome result (λ new. new.pass.alone ≡ true) }
+{
+    let keeper = MemoryKeeper::new(Vec::new(alloc), fates);
+    match Book::new(alloc, manager, Journal::empty(), keeper) {
+        Ok(opened) => Some(opened),
+        Err(keeper) => {
+            drop(keeper);
+            None
+        }
+    }
 }
 
 /// A book over such a manager, whose keeper's calls come to these fates, the last one first.
@@ -47,14 +70,26 @@ pub fn new_book(alloc: Global, limits: Limits, fates: Vec<Fate>) -> Option<Opene
     ensures nobody { IfSome result (λ new. new.pass.caller ≡ 0) }
     ensures alone { IfSome result (λ new. new.pass.alone ≡ true) }
 {
-    let Ok(manager) = new_manager(alloc, limits) else {
-        return None;
-    };
-    let keeper = MemoryKeeper::new(Vec::new(alloc), fates);
-    match Book::new(alloc, manager, Journal::empty(), keeper) {
-        Ok(opened) => Some(opened),
-        Err(_) => None,
+    match new_manager(alloc, limits) {
+        Ok(manager) => opened(alloc, manager, fates),
+        Err(_) => {
+            drop(fates);
+            None
+        }
     }
+}
+
+/// Closes a book, and keeps nothing but its history.
+pub fn close<R: Wait>(rt: &R, book: Book<MemoryKeeper>, last: Spent) -> Trail
+    requires { IsOf book last }
+{
+    let Closed {
+        trail,
+        keeper,
+        services: _,
+    } = book.close(rt, last);
+    drop(keeper);
+    trail
 }
 
 /// Joins an administrator.

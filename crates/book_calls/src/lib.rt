@@ -5,7 +5,9 @@
 mod asking;
 mod books;
 mod remaking;
+mod starts;
 
 pub use asking::{Asked, Told, ask, call, raise, request_of, told_by};
-pub use books::{guest, leaves, limits, new_book, new_manager, runner};
+pub use books::{close, guest, leaves, limits, new_book, new_manager, runner};
 pub use remaking::make;
+pub use starts::{begin_start, end_start};

@@ -44,7 +44,12 @@ fn come_and_go<R: Wait>(
     let mut lines = Vec::new(alloc);
     let is_whole = talk(rt, alloc, book, &mut pass, mark, calls, &mut lines);
     leaves(rt, book, by, pass, mark);
-    if is_whole { Some(lines) } else { None }
+    if is_whole {
+        Some(lines)
+    } else {
+        drop(lines);
+        None
+    }
 }
 
 /// A crowd of one.
@@ -59,16 +64,24 @@ fn one<R: Wait>(
     requires book { IsOf book.now pass }
     ensures { IfSome result (λ crowd. IsOf book.now crowd.pass) }
 {
-    let lines = come_and_go(rt, alloc, book, &mut pass, mark, calls)?;
+    let Some(lines) = come_and_go(rt, alloc, book, &mut pass, mark, calls) else {
+        drop(pass);
+        return None;
+    };
     let mut visits = Vec::new(alloc);
-    let visit = Visit {
+    let pushed = visits.push(Visit {
         lines,
         caller: 0,
         read: 0,
-    };
-    match visits.push(visit) {
-        Ok(()) => Some(Crowd { pass, visits }),
-        Err(_) => None,
+    });
+    let is_pushed = pushed.is_ok();
+    drop(pushed);
+    if is_pushed {
+        Some(Crowd { pass, visits })
+    } else {
+        drop(visits);
+        drop(pass);
+        None
     }
 }
 
@@ -102,11 +115,11 @@ pub fn gather<R: Threads + Wait + Sync>(
             ensures { IfSome result (λ crowd. IsOf book.entry.now crowd.pass) }
         { gather(rt, alloc, book, other, middle, high, calls) },
     );
-    both(rt, book, left?, right?)
+    both(rt, book, left, right)
 }
 
 /// Takes a crowd into another.
-fn both<R: Wait>(rt: &R, book: &Book<MemoryKeeper>, left: Crowd, right: Crowd) -> Option<Crowd>
+fn merge<R: Wait>(rt: &R, book: &Book<MemoryKeeper>, left: Crowd, right: Crowd) -> Option<Crowd>
     requires left { IsOf book.now left.pass }
     requires right { IsOf book.now right.pass }
     ensures { IfSome result (λ crowd. IsOf book.now crowd.pass) }
@@ -120,8 +133,37 @@ fn both<R: Wait>(rt: &R, book: &Book<MemoryKeeper>, left: Crowd, right: Crowd) -
         visits: mut more,
     } = right;
     leaves(rt, book, &mut pass, other, 0);
-    match visits.append(&mut more) {
-        Ok(()) => Some(Crowd { pass, visits }),
-        Err(_) => None,
+    let is_whole = visits.append(&mut more).is_ok();
+    drop(more);
+    if is_whole {
+        Some(Crowd { pass, visits })
+    } else {
+        drop(visits);
+        drop(pass);
+        None
+    }
+}
+
+/// Takes a crowd into another, if both are there.
+fn both<R: Wait>(
+    rt: &R,
+    book: &Book<MemoryKeeper>,
+    left: Option<Crowd>,
+    right: Option<Crowd>,
+) -> Option<Crowd>
+    requires left { IfSome left (λ crowd. IsOf book.now crowd.pass) }
+    requires right { IfSome right (λ crowd. IsOf book.now crowd.pass) }
+    ensures { IfSome result (λ crowd. IsOf book.now crowd.pass) }
+{
+    let Some(left) = left else {
+        drop(right);
+        return None;
+    };
+    match right {
+        Some(right) => merge(rt, book, left, right),
+        None => {
+            drop(left);
+            None
+        }
     }
 }

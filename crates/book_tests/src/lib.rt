@@ -1,9 +1,12 @@
-//! Tests of the book, and nothing else: rows that one caller is told, and many callers in threads of
-//! their own, whose closed history a manager alone tells again.
+//! Tests of the book, and nothing else: rows that one caller is told, many callers in threads of
+//! their own, whose closed history a manager alone tells again, and connections, each alone at a
+//! book of its own.
 #![tactic(auto)]
 
 #[cfg(test)]
 mod crowds;
+#[cfg(test)]
+mod pipes;
 #[cfg(test)]
 mod raising;
 #[cfg(test)]

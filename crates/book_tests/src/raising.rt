@@ -60,7 +60,7 @@ fn prepare<R: Wait>(rt: &R, alloc: Global, book: &Book<MemoryKeeper>, pass: &mut
     ensures caller { pass.new.caller ≢ 0 }
 {
     match triggers(alloc) {
-        Ok(request) => call(rt, book, pass, 0, request) == Ok(Told { code: 0, number: 0 }),
+        Ok(request) => call(rt, book, pass, 0, request).ok() == Some(Told { code: 0, number: 0 }),
         Err(_) => false,
     }
 }
@@ -78,7 +78,7 @@ fn is_told<R: Wait>(
     ensures book { IsOf book.now pass.new }
     ensures caller { pass.new.caller ≢ 0 }
 {
-    raise(rt, book, pass, 0, subtype) == Ok(Told { code, number: 0 })
+    raise(rt, book, pass, 0, subtype).ok() == Some(Told { code, number: 0 })
 }
 
 /// Whether the service starts and gets a STOP by its own triggers alone.
@@ -112,30 +112,54 @@ fn obeys<R: Wait>(
         && control == ControlLook::Control(SERVICE_CONTROL_STOP)
 }
 
+/// Whether a user may not raise what it has.
+fn is_refused<R: Wait>(rt: &R, book: &Book<MemoryKeeper>, root: &mut Pass) -> bool
+    requires { IsOf book.now root.old }
+    ensures { IsOf book.now root.new }
+{
+    match book.join(rt, root, 0, Principal::User) {
+        Ok(mut user) => {
+            let is_refused = is_told(rt, book, &mut user, STARTS, ERROR_ACCESS_DENIED);
+            drop(user);
+            is_refused
+        }
+        Err(_) => false,
+    }
+}
+
 /// Whether it does so for an administrator, and nobody else may raise what it has.
 fn serves<R: Wait>(rt: &R, alloc: Global, book: &Book<MemoryKeeper>, root: &mut Pass) -> bool
     requires { IsOf book.now root.old }
     ensures { IsOf book.now root.new }
 {
-    let Ok(mut pass) = guest(rt, book, root, 0) else {
-        return false;
-    };
-    let Ok(mut user) = book.join(rt, root, 0, Principal::User) else {
-        return false;
-    };
-    let is_made = come(rt, alloc, book, &mut pass, &service());
-    let is_given = prepare(rt, alloc, book, &mut pass);
-    let is_refused = is_told(rt, book, &mut user, STARTS, ERROR_ACCESS_DENIED);
-    is_made && is_given && is_refused && obeys(rt, alloc, book, &mut pass, root)
+    match guest(rt, book, root, 0) {
+        Ok(mut pass) => {
+            let is_made = come(rt, alloc, book, &mut pass, &service());
+            let is_given = prepare(rt, alloc, book, &mut pass);
+            let is_refused = is_refused(rt, book, root);
+            let is_obeyed = obeys(rt, alloc, book, &mut pass, root);
+            drop(pass);
+            is_made && is_given && is_refused && is_obeyed
+        }
+        Err(_) => false,
+    }
+}
+
+/// Whether it does so in a new book.
+fn is_served<R: Wait>(rt: &R, alloc: Global) -> bool {
+    match new_book(alloc, limits(4_194_304), Vec::new(alloc)) {
+        Some(Opened { book, mut pass }) => {
+            let is_served = serves(rt, alloc, &book, &mut pass);
+            drop(pass);
+            drop(book);
+            is_served
+        }
+        None => false,
+    }
 }
 
 #[test]
 fn a_raise_starts_and_stops_what_has_its_trigger(rt: HostRuntime) -> Result<(), Fail> {
-    match new_book(rt.alloc(), limits(4_194_304), Vec::new(rt.alloc())) {
-        Some(Opened { book, mut pass }) => {
-            assert!(rt; serves(&rt, rt.alloc(), &book, &mut pass))
-        }
-        None => return Err("memory".into()),
-    }
+    assert!(rt; is_served(&rt, rt.alloc()));
     Ok(())
 }

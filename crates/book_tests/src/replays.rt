@@ -1,9 +1,11 @@
 // A closed history, made again by a manager alone, tells each caller what it was told.
 ghost use Rattle.std.specs.Prelude.{◌<◌};
+ghost use Rattle.scm_book.specs.Passes.{IsOf};
 
 use crate::crowds::{Crowd, Visit, gather};
-use book_calls::{Asked, Told, limits, make, new_book, new_manager, told_by};
-use scm_book::Opened;
+use book_calls::{Asked, Told, close, limits, make, new_book, new_manager, told_by};
+use record_journal::MemoryKeeper;
+use scm_book::{Book, Opened};
 use scm_core::Manager;
 use scm_model::{Answer, Request, Step};
 use scm_text::WText;
@@ -14,10 +16,19 @@ use std::test::Fail;
 use std::thread::Threads;
 
 /// A history that was closed, and the visits that are in it.
-#[derive(Drop)]
-pub struct Whole {
-    pub trail: Trail,
-    pub visits: Vec<Visit>,
+struct Whole {
+    trail: Trail,
+    visits: Vec<Visit>,
+}
+
+/// Closes a book that a crowd came to.
+fn whole<R: Wait>(rt: &R, book: Book<MemoryKeeper>, crowd: Crowd) -> Whole
+    requires { IsOf book crowd.pass }
+{
+    let Crowd { pass, visits } = crowd;
+    let spent = book.gone(rt, pass, 0);
+    let trail = close(rt, book, spent);
+    Whole { trail, visits }
 }
 
 /// As many threads as there are to be, each with a visit.
@@ -25,13 +36,13 @@ fn many<R: Threads + Wait + Sync>(rt: &R, alloc: Global, threads: u64, calls: u6
     requires { 0 < threads }
 {
     let Opened { book, pass } = new_book(alloc, limits(4_194_304), Vec::new(alloc))?;
-    let Crowd { pass, visits } = gather(rt, alloc, &book, pass, 0, threads, calls)?;
-    let spent = book.gone(rt, pass, 0);
-    let closed = book.close(rt, spent);
-    Some(Whole {
-        trail: closed.trail,
-        visits,
-    })
+    match gather(rt, alloc, &book, pass, 0, threads, calls) {
+        Some(crowd) => Some(whole(rt, book, crowd)),
+        None => {
+            drop(book);
+            None
+        }
+    }
 }
 
 fn name_of(text: &WText) -> Option<u16> {
@@ -104,13 +115,26 @@ impl Visit {
     }
 }
 
-/// What a step is told by a manager that only it has, if it may be made.
+/// What a step is told by a manager that only it has, if it may be made. It is used up.
+fn told_next(manager: &mut Manager, moment: u64, step: &mut Step) -> Option<Told> {
+    match make(manager, moment, step) {
+        Some(answer) => {
+            let told = heard(&answer);
+            drop(answer);
+            Some(told)
+        }
+        None => None,
+    }
+}
+
+/// The same of a copy of a step.
 fn again(alloc: Global, manager: &mut Manager, moment: u64, step: &Step) -> Option<Told> {
     match step.copy(alloc) {
-        Ok(mut copy) => match make(manager, moment, &mut copy) {
-            Some(answer) => Some(heard(&answer)),
-            None => None,
-        },
+        Ok(mut copy) => {
+            let told = told_next(manager, moment, &mut copy);
+            drop(copy);
+            told
+        }
         Err(_) => None,
     }
 }
@@ -141,6 +165,7 @@ fn is_told_again(
 ) -> bool {
     let (moment, step) = entry;
     let is_told = is_told(alloc, manager, visits, moment, &step);
+    drop(step);
     is_told
 }
 
@@ -169,14 +194,23 @@ fn is_one_history(alloc: Global, trail: &Trail, visits: &mut [Visit]) -> bool {
     }
 }
 
+/// Whether eight threads are told what their history tells, 1,000 calls each, with a step before
+/// and one after them.
+fn are_eight_told<R: Threads + Wait + Sync>(rt: &R, alloc: Global) -> bool {
+    match many(rt, alloc, 8, 1000) {
+        Some(Whole { trail, mut visits }) => {
+            let is_whole = trail.len() == 8 * 1002;
+            let is_one = is_one_history(alloc, &trail, &mut visits);
+            drop(visits);
+            drop(trail);
+            is_whole && is_one
+        }
+        None => false,
+    }
+}
+
 #[test]
 fn each_of_eight_threads_is_told_what_the_history_tells(rt: HostRuntime) -> Result<(), Fail> {
-    match many(&rt, rt.alloc(), 8, 1000) {
-        Some(mut whole) => {
-            assert_eq!(rt; whole.trail.len(), 8 * 1002);
-            assert!(rt; is_one_history(rt.alloc(), &whole.trail, &mut whole.visits));
-        }
-        None => return Err("memory".into()),
-    }
+    assert!(rt; are_eight_told(&rt, rt.alloc()));
     Ok(())
 }

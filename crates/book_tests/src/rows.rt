@@ -2,7 +2,7 @@
 ghost use Rattle.std.specs.Prelude.{◌≡◌, ◌≢◌, true, IfSome};
 ghost use Rattle.scm_book.specs.Passes.{IsOf};
 
-use book_calls::{Asked, Told, ask, guest, leaves, limits, new_book};
+use book_calls::{Asked, Told, ask, close, guest, leaves, limits, new_book};
 use record_journal::{Fate, MemoryKeeper};
 use scm_book::{Book, Closed, JoinFault, MakeFault, Opened, Pass, Spent};
 use scm_model::{Kept, Principal, Step};
@@ -24,6 +24,16 @@ pub fn full(asked: Asked) -> Row {
     (asked, Err(MakeFault::Full))
 }
 
+/// Whether a call came to what is wanted of it.
+fn is_wanted(told: &Result<Told, MakeFault>, want: &Result<Told, MakeFault>) -> bool {
+    match (told, want) {
+        (Ok(told), Ok(want)) => told == want,
+        (Err(MakeFault::Full), Err(MakeFault::Full)) => true,
+        (Err(MakeFault::OutOfMemory), Err(MakeFault::OutOfMemory)) => true,
+        _ => false,
+    }
+}
+
 /// Whether these calls come to this.
 pub fn come<R: Wait>(
     rt: &R,
@@ -38,7 +48,7 @@ pub fn come<R: Wait>(
     ensures caller { pass.new.caller ≢ 0 }
 {
     for (asked, want) in rows {
-        if ask(rt, alloc, book, pass, 0, *asked) != *want {
+        if !is_wanted(&ask(rt, alloc, book, pass, 0, *asked), want) {
             return false;
         }
     }
@@ -82,8 +92,13 @@ fn four<R: Wait>(rt: &R, alloc: Global, rows: &[Row]) -> Option<Trail> {
     let Opened { book, mut pass } = new_book(alloc, limits(4), Vec::new(alloc))?;
     let is_right = fill_four(rt, alloc, &book, &mut pass, rows) && shuts(rt, &book);
     let spent = book.gone(rt, pass, 0);
-    let closed = book.close(rt, spent);
-    if is_right { Some(closed.trail) } else { None }
+    let trail = close(rt, book, spent);
+    if is_right {
+        Some(trail)
+    } else {
+        drop(trail);
+        None
+    }
 }
 
 /// A copy of the entry at a place of a history.
@@ -107,7 +122,20 @@ fn gone(entry: &Option<(u64, Step)>) -> Option<u64> {
 fn ends_with_gone(trail: &Trail, entries: u64, who: u64) -> bool {
     let last = entry_at(trail, entries.saturating_sub(1));
     let gone = gone(&last);
+    drop(last);
     trail.len() == entries && gone == Some(who)
+}
+
+/// Whether the history of a book of four steps ends with the going of its first caller.
+fn goes_last<R: Wait>(rt: &R, alloc: Global, rows: &[Row]) -> bool {
+    match four(rt, alloc, rows) {
+        Some(trail) => {
+            let is_last = ends_with_gone(&trail, 4, 1);
+            drop(trail);
+            is_last
+        }
+        None => false,
+    }
 }
 
 #[test]
@@ -117,11 +145,22 @@ fn who_went_has_a_step_of_four(rt: HostRuntime) -> Result<(), Fail> {
         told(Asked::OpensManager, 0, 2),
         full(Asked::OpensManager),
     ];
-    match four(&rt, rt.alloc(), &rows) {
-        Some(trail) => assert!(rt; ends_with_gone(&trail, 4, 1)),
-        None => return Err("another answer".into()),
-    }
+    assert!(rt; goes_last(&rt, rt.alloc(), &rows));
     Ok(())
+}
+
+/// Whether one more caller joins.
+fn joins<R: Wait>(rt: &R, book: &Book<MemoryKeeper>, root: &mut Pass) -> bool
+    requires book { IsOf book.now root.old }
+    ensures { IsOf book.now root.new }
+{
+    match guest(rt, book, root, 0) {
+        Ok(pass) => {
+            drop(pass);
+            true
+        }
+        Err(_) => false,
+    }
 }
 
 /// Whether so many callers join.
@@ -130,7 +169,7 @@ fn join<R: Wait>(rt: &R, book: &Book<MemoryKeeper>, root: &mut Pass, callers: u3
     ensures { IsOf book.now root.new }
 {
     for _ in 0..callers {
-        if guest(rt, book, root, 0).is_err() {
+        if !joins(rt, book, root) {
             return false;
         }
     }
@@ -148,15 +187,25 @@ fn crowds<R: Wait>(rt: &R, book: &Book<MemoryKeeper>, root: &mut Pass) -> bool
     let others = join(rt, book, root, 63);
     let one_more = guest(rt, book, root, 0).err();
     leaves(rt, book, root, first, 0);
-    others && one_more == Some(JoinFault::TooMany) && guest(rt, book, root, 0).is_ok()
+    others && one_more == Some(JoinFault::TooMany) && joins(rt, book, root)
+}
+
+/// The same in a new book.
+fn may_64_join<R: Wait>(rt: &R, alloc: Global) -> bool {
+    match new_book(alloc, limits(4_194_304), Vec::new(alloc)) {
+        Some(Opened { book, mut pass }) => {
+            let are_right = crowds(rt, &book, &mut pass);
+            drop(pass);
+            drop(book);
+            are_right
+        }
+        None => false,
+    }
 }
 
 #[test]
 fn one_more_than_64_may_not_join(rt: HostRuntime) -> Result<(), Fail> {
-    match new_book(rt.alloc(), limits(4_194_304), Vec::new(rt.alloc())) {
-        Some(Opened { book, mut pass }) => assert!(rt; crowds(&rt, &book, &mut pass)),
-        None => return Err("memory".into()),
-    }
+    assert!(rt; may_64_join(&rt, rt.alloc()));
     Ok(())
 }
 
@@ -173,12 +222,22 @@ fn stay<R: Wait>(
     requires alone { root.alone ≡ true }
     ensures { IfSome result (IsOf book.now) }
 {
-    let Ok(mut pass) = book.join_alone(rt, root, 0, Principal::Admin) else {
-        return None;
-    };
-    let are_right = come(rt, alloc, book, &mut pass, rows);
-    let spent = book.gone(rt, pass, 0);
-    if are_right { Some(spent) } else { None }
+    match book.join_alone(rt, root, 0, Principal::Admin) {
+        Ok(mut pass) => {
+            let are_right = come(rt, alloc, book, &mut pass, rows);
+            let spent = book.gone(rt, pass, 0);
+            if are_right {
+                Some(spent)
+            } else {
+                drop(spent);
+                None
+            }
+        }
+        Err(back) => {
+            drop(back);
+            None
+        }
+    }
 }
 
 /// What is left where calls come to this, and the second append fails when five bytes are there.
@@ -187,8 +246,13 @@ fn kept<R: Wait>(rt: &R, alloc: Global, rows: &[Row]) -> Option<Closed<MemoryKee
         return None;
     };
     let Opened { book, pass } = new_book(alloc, limits(4_194_304), fates)?;
-    let spent = stay(rt, alloc, &book, pass, rows)?;
-    Some(book.close(rt, spent))
+    match stay(rt, alloc, &book, pass, rows) {
+        Some(spent) => Some(book.close(rt, spent)),
+        None => {
+            drop(book);
+            None
+        }
+    }
 }
 
 /// What became of the change of a call.
@@ -203,6 +267,7 @@ fn kept_in(entry: &Option<(u64, Step)>) -> Option<Kept> {
 fn append_at(trail: &Trail, place: u64) -> Option<Kept> {
     let entry = entry_at(trail, place);
     let kept = kept_in(&entry);
+    drop(entry);
     kept
 }
 
@@ -216,6 +281,31 @@ const JOURNAL: [u8; 140] = [
     0x10, 0, 0, 0, 3, 0, 0, 0, 1, 0, 0, 0, 2, 0, 0, 0, 0x2F, 0, 0x61, 0, // up to the path
     0, 0, 0, 0, 0, 0, 0, 0, 0, 0, 0, 0, 0, 0, 0, 0, 0, 0, 0, 0, 0, 0, 0, 0, 0, 0, 0, 0, 0, //
 ];
+
+/// What became of each change that the calls asked for.
+const APPENDS: [(u64, Kept); 3] = [(2, Kept::Kept), (3, Kept::Failed), (5, Kept::Kept)];
+
+/// Whether two services are left, and each change is told as it stands in the journal.
+fn are_told(closed: &Closed<MemoryKeeper>) -> bool {
+    for (place, append) in APPENDS {
+        if append_at(&closed.trail, place) != Some(append) {
+            return false;
+        }
+    }
+    closed.services == 2 && closed.keeper.bytes() == JOURNAL.as_slice()
+}
+
+/// Whether calls come to this, and leave that.
+fn is_kept<R: Wait>(rt: &R, alloc: Global, rows: &[Row]) -> bool {
+    match kept(rt, alloc, rows) {
+        Some(closed) => {
+            let are_told = are_told(&closed);
+            drop(closed);
+            are_told
+        }
+        None => false,
+    }
+}
 
 #[test]
 fn what_is_not_kept_is_not_made(rt: HostRuntime) -> Result<(), Fail> {
@@ -254,15 +344,6 @@ fn what_is_not_kept_is_not_made(rt: HostRuntime) -> Result<(), Fail> {
             3,
         ),
     ];
-    match kept(&rt, rt.alloc(), &rows) {
-        Some(closed) => {
-            assert_eq!(rt; closed.services, 2);
-            assert_eq!(rt; closed.keeper.bytes(), JOURNAL.as_slice());
-            for (place, append) in [(2, Kept::Kept), (3, Kept::Failed), (5, Kept::Kept)] {
-                assert_eq!(rt; append_at(&closed.trail, place), Some(append));
-            }
-        }
-        None => return Err("another answer".into()),
-    }
+    assert!(rt; is_kept(&rt, rt.alloc(), &rows));
     Ok(())
 }

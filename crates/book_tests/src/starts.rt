@@ -1,58 +1,42 @@
 // Starts, with the launches that they want, and what processes report and are told.
-ghost use Rattle.std.specs.Prelude.{◌≢◌, IfNone, IfSome};
+ghost use Rattle.std.specs.Prelude.{◌≢◌, ◌≤◌, IfSome};
 ghost use Rattle.scm_model.specs.declared.flat.Phase.TheVariants as phases;
 ghost use Rattle.scm_book.specs.Passes.{HasPlan, HoldsProcess, IsOf};
 
 use crate::rows::{Row, come, entry_at, full, told};
-use book_calls::{Asked, guest, leaves, limits, new_book, runner, told_by};
+use book_calls::{Asked, begin_start, close, end_start, guest, leaves, limits, new_book, runner};
 use record_journal::MemoryKeeper;
 use scm_book::{
-    Book, ControlLook, EndLook, EndedEnd, LaunchLook, LaunchRoom, Opened, Pass, ReportEnd,
-    StartEnd, TickEnd,
+    Book, ControlLook, EndedEnd, LaunchLook, LaunchRoom, Opened, Pass, ReportEnd, TickEnd,
 };
 use scm_model::codes::{
     ERROR_INVALID_DATA, ERROR_SERVICE_NO_THREAD, ERROR_SERVICE_REQUEST_TIMEOUT,
     SERVICE_ACCEPT_STOP, SERVICE_CONTROL_STOP, SERVICE_RUNNING, SERVICE_START_PENDING,
     SERVICE_STOPPED, SERVICE_WIN32_OWN_PROCESS,
 };
-use scm_model::{Request, Status, Step};
-use scm_text::Items;
+use scm_model::{Status, Step};
 use scm_trail::Trail;
 use std::alloc::Global;
 use std::sync::Wait;
 use std::test::Fail;
 
-/// Begins a start that waits, by a handle.
-fn begin<R: Wait>(
+/// Takes the launch of `/a` in hand, and leaves its line in `room`.
+fn take_into<R: Wait>(
     rt: &R,
-    alloc: Global,
     book: &Book<MemoryKeeper>,
     pass: &mut Pass,
-    handle: u64,
+    room: &mut LaunchRoom,
 ) -> Option<u64>
     requires book { IsOf book.now pass.old }
-    requires caller { pass.old.caller ≢ 0 }
+    requires path { 2048 ≤ room.old.path.room }
     ensures book { IsOf book.now pass.new }
-    ensures plan { IfSome result (HasPlan book.now.opening pass.new) }
+    ensures process { IfSome result (λ process. HoldsProcess book.now.opening pass.new process phases.Taken) }
 {
-    let words = Some(Items::new(alloc));
-    match book.begin_start(rt, pass, 0, Request::Start { handle, words }) {
-        StartEnd::Waiting(plan) => Some(plan),
+    match book.take_launch(rt, pass, 0, room) {
+        LaunchLook::Launch(process) if room.path.units() == [0x2F, 0x61].as_slice() => {
+            Some(process)
+        }
         _ => None,
-    }
-}
-
-/// The code that a start that waits is told, if it is decided.
-fn look<R: Wait>(rt: &R, book: &Book<MemoryKeeper>, pass: &mut Pass, plan: u64) -> Option<u32>
-    requires book { IsOf book.now pass.old }
-    requires plan { HasPlan book.now.opening pass.old plan }
-    ensures book { IsOf book.now pass.new }
-    ensures caller { pass.new.caller ≢ 0 }
-    ensures plan { IfNone result (HasPlan book.now.opening pass.new plan) }
-{
-    match book.end_start(rt, pass, 0, plan) {
-        EndLook::Done(reply) => Some(told_by(&reply).code),
-        EndLook::Again => None,
     }
 }
 
@@ -67,14 +51,13 @@ pub fn take<R: Wait>(
     ensures book { IsOf book.now pass.new }
     ensures process { IfSome result (λ process. HoldsProcess book.now.opening pass.new process phases.Taken) }
 {
-    let Ok(mut room) = LaunchRoom::new(alloc) else {
-        return None;
-    };
-    match book.take_launch(rt, pass, 0, &mut room) {
-        LaunchLook::Launch(process) if room.path.units() == [0x2F, 0x61].as_slice() => {
-            Some(process)
+    match LaunchRoom::new(alloc) {
+        Ok(mut room) => {
+            let process = take_into(rt, book, pass, &mut room);
+            drop(room);
+            process
         }
-        _ => None,
+        Err(_) => None,
     }
 }
 
@@ -150,36 +133,85 @@ fn queries() -> [Row; 11] {
     rows
 }
 
-/// A caller starts a service, asks after it until no room is left, and goes; then its process ends.
+/// A caller starts a service, and asks after it until no room is left. The process, if all is
+/// answered so in a book of twenty steps.
+fn fill<R: Wait>(
+    rt: &R,
+    alloc: Global,
+    book: &Book<MemoryKeeper>,
+    pass: &mut Pass,
+    other: &mut Pass,
+) -> Option<u64>
+    requires book { IsOf book.now pass.old }
+    requires caller { pass.old.caller ≢ 0 }
+    requires other { IsOf book.now other.old }
+    ensures book { IsOf book.now pass.new }
+    ensures other { IsOf book.now other.new }
+    ensures process { IfSome result (λ process. HoldsProcess book.now.opening other.new process phases.Launched) }
+{
+    let is_made = come(rt, alloc, book, pass, &service());
+    let plan = begin_start(rt, alloc, book, pass, 2)?;
+    let process = launch(rt, alloc, book, other)?;
+    let is_started = end_start(rt, book, pass, plan) == Some(0);
+    let runs = [(SERVICE_RUNNING, ReportEnd::Taken)];
+    let is_running = report(rt, book, other, process, &runs);
+    let is_asked = come(rt, alloc, book, pass, &queries());
+    if is_made && is_started && is_running && is_asked {
+        Some(process)
+    } else {
+        None
+    }
+}
+
+/// Whether a process ends, and is its service's.
+fn is_over<R: Wait>(
+    rt: &R,
+    book: &Book<MemoryKeeper>,
+    pass: &mut Pass,
+    process: Option<u64>,
+) -> bool
+    requires book { IsOf book.now pass.old }
+    requires process { IfSome process (λ process. HoldsProcess book.now.opening pass.old process phases.Launched) }
+    ensures { IsOf book.now pass.new }
+{
+    match process {
+        Some(process) => book.ended(rt, pass, 0, process) == EndedEnd::Taken,
+        None => false,
+    }
+}
+
+/// The same caller goes then, and its process ends.
+fn fill_beside<R: Wait>(
+    rt: &R,
+    alloc: Global,
+    book: &Book<MemoryKeeper>,
+    root: &mut Pass,
+    other: &mut Pass,
+) -> bool
+    requires book { IsOf book.now root.old }
+    requires other { IsOf book.now other.old }
+    ensures book { IsOf book.now root.new }
+    ensures other { IsOf book.now other.new }
+{
+    match guest(rt, book, root, 0) {
+        Ok(mut pass) => {
+            let process = fill(rt, alloc, book, &mut pass, other);
+            leaves(rt, book, root, pass, 0);
+            is_over(rt, book, other, process)
+        }
+        Err(_) => false,
+    }
+}
+
 /// Whether all is answered so in a book of twenty steps.
 fn fill_twenty<R: Wait>(rt: &R, alloc: Global, book: &Book<MemoryKeeper>, root: &mut Pass) -> bool
     requires { IsOf book.now root.old }
     ensures { IsOf book.now root.new }
 {
     let mut other = runner(book, root);
-    let Ok(mut pass) = guest(rt, book, root, 0) else {
-        return false;
-    };
-    let is_made = come(rt, alloc, book, &mut pass, &service());
-    let Some(plan) = begin(rt, alloc, book, &mut pass, 2) else {
-        return false;
-    };
-    let Some(process) = launch(rt, alloc, book, &mut other) else {
-        return false;
-    };
-    let is_started = look(rt, book, &mut pass, plan) == Some(0);
-    let is_running = report(
-        rt,
-        book,
-        &mut other,
-        process,
-        &[(SERVICE_RUNNING, ReportEnd::Taken)],
-    );
-    let is_asked = come(rt, alloc, book, &mut pass, &queries());
-    leaves(rt, book, root, pass, 0);
-    let is_over = book.ended(rt, &mut other, 0, process) == EndedEnd::Taken;
+    let is_filled = fill_beside(rt, alloc, book, root, &mut other);
     leaves(rt, book, root, other, 0);
-    is_made && is_started && is_running && is_asked && is_over
+    is_filled
 }
 
 /// The history of such a book, if all was right.
@@ -187,8 +219,13 @@ fn twenty<R: Wait>(rt: &R, alloc: Global) -> Option<Trail> {
     let Opened { book, mut pass } = new_book(alloc, limits(20), Vec::new(alloc))?;
     let is_right = fill_twenty(rt, alloc, &book, &mut pass);
     let spent = book.gone(rt, pass, 0);
-    let closed = book.close(rt, spent);
-    if is_right { Some(closed.trail) } else { None }
+    let trail = close(rt, book, spent);
+    if is_right {
+        Some(trail)
+    } else {
+        drop(trail);
+        None
+    }
 }
 
 /// Whether the one entry is that caller 1 went, and the other that process 1 ended.
@@ -205,15 +242,26 @@ fn are_gone_and_ended(one: &Option<(u64, Step)>, other: &Option<(u64, Step)>) ->
 fn ends_with_owed(trail: &Trail) -> bool {
     let (gone, ended) = (entry_at(trail, 18), entry_at(trail, 19));
     let is_so = are_gone_and_ended(&gone, &ended);
+    drop(gone);
+    drop(ended);
     is_so && trail.len() == 20
+}
+
+/// Whether the history of a book of twenty steps ends so.
+fn is_owed_room<R: Wait>(rt: &R, alloc: Global) -> bool {
+    match twenty(rt, alloc) {
+        Some(trail) => {
+            let is_so = ends_with_owed(&trail);
+            drop(trail);
+            is_so
+        }
+        None => false,
+    }
 }
 
 #[test]
 fn what_is_owed_has_steps_of_twenty(rt: HostRuntime) -> Result<(), Fail> {
-    match twenty(&rt, rt.alloc()) {
-        Some(trail) => assert!(rt; ends_with_owed(&trail)),
-        None => return Err("another answer".into()),
-    }
+    assert!(rt; is_owed_room(&rt, rt.alloc()));
     Ok(())
 }
 
@@ -234,14 +282,14 @@ fn fail<R: Wait>(
     ensures caller { pass.new.caller ≢ 0 }
     ensures other { IsOf book.now other.new }
 {
-    let None = look(rt, book, pass, plan) else {
+    let None = end_start(rt, book, pass, plan) else {
         return false;
     };
     let Some(process) = take(rt, alloc, book, other) else {
         return false;
     };
     book.launch_failed(rt, other, 0, process, ERROR_SERVICE_NO_THREAD);
-    let told = look(rt, book, pass, plan);
+    let told = end_start(rt, book, pass, plan);
     told == Some(ERROR_SERVICE_NO_THREAD) && take(rt, alloc, book, other).is_none()
 }
 
@@ -254,37 +302,98 @@ fn is_late<R: Wait>(rt: &R, book: &Book<MemoryKeeper>, pass: &mut Pass, plan: u6
 {
     let before = book.tick(rt, pass, 119_999);
     let at = book.tick(rt, pass, 120_000);
-    let told = look(rt, book, pass, plan);
+    let told = end_start(rt, book, pass, plan);
     before == TickEnd::Idle && at == TickEnd::Ticked && told == Some(ERROR_SERVICE_REQUEST_TIMEOUT)
 }
 
-/// Whether starts of a caller's service fail so.
-fn starts_fail<R: Wait>(rt: &R, alloc: Global, book: &Book<MemoryKeeper>, root: &mut Pass) -> bool
+/// Whether two starts of a caller's service fail so.
+fn two_fail<R: Wait>(
+    rt: &R,
+    alloc: Global,
+    book: &Book<MemoryKeeper>,
+    pass: &mut Pass,
+    root: &mut Pass,
+) -> bool
+    requires book { IsOf book.now pass.old }
+    requires caller { pass.old.caller ≢ 0 }
+    requires root { IsOf book.now root.old }
+    ensures { IsOf book.now root.new }
+{
+    let is_made = come(rt, alloc, book, pass, &service());
+    let Some(plan) = begin_start(rt, alloc, book, pass, 2) else {
+        return false;
+    };
+    let is_told = fail(rt, alloc, book, pass, root, plan);
+    let Some(plan) = begin_start(rt, alloc, book, pass, 2) else {
+        return false;
+    };
+    is_made && is_told && is_late(rt, book, pass, plan)
+}
+
+/// What a caller of a book is to see: how starts fail, or how a process obeys.
+#[derive(Clone, Copy)]
+enum Sight {
+    Failing,
+    Obeying,
+}
+
+/// Whether a caller sees it.
+fn looks<R: Wait>(
+    rt: &R,
+    alloc: Global,
+    book: &Book<MemoryKeeper>,
+    pass: &mut Pass,
+    root: &mut Pass,
+    sight: Sight,
+) -> bool
+    requires book { IsOf book.now pass.old }
+    requires caller { pass.old.caller ≢ 0 }
+    requires root { IsOf book.now root.old }
+    ensures { IsOf book.now root.new }
+{
+    match sight {
+        Sight::Failing => two_fail(rt, alloc, book, pass, root),
+        Sight::Obeying => serves(rt, alloc, book, pass, root),
+    }
+}
+
+/// Whether a new caller sees it.
+fn sees<R: Wait>(
+    rt: &R,
+    alloc: Global,
+    book: &Book<MemoryKeeper>,
+    root: &mut Pass,
+    sight: Sight,
+) -> bool
     requires { IsOf book.now root.old }
     ensures { IsOf book.now root.new }
 {
-    let Ok(mut pass) = guest(rt, book, root, 0) else {
-        return false;
-    };
-    let is_made = come(rt, alloc, book, &mut pass, &service());
-    let Some(plan) = begin(rt, alloc, book, &mut pass, 2) else {
-        return false;
-    };
-    let is_told = fail(rt, alloc, book, &mut pass, root, plan);
-    let Some(plan) = begin(rt, alloc, book, &mut pass, 2) else {
-        return false;
-    };
-    is_made && is_told && is_late(rt, book, &mut pass, plan)
+    match guest(rt, book, root, 0) {
+        Ok(mut pass) => {
+            let is_seen = looks(rt, alloc, book, &mut pass, root, sight);
+            drop(pass);
+            is_seen
+        }
+        Err(_) => false,
+    }
+}
+
+/// Whether a caller of a new book sees it.
+fn is_seen<R: Wait>(rt: &R, alloc: Global, sight: Sight) -> bool {
+    match new_book(alloc, limits(4_194_304), Vec::new(alloc)) {
+        Some(Opened { book, mut pass }) => {
+            let is_seen = sees(rt, alloc, &book, &mut pass, sight);
+            drop(pass);
+            drop(book);
+            is_seen
+        }
+        None => false,
+    }
 }
 
 #[test]
 fn a_start_that_fails_is_told_why(rt: HostRuntime) -> Result<(), Fail> {
-    match new_book(rt.alloc(), limits(4_194_304), Vec::new(rt.alloc())) {
-        Some(Opened { book, mut pass }) => {
-            assert!(rt; starts_fail(&rt, rt.alloc(), &book, &mut pass))
-        }
-        None => return Err("memory".into()),
-    }
+    assert!(rt; is_seen(&rt, rt.alloc(), Sight::Failing));
     Ok(())
 }
 
@@ -333,31 +442,31 @@ fn obeys<R: Wait>(
 }
 
 /// Whether the process of a caller's service does.
-fn serves<R: Wait>(rt: &R, alloc: Global, book: &Book<MemoryKeeper>, root: &mut Pass) -> bool
-    requires { IsOf book.now root.old }
+fn serves<R: Wait>(
+    rt: &R,
+    alloc: Global,
+    book: &Book<MemoryKeeper>,
+    pass: &mut Pass,
+    root: &mut Pass,
+) -> bool
+    requires book { IsOf book.now pass.old }
+    requires caller { pass.old.caller ≢ 0 }
+    requires root { IsOf book.now root.old }
     ensures { IsOf book.now root.new }
 {
-    let Ok(mut pass) = guest(rt, book, root, 0) else {
-        return false;
-    };
-    let is_made = come(rt, alloc, book, &mut pass, &service());
-    let Some(plan) = begin(rt, alloc, book, &mut pass, 2) else {
+    let is_made = come(rt, alloc, book, pass, &service());
+    let Some(plan) = begin_start(rt, alloc, book, pass, 2) else {
         return false;
     };
     let Some(process) = launch(rt, alloc, book, root) else {
         return false;
     };
-    let is_started = look(rt, book, &mut pass, plan) == Some(0);
-    is_made && is_started && obeys(rt, alloc, book, &mut pass, root, process)
+    let is_started = end_start(rt, book, pass, plan) == Some(0);
+    is_made && is_started && obeys(rt, alloc, book, pass, root, process)
 }
 
 #[test]
 fn a_process_reports_and_takes_controls_until_it_stops(rt: HostRuntime) -> Result<(), Fail> {
-    match new_book(rt.alloc(), limits(4_194_304), Vec::new(rt.alloc())) {
-        Some(Opened { book, mut pass }) => {
-            assert!(rt; serves(&rt, rt.alloc(), &book, &mut pass))
-        }
-        None => return Err("memory".into()),
-    }
+    assert!(rt; is_seen(&rt, rt.alloc(), Sight::Obeying));
     Ok(())
 }

@@ -1,5 +1,0 @@
-//! Tests of a connection alone at a book of its own.
-#![tactic(auto)]
-
-#[cfg(test)]
-mod tests;
