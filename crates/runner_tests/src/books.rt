@@ -1,79 +1,73 @@
 //! Books in memory, and what their one caller asks.
-ghost use Rattle.std.specs.Prelude.{◌≡◌, ◌≢◌, false, true, IfSome, IsTrue};
+ghost use Rattle.std.specs.Prelude.{◌≡◌, ◌≢◌, ◌≤◌, false, true, IfSome, IsTrue};
 ghost use Rattle.scm_model.specs.Ranges.{in_range};
-ghost use Rattle.scm_core.specs.Managed.{AreSmall};
 ghost use Rattle.scm_book.specs.Called.{is_start};
-ghost use Rattle.scm_book.specs.Passes.{IsOf};
+ghost use Rattle.scm_book.specs.Passes.{HasPlan, IsOf};
 
+use book_calls::{Told, begin_start, call, end_start, limits, new_book};
 use outside::FixedClock;
-use record_journal::{Journal, MemoryKeeper};
-use scm_book::{Book, CallEnd, Opened, Pass, StartEnd};
-use scm_core::Manager;
-use scm_model::{Limits, NewService, Principal, Reply, Request, Status};
-use scm_text::{Items, OutOfMemory, WText};
+use record_journal::MemoryKeeper;
+use scm_book::{Book, Opened, Pass};
+use scm_model::{NewService, Principal, Request, Status};
+use scm_text::{Items, WText};
 use std::alloc::Global;
 use std::sync::Wait;
-
-pub const LIMITS: Limits = Limits {
-    services: 8,
-    handles: 8,
-    registrations: 8,
-    callers: 2,
-    processes: 8,
-    controls: 16,
-    steps: 256,
-    text: 65_536,
-};
 
 pub const CLOCK: FixedClock = FixedClock { moment: 0 };
 
 pub type TestBook = Book<MemoryKeeper>;
 
 /// A book, its administrator's pass, and one that is nobody's.
-#[derive(Drop)]
 pub struct Stage {
     pub book: TestBook,
     pub caller: Pass,
     pub runner: Pass,
 }
 
-/// A book in which nothing took place.
-fn open(alloc: Global, limits: Limits) -> Option<Opened<MemoryKeeper>>
-    requires { AreSmall limits }
-    ensures { IfSome result (λ made. IsOf made.book made.pass
-        × (made.pass.caller ≡ 0) × (made.pass.alone ≡ true)) }
+/// An administrator joins a book in which nothing took place.
+fn staged<R: Wait>(rt: &R, opened: Opened<MemoryKeeper>) -> Option<Stage>
+    requires book { IsOf opened.book opened.pass }
+    requires nobody { opened.pass.caller ≡ 0 }
+    requires alone { opened.pass.alone ≡ true }
+    ensures { IfSome result (λ s. IsOf s.book s.caller × (s.caller.caller ≢ 0)
+        × IsOf s.book s.runner × (s.runner.caller ≡ 0)) }
 {
-    match Manager::new(alloc, limits, Items::new(alloc), Items::new(alloc), 0) {
-        Ok(manager) => {
-            let keeper = MemoryKeeper::new(Vec::new(alloc), Vec::new(alloc));
-            Book::new(alloc, manager, Journal::empty(), keeper).ok()
+    let Opened { book, pass } = opened;
+    match book.join_alone(rt, pass, 0, Principal::Admin) {
+        Ok(mut caller) => {
+            let runner = book.join_runner(&mut caller);
+            Some(Stage {
+                book,
+                caller,
+                runner,
+            })
         }
-        Err(_) => None,
+        Err(back) => {
+            drop(back);
+            drop(book);
+            None
+        }
     }
 }
 
-/// An administrator joins, under these limits.
-pub fn begin_within<R: Wait>(rt: &R, alloc: Global, limits: Limits) -> Option<Stage>
-    requires { AreSmall limits }
+/// An administrator joins, with room for so many steps.
+pub fn begin_within<R: Wait>(rt: &R, alloc: Global, steps: u64) -> Option<Stage>
+    requires { steps ≤ 4194304 }
     ensures { IfSome result (λ s. IsOf s.book s.caller × (s.caller.caller ≢ 0)
-        × IsOf s.book s.runner) }
+        × IsOf s.book s.runner × (s.runner.caller ≡ 0)) }
 {
-    let Opened { book, pass } = open(alloc, limits)?;
-    let mut caller = book.join_alone(rt, pass, 0, Principal::Admin).ok()?;
-    let runner = book.join_runner(&mut caller);
-    Some(Stage {
-        book,
-        caller,
-        runner,
-    })
+    match new_book(alloc, limits(steps), Vec::new(alloc)) {
+        Some(opened) => staged(rt, opened),
+        None => None,
+    }
 }
 
 /// An administrator joins, with room for all that a row does.
 pub fn begin<R: Wait>(rt: &R, alloc: Global) -> Option<Stage>
     ensures { IfSome result (λ s. IsOf s.book s.caller × (s.caller.caller ≢ 0)
-        × IsOf s.book s.runner) }
+        × IsOf s.book s.runner × (s.runner.caller ≡ 0)) }
 {
-    begin_within(rt, alloc, LIMITS)
+    begin_within(rt, alloc, 256)
 }
 
 /// What the caller asks, by the handles that it has. The first one that is given is that of the
@@ -81,47 +75,35 @@ pub fn begin<R: Wait>(rt: &R, alloc: Global) -> Option<Stage>
 #[derive(Clone, Copy)]
 pub enum Ask<'a> {
     OpensManager,
-    /// Creates a service of this name and path, which needs the services of these letters.
-    Creates(&'a str, &'a str, &'a str),
+    /// Creates a service of this name and path, which needs the services that these bytes name.
+    Creates(&'a str, &'a str, &'a [u8]),
     Starts(u64),
     /// Reports RUNNING, in which the service takes STOP.
     Runs(u64),
     Stops(u64),
 }
 
-/// A text in UTF-16.
-pub fn text(alloc: Global, text: &str) -> Result<WText, OutOfMemory> {
-    let Ok(units) = text.encode_utf16().collect::<Vec<u16>>(alloc) else {
-        return Err(OutOfMemory);
-    };
-    match WText::from_units(alloc, units.as_slice()) {
-        Ok(text) => Ok(text),
-        Err(_) => Err(OutOfMemory),
-    }
-}
+/// No service that is needed, as a body has it.
+pub const NOTHING: &[u8] = &[0, 0];
 
-/// The service of a letter, as a body has it.
-fn needed(alloc: Global, letters: &str) -> Result<Items<u8>, OutOfMemory> {
-    let mut bytes = Items::new(alloc);
-    for letter in letters.as_bytes() {
-        bytes.append(&[*letter, 0, 0, 0])?;
+/// A text in UTF-16.
+fn text(alloc: Global, text: &str) -> Option<WText> {
+    let Ok(units) = text.encode_utf16().collect::<Vec<u16>>(alloc) else {
+        return None;
+    };
+    let text = WText::from_units(alloc, units.as_slice());
+    drop(units);
+    match text {
+        Ok(text) => Some(text),
+        Err(_) => None,
     }
-    bytes.append(&[0, 0])?;
-    Ok(bytes)
 }
 
 /// Creates a service by the first handle.
-fn creation(alloc: Global, name: &str, path: &str, needs: &str) -> Option<Request>
-    ensures { IfSome result (λ asked. (is_start asked ≡ false) × IsTrue (in_range asked)) }
+fn created(name: WText, path: WText, needs: Items<u8>) -> Request
+    ensures { (is_start result ≡ false) × IsTrue (in_range result) }
 {
-    let (Ok(name), Ok(path), Ok(needs)) = (
-        text(alloc, name),
-        text(alloc, path),
-        needed(alloc, needs),
-    ) else {
-        return None;
-    };
-    Some(Request::Create(NewService {
+    Request::Create(NewService {
         handle: 1,
         name,
         display: None,
@@ -134,7 +116,25 @@ fn creation(alloc: Global, name: &str, path: &str, needs: &str) -> Option<Reques
         tag: None,
         needs: Some(needs),
         account: None,
-    }))
+    })
+}
+
+/// Creates a service with a name.
+fn named(alloc: Global, name: WText, path: &str, needs: &[u8]) -> Option<Request>
+    ensures { IfSome result (λ asked. (is_start asked ≡ false) × IsTrue (in_range asked)) }
+{
+    let Some(path) = text(alloc, path) else {
+        drop(name);
+        return None;
+    };
+    match Items::from_slice(alloc, needs) {
+        Ok(needs) => Some(created(name, path, needs)),
+        Err(_) => {
+            drop(path);
+            drop(name);
+            None
+        }
+    }
 }
 
 const RUNNING: Status = Status {
@@ -147,59 +147,51 @@ const RUNNING: Status = Status {
     hint: 0,
 };
 
-fn code_of(reply: &Reply) -> u32 {
-    match reply {
-        Reply::Code(code)
-        | Reply::Handle { code, .. }
-        | Reply::State { code, .. }
-        | Reply::Made { code, .. }
-        | Reply::Tag { code, .. }
-        | Reply::Shown { code, .. }
-        | Reply::LockState { code, .. }
-        | Reply::Name { code, .. }
-        | Reply::Listing { code, .. }
-        | Reply::Page { code, .. }
-        | Reply::Bytes { code, .. }
-        | Reply::Notice { code, .. } => *code,
+/// The request of a question. A start has none here.
+fn request_of(alloc: Global, asked: Ask<'_>) -> Option<Request>
+    ensures { IfSome result (λ asked. (is_start asked ≡ false) × IsTrue (in_range asked)) }
+{
+    match asked {
+        Ask::OpensManager => Some(Request::OpenManager {
+            database: None,
+            access: 0xF003F,
+        }),
+        Ask::Creates(name, path, needs) => match text(alloc, name) {
+            Some(name) => named(alloc, name, path, needs),
+            None => None,
+        },
+        Ask::Runs(handle) => Some(Request::SetStatus {
+            handle,
+            status: RUNNING,
+        }),
+        Ask::Stops(handle) => Some(Request::Control { handle, control: 1 }),
+        Ask::Starts(_) => None,
     }
 }
 
 /// Makes a call that is no start, and tells its code.
-fn call<R: Wait>(rt: &R, book: &TestBook, caller: &mut Pass, request: Request) -> Option<u32>
-    requires book { IsOf book.now caller.old }
-    requires caller { caller.old.caller ≢ 0 }
-    requires start { is_start request ≡ false }
-    requires ranged { IsTrue (in_range request) }
-    ensures book { IsOf book.now caller.new }
-    ensures caller { caller.new.caller ≢ 0 }
-{
-    match book.call(rt, caller, 0, request) {
-        CallEnd::Answered(reply) => Some(code_of(&reply)),
-        _ => None,
-    }
-}
-
-/// Begins a start, which is to wait.
-fn start<R: Wait>(
+fn code_of<R: Wait>(
     rt: &R,
     alloc: Global,
     book: &TestBook,
     caller: &mut Pass,
-    handle: u64,
+    asked: Ask<'_>,
 ) -> Option<u32>
     requires book { IsOf book.now caller.old }
     requires caller { caller.old.caller ≢ 0 }
     ensures book { IsOf book.now caller.new }
     ensures caller { caller.new.caller ≢ 0 }
 {
-    let words = Some(Items::new(alloc));
-    match book.begin_start(rt, caller, 0, Request::Start { handle, words }) {
-        StartEnd::Waiting(_) => Some(0),
-        _ => None,
+    match request_of(alloc, asked) {
+        Some(request) => match call(rt, book, caller, 0, request) {
+            Ok(told) => Some(told.code),
+            Err(_) => None,
+        },
+        None => None,
     }
 }
 
-/// Asks, and tells the code.
+/// Asks, and tells the code. A start is to wait, and has code 0 then.
 pub fn code_for<R: Wait>(
     rt: &R,
     alloc: Global,
@@ -212,20 +204,13 @@ pub fn code_for<R: Wait>(
     ensures book { IsOf book.now caller.new }
     ensures caller { caller.new.caller ≢ 0 }
 {
-    let request = match asked {
-        Ask::OpensManager => Request::OpenManager {
-            database: None,
-            access: 0xF003F,
+    match asked {
+        Ask::Starts(handle) => match begin_start(rt, alloc, book, caller, handle) {
+            Some(_) => Some(0),
+            None => None,
         },
-        Ask::Creates(name, path, needs) => creation(alloc, name, path, needs)?,
-        Ask::Runs(handle) => Request::SetStatus {
-            handle,
-            status: RUNNING,
-        },
-        Ask::Stops(handle) => Request::Control { handle, control: 1 },
-        Ask::Starts(handle) => return start(rt, alloc, book, caller, handle),
-    };
-    call(rt, book, caller, request)
+        _ => code_of(rt, alloc, book, caller, asked),
+    }
 }
 
 /// Whether each question has the code beside it.
@@ -247,4 +232,36 @@ pub fn tells<R: Wait>(
         }
     }
     true
+}
+
+/// The code that a start is told, once it is decided.
+pub fn decided<R: Wait>(rt: &R, book: &TestBook, caller: &mut Pass, plan: u64) -> u32
+    requires book { IsOf book.now caller.old }
+    requires plan { HasPlan book.now.opening caller.old plan }
+    ensures book { IsOf book.now caller.new }
+    ensures caller { caller.new.caller ≢ 0 }
+{
+    for _ in rt.forever() {
+        let seen = book.bell().count();
+        match end_start(rt, book, caller, plan) {
+            Some(code) => return code,
+            None => {
+                book.bell().wait(rt, seen);
+            }
+        }
+    }
+    unreachable!()
+}
+
+/// The state of a service, by its handle.
+pub fn state<R: Wait>(rt: &R, book: &TestBook, caller: &mut Pass, handle: u64) -> Option<u64>
+    requires book { IsOf book.now caller.old }
+    requires caller { caller.old.caller ≢ 0 }
+    ensures book { IsOf book.now caller.new }
+    ensures caller { caller.new.caller ≢ 0 }
+{
+    match call(rt, book, caller, 0, Request::QueryStatus { handle }) {
+        Ok(Told { code: 0, number }) => Some(number),
+        _ => None,
+    }
 }

@@ -1,29 +1,25 @@
 ghost use Rattle.std.specs.Prelude.{◌≡◌, ◌≢◌, ◌≤◌, IfSome};
 ghost use Rattle.scm_book.specs.Passes.{IsOf};
 
-use crate::books::{Ask, CLOCK, LIMITS, Stage, TestBook, begin, begin_within, tells};
-use crate::launches::{child, launch};
-use child_link::MemoryLink;
+use crate::books::{Ask, CLOCK, NOTHING, Stage, TestBook, begin_within, tells};
+use crate::fates::{Fates, add_child, add_source};
+use crate::launches::launch;
+use crate::plays::{Play, is_played};
+use book_calls::close;
 use child_runner::{ChildEnded, ChildServed, LaunchEnd, launch_one, serve_child};
-use outside::{MemorySink, MemorySource};
-use process_runner::{MemorySpawner, Spawned};
+use outside::MemorySource;
+use process_runner::MemorySpawner;
 use scm_book::{EndedEnd, LaunchRoom, Pass, ReportEnd};
-use scm_model::{Limits, Status, Step};
+use scm_model::{Status, Step};
 use scm_trail::Trail;
 use std::alloc::Global;
 use std::sync::Wait;
 use std::test::Fail;
 
-/// Room for twenty steps.
-const FEW: Limits = Limits {
-    steps: 20,
-    ..LIMITS
-};
-
 /// A service that is started.
 const BEGIN: [(Ask<'static>, u32); 3] = [
     (Ask::OpensManager, 0),
-    (Ask::Creates("A", "/a", ""), 0),
+    (Ask::Creates("A", "/a", NOTHING), 0),
     (Ask::Starts(2), 0),
 ];
 
@@ -85,7 +81,7 @@ const ROWS: [Row; 8] = [
         how: ChildServed::Ended,
         told: 9,
     },
-    // The read behind the whole line.
+    // The read after the whole line.
     Row {
         output: RUNNING,
         reads: &[true, false, false, false, false],
@@ -130,6 +126,7 @@ fn digit(step: &Step) -> Option<u64> {
 fn digit_of(entry: (u64, Step)) -> Option<u64> {
     let (_, step) = entry;
     let digit = digit(&step);
+    drop(step);
     digit
 }
 
@@ -147,22 +144,17 @@ fn told(trail: &Trail) -> u64 {
     told
 }
 
-/// A spawner in memory that starts the child of a row, which gives seven bytes at a time.
-fn spawner(alloc: Global, row: &Row) -> Option<MemorySpawner> {
-    let (Ok(bytes), Ok(reads), Ok(waits)) = (
-        Vec::from_slice(alloc, row.output.as_bytes()),
-        Vec::from_slice(alloc, row.reads),
-        Vec::from_slice(alloc, row.waits),
-    ) else {
-        return None;
-    };
+/// Adds the child of a row, which gives seven bytes at a time.
+fn add_row(alloc: Global, fates: &mut Fates, row: &Row) -> bool {
+    let mut bytes = Vec::new(alloc);
+    let mut reads = Vec::new(alloc);
+    let mut waits = Vec::new(alloc);
+    let has_bytes = bytes.extend_from_slice(row.output.as_bytes()).is_ok();
+    let has_reads = reads.extend_from_slice(row.reads).is_ok();
+    let has_waits = waits.extend_from_slice(row.waits).is_ok();
     let output = MemorySource::in_pieces(bytes, 7, reads);
-    let fate = Ok(Spawned {
-        link: MemoryLink::new(1, output, waits),
-        feed: MemorySink::new(alloc, Vec::new(alloc)),
-    });
-    let fates = vec![in alloc; fate].ok()?;
-    Some(MemorySpawner::new(alloc, fates))
+    let is_added = add_source(alloc, fates, 1, output, waits);
+    has_bytes && has_reads && has_waits && is_added
 }
 
 /// Starts a service, launches its child and serves that to its end.
@@ -182,20 +174,37 @@ fn serve<R: Wait>(
         return None;
     }
     let mut runner = book.join_runner(caller);
-    let LaunchEnd::Started {
-        process,
-        mut link,
-        ..
-    } = launch_one(rt, alloc, book, &mut runner, room, spawner, &CLOCK)
-    else {
-        return None;
-    };
-    let ended = serve_child(rt, alloc, book, runner, process, &mut link, &CLOCK);
-    Some(ended)
+    match launch_one(rt, alloc, book, &mut runner, room, spawner, &CLOCK) {
+        LaunchEnd::Started {
+            process,
+            mut link,
+            feed,
+        } => {
+            drop(feed);
+            let ended = serve_child(rt, alloc, book, runner, process, &mut link, &CLOCK);
+            drop(link);
+            Some(ended)
+        }
+        LaunchEnd::Failed { .. } | LaunchEnd::Empty => {
+            drop(runner);
+            None
+        }
+    }
 }
 
-/// How a child is served, and what the whole history then tells.
-fn history<R: Wait>(
+/// How a child was served, and what the whole history then tells.
+fn history<R: Wait>(rt: &R, book: TestBook, ended: ChildEnded) -> (ChildServed, u64)
+    requires { IsOf book ended.spent }
+{
+    let ChildEnded { how, spent } = ended;
+    let trail = close(rt, book, spent);
+    let told = told(&trail);
+    drop(trail);
+    (how, told)
+}
+
+/// How a child is served at a stage, and what the whole history then tells.
+fn play<R: Wait>(
     rt: &R,
     alloc: Global,
     stage: Stage,
@@ -208,31 +217,64 @@ fn history<R: Wait>(
     let Stage {
         book,
         mut caller,
-        runner: _,
+        runner,
     } = stage;
-    let ChildEnded { how, spent } = serve(rt, alloc, &book, &mut caller, room, spawner)?;
-    let closed = book.close(rt, spent);
-    Some((how, told(&closed.trail)))
+    drop(runner);
+    let served = serve(rt, alloc, &book, &mut caller, room, spawner);
+    drop(caller);
+    match served {
+        Some(ended) => Some(history(rt, book, ended)),
+        None => {
+            drop(book);
+            None
+        }
+    }
 }
 
-/// Whether a row's child is served as the row says.
-fn is_served<R: Wait>(rt: &R, alloc: Global, row: &Row) -> bool {
-    let (Some(mut spawner), Ok(mut room), Some(stage)) = (
-        spawner(alloc, row),
-        LaunchRoom::new(alloc),
-        begin_within(rt, alloc, FEW),
-    ) else {
-        return false;
-    };
-    match history(rt, alloc, stage, &mut room, &mut spawner) {
-        Some((how, told)) => how == row.how && told == row.told,
+/// Whether a row's child is served as the row says, in a book of twenty steps.
+fn is_served_in<R: Wait>(
+    rt: &R,
+    alloc: Global,
+    row: &Row,
+    room: &mut LaunchRoom,
+    spawner: &mut MemorySpawner,
+) -> bool
+    requires { 2048 ≤ room.old.path.room }
+{
+    match begin_within(rt, alloc, 20) {
+        Some(stage) => match play(rt, alloc, stage, room, spawner) {
+            Some((how, told)) => how == row.how && told == row.told,
+            None => false,
+        },
         None => false,
     }
 }
 
+/// The same with new room.
+fn is_served_by<R: Wait>(rt: &R, alloc: Global, row: &Row, spawner: &mut MemorySpawner) -> bool {
+    match LaunchRoom::new(alloc) {
+        Ok(mut room) => {
+            let is_served = is_served_in(rt, alloc, row, &mut room, spawner);
+            drop(room);
+            is_served
+        }
+        Err(_) => false,
+    }
+}
+
+/// The same by a spawner that starts the row's child.
+fn is_served<R: Wait>(rt: &R, alloc: Global, row: &Row) -> bool {
+    let mut fates = Vec::new(alloc);
+    let is_added = add_row(alloc, &mut fates, row);
+    let mut spawner = MemorySpawner::new(alloc, fates);
+    let is_served = is_served_by(rt, alloc, row, &mut spawner);
+    drop(spawner);
+    is_added && is_served
+}
+
 /// Whether a process that reports STOPPED ends while a second one runs its service, and changes
 /// nothing.
-fn ends_late<R: Wait>(
+pub fn ends_late<R: Wait>(
     rt: &R,
     alloc: Global,
     book: &TestBook,
@@ -257,6 +299,7 @@ fn ends_late<R: Wait>(
     let ended = book.ended(rt, first, 0, former);
     // Only a service that runs is granted this.
     let running = tells(rt, alloc, book, caller, &[(Ask::Stops(2), 0)]);
+    drop(second);
     begins
         && former == 1
         && stopped == ReportEnd::Taken
@@ -279,23 +322,9 @@ fn a_child_is_told_by_its_reports_and_its_end(rt: HostRuntime) -> Result<(), Fai
 #[test]
 fn the_end_of_a_former_process_stops_nothing(rt: HostRuntime) -> Result<(), Fail> {
     let alloc = rt.alloc();
-    let Stage {
-        book,
-        mut caller,
-        mut runner,
-    } = begin(&rt, alloc).ok_or("memory")?;
-    let mut room = LaunchRoom::new(alloc).ok().ok_or("memory")?;
-    let fates = vec![in alloc; child(alloc, 7), child(alloc, 7)]?;
-    let mut spawner = MemorySpawner::new(alloc, fates);
-    let late = ends_late(
-        &rt,
-        alloc,
-        &book,
-        &mut caller,
-        &mut runner,
-        &mut room,
-        &mut spawner,
-    );
-    assert!(rt; late);
+    let mut fates = Vec::new(alloc);
+    let are_added = add_child(alloc, &mut fates, 7, b"") && add_child(alloc, &mut fates, 7, b"");
+    let is_played = is_played(&rt, alloc, Play::EndsLate, fates);
+    assert!(rt; are_added && is_played);
     Ok(())
 }

@@ -2,33 +2,24 @@ ghost use Rattle.std.specs.Prelude.{◌≡◌, ◌≢◌, ◌≤◌, IfSome};
 ghost use Rattle.scm_model.specs.declared.flat.Phase.TheVariants as phases;
 ghost use Rattle.scm_book.specs.Passes.{HoldsProcess, IsOf};
 
-use crate::books::{Ask, CLOCK, Stage, TestBook, begin, tells};
-use child_link::MemoryLink;
+use crate::books::{Ask, CLOCK, NOTHING, TestBook, tells};
+use crate::fates::{Fates, add_child, add_fault};
+use crate::plays::{Play, is_played};
 use child_runner::{LaunchEnd, launch_one};
-use outside::{MemorySink, MemorySource};
-use process_runner::{MemorySpawner, SpawnFault, Spawned, Spawner};
+use process_runner::{MemorySpawner, SpawnFault};
 use scm_book::{LaunchRoom, Pass};
 use std::alloc::Global;
 use std::sync::Wait;
 use std::test::Fail;
 
-/// A child in memory that writes nothing.
-pub fn child(alloc: Global, pid: u32) -> Result<Spawned<MemoryLink, MemorySink>, SpawnFault> {
-    let output = MemorySource::new(Vec::new(alloc), Vec::new(alloc));
-    Ok(Spawned {
-        link: MemoryLink::new(pid, output, Vec::new(alloc)),
-        feed: MemorySink::new(alloc, Vec::new(alloc)),
-    })
-}
-
 /// Launches what is wanted first, lets the ends of the child go, and tells the process.
-pub fn launch<R: Wait, P: Spawner>(
+pub fn launch<R: Wait>(
     rt: &R,
     alloc: Global,
     book: &TestBook,
     runner: &mut Pass,
     room: &mut LaunchRoom,
-    spawner: &mut P,
+    spawner: &mut MemorySpawner,
 ) -> Option<u64>
     requires book { IsOf book.now runner.old }
     requires path { 2048 ≤ room.old.path.room }
@@ -37,8 +28,16 @@ pub fn launch<R: Wait, P: Spawner>(
     ensures held { IfSome result (λ process. HoldsProcess book.now.opening runner.new process phases.Launched) }
 {
     match launch_one(rt, alloc, book, runner, room, spawner, &CLOCK) {
-        LaunchEnd::Started { process, .. } => Some(process),
-        _ => None,
+        LaunchEnd::Started {
+            process,
+            link,
+            feed,
+        } => {
+            drop(link);
+            drop(feed);
+            Some(process)
+        }
+        LaunchEnd::Failed { .. } | LaunchEnd::Empty => None,
     }
 }
 
@@ -58,7 +57,16 @@ fn failure<R: Wait>(
 {
     match launch_one(rt, alloc, book, runner, room, spawner, &CLOCK) {
         LaunchEnd::Failed { code, .. } => Some(code),
-        _ => None,
+        LaunchEnd::Started {
+            process: _,
+            link,
+            feed,
+        } => {
+            drop(link);
+            drop(feed);
+            None
+        }
+        LaunchEnd::Empty => None,
     }
 }
 
@@ -100,46 +108,58 @@ fn is_started(spawner: &MemorySpawner, first: &str, second: &str) -> bool {
     }
 }
 
+/// A service with a path and a word.
+const CREATED: [(Ask<'static>, u32); 2] = [
+    (Ask::OpensManager, 0),
+    (Ask::Creates("A", "\"/a b\" -x", NOTHING), 0),
+];
+
+/// Whether four starts fail, each with the code of its fault, and the fifth starts its program.
+pub fn fails_then_starts<R: Wait>(
+    rt: &R,
+    alloc: Global,
+    book: &TestBook,
+    caller: &mut Pass,
+    runner: &mut Pass,
+    room: &mut LaunchRoom,
+    spawner: &mut MemorySpawner,
+) -> bool
+    requires caller { IsOf book.now caller.old × (caller.old.caller ≢ 0) }
+    requires runner { IsOf book.now runner.old }
+    requires path { 2048 ≤ room.old.path.room }
+{
+    let made = tells(rt, alloc, book, caller, &CREATED);
+    let codes = [2, 3, 5, 31];
+    let failed = fail(rt, alloc, book, caller, runner, room, spawner, &codes);
+    let starts = tells(rt, alloc, book, caller, &[(Ask::Starts(2), 0)]);
+    let fifth = launch(rt, alloc, book, runner, room, spawner);
+    let started = is_started(spawner, "/a b", "-x");
+    made && failed && starts && fifth == Some(5) && started
+}
+
+/// The faults of the starts, the last one first.
+const FAULTS: [SpawnFault; 4] = [
+    SpawnFault::Other,
+    SpawnFault::Denied,
+    SpawnFault::NoPath,
+    SpawnFault::NotFound,
+];
+
+fn add_faults(fates: &mut Fates) -> bool {
+    for fault in FAULTS {
+        if !add_fault(fates, fault) {
+            return false;
+        }
+    }
+    true
+}
+
 #[test]
 fn a_launch_fails_with_the_code_of_its_fault(rt: HostRuntime) -> Result<(), Fail> {
     let alloc = rt.alloc();
-    let Stage {
-        book,
-        mut caller,
-        mut runner,
-    } = begin(&rt, alloc).ok_or("memory")?;
-    let mut room = LaunchRoom::new(alloc).ok().ok_or("memory")?;
-    let fates = vec![in alloc;
-        child(alloc, 7),
-        Err(SpawnFault::Other),
-        Err(SpawnFault::Denied),
-        Err(SpawnFault::NoPath),
-        Err(SpawnFault::NotFound),
-    ]?;
-    let mut spawner = MemorySpawner::new(alloc, fates);
-    let made = tells(
-        &rt,
-        alloc,
-        &book,
-        &mut caller,
-        &[
-            (Ask::OpensManager, 0),
-            (Ask::Creates("A", "\"/a b\" -x", ""), 0),
-        ],
-    );
-    let failed = fail(
-        &rt,
-        alloc,
-        &book,
-        &mut caller,
-        &mut runner,
-        &mut room,
-        &mut spawner,
-        &[2, 3, 5, 31],
-    );
-    let starts = tells(&rt, alloc, &book, &mut caller, &[(Ask::Starts(2), 0)]);
-    let fifth = launch(&rt, alloc, &book, &mut runner, &mut room, &mut spawner);
-    let started = is_started(&spawner, "/a b", "-x");
-    assert!(rt; made && failed && starts && fifth == Some(5) && started);
+    let mut fates = Vec::new(alloc);
+    let are_added = add_child(alloc, &mut fates, 7, b"") && add_faults(&mut fates);
+    let is_played = is_played(&rt, alloc, Play::FailsThenStarts, fates);
+    assert!(rt; are_added && is_played);
     Ok(())
 }

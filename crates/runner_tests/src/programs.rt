@@ -1,12 +1,12 @@
-ghost use Rattle.std.specs.Prelude.{◌≢◌};
+ghost use Rattle.std.specs.Prelude.{◌≢◌, ◌≤◌};
 ghost use Rattle.scm_model.specs.declared.flat.Phase.TheVariants as phases;
 ghost use Rattle.scm_book.specs.Passes.{HoldsProcess, IsOf};
 
-use crate::books::{Ask, CLOCK, Stage, TestBook, begin, tells};
+use crate::books::{Ask, CLOCK, NOTHING, Stage, TestBook, begin, tells};
 use crate::quits::AfterLooks;
-use child_link::{Feed, Link, read_line_step};
-use child_runner::{ControlsSent, LaunchEnd, launch_one, send_controls};
-use process_runner::ProcessSpawner;
+use child_link::{Link, PipeFeed, PipeLink, read_line_step};
+use child_runner::{ControlsEnded, ControlsSent, LaunchEnd, launch_one, send_controls};
+use process_runner::{ProcessSpawner, Spawner};
 use scm_book::{EndedEnd, LaunchRoom, Pass, ReportEnd};
 use scm_model::{Status, Step};
 use std::alloc::Global;
@@ -28,36 +28,48 @@ fn command<R: Env + AllocGlobal>(rt: &R) -> Option<String> {
     }
 }
 
-/// What a child writes up to its next line feed, or its end.
-fn next_line<L: Link>(alloc: Global, link: &mut L) -> Option<Vec<u8>> {
-    let mut line = Vec::new(alloc);
+/// Reads what a child writes up to its next line feed, or its end. Whether no read failed.
+fn read_line<L: Link>(link: &mut L, line: &mut Vec<u8>) -> bool {
     let mut byte = [0];
     for _ in 0..128 {
-        if link.read(&mut byte).ok()? == 0 {
-            break;
+        match link.read(&mut byte) {
+            Ok(0) => return true,
+            Ok(_) => {}
+            Err(_) => return false,
         }
-        line.push(byte[0]).ok()?;
+        if line.push(byte[0]).is_err() {
+            return false;
+        }
         if byte[0] == b'\n' {
-            break;
+            return true;
         }
     }
-    Some(line)
+    true
 }
 
 /// The status that a step reports, if it is a report.
-fn status_of(step: &Step) -> Option<Status> {
+fn status_of(step: &Option<Step>) -> Option<Status> {
     match step {
-        Step::Report { status, .. } => Some(*status),
+        Some(Step::Report { status, .. }) => Some(*status),
         _ => None,
     }
 }
 
+/// The status that a line reports.
+fn status_in(line: &[u8], process: u64) -> Option<Status> {
+    let step = read_line_step(line, process);
+    let status = status_of(&step);
+    drop(step);
+    status
+}
+
 /// The status that a child's next line reports.
 fn next_status<L: Link>(alloc: Global, link: &mut L, process: u64) -> Option<Status> {
-    let line = next_line(alloc, link)?;
-    let step = read_line_step(line.as_slice(), process)?;
-    let status = status_of(&step);
-    status
+    let mut line = Vec::new(alloc);
+    let is_read = read_line(link, &mut line);
+    let status = status_in(line.as_slice(), process);
+    drop(line);
+    if is_read { status } else { None }
 }
 
 /// Makes the report of a child's next line, and tells its state where that was taken.
@@ -82,15 +94,15 @@ fn report_next<R: Wait, L: Link>(
 }
 
 /// Whether a child reports RUNNING, is sent a STOP, reports STOPPED and ends.
-fn obeys<R: Wait, L: Link, F: Feed + Drop>(
+fn obeys<R: Wait>(
     rt: &R,
     alloc: Global,
     book: &TestBook,
     caller: &mut Pass,
     runner: &mut Pass,
     process: u64,
-    link: &mut L,
-    feed: F,
+    link: &mut PipeLink,
+    feed: PipeFeed,
 ) -> bool
     requires caller { IsOf book.now caller.old × (caller.old.caller ≢ 0) }
     requires runner { IsOf book.now runner.old }
@@ -100,66 +112,118 @@ fn obeys<R: Wait, L: Link, F: Feed + Drop>(
     let granted = tells(rt, alloc, book, caller, &[(Ask::Stops(2), 0)]);
     let sender = book.join_runner(caller);
     let quit = AfterLooks::new(1);
-    let sent = send_controls(rt, alloc, book, sender, process, feed, &CLOCK, &quit).how;
+    let ControlsEnded { how, spent } = send_controls(
+        rt, alloc, book, sender, process, feed, &CLOCK, &quit,
+    );
+    drop(spent);
+    drop(quit);
     let stopped = report_next(rt, alloc, book, runner, process, link);
     let waited = link.wait();
     let ended = book.ended(rt, runner, 0, process);
     running == Some(4)
         && granted
-        && sent == ControlsSent::Shut
+        && how == ControlsSent::Shut
         && stopped == Some(1)
         && waited.is_ok()
         && ended == EndedEnd::Stale
 }
 
+/// Whether the program of a new service is started and obeys.
+fn starts<R: Wait, P: Spawner<Link = PipeLink, Feed = PipeFeed>>(
+    rt: &R,
+    alloc: Global,
+    book: &TestBook,
+    caller: &mut Pass,
+    runner: &mut Pass,
+    room: &mut LaunchRoom,
+    spawner: &mut P,
+    path: &str,
+) -> bool
+    requires caller { IsOf book.now caller.old × (caller.old.caller ≢ 0) }
+    requires runner { IsOf book.now runner.old }
+    requires path { 2048 ≤ room.old.path.room }
+{
+    let begins = [
+        (Ask::OpensManager, 0),
+        (Ask::Creates("A", path, NOTHING), 0),
+        (Ask::Starts(2), 0),
+    ];
+    let made = tells(rt, alloc, book, caller, &begins);
+    match launch_one(rt, alloc, book, runner, room, spawner, &CLOCK) {
+        LaunchEnd::Started {
+            process,
+            mut link,
+            feed,
+        } => {
+            let obeyed = obeys(rt, alloc, book, caller, runner, process, &mut link, feed);
+            drop(link);
+            made && obeyed
+        }
+        LaunchEnd::Failed { .. } | LaunchEnd::Empty => false,
+    }
+}
+
+/// The same over a new book.
+fn starts_in<R: Wait, P: Spawner<Link = PipeLink, Feed = PipeFeed>>(
+    rt: &R,
+    alloc: Global,
+    room: &mut LaunchRoom,
+    spawner: &mut P,
+    path: &str,
+) -> bool
+    requires { 2048 ≤ room.old.path.room }
+{
+    match begin(rt, alloc) {
+        Some(
+            Stage {
+                book,
+                mut caller,
+                mut runner,
+            },
+        ) => {
+            let starts = starts(
+                rt,
+                alloc,
+                &book,
+                &mut caller,
+                &mut runner,
+                room,
+                spawner,
+                path,
+            );
+            drop(caller);
+            drop(runner);
+            drop(book);
+            starts
+        }
+        None => false,
+    }
+}
+
+/// The same with new room.
+fn starts_by<R: Wait, P: Spawner<Link = PipeLink, Feed = PipeFeed>>(
+    rt: &R,
+    alloc: Global,
+    spawner: &mut P,
+    path: &str,
+) -> bool {
+    match LaunchRoom::new(alloc) {
+        Ok(mut room) => {
+            let starts = starts_in(rt, alloc, &mut room, spawner, path);
+            drop(room);
+            starts
+        }
+        Err(_) => false,
+    }
+}
+
 #[test]
 fn a_program_that_is_started_obeys_a_stop(rt: HostRuntime) -> Result<(), Fail> {
-    let alloc = rt.alloc();
-    let Stage {
-        book,
-        mut caller,
-        mut runner,
-    } = begin(&rt, alloc).ok_or("memory")?;
-    let mut room = LaunchRoom::new(alloc).ok().ok_or("memory")?;
-    let mut spawner = ProcessSpawner::new(&rt, alloc);
     let path = command(&rt).ok_or("memory")?;
-    let made = tells(
-        &rt,
-        alloc,
-        &book,
-        &mut caller,
-        &[
-            (Ask::OpensManager, 0),
-            (Ask::Creates("A", path.as_str(), ""), 0),
-            (Ask::Starts(2), 0),
-        ],
-    );
-    let LaunchEnd::Started {
-        process,
-        mut link,
-        feed,
-    } = launch_one(
-        &rt,
-        alloc,
-        &book,
-        &mut runner,
-        &mut room,
-        &mut spawner,
-        &CLOCK,
-    )
-    else {
-        return Err("a program".into());
-    };
-    let obeyed = obeys(
-        &rt,
-        alloc,
-        &book,
-        &mut caller,
-        &mut runner,
-        process,
-        &mut link,
-        feed,
-    );
-    assert!(rt; made && obeyed);
+    let mut spawner = ProcessSpawner::new(&rt, rt.alloc());
+    let starts = starts_by(&rt, rt.alloc(), &mut spawner, path.as_str());
+    drop(spawner);
+    drop(path);
+    assert!(rt; starts);
     Ok(())
 }

@@ -1,29 +1,9 @@
 // Children in memory of which one is held.
 use crate::events::{Event, Events};
 use child_link::{Link, MemoryLink};
-use outside::{Failed, MemorySink, MemorySource, Source};
+use outside::{Failed, MemorySink, Source};
 use process_runner::{MemorySpawner, SpawnFault, Spawned, Spawner};
 use scm_text::{Items, Text};
-use std::alloc::Global;
-
-/// A child of this number that writes this, or none where there is no memory.
-pub fn child(
-    alloc: Global,
-    pid: u32,
-    output: &[u8],
-) -> Result<Spawned<MemoryLink, MemorySink>, SpawnFault> {
-    let Ok(bytes) = Vec::from_slice(alloc, output) else {
-        return Err(SpawnFault::Other);
-    };
-    Ok(Spawned {
-        link: MemoryLink::new(
-            pid,
-            MemorySource::new(bytes, Vec::new(alloc)),
-            Vec::new(alloc),
-        ),
-        feed: MemorySink::new(alloc, Vec::new(alloc)),
-    })
-}
 
 /// A child in memory. The first one holds its line until the state of its service was told, and its
 /// end until it was told again.

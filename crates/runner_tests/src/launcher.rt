@@ -1,12 +1,14 @@
 // A child that a launcher runs, and what becomes due, while a caller is served.
-ghost use Rattle.std.specs.Prelude.{◌≡◌, ◌≢◌};
+ghost use Rattle.std.specs.Prelude.{◌≡◌, ◌≢◌, IfSome};
 ghost use Rattle.std.specs.Thread.{IsSync};
-ghost use Rattle.scm_book.specs.Passes.{IsOf};
+ghost use Rattle.scm_book.specs.Passes.{HasPlan, IsOf};
 
-use crate::books::{Stage, TestBook, begin, begin_start, end_start, state};
+use crate::books::{Ask, NOTHING, Stage, TestBook, begin, decided, state, tells};
 use crate::clocks::Hurried;
 use crate::events::{Event, Events};
-use crate::held::{HeldSpawner, child};
+use crate::fates::{Fates, add_child};
+use crate::held::HeldSpawner;
+use book_calls::begin_start;
 use child_runner::BellQuit;
 use outside::FixedClock;
 use process_runner::MemorySpawner;
@@ -18,6 +20,26 @@ use std::test::Fail;
 use std::thread::{self, Threads};
 use std::time;
 
+/// The manager is opened, and `A` of `/a` is created.
+const CREATED: [(Ask<'static>, u32); 2] = [
+    (Ask::OpensManager, 0),
+    (Ask::Creates("A", "/a", NOTHING), 0),
+];
+
+/// Creates `A` and begins its start, which waits.
+fn begin_a<R: Wait>(rt: &R, alloc: Global, book: &TestBook, caller: &mut Pass) -> Option<u64>
+    requires book { IsOf book.now caller.old }
+    requires caller { caller.old.caller ≢ 0 }
+    ensures book { IsOf book.now caller.new }
+    ensures plan { IfSome result (HasPlan book.now.opening caller.new) }
+{
+    if tells(rt, alloc, book, caller, &CREATED) {
+        begin_start(rt, alloc, book, caller, 2)
+    } else {
+        None
+    }
+}
+
 /// Starts `A`, and asks for its state while its child holds its line and while it holds its end.
 /// Tells the code and the states.
 fn visit<R: Wait>(
@@ -26,20 +48,20 @@ fn visit<R: Wait>(
     book: &TestBook,
     caller: &mut Pass,
     events: &Events,
-) -> Option<[u32; 3]>
+) -> Option<(u32, [u64; 2])>
     requires book { IsOf book.now caller.old }
     requires caller { caller.old.caller ≢ 0 }
-    ensures book { IsOf book.now caller.new }
+    ensures { IsOf book.now caller.new }
 {
-    let plan = begin_start(rt, alloc, book, caller)?;
-    let code = end_start(rt, book, caller, plan);
+    let plan = begin_a(rt, alloc, book, caller)?;
+    let code = decided(rt, book, caller, plan);
     events.wait(Event::Launched);
-    let pending = state(rt, book, caller);
+    let pending = state(rt, book, caller, 2);
     events.set(Event::Told);
     events.wait(Event::Read);
-    let running = state(rt, book, caller);
+    let running = state(rt, book, caller, 2);
     events.set(Event::Over);
-    Some([code, pending?, running?])
+    Some((code, [pending?, running?]))
 }
 
 /// The same, and the end is asked for.
@@ -49,11 +71,12 @@ fn visit_last<R: Wait>(
     book: &TestBook,
     mut caller: Pass,
     events: &Events,
-) -> Option<[u32; 3]>
+) -> Option<(u32, [u64; 2])>
     requires book { IsOf book.now caller }
     requires caller { caller.caller ≢ 0 }
 {
     let told = visit(rt, alloc, book, &mut caller, events);
+    drop(caller);
     book.bell().shut(rt);
     told
 }
@@ -61,7 +84,7 @@ fn visit_last<R: Wait>(
 /// What a visit was told, and how many programs were started beside it.
 #[derive(Clone, Copy)]
 struct Beside {
-    told: Option<[u32; 3]>,
+    told: Option<(u32, [u64; 2])>,
     started: usize,
 }
 
@@ -86,7 +109,7 @@ fn serve<R: Threads + Wait + Sync>(
         || -> usize
             requires { IsSync R.row × IsOf book.now runner × (runner.caller ≡ 0) }
         { started(launch_all(rt, alloc, book, runner, spawner, &clock, &quit)) },
-        || -> Option<[u32; 3]>
+        || -> Option<(u32, [u64; 2])>
             requires { IsOf book.now caller × (caller.caller ≢ 0) }
         { visit_last(rt, alloc, book, caller, events) },
     );
@@ -95,24 +118,53 @@ fn serve<R: Threads + Wait + Sync>(
 
 /// How many programs a launcher started.
 fn started(launched: Launched<HeldSpawner<'_>>) -> usize {
-    launched.spawner.spawner.started().len()
+    let started = launched.spawner.spawner.started().len();
+    drop(launched);
+    started
+}
+
+/// Whether the start is told code 0, and its service START_PENDING and then RUNNING.
+fn is_told(told: Option<(u32, [u64; 2])>) -> bool {
+    match told {
+        Some((code, [pending, running])) => code == 0 && pending == 2 && running == 4,
+        None => false,
+    }
+}
+
+/// Whether a visit is told so beside one child, over a new book.
+fn is_served<R: Threads + Wait + Sync>(rt: &R, alloc: Global, fates: Fates) -> bool {
+    let spawner = MemorySpawner::new(alloc, fates);
+    match begin(rt, alloc) {
+        Some(
+            Stage {
+                book,
+                caller,
+                runner,
+            },
+        ) => {
+            let events = Events::new();
+            let Beside { told, started } = serve(
+                rt, alloc, &book, caller, runner, spawner, &events,
+            );
+            let are_whole = events.are_whole();
+            drop(events);
+            drop(book);
+            is_told(told) && started == 1 && are_whole
+        }
+        None => {
+            drop(spawner);
+            false
+        }
+    }
 }
 
 #[test]
 fn a_caller_is_served_while_a_child_runs(rt: HostRuntime) -> Result<(), Fail> {
     let alloc = rt.alloc();
-    let Stage {
-        book,
-        caller,
-        runner,
-    } = begin(&rt, alloc).ok_or("memory")?;
-    let fates = vec![in alloc; child(alloc, 1, b"STATUS 16 4 1 0 0 0 0\n")]?;
-    let spawner = MemorySpawner::new(alloc, fates);
-    let events = Events::new();
-    let beside = serve(&rt, alloc, &book, caller, runner, spawner, &events);
-    assert_eq!(rt; beside.told, Some([0, 2, 4]));
-    assert_eq!(rt; beside.started, 1);
-    assert!(rt; events.are_whole());
+    let mut fates = Vec::new(alloc);
+    let is_added = add_child(alloc, &mut fates, 1, b"STATUS 16 4 1 0 0 0 0\n");
+    let is_served = is_served(&rt, alloc, fates);
+    assert!(rt; is_added && is_served);
     Ok(())
 }
 
@@ -121,11 +173,11 @@ fn start_in_vain<R: Wait>(rt: &R, alloc: Global, book: &TestBook, mut caller: Pa
     requires book { IsOf book.now caller }
     requires caller { caller.caller ≢ 0 }
 {
-    let plan = begin_start(rt, alloc, book, &mut caller);
-    let code = match plan {
-        Some(plan) => Some(end_start(rt, book, &mut caller, plan)),
+    let code = match begin_a(rt, alloc, book, &mut caller) {
+        Some(plan) => Some(decided(rt, book, &mut caller, plan)),
         None => None,
     };
+    drop(caller);
     book.bell().shut(rt);
     code
 }
@@ -143,7 +195,7 @@ fn tick<R: Threads + Wait + time::Clock + Sync>(
 {
     let clock = Hurried::new();
     let quit = BellQuit::new(book.bell());
-    let (_spent, code) = thread::join(
+    let (spent, code) = thread::join(
         rt,
         || -> Spent
             requires { IsOf book.now runner × (runner.caller ≡ 0) }
@@ -152,18 +204,31 @@ fn tick<R: Threads + Wait + time::Clock + Sync>(
             requires { IsOf book.now caller × (caller.caller ≢ 0) }
         { start_in_vain(rt, alloc, book, caller) },
     );
+    drop(spent);
+    drop(clock);
     code
+}
+
+/// The same over a new book.
+fn tick_in<R: Threads + Wait + time::Clock + Sync>(rt: &R, alloc: Global) -> Option<u32> {
+    match begin(rt, alloc) {
+        Some(
+            Stage {
+                book,
+                caller,
+                runner,
+            },
+        ) => {
+            let code = tick(rt, alloc, &book, caller, runner);
+            drop(book);
+            code
+        }
+        None => None,
+    }
 }
 
 #[test]
 fn a_start_is_given_up_once_the_clock_tells_two_minutes(rt: HostRuntime) -> Result<(), Fail> {
-    let alloc = rt.alloc();
-    let Stage {
-        book,
-        caller,
-        runner,
-    } = begin(&rt, alloc).ok_or("memory")?;
-    let code = tick(&rt, alloc, &book, caller, runner);
-    assert_eq!(rt; code, Some(1053));
+    assert_eq!(rt; tick_in(&rt, rt.alloc()), Some(1053));
     Ok(())
 }

@@ -1,5 +1,5 @@
 use Rattle.scm_book.specs.Passes.{HasPlan, IsOf}
-use Rattle.server_tests.proofs.books.end_start.Given as goal
+use Rattle.runner_tests.proofs.books.decided.Given as goal
 
 abbrev pub invariant-loop : goal.invariant-loop
 invariant-loop g l = record {

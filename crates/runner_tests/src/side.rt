@@ -1,11 +1,13 @@
 // Two connections of one port, and the children that they start.
 ghost use Rattle.scm_book.specs.Passes.{IsOf};
 
-use crate::books::{TestBook, open};
+use crate::books::TestBook;
 use crate::connections::HeldListener;
 use crate::events::Events;
-use crate::held::{HeldSpawner, child};
+use crate::fates::{Fates, add_child};
+use crate::held::HeldSpawner;
 use crate::sessions::{LOOKS, STARTS};
+use book_calls::{close, limits, new_book};
 use outside::FixedClock;
 use process_runner::MemorySpawner;
 use scm_book::{Opened, Pass};
@@ -20,34 +22,31 @@ use std::test::Fail;
 use std::thread::Threads;
 use std::time;
 
-fn peer(alloc: Global, bytes: &[u8]) -> Option<MemoryPeer> {
-    Some(MemoryPeer {
-        bytes: Vec::from_slice(alloc, bytes).ok()?,
-        reads: Vec::new(alloc),
-        writes: Vec::new(alloc),
-    })
+/// Adds a peer that sends this. Whether there is memory for it.
+fn add_peer(alloc: Global, waiting: &mut VecDeque<MemoryPeer>, bytes: &[u8]) -> bool {
+    match Vec::from_slice(alloc, bytes) {
+        Ok(bytes) => {
+            let pushed = waiting.push_back(MemoryPeer {
+                bytes,
+                reads: Vec::new(alloc),
+                writes: Vec::new(alloc),
+            });
+            let is_added = pushed.is_ok();
+            drop(pushed);
+            is_added
+        }
+        Err(_) => false,
+    }
 }
 
-/// The peer that starts `T`, and the one that looks at `D`.
-fn two_peers(alloc: Global) -> Option<MemoryListener> {
-    let mut waiting = VecDeque::new(alloc);
-    waiting.push_back(peer(alloc, &STARTS)?).ok()?;
-    waiting.push_back(peer(alloc, &LOOKS)?).ok()?;
-    Some(MemoryListener::new(alloc, waiting, Vec::new(alloc)))
+/// Adds the peer that starts `T`, and the one that looks at `D`.
+fn add_peers(alloc: Global, waiting: &mut VecDeque<MemoryPeer>) -> bool {
+    add_peer(alloc, waiting, &STARTS) && add_peer(alloc, waiting, &LOOKS)
 }
 
-fn no_peer(alloc: Global) -> MemoryListener {
-    MemoryListener::new(alloc, VecDeque::new(alloc), Vec::new(alloc))
-}
-
-/// What starts `D`, which tells that it runs, and then `T`, which tells nothing.
-fn spawner(alloc: Global) -> Option<MemorySpawner> {
-    let mut fates = Vec::new(alloc);
-    fates.push(child(alloc, 2, b"")).ok()?;
-    fates
-        .push(child(alloc, 1, b"STATUS 16 4 1 0 0 0 0\n"))
-        .ok()?;
-    Some(MemorySpawner::new(alloc, fates))
+/// Adds `T`, which tells nothing, and `D`, which is started first and tells that it runs.
+fn add_children(alloc: Global, fates: &mut Fates) -> bool {
+    add_child(alloc, fates, 2, b"") && add_child(alloc, fates, 1, b"STATUS 16 4 1 0 0 0 0\n")
 }
 
 /// Whether a step is that of a caller who joins.
@@ -59,6 +58,7 @@ fn is_joined(step: &Step) -> bool {
 fn is_joining(entry: (u64, Step)) -> bool {
     let (_, step) = entry;
     let is_joining = is_joined(&step);
+    drop(step);
     is_joining
 }
 
@@ -109,7 +109,7 @@ fn ends_with(noted: &Noted, number: u64, last: &[u8]) -> bool {
     }
 }
 
-/// What serving comes to, over a book in which nothing took place.
+/// What serving comes to, over this book.
 fn serve<'a, R: Threads + Wait + time::Clock + Sync>(
     rt: &R,
     alloc: Global,
@@ -127,9 +127,40 @@ fn serve<'a, R: Threads + Wait + time::Clock + Sync>(
 }
 
 /// Whether it ended without a fault, and each connection was answered as it should be.
-fn is_answered(served: ServedAll<HeldListener<'_>, HeldSpawner<'_>>) -> bool {
+fn is_answered(served: &ServedAll<HeldListener<'_>, HeldSpawner<'_>>) -> bool {
     let noted = served.admin.listener.noted();
     served.end == ServeEnd::Ended && ends_with(noted, 0, &STARTED) && ends_with(noted, 1, &PENDING)
+}
+
+/// Whether both peers are so served beside their children.
+fn are_served<R: Threads + Wait + time::Clock + Sync>(
+    rt: &R,
+    alloc: Global,
+    book: &TestBook,
+    root: &mut Pass,
+    events: &Events,
+) -> bool
+    requires { IsOf book.now root.old }
+    ensures { IsOf book.now root.new }
+{
+    let mut waiting = VecDeque::new(alloc);
+    let mut fates = Vec::new(alloc);
+    let are_added = add_peers(alloc, &mut waiting) && add_children(alloc, &mut fates);
+    let admin = MemoryListener::new(alloc, waiting, Vec::new(alloc));
+    let user = MemoryListener::new(alloc, VecDeque::new(alloc), Vec::new(alloc));
+    let spawner = MemorySpawner::new(alloc, fates);
+    let served = serve(
+        rt,
+        alloc,
+        book,
+        root,
+        HeldListener::new(admin, events),
+        HeldListener::new(user, events),
+        HeldSpawner { spawner, events },
+    );
+    let are_answered = is_answered(&served);
+    drop(served);
+    are_added && are_answered
 }
 
 /// How many callers joined in the history of a book that is closed.
@@ -137,23 +168,29 @@ fn joined_in<R: Wait>(rt: &R, book: TestBook, root: Pass) -> u64
     requires { IsOf book root }
 {
     let last = book.gone(rt, root, 0);
-    joined(&book.close(rt, last).trail)
+    let trail = close(rt, book, last);
+    let joined = joined(&trail);
+    drop(trail);
+    joined
+}
+
+/// The same over a new book, which two callers join then, with room for 256 steps.
+fn are_two_served<R: Threads + Wait + time::Clock + Sync>(rt: &R, alloc: Global) -> bool {
+    match new_book(alloc, limits(256), Vec::new(alloc)) {
+        Some(Opened { book, mut pass }) => {
+            let events = Events::new();
+            let are_served = are_served(rt, alloc, &book, &mut pass, &events);
+            let are_whole = events.are_whole();
+            drop(events);
+            let joined = joined_in(rt, book, pass);
+            are_served && are_whole && joined == 2
+        }
+        None => false,
+    }
 }
 
 #[test]
 fn connections_are_served_at_the_same_time(rt: HostRuntime) -> Result<(), Fail> {
-    let alloc = rt.alloc();
-    let Opened { book, mut pass } = open(alloc).ok_or("memory")?;
-    let events = Events::new();
-    let admin = HeldListener::new(two_peers(alloc).ok_or("memory")?, &events);
-    let user = HeldListener::new(no_peer(alloc), &events);
-    let spawner = HeldSpawner {
-        spawner: spawner(alloc).ok_or("memory")?,
-        events: &events,
-    };
-    let served = serve(&rt, alloc, &book, &mut pass, admin, user, spawner);
-    assert!(rt; is_answered(served));
-    assert!(rt; events.are_whole());
-    assert_eq!(rt; joined_in(&rt, book, pass), 2);
+    assert!(rt; are_two_served(&rt, rt.alloc()));
     Ok(())
 }
