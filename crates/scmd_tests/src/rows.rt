@@ -1,20 +1,20 @@
-//! What is asked and what is told. Behind `=` stand the status at the end, the words of the run and
+//! What is asked and what is told. After `=` stand the status at the end, the words of the run and
 //! the matter. A row has what it shows, the question and the answer; a word alone stands for the
 //! rows of that name. All were written from the formats, and none by this program.
 //!
 //! A question is the name of a call and the items of its body, an answer the items of the reply's.
-//! `pdu` begins a PDU by its kind, its flags and its call id, with its items behind them, `hex` one
+//! `pdu` begins a PDU by its kind, its flags and its call id, with its items after them, `hex` one
 //! as it stands, and `fault` an answer by its status. In a replay a row may have several lines,
 //! parted by `;`, with moment 0 where none is said, and items for the bodies of calls and replies.
 //!
 //! - `7`, `#1F`: a number of 32 bits, in decimal or hex
-//! - `-`, `*`: no pointer, or the next one; what it leads to stands behind it
+//! - `-`, `*`: no pointer, or the next one; what it leads to stands after it
 //! - `h2`: the handle 2
 //! - `'Data_base'`, `'a^256'`: the text "Data base", and one of 256 units
 //! - `[A/+G]`: the names `A` and `+G` as bytes, with their count
 //! - `x6100`, `x00^9`: bytes as they are
 //!
-//! are the items, with the names of `NAMED`. Their order is that of MS-SCMR:
+//! are the items, with the names of `svcctl_words`. Their order is that of MS-SCMR:
 //!
 //! - `create`: manager, name, display name, rights, type, start, error, path, group, tag, needs and
 //!   their size, account, password and its size; it is told a tag, a handle, a code
@@ -41,56 +41,7 @@
 //! - `watch`: manager or service, events; it is told a handle and a code. `event`: this handle; it
 //!   is told the event, a status as in `process`, a name, a code
 
-pub const CALLS: [(&str, u16); 24] = [
-    ("close", 0),
-    ("control", 1),
-    ("delete", 2),
-    ("lock", 3),
-    ("status", 6),
-    ("set", 7),
-    ("unlock", 8),
-    ("change", 11),
-    ("create", 12),
-    ("dependents", 13),
-    ("services", 14),
-    ("manager", 15),
-    ("open", 16),
-    ("config", 17),
-    ("locked", 18),
-    ("start", 19),
-    ("display", 20),
-    ("key", 21),
-    ("level", 37),
-    ("leveled", 39),
-    ("process", 40),
-    ("watch", 47),
-    ("event", 48),
-    ("unwatch", 49),
-];
-
-pub const NAMED: [(&str, &str); 10] = [
-    // Interfaces and transfer syntaxes, each with its version.
-    ("svcctl", "81bb7a364498f135ad3298f03800100302000000"),
-    ("triggers", "100a3f5c4b2e614d9a770d5b1e6f2c0101000000"),
-    ("ndr", "045d888aeb1cc9119fe808002b10486002000000"),
-    ("ndr64", "33057171babe37498319b5dbef9ccc3601000000"),
-    ("nosyntax", "0000000000000000000000000000000000000000"),
-    // A number of a change that leaves what stands; type, start and error so.
-    ("keep", "ffffffff"),
-    ("kept", "ffffffffffffffffffffffff"),
-    // A change of neither path, group, tag, needs, account nor password.
-    (
-        "nothing",
-        "0000000000000000000000000000000000000000000000000000000000000000",
-    ),
-    // All rights; a process of its own, started on demand, with errors logged.
-    ("own", "ff010f00100000000300000001000000"),
-    // No group, tag, needs, account and password.
-    (
-        "plain",
-        "00000000000000000000000000000000000000000000000000000000",
-    ),
-];
+use svcctl_words::Table;
 
 /// The smallest session, as it is sent and answered.
 pub const SMALLEST_ASKED: &str = "
@@ -150,7 +101,7 @@ pub const BODIES: [(&str, &str); 4] = [
 ];
 
 /// Rows by name.
-pub const ROWS: [(&str, &str); 8] = [
+pub const GROUPS: Table = &[
     (
         "bind",
         "| pdu 11 3 1 #16D016D0 0 1 x00000100 svcctl ndr | pdu 12 3 1 #16D016D0 1 x01000000 1 0 ndr",
@@ -978,6 +929,8 @@ runs
 || steps 11; services 1; launches 1; running 0
 = 0 generate 2: two, with their needs
 || steps 24; services 2; launches 3; running 0
+= 0 generate 512: as many services as there may be
+|| steps 22074; services 512; launches 4107; running 0
 = 5 generate 0: too few
 = 5 generate 513: too many
 = 5 generate 02: no number
@@ -1031,10 +984,6 @@ runs
 = 5 pipe --groups A: no option of a pipe
 = 5 replay --groups A: no option of a replay
 = 5 generate 1 --groups A: a word too many
-";
-
-pub const GREATEST: &str = "0 generate 512: as many services as there may be
-|| steps 22074; services 512; launches 4107; running 0
 ";
 
 /// The first 1,024 bytes of a request, as many of it again, and one byte.

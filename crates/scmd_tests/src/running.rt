@@ -1,83 +1,115 @@
-//! Runs of the program in memory.
-use crate::asking::words_of;
+//! The program in memory.
 use outside::{FixedClock, MemorySink, MemorySource};
 use process_runner::MemorySpawner;
 use record_journal::{Fate, MemoryKeeper};
-use scm_listener::MemoryListener;
+use scm_listener::{MemoryListener, MemoryPeer};
+use scm_text::{Items, Text};
 use scmd_top::{World, scmd_main};
 use std::alloc::Global;
 use std::collections::VecDeque;
 use std::sync::Wait;
-use std::test::*;
 use std::thread::Threads;
 use std::time;
 
-/// What a run meets: its input, of which each read gives so many bytes at most, and what becomes
-/// of calls, the last one of each list first: each `true` is a read or a write that fails.
+/// Puts words, between which such a letter stands. `None` where there is no memory.
+pub fn put_words(alloc: Global, all: &mut Vec<Text>, words: &str, between: char) -> Option<()> {
+    for word in words.split(between) {
+        all.push(Text::from_str(alloc, word).ok()?).ok()?;
+    }
+    Some(())
+}
+
+/// Who comes to a listener, and which of its calls fail, the last one first.
+#[derive(Drop)]
+pub struct Coming {
+    pub peers: VecDeque<MemoryPeer>,
+    pub fails: Vec<bool>,
+}
+
+impl Coming {
+    fn nobody(alloc: Global) -> Self {
+        Coming {
+            peers: VecDeque::new(alloc),
+            fails: Vec::new(alloc),
+        }
+    }
+
+    fn listener(self, alloc: Global) -> MemoryListener {
+        let Coming { peers, fails } = self;
+        MemoryListener::new(alloc, peers, fails)
+    }
+}
+
+/// What a run meets: its words; its input, of which each read gives so many bytes at most; what its
+/// keeper has before it; what becomes of calls, the last one of each list first: each `true` is a
+/// read or a write that fails; and who comes.
 #[derive(Drop)]
 pub struct Outside {
+    pub words: Vec<Text>,
     pub input: Vec<u8>,
     pub piece: usize,
     pub reads: Vec<bool>,
     pub writes: Vec<bool>,
-    /// What the keeper holds before the run.
     pub stands: Vec<u8>,
     pub keeps: Vec<Fate>,
-    pub admin: MemoryListener,
-    pub user: MemoryListener,
+    pub admin: Coming,
+    pub user: Coming,
 }
 
-/// A listener to which nobody comes.
-pub fn nobody(alloc: Global) -> MemoryListener {
-    MemoryListener::new(alloc, VecDeque::new(alloc), Vec::new(alloc))
-}
-
-pub fn without_faults(alloc: Global, input: Vec<u8>) -> Outside {
-    Outside {
-        input,
-        piece: 4096,
-        reads: Vec::new(alloc),
-        writes: Vec::new(alloc),
-        stands: Vec::new(alloc),
-        keeps: Vec::new(alloc),
-        admin: nobody(alloc),
-        user: nobody(alloc),
+impl Outside {
+    /// Nothing at all, for a run without words.
+    pub fn new(alloc: Global) -> Self {
+        Outside {
+            words: Vec::new(alloc),
+            input: Vec::new(alloc),
+            piece: 0,
+            reads: Vec::new(alloc),
+            writes: Vec::new(alloc),
+            stands: Vec::new(alloc),
+            keeps: Vec::new(alloc),
+            admin: Coming::nobody(alloc),
+            user: Coming::nobody(alloc),
+        }
     }
 }
 
-/// What a run came to: its status, what was written and kept, and who came.
-#[derive(Drop)]
-pub struct Ran {
-    pub status: u8,
-    pub output: MemorySink,
-    pub keeper: MemoryKeeper,
-    pub admin: MemoryListener,
-    pub user: MemoryListener,
-}
+/// What a run in memory has met.
+pub type Memory = World<
+    MemorySource,
+    MemorySink,
+    MemoryKeeper,
+    MemoryListener,
+    MemorySpawner,
+    FixedClock,
+>;
 
-/// What `scmd` with these words comes to.
-pub fn run<R: Threads + Wait + time::Clock + Sync + AllocGlobal>(
-    rt: &R,
-    words: &str,
-    outside: Outside,
-) -> Result<Ran, Fail> {
-    let alloc = rt.alloc();
-    let words = words_of(alloc, words)?;
+/// The status of `scmd` where it meets this, and what it leaves.
+pub fn run<R>(rt: &R, alloc: Global, outside: Outside) -> (u8, Memory)
+where
+    R: Threads + Wait + time::Clock + Sync,
+{
+    let Outside {
+        words,
+        input,
+        piece,
+        reads,
+        writes,
+        stands,
+        keeps,
+        admin,
+        user,
+    } = outside;
     let world = World {
-        input: MemorySource::in_pieces(outside.input, outside.piece, outside.reads),
-        output: MemorySink::new(alloc, outside.writes),
-        keeper: MemoryKeeper::new(outside.stands, outside.keeps),
-        admin: outside.admin,
-        user: outside.user,
+        input: MemorySource::in_pieces(input, piece, reads),
+        output: MemorySink::new(alloc, writes),
+        keeper: MemoryKeeper::new(stands, keeps),
+        admin: admin.listener(alloc),
+        user: user.listener(alloc),
         spawner: MemorySpawner::new(alloc, Vec::new(alloc)),
         clock: FixedClock { moment: 7 },
     };
-    let (status, world) = scmd_main(rt, alloc, &words, world);
-    Ok(Ran {
-        status,
-        output: world.output,
-        keeper: world.keeper,
-        admin: world.admin,
-        user: world.user,
-    })
+    let words = Items::from_vec(words);
+    let ended = scmd_main(rt, alloc, &words, world);
+    drop(words);
+    ended
 }

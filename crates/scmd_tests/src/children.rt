@@ -1,6 +1,6 @@
-// Children that obey: each says that it is RUNNING, and once it is told to stop that it is STOPPED.
-// One ends at once and says nothing.
-use crate::rows::{CHILDREN, Child, STOP};
+//! Children that obey: each says that it is RUNNING, and once it is told to stop that it is STOPPED.
+//! One ends at once and says nothing.
+use crate::sc_rows::{CHILDREN, Child, STOP};
 use child_link::{Feed, Link};
 use outside::{Failed, Sink, SliceSource, Source};
 use process_runner::{SpawnFault, SpawnFaults, Spawned, Spawner};

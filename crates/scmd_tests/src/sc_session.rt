@@ -1,6 +1,8 @@
-use crate::asking::{TAKE, session, words_of};
+//! `sc` at `scmd serve`, both in one process, over the loopback and with children that obey.
 use crate::children::{ObedientSpawner, Told};
-use crate::rows::{GROUPS, JOURNAL};
+use crate::running::put_words;
+use crate::sc_asking::{TAKE, session};
+use crate::sc_rows::{GROUPS, JOURNAL};
 use outside::{MemorySink, MemorySource, SystemClock};
 use process_runner::SpawnFaults;
 use record_journal::MemoryKeeper;
@@ -15,23 +17,16 @@ use std::test::*;
 use std::thread::Threads;
 use std::{thread, time};
 
-/// What a server came to: its status, and what it printed.
-#[derive(Drop)]
-struct Ran {
-    status: u8,
-    output: MemorySink,
+/// The bytes of the journal, or none where there is no memory.
+fn journal(alloc: Global) -> Vec<u8> {
+    let mut bytes = Vec::new(alloc);
+    let _is_whole = bytes.extend_from_slice(JOURNAL).is_ok();
+    bytes
 }
 
-/// A keeper that has the journal, or nothing where there is no memory.
-fn keeper(alloc: Global) -> MemoryKeeper {
-    match Vec::from_slice(alloc, JOURNAL) {
-        Ok(bytes) => MemoryKeeper::new(bytes, Vec::new(alloc)),
-        Err(_) => MemoryKeeper::new(Vec::new(alloc), Vec::new(alloc)),
-    }
-}
-
-/// Serves ports by these words, with the system's clock and children that obey.
-fn serve<R>(rt: &R, words: &Items<Text>, told: &Told) -> Ran
+/// Serves ports by these words, with the system's clock and children that obey. Whether it ends
+/// well, with as many services as the session leaves.
+fn serves<R>(rt: &R, words: &Items<Text>, told: &Told) -> bool
 where
     R: Net<Listener = TcpListener, Stream = TcpStream>
         + Threads
@@ -47,7 +42,7 @@ where
     let world = World {
         input: MemorySource::new(Vec::new(alloc), Vec::new(alloc)),
         output: MemorySink::new(alloc, Vec::new(alloc)),
-        keeper: keeper(alloc),
+        keeper: MemoryKeeper::new(journal(alloc), Vec::new(alloc)),
         admin: PortListener::new(*rt),
         user: PortListener::new(*rt),
         spawner: ObedientSpawner {
@@ -59,10 +54,9 @@ where
         clock: SystemClock::new(*rt),
     };
     let (status, world) = scmd_main(rt, alloc, words, world);
-    Ran {
-        status,
-        output: world.output,
-    }
+    let is_so = status == 0 && world.output.bytes().ends_with(b"\nservices 6\n");
+    drop(world);
+    is_so
 }
 
 /// Two ports of the loopback at which nobody listens.
@@ -75,30 +69,41 @@ fn free_ports<R: Net<Listener = TcpListener, Stream = TcpStream>>(rt: &R) -> Opt
     }
 }
 
+/// Puts the words of a server with these ports. `None` where there is no memory.
+fn put_server(alloc: Global, words: &mut Vec<Text>, admin: u16, user: u16) -> Option<()> {
+    put_words(alloc, words, "serve|--db|journal|--groups", '|')?;
+    put_words(alloc, words, GROUPS, '|')?;
+    let line = format!(in alloc;
+        "--admin|{}|--user|{}|--take-admin|{}|--take-user|0",
+        admin, user, TAKE
+    );
+    put_words(alloc, words, line.ok()?.as_str(), '|')
+}
+
 #[test]
 fn sc_goes_through_the_usual_session(rt: HostRuntime) -> Result<(), Fail> {
     let alloc = rt.alloc();
     let (admin, user) = free_ports(&rt).ok_or("no ports")?;
     let address = format!(in alloc; "127.0.0.1:{}", admin)?;
-    let line = format!(in alloc;
-        "serve|--db|journal|--groups|{}|--admin|{}|--user|{}|--take-admin|{}|--take-user|0",
-        GROUPS, admin, user, TAKE
-    )?;
-    let words = words_of(alloc, &line).ok_or("memory")?;
+    let mut words = Vec::new(alloc);
+    let is_put = put_server(alloc, &mut words, admin, user).is_some();
+    let words = Items::from_vec(words);
     let told = Told::nothing();
-    let (ran, held) = thread::join(
+    let (is_served, is_held) = thread::join(
         &rt,
-        || serve(&rt, &words, &told),
+        || serves(&rt, &words, &told),
         || {
             let mut dialer = TcpDialer::new(rt);
-            let held = session(&rt, alloc, &mut dialer, &address);
+            let is_held = session(&rt, alloc, &mut dialer, &address);
             told.end();
-            held
+            is_held
         },
     );
-    let left = ran.output.bytes().ends_with(b"\nservices 6\n");
-    if !held || ran.status != 0 || !left {
-        return Err("another session".into());
+    drop(words);
+    drop(address);
+    if is_put && is_served && is_held {
+        Ok(())
+    } else {
+        Err("another session".into())
     }
-    Ok(())
 }

@@ -1,4 +1,4 @@
-/// What `sc` is asked behind the address, its words between `|`, what it prints, and its status.
+/// What `sc` is asked after the address, its words between `|`, what it prints, and its status.
 pub struct Row {
     pub words: &'static str,
     pub text: &'static str,
@@ -114,7 +114,7 @@ const MAIL_STOPPED: &str = "SERVICE_NAME: Mail\nTYPE: 16\nSTATE: 1 STOPPED\nACCE
 const WEB: &str = "create|Web|binPath=|/bin/sh /srv/web.sh|start=|auto|depend=|Db/+Net|\
     DisplayName=|Web server";
 
-/// The usual session of an administrator, in order, behind words that aren't a command and once the
+/// The usual session of an administrator, in order, after words that aren't a command and once the
 /// services run that start by themselves; then what becomes of a delayed start, and of a service
 /// that fails.
 pub const ROWS: &[Row] = &[

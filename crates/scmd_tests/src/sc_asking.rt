@@ -1,9 +1,10 @@
 //! What is asked of a server by `sc`, one connection after another.
-use crate::rows::{ROWS, Row};
+use crate::running::put_words;
+use crate::sc_rows::{ROWS, Row};
 use outside::MemorySink;
 use sc_dial::{Connection, Dialer};
 use sc_top::sc_main;
-use scm_text::{Items, Text};
+use scm_text::Items;
 use std::alloc::Global;
 use std::time::Duration;
 use std::{thread, time};
@@ -14,29 +15,18 @@ pub const TAKE: usize = 120;
 /// Milliseconds between two questions.
 const PAUSE: u64 = 10;
 
-/// The words of a line, between which `|` stands.
-pub fn words_of(alloc: Global, line: &str) -> Option<Items<Text>> {
-    let mut words = Items::new(alloc);
-    for word in line.split('|') {
-        let word = Text::from_str(alloc, word).ok()?;
-        if words.push(word).is_err() {
-            return None;
-        }
-    }
-    Some(words)
-}
-
 /// Whether `sc` prints what the row says.
 fn prints<D: Dialer>(alloc: Global, dialer: &mut D, address: &str, row: &Row) -> bool {
-    let Ok(line) = format!(in alloc; "{}|{}", address, row.words) else {
-        return false;
-    };
-    let Some(words) = words_of(alloc, &line) else {
-        return false;
-    };
+    let mut words = Vec::new(alloc);
+    let is_put = put_words(alloc, &mut words, address, '|').is_some()
+        && put_words(alloc, &mut words, row.words, '|').is_some();
+    let words = Items::from_vec(words);
     let mut output = MemorySink::new(alloc, Vec::new(alloc));
     let status = sc_main(alloc, &words, dialer, &mut output);
-    status == row.status && output.bytes() == row.text.as_bytes()
+    let is_so = is_put && status == row.status && output.bytes() == row.text.as_bytes();
+    drop(output);
+    drop(words);
+    is_so
 }
 
 /// The same, asked again where the row says so. `left` is how many connections are left.
