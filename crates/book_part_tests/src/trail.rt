@@ -10,26 +10,18 @@ fn note_of(alloc: Global, step: Step) -> Result<Note, OutOfMemory> {
     note
 }
 
-/// Makes room for an entry of so much text.
-fn reserve(trail: &mut Trail, text: u128) -> Result<(), OutOfMemory> {
-    let Ok(text) = u64::try_from(text) else {
-        return Err(OutOfMemory);
-    };
-    trail.reserve(1, text)
-}
-
 /// Appends an entry, with room that it makes.
 fn add(trail: &mut Trail, moment: u64, note: Note) -> Result<(), OutOfMemory> {
-    match reserve(trail, note.text()) {
-        Ok(()) => {
-            trail.push(moment, note);
-            Ok(())
-        }
-        Err(why) => {
-            drop(note);
-            Err(why)
-        }
+    let Ok(text) = u64::try_from(note.text()) else {
+        drop(note);
+        return Err(OutOfMemory);
+    };
+    if let Err(why) = trail.reserve(1, text) {
+        drop(note);
+        return Err(why);
     }
+    trail.push(moment, note);
+    Ok(())
 }
 
 /// Appends so many entries without text. The moment of each is three times its caller's number.
