@@ -9,31 +9,16 @@ use scm_arms_notify::{close_notify, get_notify, notify};
 use scm_arms_process::{control, end, raise, report, set_status, take_control};
 use scm_arms_service::{change, change2, create, delete, query};
 use scm_arms_start::{end_start, fail_launch, finish, launched, start, take_launch, tick};
-use scm_model::{Answer, Kept, NewService, Request, Step};
+use scm_model::{Answer, Kept, Request, Step};
 use scm_tables::Tables;
-use scm_text::WText;
 use std::alloc::Global;
 use std::mem::replace;
 
 /// What the arm of a creation takes out of its request.
-fn taken(new: &mut NewService, alloc: Global) -> NewService
-    ensures { result ≡ new.old }
+fn taken(request: &mut Request) -> Request
+    ensures { result ≡ request.old }
 {
-    let nothing = NewService {
-        handle: 0,
-        name: WText::new(alloc),
-        display: None,
-        access: 0,
-        kind: 0,
-        start: 0,
-        error: 0,
-        path: WText::new(alloc),
-        group: None,
-        tag: None,
-        needs: None,
-        account: None,
-    };
-    replace(new, nothing)
+    replace(request, Request::Close { handle: 0 })
 }
 
 /// Does a call.
@@ -76,8 +61,10 @@ fn call(
             let config = made.config.take();
             Answer::Reply(change2(tables, caller, *handle, info, code, config, kept))
         }
-        Request::Create(new) => {
-            let new = taken(new, alloc);
+        Request::Create(_) => {
+            let Request::Create(new) = taken(request) else {
+                unreachable!()
+            };
             let config = made.config.take();
             Answer::Reply(create(tables, &limits, caller, new, code, config, kept))
         }
