@@ -1,5 +1,5 @@
 -- Counts of handles, as handles come and go.
-use Rattle.std.proofs.Common.{ℕ, ◌≡◌, ◌≢◌, ◌<◌, ◌≤◌, ◌+◌, ◌-◌, ◌∙◌, suc, Bool, true, false, not, cond, ◌&&◌, ◌||◌, List, [], ◌∷◌, ◌++◌, Option, Some, None, is_some, refl, sym, ap, subst, eqb, length, filter, find, arith, inl, inr}
+use Rattle.std.proofs.Common.{ℕ, ◌≡◌, ◌<◌, ◌≤◌, ◌+◌, ◌-◌, ◌∙◌, suc, Bool, true, false, not, cond, ◌&&◌, ◌||◌, List, [], ◌∷◌, ◌++◌, Option, Some, None, is_some, refl, sym, ap, subst, eqb, length, filter, find, arith, inl, inr}
 use Rattle.std.specs.List.{AllByRecursion, list_any}
 use Rattle.std.proofs.lemmas.Bool.{eq-eqb, ne_eqb, eqb-true, cases_Bool}
 use Rattle.scm_model.specs.declared.flat.HandleRow.{HandleRow}
@@ -201,10 +201,6 @@ fewer (row ∷ rows) gone n rising found =
 
 -- ## Numbers under their callers
 
-pub fresh : (caller next : ℕ) (rows : List HandleRow) → AllByRecursion (λ (row : HandleRow). row.number < next) rows → list_any (is_handle caller next) rows ≡ false
-fresh caller next [] all = refl
-fresh caller next (row ∷ rows) all = rw (both_false (eqb row.caller caller) (eqb row.number next) (ne_eqb row.number next (omega (arith, all.0)))) (fresh caller next rows all.1)
-
 pub any_pushed : (p : HandleRow → Bool) (rows : List HandleRow) (new : HandleRow) → list_any p (rows ++ new ∷ []) ≡ (p new || list_any p rows)
 any_pushed p [] new = refl
 any_pushed p (row ∷ rows) new = ap (λ b. p row || b) (any_pushed p rows new) ∙ swap (p row) (p new) (list_any p rows)
@@ -214,22 +210,10 @@ any_pushed p (row ∷ rows) new = ap (λ b. p row || b) (any_pushed p rows new) 
     swap true false c = refl
     swap false b c = refl
 
--- who has the handle with the number has it
-pub present : (n : ℕ) (rows : List HandleRow) (gone : HandleRow) → find (has_number n) rows ≡ Some gone → list_any (is_handle gone.caller n) rows ≡ true
-present n [] gone found = absurd (cc found)
-present n (row ∷ rows) gone found =
-    elim (cases_Bool (has_number n row)) [
-      | inl is ↦ rw (both_true (eqb row.caller gone.caller) (eqb row.number n) is, eq-eqb row.caller gone.caller (ap (λ (r : HandleRow). r.caller) (same_row n row gone rows is found))) refl
-      | inr other ↦ rw (both_false (eqb row.caller gone.caller) (eqb row.number n) other) (present n rows gone (next_row n row gone rows other found))
-    ]
-
 any_later : (caller m n : ℕ) (rows : List HandleRow) → m ≤ n → AllByRecursion (λ (row : HandleRow). n < row.number) rows → list_any (is_handle caller m) rows ≡ false
 any_later caller m n [] le all = refl
 any_later caller m n (row ∷ rows) le all =
     rw (both_false (eqb row.caller caller) (eqb row.number m) (ne_eqb row.number m (omega (arith, all.0, le)))) (any_later caller m n rows le all.1)
-
-isnt_number : (a b : ℕ) (x : Bool) → a ≢ b → not (x && eqb a b) ≡ true
-isnt_number a b x other = rw (both_false x (eqb a b) (ne_eqb a b other)) refl
 
 its_number : (caller m : ℕ) (row : HandleRow) → is_handle caller m row ≡ true → row.number ≡ m
 its_number caller m row is = eqb-true row.number m (right (eqb row.caller caller) (eqb row.number m) is)
@@ -239,26 +223,29 @@ its_number caller m row is = eqb-true row.number m (right (eqb row.caller caller
     right false b e = absurd (cc e)
 
 -- with the handle with a number gone, the others are there still
-pub one_gone : (n : ℕ) (rows : List HandleRow) (gone : HandleRow) (caller m : ℕ) → AreRisingBy number_of rows → find (has_number n) rows ≡ Some gone
-    → list_any (is_handle caller m) (filter (λ (row : HandleRow). not (has_number n row)) rows) ≡ (not (eqb gone.caller caller && eqb n m) && list_any (is_handle caller m) rows)
-one_gone n [] gone caller m rising found = absurd (cc found)
-one_gone n (row ∷ rows) gone caller m rising found =
+pub one_gone : (n : ℕ) (rows : List HandleRow) (caller m : ℕ) → list_any (is_handle caller m) (filter (λ (row : HandleRow). not (has_number n row)) rows) ≡ (not (eqb n m) && list_any (is_handle caller m) rows)
+one_gone n [] caller m = elim (eqb n m) as (λ b. false ≡ (not b && false)) [ true ↦ refl | false ↦ refl ]
+one_gone n (row ∷ rows) caller m =
     elim (cases_Bool (has_number n row)) [
       | inl is ↦
-          let same = same_row n row gone rows is found in
-          let number : row.number ≡ n = eqb-true row.number n is in
-          let it : is_handle caller m row ≡ (eqb gone.caller caller && eqb n m) = ap (λ (r : HandleRow). eqb r.caller caller && eqb row.number m) same ∙ ap (λ k. eqb gone.caller caller && eqb k m) number in
-          rw (is, stays_all n rows (later n row rows rising is), ← it)
-          (elim (cases_Bool (is_handle caller m row)) [
-            | inl mine ↦ rw mine (any_later caller m n rows (omega (arith, number, its_number caller m row mine)) (later n row rows rising is))
-            | inr not_mine ↦ rw not_mine refl
+          rw is (one_gone n rows caller m ∙ elim (cases_Bool (eqb n m)) [
+            | inl same ↦ rw same refl
+            | inr apart ↦ rw (apart, both_false (eqb row.caller caller) (eqb row.number m) (ap (λ k. eqb k m) (eqb-true row.number n is) ∙ apart)) refl
           ])
-      | inr other ↦
-          let step = one_gone n rows gone caller m rising.1 (next_row n row gone rows other found) in
-          rw other (elim (cases_Bool (is_handle caller m row)) [
-            | inl mine ↦ rw (mine, isnt_number n m (eqb gone.caller caller) (λ e. absurd (cc (sym (eq-eqb row.number n (its_number caller m row mine ∙ sym e)) ∙ other)))) refl
-            | inr not_mine ↦ rw not_mine step
+      | inr isnt ↦
+          rw (isnt, one_gone n rows caller m) (elim (cases_Bool (eqb n m)) [
+            | inl same ↦ rw (same, both_false (eqb row.caller caller) (eqb row.number m) (ap (eqb row.number) (sym (eqb-true n m same)) ∙ isnt)) refl
+            | inr apart ↦ rw apart refl
           ])
+    ]
+
+-- a handle that is there has a number below those to come
+pub any_below : (caller n next : ℕ) (rows : List HandleRow) → AllByRecursion (λ (row : HandleRow). row.number < next) rows → list_any (is_handle caller n) rows ≡ true → n < next
+any_below caller n next [] all some = absurd (cc some)
+any_below caller n next (row ∷ rows) all some =
+    elim (cases_Bool (is_handle caller n row)) [
+      | inl is ↦ omega (arith, all.0, its_number caller n row is)
+      | inr isnt ↦ any_below caller n next rows all.1 (sym (ap (λ b. b || list_any (is_handle caller n) rows) isnt) ∙ some)
     ]
 
 -- the row of a caller's number

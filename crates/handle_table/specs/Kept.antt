@@ -4,8 +4,8 @@ use Rattle.std.specs.List.{AllByRecursion, list_any}
 use Rattle.scm_model.specs.declared.flat.HandleRow.{HandleRow}
 use Rattle.handle_table.specs.Counted.{Counted, count}
 use Rattle.handle_table.specs.Handled.{Handled, is_callers, is_handle, is_row_of}
-use Rattle.handle_table.specs.Listed.{has}
-use Rattle.handle_table.specs.declared.by_caller.Held.{Held}
+use Rattle.handle_table.specs.Linked.{has}
+use Rattle.handle_table.specs.declared.by_caller.Link.{Link}
 use Rattle.handle_table.specs.declared.table.HandleTable.TheInside.{Inside}
 
 abbrev pub CountsServices : Counted → List HandleRow → Type 0
@@ -15,8 +15,8 @@ abbrev pub CountsCallers : Counted → List HandleRow → Type 0
 CountsCallers counts rows = (caller : ℕ) → count counts caller ≡ length (filter (is_callers caller) rows)
 
 -- each number is listed under its caller
-abbrev pub Lists : List Held → List HandleRow → Type 0
-Lists list rows = (caller number : ℕ) → has list caller number ≡ list_any (is_handle caller number) rows
+abbrev pub Lists : List (ℕ × Link) → List HandleRow → Type 0
+Lists links rows = (caller number : ℕ) → has links caller number ≡ list_any (is_handle caller number) rows
 
 pub record IsKept (table : Inside) : Type 0 where
   pub services : CountsServices table.services table.rows.items

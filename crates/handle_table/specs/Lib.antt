@@ -1,4 +1,5 @@
 pub mod Counted
 pub mod Handled
 pub mod Kept
-pub mod Listed
+pub mod Linked
+pub mod Numbered

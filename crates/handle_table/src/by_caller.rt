@@ -1,95 +1,91 @@
-ghost use Rattle.std.specs.Prelude.{ℕ, ◌≡◌, ◌+◌, ◌<◌, ◌≤◌, ◌||◌, ◌&&◌, not, true, false, [], OnOk, IfSome, IfNone, length, slice_index_or, insert, remove, vec_capacity};
-ghost use Rattle.handle_table.specs.declared.by_caller.Held.{Held};
-ghost use Rattle.handle_table.specs.Listed.{AreOrdered, IsFrom, IsUnder, has, is_held};
+ghost use Rattle.std.specs.Prelude.{ℕ, ◌≡◌, ◌<◌, ◌≤◌, ◌==◌, ◌||◌, ◌&&◌, not, true, false, [], None, OnOk, OnErr, IfSome, IfNone, IsSome, option_map, nat_eq, if◌then◌else◌};
+ghost use Rattle.indexmap.specs.IndexMap.{get, spare};
+ghost use Rattle.handle_table.specs.Linked.{has, is_first, is_number, link_at, with_newer, with_older};
 
+use indexmap::IndexMap;
 use scm_text::OutOfMemory;
 use std::alloc::Global;
 use std::marker::Model;
 
-/// The number of a handle, under its caller.
+/// Where a handle stands among those of its caller: after the one that came before it, and before
+/// the one that came after it.
 #[derive(Clone, Copy)]
-struct Held {
+struct Link {
     caller: u64,
-    number: u64,
+    older: Option<u64>,
+    newer: Option<u64>,
 }
 
-/// The numbers of handles, in order of caller and of number. Contracts see them, and for how many
-/// more there is room.
+/// The numbers of handles, in a chain for each caller, of which the newest is known. Contracts see
+/// the links under their numbers, and for how many more there is room.
 #[derive(Drop)]
 pub struct ByCaller {
-    list: Vec<Held>,
+    links: IndexMap<u64, Link>,
+    newest: IndexMap<u64, u64>,
 }
 
 impl Model for ByCaller {
-    ghost use Rattle.std.specs.Prelude.{◌-◌, vec_capacity, vec_len};
+    ghost use Rattle.std.specs.Prelude.{ℕ, min};
+    ghost use Rattle.indexmap.specs.IndexMap.{spare};
     ghost use Rattle.scm_text.specs.Roomed.{Roomed};
-    ghost use Rattle.handle_table.specs.declared.by_caller.Held.{Held};
-    ghost use Rattle.handle_table.specs.Listed.{AreOrdered};
+    ghost use Rattle.handle_table.specs.declared.by_caller.Link.{Link};
+    ghost use Rattle.handle_table.specs.Linked.{AreLinked};
 
-    ghost Value = { Roomed Held };
+    ghost Value = { Roomed (ℕ × Link) };
 
-    ghost view = { λ b. record { items = b.list.items; room = vec_capacity b.list - vec_len b.list } };
+    ghost view = { λ b. record { items = b.links.entries; room = min (spare b.links) (spare b.newest) } };
 
-    ghost invariant = { λ b. AreOrdered b.list.items };
+    ghost invariant = { λ b. AreLinked b.links.entries b.newest.entries };
 }
 
-/// Whether a place comes before a caller's number.
-fn is_under(held: &Held, caller: u64, number: u64) -> bool
-    ensures under { result ≡ true → IsUnder caller number held.now }
-    ensures from { result ≡ false → IsFrom caller number held.now }
+/// Sets which number came before another.
+fn set_older(links: &mut IndexMap<u64, Link>, of: Option<u64>, older: Option<u64>)
+    ensures links { (n : ℕ) → link_at links.new.entries n ≡ (if is_number n of then option_map (with_older older) (link_at links.old.entries n) else link_at links.old.entries n) }
+    ensures room { spare links.new ≡ spare links.old }
 {
-    if held.caller == caller {
-        held.number < number
-    } else {
-        held.caller < caller
+    let Some(number) = of else {
+        return;
+    };
+    if let Some(link) = links.get_mut(&number) {
+        link.older = older;
     }
 }
 
-/// How many of the places come before a caller's number.
-fn place_of(list: &[Held], caller: u64, number: u64) -> usize
-    requires { AreOrdered list.now }
-    ensures within { result ≤ length list.now }
-    ensures below { (k : ℕ) (d : Held) → k < result → IsUnder caller number (slice_index_or list.now k d) }
-    ensures rest { (k : ℕ) (d : Held) → result ≤ k → k < length list.now → IsFrom caller number (slice_index_or list.now k d) }
+/// Sets which number came after another.
+fn set_newer(links: &mut IndexMap<u64, Link>, of: Option<u64>, newer: Option<u64>)
+    ensures links { (n : ℕ) → link_at links.new.entries n ≡ (if is_number n of then option_map (with_newer newer) (link_at links.old.entries n) else link_at links.old.entries n) }
+    ensures room { spare links.new ≡ spare links.old }
 {
-    let mut low = 0;
-    let mut high = list.len();
-    while low < high {
-        let middle = low + (high - low) / 2;
-        if is_under(&list[middle], caller, number) {
-            low = middle + 1;
-        } else {
-            high = middle;
+    let Some(number) = of else {
+        return;
+    };
+    if let Some(link) = links.get_mut(&number) {
+        link.newer = newer;
+    }
+}
+
+/// Sets the newest number of a caller that has one.
+fn set_newest(newest: &mut IndexMap<u64, u64>, caller: u64, number: Option<u64>)
+    requires { IsSome (get nat_eq newest.old caller) }
+    ensures { (c : ℕ) → get nat_eq newest.new c ≡ (if caller == c then number else get nat_eq newest.old c) }
+{
+    match number {
+        Some(number) => {
+            let _before = newest.insert(caller, number);
+        }
+        None => {
+            let _last = newest.swap_remove(&caller);
         }
     }
-    low
 }
 
-/// The least of a caller's numbers.
-fn first_in(list: &[Held], caller: u64) -> Option<u64>
-    requires { AreOrdered list.now }
-    ensures some { IfSome result (λ number. has list.now caller number ≡ true) }
-    ensures none { IfNone result ((number : ℕ) → has list.now caller number ≡ false) }
+/// A number leaves: where it was its caller's newest, the one before it is that now.
+fn leave_newest(newest: &mut IndexMap<u64, u64>, link: Link)
+    requires { is_first link ≡ true → IsSome (get nat_eq newest.old link.caller) }
+    ensures { (c : ℕ) → get nat_eq newest.new c ≡ (if is_first link && link.caller == c then link.older else get nat_eq newest.old c) }
 {
-    let place = place_of(list, caller, 0);
-    if place < list.len() && list[place].caller == caller {
-        Some(list[place].number)
-    } else {
-        None
-    }
-}
-
-/// The greatest of a caller's numbers. No handle gets 2^64 - 1, which is looked for last.
-fn last_in(list: &[Held], caller: u64) -> Option<u64>
-    requires { AreOrdered list.now }
-    ensures some { IfSome result (λ number. has list.now caller number ≡ true) }
-    ensures none { IfNone result ((number : ℕ) → has list.now caller number ≡ false) }
-{
-    let behind = place_of(list, caller, u64::MAX);
-    if 0 < behind && list[behind - 1].caller == caller {
-        Some(list[behind - 1].number)
-    } else {
-        first_in(list, caller)
+    if link.newer.is_none() {
+        set_newest(newest, link.caller, link.older);
     }
 }
 
@@ -99,7 +95,8 @@ impl ByCaller {
         ensures { result.items ≡ [] }
     {
         ByCaller {
-            list: Vec::new(alloc),
+            links: IndexMap::new(alloc),
+            newest: IndexMap::new(alloc),
         }
     }
 
@@ -107,37 +104,53 @@ impl ByCaller {
     pub fn reserve(&mut self) -> Result<(), OutOfMemory>
         ensures items { self.new.items ≡ self.old.items }
         ensures ok { OnOk result (1 ≤ self.new.room) }
+        ensures err { OnErr result (self.old.room ≡ 0) }
+        ensures room { self.old.room ≤ self.new.room }
     {
-        match self.list.reserve(1) {
-            Ok(()) => Ok(()),
-            Err(_) => Err(OutOfMemory),
+        if self.links.reserve(1).is_err() {
+            return Err(OutOfMemory);
         }
+        if self.newest.reserve(1).is_err() {
+            return Err(OutOfMemory);
+        }
+        Ok(())
     }
 
-    /// The greatest of a caller's numbers: fewer stand behind it than behind each other one.
-    pub fn last_of(&self, caller: u64) -> Option<u64>
+    /// The newest of a caller's numbers.
+    pub fn newest_of(&self, caller: u64) -> Option<u64>
         ensures some { IfSome result (λ number. has self.now.items caller number ≡ true) }
         ensures none { IfNone result ((number : ℕ) → has self.now.items caller number ≡ false) }
     {
-        last_in(self.list.as_slice(), caller)
+        self.newest.get(&caller).copied()
     }
 
-    /// Lists a number under its caller. It takes no memory.
+    /// Lists a number, which is above all others, under its caller. It takes no memory.
     pub fn add(&mut self, caller: u64, number: u64)
         requires room { 1 ≤ self.old.room }
-        requires fresh { has self.old.items caller number ≡ false }
-        ensures { (c n : ℕ) → has self.new.items c n ≡ (is_held c n (record { caller = caller; number = number }) || has self.old.items c n) }
+        requires above { (c n : ℕ) → has self.old.items c n ≡ true → n < number }
+        ensures { (c n : ℕ) → has self.new.items c n ≡ (caller == c && number == n || has self.old.items c n) }
     {
-        let place = place_of(self.list.as_slice(), caller, number);
-        let _room = self.list.insert(place, Held { caller, number });
+        let older = self.newest.get(&caller).copied();
+        set_newer(&mut self.links, older, Some(number));
+        let _link = self.links.insert(
+            number,
+            Link {
+                caller,
+                older,
+                newer: None,
+            },
+        );
+        let _before = self.newest.insert(caller, number);
     }
 
-    /// Takes a number out of its caller's.
-    pub fn remove(&mut self, caller: u64, number: u64)
-        requires { has self.old.items caller number ≡ true }
-        ensures { (c n : ℕ) → has self.new.items c n ≡ (not (is_held c n (record { caller = caller; number = number })) && has self.old.items c n) }
+    /// Takes a number out.
+    pub fn remove(&mut self, number: u64)
+        ensures { (c n : ℕ) → has self.new.items c n ≡ (not (number == n) && has self.old.items c n) }
     {
-        let place = place_of(self.list.as_slice(), caller, number);
-        let _held = self.list.remove(place);
+        if let Some(link) = self.links.swap_remove(&number) {
+            set_newer(&mut self.links, link.older, link.newer);
+            set_older(&mut self.links, link.newer, link.older);
+            leave_newest(&mut self.newest, link);
+        }
     }
 }

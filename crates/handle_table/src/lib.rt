@@ -2,6 +2,7 @@
 #![tactic(auto)]
 
 mod by_caller;
+mod by_number;
 mod counts;
 mod table;
 

@@ -1,4 +1,4 @@
-ghost use Rattle.std.specs.Prelude.{ℕ, ◌≡◌, ◌+◌, ◌<◌, ◌≤◌, ◌^◌, ◌++◌, ◌∷◌, [], not, filter, find, length, option_copied, option_map, OnOk, IfSome, IfNone, true, false, ◌-◌, if◌then◌else◌};
+ghost use Rattle.std.specs.Prelude.{ℕ, ◌≡◌, ◌+◌, ◌<◌, ◌≤◌, ◌^◌, ◌++◌, ◌∷◌, [], not, filter, find, length, option_copied, option_map, OnOk, OnErr, IfSome, IfNone, true, false, ◌-◌, if◌then◌else◌};
 ghost use Rattle.std.specs.List.{list_any};
 ghost use Rattle.handle_table.specs.Counted.{count};
 ghost use Rattle.scm_model.specs.Rows.{is_of_service};
@@ -6,8 +6,8 @@ ghost use Rattle.row_slab.specs.Rowed.{AreRisingBy};
 ghost use Rattle.handle_table.specs.Handled.{has_number, is_callers, is_handle, is_row_of};
 
 use super::by_caller::ByCaller;
+use super::by_number::ByNumber;
 use super::counts::Counts;
-use row_slab::Rows;
 use scm_model::{HandleKind, HandleRow};
 use scm_text::OutOfMemory;
 use std::alloc::Global;
@@ -17,7 +17,7 @@ use std::marker::Model;
 /// more there is room. A caller's rows are found without a look at those of others.
 #[derive(Drop)]
 pub struct HandleTable {
-    rows: Rows<HandleRow>,
+    rows: ByNumber,
     services: Counts,
     callers: Counts,
     held: ByCaller,
@@ -63,7 +63,7 @@ impl HandleTable {
         ensures next { result.next ≡ 1 }
     {
         HandleTable {
-            rows: Rows::new(alloc),
+            rows: ByNumber::new(alloc),
             services: Counts::new(alloc),
             callers: Counts::new(alloc),
             held: ByCaller::new(alloc),
@@ -78,11 +78,14 @@ impl HandleTable {
         self.next
     }
 
-    /// Makes room for one handle more.
+    /// Makes room for one handle more. Where there is room it isn't refused, and what is refused takes
+    /// no room away.
     pub fn reserve(&mut self) -> Result<(), OutOfMemory>
         ensures rows { self.new.rows ≡ self.old.rows }
         ensures next { self.new.next ≡ self.old.next }
         ensures ok { OnOk result (1 ≤ self.new.spare) }
+        ensures err { OnErr result (self.old.spare ≡ 0) }
+        ensures spare { self.old.spare ≤ self.new.spare }
     {
         self.rows.reserve()?;
         self.services.reserve()?;
@@ -168,7 +171,7 @@ impl HandleTable {
         let row = self.rows.remove(number)?;
         lower_kind(&mut self.services, row.kind);
         self.callers.lower(row.caller);
-        self.held.remove(row.caller, number);
+        self.held.remove(number);
         Some(row)
     }
 
@@ -190,18 +193,18 @@ impl HandleTable {
         ensures rows { self.new.rows ≡ filter (λ row. not (is_callers caller row)) self.old.rows }
         ensures next { self.new.next ≡ self.old.next }
     {
-        while let Some(number) = self.last_of(caller) {
+        while let Some(number) = self.newest_of(caller) {
             let _row = self.remove(number);
         }
     }
 
-    /// The greatest of the numbers of a caller's handles. It leaves without a move of the others.
-    fn last_of(&self, caller: u64) -> Option<u64>
+    /// The newest of a caller's handles.
+    fn newest_of(&self, caller: u64) -> Option<u64>
         ensures some { IfSome result (λ number. list_any (is_handle caller number) self.now.rows ≡ true) }
         ensures none { IfNone result ((number : ℕ) → list_any (is_handle caller number) self.now.rows ≡ false) }
         ensures rising { AreRisingBy (λ row. row.number) self.now.rows }
     {
         let _len = self.rows.len();
-        self.held.last_of(caller)
+        self.held.newest_of(caller)
     }
 }

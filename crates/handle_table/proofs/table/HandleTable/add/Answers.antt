@@ -2,7 +2,7 @@ use Rattle.std.proofs.Common.{◌||◌, ℕ, ◌+◌, ◌∙◌, cond, sym, ap, 
 use Rattle.scm_model.specs.declared.flat.HandleRow.{HandleRow}
 use Rattle.scm_model.specs.Rows.{is_of_service}
 use Rattle.handle_table.specs.Handled.{is_handle, is_callers, is_row_of}
-use Rattle.handle_table.proofs.Counting.{fresh, any_pushed, raised, few, below_pushed}
+use Rattle.handle_table.proofs.Counting.{any_below, any_pushed, raised, few, below_pushed}
 use Rattle.handle_table.proofs.table.HandleTable.add.Goals as goal
 
 pub raise_kind-requires-clause-fits : goal.raise_kind-requires-clause-fits
@@ -27,5 +27,5 @@ invariant_of-self c =
       below = below_pushed c.self.inside.next rows new c.self.invariant.below refl;
     })
 
-pub add-requires-clause-fresh : goal.add-requires-clause-fresh
-add-requires-clause-fresh c = c.self.invariant.listed c.args.caller c.self.inside.next ∙ fresh c.args.caller c.self.inside.next c.self.inside.rows.items c.self.invariant.below
+pub add-requires-clause-above : goal.add-requires-clause-above
+add-requires-clause-above c = λ (caller number : ℕ) there. any_below caller number c.self.inside.next c.self.inside.rows.items c.self.invariant.below (sym (c.self.invariant.listed caller number) ∙ there)

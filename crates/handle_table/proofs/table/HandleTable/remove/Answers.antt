@@ -3,7 +3,7 @@ use Rattle.std.proofs.lemmas.Bool.{eq-eqb}
 use Rattle.scm_model.specs.declared.flat.HandleRow.{HandleRow}
 use Rattle.scm_model.specs.Rows.{is_of_service}
 use Rattle.handle_table.specs.Handled.{has_number, is_callers, is_row_of}
-use Rattle.handle_table.proofs.Counting.{one_gone, present, one_at_least, lowered, stays_none, below_filter}
+use Rattle.handle_table.proofs.Counting.{one_gone, one_at_least, lowered, stays_none, below_filter}
 use Rattle.handle_table.proofs.table.HandleTable.remove.Goals as goal
 
 pub invariant_of-self : goal.invariant_of-self
@@ -34,11 +34,6 @@ invariant_of-self-2 c =
           c.lower.ensures.counts caller ∙ ap (λ m. cond (eqb gone.caller caller) (m - 1) m) (c.self.invariant.callers caller)
           ∙ sym (lowered (is_callers caller) rows gone c.args.number rising found);
       listed = λ (caller number : ℕ).
-          c.remove-2.ensures caller number ∙ ap (λ b. not (eqb gone.caller caller && eqb c.args.number number) && b) (c.self.invariant.listed caller number)
-          ∙ sym (one_gone c.args.number rows gone caller number rising found);
+          c.remove-2.ensures caller number ∙ ap (λ b. not (eqb c.args.number number) && b) (c.self.invariant.listed caller number) ∙ sym (one_gone c.args.number rows caller number);
       below = below_filter c.self.inside.next (λ (row : HandleRow). not (has_number c.args.number row)) rows c.self.invariant.below;
     })
-
-pub remove-requires-2 : goal.remove-requires-2
-remove-requires-2 c =
-    c.self.invariant.listed c.in_ok-row.row.caller c.args.number ∙ present c.args.number c.self.inside.rows.items c.in_ok-row.row (sym c.in_ok-row.ensures.row)
