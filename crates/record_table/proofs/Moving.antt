@@ -1,5 +1,5 @@
 -- Lists under texts, as services come, go and change.
-use Rattle.std.proofs.Common.{ℕ, ◌≡◌, ◌<◌, ◌∙◌, Bool, true, false, not, cond, List, [], ◌∷◌, ◌++◌, Some, refl, sym, ap, find, filter, map, eqb, Option, None}
+use Rattle.std.proofs.Common.{ℕ, ◌≡◌, ◌<◌, ◌≤◌, ◌∙◌, Bool, true, false, not, cond, List, [], ◌∷◌, ◌++◌, Some, refl, sym, ap, find, filter, map, eqb, Option, None, arith}
 use Rattle.std.specs.List.{AllByRecursion}
 use Rattle.scm_text.specs.Fold.{same_text}
 use Rattle.scm_model.specs.declared.flat.Config.{Config}
@@ -11,7 +11,7 @@ use Rattle.row_slab.specs.Rowed.{Rowed, AreRisingBy, altered_at}
 use Rattle.record_table.specs.declared.texts.KeptTexts.{KeptTexts}
 use Rattle.record_table.specs.declared.texts.Spare.{Spare}
 use Rattle.record_table.specs.declared.table.RecordTable.TheInside.{Inside}
-use Rattle.record_table.specs.Kept.{AreOf, ChangeEach, HasRoom, KeepEach, MoveEach, Moves, Tells, moved}
+use Rattle.record_table.specs.Kept.{AreOf, ChangeEach, HasRoom, HasTexts, KeepEach, KeepRooms, MoveEach, Moves, Tells, moved}
 use Rattle.record_table.specs.Recorded.{number_of, has_number, spare_of, with_config}
 use Rattle.record_table.proofs.Groups as groups
 use Rattle.record_table.proofs.Groups.{numbers_if}
@@ -119,3 +119,18 @@ still_of old new rows same lists = record {
 pub still_room : (spare : Option Spare) (table : Inside) (rows : Rowed Service) → rows.room ≡ table.rows.room → IfSome spare (HasRoom table) → IfSome spare (HasRoom (record table { rows = rows }))
 still_room None table rows same had = tt
 still_room (Some row) table rows same had = record { rows = rw same had.rows; texts = had.texts }
+
+-- there is room under the texts of a row as long as no text loses room
+pub still_texts : (spare : Option Spare) (old new : KeptTexts) → KeepRooms old new → IfSome spare (HasTexts old) → IfSome spare (HasTexts new)
+still_texts None old new rooms had = tt
+still_texts (Some row) old new rooms had = record {
+  name = omega (arith, had.name, rooms.names row.name);
+  display = omega (arith, had.display, rooms.displays row.display);
+  group = omega (arith, had.group, rooms.groups row.group);
+}
+
+-- there is room for a row where there is no less, and under its texts
+pub more_room : (spare : Option Spare) (table : Inside) (rows : Rowed Service) (texts : KeptTexts) → table.rows.room ≤ rows.room → (IfSome spare (HasTexts table.texts) → IfSome spare (HasTexts texts)) → IfSome spare (HasRoom table)
+    → IfSome spare (HasRoom (record table { rows = rows; texts = texts }))
+more_room None table rows texts more kept had = tt
+more_room (Some row) table rows texts more kept had = record { rows = omega (arith, more, had.rows); texts = kept had.texts }

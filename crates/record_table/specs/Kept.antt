@@ -42,6 +42,12 @@ pub record KeepEach (old new : KeptTexts) : Type 0 where
   pub displays : Keeps old.displays new.displays
   pub groups : Keeps old.groups new.groups
 
+-- no text loses room
+pub record KeepRooms (old new : KeptTexts) : Type 0 where
+  pub names : (text : List ℕ) → room old.names text ≤ room new.names text
+  pub displays : (text : List ℕ) → room old.displays text ≤ room new.displays text
+  pub groups : (text : List ℕ) → room old.groups text ≤ room new.groups text
+
 -- the list under each text of a row changes
 pub record ChangeEach (old new : KeptTexts) (row : Spare) (change : List ℕ → List ℕ) : Type 0 where
   pub names : Changes old.names new.names row.name change

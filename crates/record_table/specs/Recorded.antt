@@ -89,11 +89,19 @@ unreserved table = record { services = table.services; spare = None }
 abbrev pub inserted : Recorded → Service → Recorded
 inserted table service = record { services = table.services ++ service ∷ []; spare = None }
 
+-- the texts that there is room for, unless a service had the number
+abbrev pub spare_where : Option Service → Option Spare → Option Spare
+spare_where None spare = spare
+spare_where (Some row) spare = None
+
 abbrev pub removed : Recorded → ℕ → Recorded
-removed table number = record { services = without number table.services; spare = None }
+removed table number = record { services = without number table.services; spare = spare_where (find (has_number number) table.services) table.spare }
 
 abbrev pub replaced : Recorded → ℕ → Config → Recorded
-replaced table number config = record { services = change_at number (with_config config) table.services; spare = None }
+replaced table number config = record {
+  services = change_at number (with_config config) table.services;
+  spare = spare_where (find (has_number number) table.services) table.spare;
+}
 
 -- the texts that there is room for stay
 abbrev pub altered : Recorded → ℕ → (Service → Service) → Recorded

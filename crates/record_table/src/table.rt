@@ -8,7 +8,8 @@ ghost use Rattle.record_table.specs.Recorded.{altered, altered_each, change_at, 
 use super::iter::Services;
 use super::live::Live;
 use super::texts::{
-    KeptTexts, Spare, enter_texts, leave_texts, move_texts, reserve_texts, tidy_texts,
+    KeptTexts, Spare, enter_texts, exchange_room, forget_room, leave_texts, move_texts,
+    reserve_texts,
 };
 use row_slab::{Change, Rows};
 use scm_model::{Config, Service, Status};
@@ -112,16 +113,19 @@ impl RecordTable {
     }
 
     /// Makes room for one insertion or replacement with this configuration's name, display name and
-    /// group, and lets go what was made for another.
+    /// group, in place of what was made for another.
     pub fn reserve(&mut self, config: &Config) -> Result<(), OutOfMemory>
         ensures ok { OnOk result (self.new ≡ reserved self.old config.now) }
-        ensures err { OnErr result (self.new ≡ unreserved self.old) }
+        ensures err { OnErr result (self.new ≡ self.old) }
     {
-        self.forget_spare();
         let alloc = self.alloc;
-        let spare = Spare::of(config, alloc)?;
         self.rows.reserve()?;
-        reserve_texts(&mut self.texts, alloc, &spare)?;
+        let spare = Spare::of(config, alloc)?;
+        if reserve_texts(&mut self.texts, alloc, &spare, &self.spare).is_err() {
+            drop(spare);
+            return Err(OutOfMemory);
+        }
+        exchange_room(&mut self.texts, self.spare.take(), &spare);
         self.spare = Some(spare);
         Ok(())
     }
@@ -130,9 +134,7 @@ impl RecordTable {
     pub fn forget_spare(&mut self)
         ensures { self.new ≡ unreserved self.old }
     {
-        if let Some(spare) = self.spare.take() {
-            tidy_texts(&mut self.texts, &spare);
-        }
+        forget_room(&mut self.texts, self.spare.take());
     }
 
     /// Appends a service, for which room was made. It takes no memory.
@@ -149,28 +151,29 @@ impl RecordTable {
     }
 
     /// Gives a service another configuration, for which room was made, and answers the one that it
-    /// had. It takes no memory.
+    /// had. Where no service has the number nothing changes. It takes no memory.
     pub fn replace(&mut self, number: u64, config: Config) -> Option<Config>
         requires spare { self.old.spare ≡ Some (spare_of config) }
         ensures config { result ≡ config_at self.old.services number }
         ensures table { self.new ≡ replaced self.old number config }
     {
-        let spare = self.spare.take()?;
-        let Some(before) = exchange(&mut self.rows, number, config) else {
-            tidy_texts(&mut self.texts, &spare);
-            return None;
+        let before = exchange(&mut self.rows, number, config)?;
+        let Some(spare) = self.spare.take() else {
+            return Some(before);
         };
         move_texts(&mut self.texts, &before, &spare, number);
+        drop(spare);
         Some(before)
     }
 
-    /// Takes the service with a number out.
+    /// Takes the service with a number out, and lets the room for another go. Where no service has
+    /// the number nothing changes.
     pub fn remove(&mut self, number: u64) -> Option<Service>
         ensures service { result ≡ find (has_number number) self.old.services }
         ensures table { self.new ≡ removed self.old number }
     {
-        self.forget_spare();
         let row = self.rows.remove(number)?;
+        forget_room(&mut self.texts, self.spare.take());
         leave_texts(&mut self.texts, &row.config, number);
         Some(row)
     }

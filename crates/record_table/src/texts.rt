@@ -1,12 +1,12 @@
-ghost use Rattle.std.specs.Prelude.{◌≡◌, ◌≤◌, [], IfOk, OnOk};
+ghost use Rattle.std.specs.Prelude.{◌≡◌, ◌≤◌, [], IfOk, IfSome, OnOk};
 ghost use Rattle.number_lists.specs.Rising.{without_number};
 ghost use Rattle.number_lists.specs.Under.{Changes, room};
-ghost use Rattle.record_table.specs.Kept.{AreOf, EnterEach, HasTexts, KeepEach, LeaveEach, MoveEach, Moves};
+ghost use Rattle.record_table.specs.Kept.{AreOf, EnterEach, HasTexts, KeepEach, KeepRooms, Keeps, LeaveEach, MoveEach, Moves};
 ghost use Rattle.record_table.specs.Recorded.{spare_of};
 
 use number_lists::TextLists;
 use scm_model::Config;
-use scm_text::{OutOfMemory, WText};
+use scm_text::{OutOfMemory, WText, same};
 use std::alloc::Global;
 
 /// The texts by which a service is found.
@@ -73,27 +73,86 @@ fn relist(lists: &mut TextLists, before: &WText, after: &WText, number: u64)
 fn reserve_each(texts: &mut KeptTexts, alloc: Global, row: &Spare) -> Result<(), OutOfMemory>
     ensures numbers { KeepEach texts.old texts.new }
     ensures ok { OnOk result (HasTexts texts.new row.now) }
+    ensures rooms { KeepRooms texts.old texts.new }
 {
     texts.names.reserve(alloc, &row.name)?;
     texts.displays.reserve(alloc, &row.display)?;
     texts.groups.reserve(alloc, &row.group)
 }
 
-/// Makes room for a number under each text of a row. Where that fails, no text stays that has no
-/// number.
-pub fn reserve_texts(texts: &mut KeptTexts, alloc: Global, row: &Spare) -> Result<(), OutOfMemory>
+/// Forgets a text with no numbers under it, unless it is the same as one that is kept.
+fn tidy_unless_same(lists: &mut TextLists, text: &WText, kept: &WText)
+    ensures numbers { Keeps lists.old lists.new }
+    ensures room { room lists.old kept.now ≤ room lists.new kept.now }
+{
+    if !same(text, kept) {
+        lists.tidy(text);
+    }
+}
+
+/// Forgets those texts of a row under which no number is, but for those of one that is kept.
+fn tidy_texts_but(texts: &mut KeptTexts, row: &Spare, kept: &Spare)
+    ensures numbers { KeepEach texts.old texts.new }
+    ensures kept { HasTexts texts.old kept.now → HasTexts texts.new kept.now }
+{
+    tidy_unless_same(&mut texts.names, &row.name, &kept.name);
+    tidy_unless_same(&mut texts.displays, &row.display, &kept.display);
+    tidy_unless_same(&mut texts.groups, &row.group, &kept.group);
+}
+
+/// Forgets those texts of a row under which no number is, but for those of one that may be kept.
+fn tidy_texts_unless_kept(texts: &mut KeptTexts, row: &Spare, kept: &Option<Spare>)
+    ensures numbers { KeepEach texts.old texts.new }
+    ensures kept { IfSome kept.now (HasTexts texts.old) → IfSome kept.now (HasTexts texts.new) }
+{
+    match kept {
+        Some(kept) => tidy_texts_but(texts, row, kept),
+        None => tidy_texts(texts, row),
+    }
+}
+
+/// Makes room for a number under each text of a row. The room for one that may be kept stays, and
+/// where it fails, no text stays that has no number.
+pub fn reserve_texts(
+    texts: &mut KeptTexts,
+    alloc: Global,
+    row: &Spare,
+    kept: &Option<Spare>,
+) -> Result<(), OutOfMemory>
     ensures numbers { KeepEach texts.old texts.new }
     ensures ok { OnOk result (HasTexts texts.new row.now) }
+    ensures kept { IfSome kept.now (HasTexts texts.old) → IfSome kept.now (HasTexts texts.new) }
 {
     let made = reserve_each(texts, alloc, row);
     if made.is_err() {
-        tidy_texts(texts, row);
+        tidy_texts_unless_kept(texts, row, kept);
     }
     made
 }
 
+/// Lets the room for a row go, but for the texts of another.
+pub fn exchange_room(texts: &mut KeptTexts, before: Option<Spare>, row: &Spare)
+    ensures numbers { KeepEach texts.old texts.new }
+    ensures kept { HasTexts texts.old row.now → HasTexts texts.new row.now }
+{
+    if let Some(before) = before {
+        tidy_texts_but(texts, &before, row);
+        drop(before);
+    }
+}
+
+/// Lets the room for a row go.
+pub fn forget_room(texts: &mut KeptTexts, spare: Option<Spare>)
+    ensures { KeepEach texts.old texts.new }
+{
+    if let Some(spare) = spare {
+        tidy_texts(texts, &spare);
+        drop(spare);
+    }
+}
+
 /// Forgets those texts of a row under which no number is.
-pub fn tidy_texts(texts: &mut KeptTexts, row: &Spare)
+fn tidy_texts(texts: &mut KeptTexts, row: &Spare)
     ensures { KeepEach texts.old texts.new }
 {
     texts.names.tidy(&row.name);

@@ -1,22 +1,25 @@
-use Rattle.std.proofs.Common.{◌≡◌, ◌∙◌, None, not, sym, ap}
-use Rattle.record_table.specs.Recorded.{Recorded, has_number}
+use Rattle.std.proofs.Common.{◌∙◌, not, sym}
+use Rattle.record_table.specs.Recorded.{has_number}
 use Rattle.scm_model.specs.declared.flat.Service.{Service}
 use Rattle.record_table.proofs.Finding.{none_leaves}
-use Rattle.record_table.proofs.Moving.{gone_from}
+use Rattle.record_table.proofs.Moving.{gone_from, more_room, still_of}
 use Rattle.record_table.proofs.Rising.{rising_filter}
 use Rattle.record_table.proofs.table.RecordTable.remove.Goals as goal
 
 pub invariant_of-self : goal.invariant_of-self
 invariant_of-self c =
-    let none : c.self.inside.spare ≡ None = ap (λ (t : Recorded). t.spare) (c.self.view_is ∙ c.forget_spare.ensures) in
     let same = c.remove.ensures.items ∙ none_leaves c.args.number c.self.inside.rows.items (sym c.in_err-row.ensures.row) in
-    rw (same, none) (record { rising = c.self.invariant.rising; texts = c.self.invariant.texts; spare = tt })
+    record {
+      rising = rw same c.self.invariant.rising;
+      texts = rw same c.self.invariant.texts;
+      spare = more_room c.self.inside.spare c.self.inside c.remove.new.self c.self.inside.texts c.remove.ensures.room (λ had. had) c.self.invariant.spare;
+    }
 
 pub invariant_of-self-2 : goal.invariant_of-self-2
 invariant_of-self-2 c =
-    let none : c.self.inside.spare ≡ None = ap (λ (t : Recorded). t.spare) (c.self.view_is ∙ c.forget_spare.ensures) in
-    rw (c.remove.ensures.items, none) (record {
+    rw (c.remove.ensures.items, c.take.ensures.after) (record {
       rising = rising_filter (λ (row : Service). not (has_number c.args.number row)) c.self.inside.rows.items c.self.invariant.rising;
-      texts = gone_from c.self.inside.texts c.leave_texts.new.texts c.self.inside.rows.items c.in_ok-row.row c.args.number c.self.invariant.texts c.self.invariant.rising (sym c.in_ok-row.ensures.row) c.leave_texts.ensures;
+      texts = gone_from c.forget_room.new.texts c.leave_texts.new.texts c.self.inside.rows.items c.in_ok-row.row c.args.number
+          (still_of _ _ _ c.forget_room.ensures c.self.invariant.texts) c.self.invariant.rising (sym c.in_ok-row.ensures.row) c.leave_texts.ensures;
       spare = tt;
     })
