@@ -1,4 +1,4 @@
-ghost use Rattle.std.specs.Prelude.{◌≡◌, ◌==◌, ◌≤◌, [], not, filter, length, map, OnOk};
+ghost use Rattle.std.specs.Prelude.{◌≡◌, ◌==◌, ◌≤◌, [], not, filter, length, map, OnErr, OnOk};
 ghost use Rattle.scm_model.specs.Notices.{new_registration, noted, notified, put_in, taken_if};
 ghost use Rattle.notify_queue.specs.Queued.{notice_of};
 
@@ -41,10 +41,11 @@ impl NotifyQueue {
         }
     }
 
-    /// Makes room for a registration more, and for the name that it will be told.
+    /// Makes room for a registration more, and for the name that it will be told, unless there is room.
     pub fn reserve(&mut self, alloc: Global) -> Result<(), OutOfMemory>
         ensures rows { self.new.rows ≡ self.old.rows }
         ensures room { OnOk result (1 ≤ self.new.spare) }
+        ensures err { OnErr result (self.new ≡ self.old) }
     {
         if self.made.is_some() {
             return Ok(());
