@@ -2,12 +2,15 @@ ghost use Rattle.std.specs.Prelude.{◌≡◌, ◌+◌, None};
 ghost use Rattle.scm_listener.specs.Connections.{past_of};
 
 use crate::accepted::{Accepted, Numbered};
+use crate::accepting::{Ends, Open, PortSource};
 use crate::listener::Listener;
 use crate::memory::fail;
-use outside::{Failed, ReadSource, Sink, Source, WriteSink};
-use sc_dial::{CountedSink, CountedSource};
-use std::io;
-use std::net::{Ipv4Addr, Net, SocketAddr, TcpListener, TcpStream};
+use outside::{Failed, Sink, Source, WriteSink};
+use sc_dial::CountedSink;
+use std::alloc::Global;
+use std::net::{Net, SocketAddr, TcpListener, TcpStream};
+use std::thread::Threads;
+use std::time::Clock;
 
 /// A connection over TCP that is past: its number, and how often its reads and writes failed.
 #[derive(Clone, Copy, Debug, Drop, PartialEq, Eq)]
@@ -18,42 +21,40 @@ pub struct PortPast {
 }
 
 /// A port of the loopback, at 127.0.0.1 alone. It tells nothing of its connections but their
-/// numbers and how often they failed. It closes behind as many as it was to take.
+/// numbers and how often they failed. It closes after as many as it was to take.
+///
+/// Of the connections that it handed out at most `most` are open at a time. One that comes beyond
+/// them, or for which no thread can be started or no descriptor is left, is closed unread, and is
+/// none of those that it was to take. It doesn't listen if there is no room for the threads of a
+/// server. A failure of accept(2) that passes (EAGAIN, ENOMEM, ENFILE, EMFILE, EPROTO, ECONNABORTED,
+/// ENOBUFS) isn't its own: after a pause it tries again. After any other it doesn't listen any more.
 #[derive(Drop)]
 pub struct PortListener<R: Net<Listener = TcpListener, Stream = TcpStream>> {
     net: R,
-    listener: Option<TcpListener>,
+    alloc: Global,
+    /// How many of its connections may be open at a time, if there is such a bound.
+    most: Option<usize>,
+    open: Option<Open>,
     /// How many more connections it takes.
     room: u64,
     accepted: u64,
     faults: u64,
 }
 
-/// Two handles of the next connection, which sends each write at once.
-fn halves(listener: &TcpListener) -> io::Result<(TcpStream, TcpStream)> {
-    let (stream, _) = listener.accept()?;
-    stream.set_nodelay(true)?;
-    let twin = stream.try_clone()?;
-    Ok((stream, twin))
-}
-
-/// Those of a listener that listens.
-fn next_halves(listener: &Option<TcpListener>) -> Option<(TcpStream, TcpStream)> {
-    match listener {
-        Some(listener) => halves(listener).ok(),
-        None => None,
-    }
-}
-
-impl<R: Net<Listener = TcpListener, Stream = TcpStream>> PortListener<R> {
+impl<R> PortListener<R>
+where
+    R: Net<Listener = TcpListener, Stream = TcpStream> + Threads + Clock,
+{
     /// Listens nowhere yet.
-    pub fn new(net: R) -> Self
+    pub fn new(alloc: Global, net: R, most: Option<usize>) -> Self
         ensures accepted { ⟦<PortListener<R> as Listener>⟧.accepted result ≡ 0 }
         ensures faults { ⟦<PortListener<R> as Listener>⟧.faults result ≡ 0 }
     {
         PortListener {
             net,
-            listener: None,
+            alloc,
+            most,
+            open: None,
             room: 0,
             accepted: 0,
             faults: 0,
@@ -62,15 +63,29 @@ impl<R: Net<Listener = TcpListener, Stream = TcpStream>> PortListener<R> {
 
     /// Where it listens, while it does.
     pub fn local_addr(&self) -> Option<SocketAddr> {
-        match &self.listener {
-            Some(listener) => listener.local_addr().ok(),
+        match &self.open {
+            Some(open) => open.listener().local_addr().ok(),
             None => None,
         }
     }
 }
 
-impl<R: Net<Listener = TcpListener, Stream = TcpStream>> Listener for PortListener<R> {
-    type In = CountedSource<ReadSource<TcpStream>>;
+/// The next connection of a listener that listens.
+fn next_of<R>(open: &Option<Open>, net: &R, most: Option<usize>) -> Option<Ends>
+where
+    R: Threads + Clock,
+{
+    match open {
+        Some(open) => open.next(net, most),
+        None => None,
+    }
+}
+
+impl<R> Listener for PortListener<R>
+where
+    R: Net<Listener = TcpListener, Stream = TcpStream> + Threads + Clock,
+{
+    type In = PortSource;
 
     type Out = CountedSink<WriteSink<TcpStream>>;
 
@@ -89,9 +104,9 @@ impl<R: Net<Listener = TcpListener, Stream = TcpStream>> Listener for PortListen
     ghost tells = { λ past. past_of past.number None None past.read_faults past.write_faults };
 
     fn listen(&mut self, port: u16, take: Option<u64>) -> Result<(), Failed> {
-        match TcpListener::bind(&self.net, (Ipv4Addr::LOCALHOST, port)) {
-            Ok(listener) => {
-                self.listener = Some(listener);
+        match Open::new(&self.net, self.alloc, port) {
+            Ok(open) => {
+                self.open = Some(open);
                 self.room = take.unwrap_or(u64::MAX);
                 Ok(())
             }
@@ -101,12 +116,12 @@ impl<R: Net<Listener = TcpListener, Stream = TcpStream>> Listener for PortListen
 
     fn accept(&mut self) -> Accepted<Self::In, Self::Out> {
         match (self.room.checked_sub(1), self.accepted.checked_add(1)) {
-            (Some(room), Some(accepted)) => match next_halves(&self.listener) {
-                Some((stream, twin)) => {
+            (Some(room), Some(accepted)) => match next_of(&self.open, &self.net, self.most) {
+                Some(Ends { stream, twin, seat }) => {
                     let number = self.accepted;
                     self.room = room;
                     self.accepted = accepted;
-                    let input = CountedSource::new(ReadSource::new(stream));
+                    let input = PortSource::new(stream, seat);
                     let output = CountedSink::new(WriteSink::new(twin));
                     Accepted::Conn(
                         Numbered { number, end: input },
@@ -117,12 +132,13 @@ impl<R: Net<Listener = TcpListener, Stream = TcpStream>> Listener for PortListen
                     )
                 }
                 None => {
+                    self.open = None;
                     let _failed = fail(&mut self.faults);
                     Accepted::Failed
                 }
             },
             _ => {
-                self.listener = None;
+                self.open = None;
                 Accepted::Closed
             }
         }
@@ -130,13 +146,13 @@ impl<R: Net<Listener = TcpListener, Stream = TcpStream>> Listener for PortListen
 
     /// The connection ends with its two handles.
     fn end(
-        input: Numbered<CountedSource<ReadSource<TcpStream>>>,
+        input: Numbered<PortSource>,
         output: Numbered<CountedSink<WriteSink<TcpStream>>>,
     ) -> PortPast
         requires { input.number ≡ output.number }
         ensures { past_of result.number None None result.read_faults result.write_faults
             ≡ past_of input.number None None
-            (⟦<CountedSource<ReadSource<TcpStream>> as Source>⟧.faults input.end)
+            (⟦<PortSource as Source>⟧.faults input.end)
             (⟦<CountedSink<WriteSink<TcpStream>> as Sink>⟧.faults output.end) }
     {
         PortPast {

@@ -1,0 +1,217 @@
+// The connections of a port, as the system's accept gives them.
+ghost use Rattle.std.specs.Prelude.{◌≡◌, None};
+
+use crate::spare::can_start;
+use outside::{Failed, ReadSource, Source};
+use sc_dial::CountedSource;
+use std::alloc::Global;
+use std::io;
+use std::net::{Ipv4Addr, Net, TcpListener, TcpStream};
+use std::sync::Arc;
+use std::thread::{self, Threads};
+use std::time::{Clock, Duration};
+
+/// The failures of accept(2) that pass: their numbers in Linux's errno.h.
+const EAGAIN: i32 = 11;
+
+const ENOMEM: i32 = 12;
+
+const ENFILE: i32 = 23;
+
+const EMFILE: i32 = 24;
+
+const EPROTO: i32 = 71;
+
+const ECONNABORTED: i32 = 103;
+
+const ENOBUFS: i32 = 105;
+
+/// How long it waits before it tries again, in milliseconds.
+const PAUSE: u64 = 20;
+
+/// The thread of a connection, and one for a connection that comes at another port meanwhile.
+const CONNECTION_THREADS: u32 = 2;
+
+/// The threads of a server beside its first one, as long as one connection is served.
+const SERVER_THREADS: u32 = 3 + CONNECTION_THREADS;
+
+/// How often it is looked, a pause apart, whether a connection that came can be served.
+const LOOKS: u32 = 5;
+
+/// Connections share it: there is one more of it than they are.
+pub type Seat = Arc<(), Global>;
+
+/// The end of a connection over TCP that is read. The connection has a seat until it is dropped.
+#[derive(Drop)]
+pub struct PortSource {
+    source: CountedSource<ReadSource<TcpStream>>,
+    seat: Seat,
+}
+
+impl PortSource {
+    pub fn new(stream: TcpStream, seat: Seat) -> Self
+        ensures { ⟦<PortSource as Source>⟧.faults result ≡ 0 }
+    {
+        PortSource {
+            source: CountedSource::new(ReadSource::new(stream)),
+            seat,
+        }
+    }
+
+    /// How often it failed.
+    pub fn faults(&self) -> u64
+        ensures { result ≡ ⟦<PortSource as Source>⟧.faults self.now }
+    {
+        self.source.faults()
+    }
+}
+
+impl Source for PortSource {
+    ghost left = { λ _. None };
+
+    ghost faults = { λ s. ⟦<CountedSource<ReadSource<TcpStream>> as Source>⟧.faults s.source };
+
+    fn read(&mut self, into: &mut [u8]) -> Result<usize, Failed> {
+        self.source.read(into)
+    }
+}
+
+/// Two handles of a connection that came, and its seat.
+#[derive(Drop)]
+pub struct Ends {
+    pub stream: TcpStream,
+    pub twin: TcpStream,
+    pub seat: Seat,
+}
+
+/// What one try to accept a connection results in.
+#[derive(Drop)]
+enum Tried {
+    Came(Ends),
+    /// The connection was closed unread.
+    Refused,
+    /// No connection can be accepted now.
+    NotNow,
+    /// The port is lost.
+    Lost,
+}
+
+/// A socket that listens on a port, and the seat that its connections share.
+#[derive(Drop)]
+pub struct Open {
+    alloc: Global,
+    listener: TcpListener,
+    seat: Seat,
+}
+
+/// Whether a later accept may succeed.
+fn is_passing(fault: &io::Error) -> bool {
+    match fault.raw_os_error() {
+        Some(code) => matches!(
+            code,
+            EAGAIN | ENOMEM | ENFILE | EMFILE | EPROTO | ECONNABORTED | ENOBUFS
+        ),
+        None => false,
+    }
+}
+
+/// The ends of a connection, which sends each write at once.
+fn ends_of(stream: TcpStream, seat: &Seat) -> io::Result<Ends> {
+    stream.set_nodelay(true)?;
+    let twin = stream.try_clone()?;
+    let seat = Arc::try_clone(seat)?;
+    Ok(Ends { stream, twin, seat })
+}
+
+impl Open {
+    /// Listens on a port of the loopback, if there is room for the threads of a server.
+    pub fn new<R>(net: &R, alloc: Global, port: u16) -> io::Result<Open>
+    where
+        R: Net<Listener = TcpListener, Stream = TcpStream> + Threads,
+    {
+        if !can_start(net, alloc, SERVER_THREADS) {
+            return Err(io::Error::from_raw_os_error(EAGAIN));
+        }
+        let seat = Arc::new(alloc, ())?;
+        match TcpListener::bind(net, (Ipv4Addr::LOCALHOST, port)) {
+            Ok(listener) => Ok(Open {
+                alloc,
+                listener,
+                seat,
+            }),
+            Err(fault) => {
+                drop(seat);
+                Err(fault)
+            }
+        }
+    }
+
+    pub fn listener(&self) -> &TcpListener {
+        &self.listener
+    }
+
+    /// Whether as many connections have a seat as may.
+    fn is_full(&self, most: Option<usize>) -> bool {
+        match most {
+            Some(most) => Arc::strong_count(&self.seat) > most,
+            None => false,
+        }
+    }
+
+    /// Whether a connection that came can be served, now or in a short while: another that is
+    /// about to end may leave it a seat and a thread.
+    fn has_room<R>(&self, net: &R, most: Option<usize>) -> bool
+    where
+        R: Threads + Clock,
+    {
+        for _ in 0..LOOKS {
+            if !self.is_full(most) && can_start(net, self.alloc, CONNECTION_THREADS) {
+                return true;
+            }
+            thread::sleep(net, Duration::from_millis(PAUSE));
+        }
+        false
+    }
+
+    /// Tries once to accept a connection.
+    fn try_next<R>(&self, net: &R, most: Option<usize>) -> Tried
+    where
+        R: Threads + Clock,
+    {
+        match self.listener.accept() {
+            Ok((stream, _)) => {
+                if !self.has_room(net, most) {
+                    drop(stream);
+                    return Tried::Refused;
+                }
+                match ends_of(stream, &self.seat) {
+                    Ok(ends) => Tried::Came(ends),
+                    Err(_) => Tried::Refused,
+                }
+            }
+            Err(fault) => {
+                if is_passing(&fault) {
+                    Tried::NotNow
+                } else {
+                    Tried::Lost
+                }
+            }
+        }
+    }
+
+    /// The next connection that has a seat, or `None` once the port is lost.
+    pub fn next<R>(&self, net: &R, most: Option<usize>) -> Option<Ends>
+    where
+        R: Threads + Clock,
+    {
+        for _ in 0..u64::MAX {
+            match self.try_next(net, most) {
+                Tried::Came(ends) => return Some(ends),
+                Tried::Refused => {}
+                Tried::NotNow => thread::sleep(net, Duration::from_millis(PAUSE)),
+                Tried::Lost => return None,
+            }
+        }
+        None
+    }
+}
