@@ -9,8 +9,12 @@ use std::alloc::Global;
 use std::fs::{File, OpenFile, OpenOptions};
 use std::io;
 use std::io::{ErrorKind, Read, Seek, Write};
+use std::os::unix::fs::OpenOptionsExt;
 use std::path::Path;
 use std::rt::Files;
+
+/// The mode of a file that is made: its owner may read and write it, and nobody else.
+const MODE: u32 = 0o600;
 
 /// Where bytes are kept.
 #[derive(Drop)]
@@ -20,16 +24,17 @@ enum Place<F: Drop> {
 }
 
 /// Bytes in a file, or in memory where none is opened. It tells nothing of them. What it appends or
-/// cuts has reached the disk before it answers.
+/// cuts has reached the disk before it answers. It holds the file alone, by an exclusive lock that
+/// ends with it: a file that another process or keeper holds can't be opened.
 #[derive(Drop)]
-pub struct FileKeeper<R: Files + Drop> {
+pub struct FileKeeper<R: Files<File = File> + Drop> {
     files: R,
     alloc: Global,
-    place: Place<R::File>,
+    place: Place<File>,
     faults: u64,
 }
 
-impl<R: Files + Drop> FileKeeper<R> {
+impl<R: Files<File = File> + Drop> FileKeeper<R> {
     /// Holds nothing, in memory.
     pub fn new(alloc: Global, files: R) -> Self
         ensures { ⟦<FileKeeper<R> as Keeper>⟧.faults result ≡ 0 }
@@ -61,13 +66,15 @@ fn folder_of(path: &str) -> &str {
     }
 }
 
-/// Opens a file, which is made where there is none, and sees to it that its folder has it.
-fn open_file<R: Files>(files: &R, path: &str) -> io::Result<R::File> {
+/// Opens a file, which is made where there is none, and locks it. Sees to it that its folder has it.
+fn open_file<R: Files<File = File>>(files: &R, path: &str) -> io::Result<File> {
     let file = OpenOptions::new()
         .read(true)
         .append(true)
         .create(true)
+        .mode(MODE)
         .open(files, path)?;
+    file.try_lock()?;
     file.sync_all()?;
     let folder = File::open(files, folder_of(path))?;
     folder.sync_all()?;
@@ -94,7 +101,7 @@ fn cut_file<F: OpenFile>(file: &F, length: u64) -> io::Result<()> {
     file.sync_all()
 }
 
-impl<R: Files + Drop> Keeper for FileKeeper<R> {
+impl<R: Files<File = File> + Drop> Keeper for FileKeeper<R> {
     ghost held = { λ _. None };
 
     ghost faults = { λ k. k.faults };
