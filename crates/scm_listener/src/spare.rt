@@ -1,5 +1,6 @@
 // Whether there is room for threads.
 use std::alloc::Global;
+use std::hint::spin_loop;
 use std::sync::Arc;
 use std::sync::atomic::AtomicU64;
 use std::sync::atomic::Ordering::SeqCst;
@@ -11,12 +12,19 @@ type Gate = Arc<AtomicU64, Global>;
 /// How often a thread looks whether it may end: it ends by itself after that.
 const LOOKS: u32 = 1_000_000;
 
+/// How many of these looks come at once. From then on another thread may run between two.
+const QUICK_LOOKS: u32 = 1_000;
+
 fn wait_at(gate: &Gate) {
-    for _ in 0..LOOKS {
+    for look in 0..LOOKS {
         if gate.load(SeqCst) != 0 {
             return;
         }
-        thread::yield_now();
+        if look < QUICK_LOOKS {
+            spin_loop();
+        } else {
+            thread::yield_now();
+        }
     }
 }
 
