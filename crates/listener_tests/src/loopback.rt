@@ -3,7 +3,7 @@ ghost use Rattle.std.specs.Prelude.{◌≡◌};
 use outside::{Sink, Source};
 use scm_listener::{Accepted, Listener, Numbered, PortListener};
 use std::io::{Read, Write};
-use std::net::{Net, TcpListener, TcpStream};
+use std::net::{Net, SocketAddr, TcpStream};
 
 /// Whether one byte is read, and one is written.
 fn is_answered<I: Source, O: Sink>(input: &mut I, output: &mut O) -> bool {
@@ -14,9 +14,7 @@ fn is_answered<I: Source, O: Sink>(input: &mut I, output: &mut O) -> bool {
 }
 
 /// Answers one byte of the next connection, ends it and notes it.
-fn answers<R: Net<Listener = TcpListener, Stream = TcpStream>>(
-    listener: &mut PortListener<R>,
-) -> bool {
+fn answers<N: Listener>(listener: &mut N) -> bool {
     match listener.accept() {
         Accepted::Conn(mut input, mut output) => {
             let numbered = input.number == 0;
@@ -36,10 +34,7 @@ fn end_of<N: Listener>(_listener: &N, input: Numbered<N::In>, output: Numbered<N
 }
 
 /// Whether a byte comes back from the port, and then the end.
-fn echoes<R: Net<Listener = TcpListener, Stream = TcpStream>>(
-    listener: &mut PortListener<R>,
-    peer: &mut TcpStream,
-) -> bool {
+fn echoes<N: Listener>(listener: &mut N, peer: &mut TcpStream) -> bool {
     let is_written = matches!(peer.write(b"a"), Ok(1));
     let is_answered = answers(listener);
     let mut byte = [0u8; 2];
@@ -49,13 +44,11 @@ fn echoes<R: Net<Listener = TcpListener, Stream = TcpStream>>(
 }
 
 /// Whether a byte comes back from the listener's port, of the loopback, and the port then is closed.
-fn is_exchanged<R: Net<Listener = TcpListener, Stream = TcpStream>>(
+fn is_exchanged<N: Listener, R: Net<Stream = TcpStream>>(
     net: &R,
-    listener: &mut PortListener<R>,
+    listener: &mut N,
+    address: SocketAddr,
 ) -> bool {
-    let Some(address) = listener.local_addr() else {
-        return false;
-    };
     let Ok(mut peer) = TcpStream::connect(net, address) else {
         return false;
     };
@@ -68,9 +61,12 @@ fn is_exchanged<R: Net<Listener = TcpListener, Stream = TcpStream>>(
 /// One exchange over a port that takes one connection, after which it is closed.
 #[test]
 fn an_exchange_over_a_port(rt: HostRuntime) {
-    let mut listener = PortListener::new(rt);
+    let mut listener = PortListener::new(rt.alloc(), rt, Some(1));
     let listens = listener.listen(0, Some(1)).is_ok();
-    let exchanged = is_exchanged(&rt, &mut listener);
+    let exchanged = match listener.local_addr() {
+        Some(address) => is_exchanged(&rt, &mut listener, address),
+        None => false,
+    };
     drop(listener);
     assert!(rt; listens && exchanged);
 }
