@@ -12,6 +12,7 @@ use demo::demo;
 use fault::{DemoFault, status_of};
 use outside::{ReadSource, Sink, Source, WriteSink};
 use scm_text::{Items, Text};
+use standard_streams::fill_closed;
 use std::io::ErrorKind;
 use std::process::ExitCode;
 use std::rt::Env;
@@ -42,6 +43,9 @@ fn program<R: Env + AllocGlobal, I: Source, O: Sink>(rt: &R, input: &mut I, outp
 }
 
 fn main(rt: HostRuntime) -> ExitCode {
+    if fill_closed(&rt).is_err() {
+        return ExitCode::from(status_of(Err(DemoFault::Write)));
+    }
     let mut input = ReadSource::new(rt.stdin());
     let mut output = WriteSink::new(rt.stdout());
     ExitCode::from(program(&rt, &mut input, &mut output))

@@ -5,6 +5,7 @@ use outside::{Sink, WriteSink};
 use sc_dial::{Dialer, TcpDialer};
 use sc_top::{ScFault, sc_main, status_of};
 use scm_text::{Items, Text};
+use standard_streams::fill_closed;
 use std::io::ErrorKind;
 use std::process::ExitCode;
 use std::rt::Env;
@@ -35,6 +36,9 @@ fn program<R: Env + AllocGlobal, D: Dialer, O: Sink>(rt: &R, dialer: &mut D, out
 }
 
 fn main(rt: HostRuntime) -> ExitCode {
+    if fill_closed(&rt).is_err() {
+        return ExitCode::from(status_of(Err(ScFault::Output)));
+    }
     let mut dialer = TcpDialer::new(rt);
     let mut output = WriteSink::new(rt.stdout());
     ExitCode::from(program(&rt, &mut dialer, &mut output))

@@ -11,6 +11,7 @@ use record_journal::{FileKeeper, Keeper};
 use scm_listener::{Listener, PortListener};
 use scm_text::{Items, Text};
 use scmd_top::{NoWords, World, scmd_with};
+use standard_streams::fill_closed;
 use std::alloc::Global;
 use std::env::{self, Args};
 use std::io::{self, ErrorKind};
@@ -19,6 +20,13 @@ use std::rt::Env;
 use std::sync::Wait;
 use std::thread::Threads;
 use std::time;
+
+/// How many connections of users are served at a time: three quarters of the places that there are
+/// for callers, so that administrators always find one.
+const USERS: usize = 48;
+
+/// The status of a program whose standard streams can't be used.
+const OUTPUT_FAULT: u8 = 2;
 
 /// Why the words can't be had.
 fn no_words(fault: io::Error) -> NoWords {
@@ -76,13 +84,16 @@ where
 }
 
 fn main(rt: HostRuntime) -> ExitCode {
+    if fill_closed(&rt).is_err() {
+        return ExitCode::from(OUTPUT_FAULT);
+    }
     let alloc: Global = rt.alloc();
     let world = World {
         input: ReadSource::new(rt.stdin()),
         output: WriteSink::new(rt.stdout()),
         keeper: FileKeeper::new(alloc, rt),
-        admin: PortListener::new(rt),
-        user: PortListener::new(rt),
+        admin: PortListener::new(alloc, rt, None),
+        user: PortListener::new(alloc, rt, Some(USERS)),
         spawner: ProcessSpawner::new(rt, alloc),
         clock: SystemClock::new(rt),
     };

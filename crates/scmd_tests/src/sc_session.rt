@@ -43,8 +43,8 @@ where
         input: MemorySource::new(Vec::new(alloc), Vec::new(alloc)),
         output: MemorySink::new(alloc, Vec::new(alloc)),
         keeper: MemoryKeeper::new(journal(alloc), Vec::new(alloc)),
-        admin: PortListener::new(*rt),
-        user: PortListener::new(*rt),
+        admin: PortListener::new(alloc, *rt, None),
+        user: PortListener::new(alloc, *rt, None),
         spawner: ObedientSpawner {
             rt: *rt,
             told,
