@@ -1,0 +1,10 @@
+pub mod NumberLists
+pub mod Entries
+pub mod Sizes
+pub mod Bytes
+pub mod Identities
+pub mod Aces
+pub mod Lists
+pub mod Descriptors
+pub mod Fitting
+pub mod Back

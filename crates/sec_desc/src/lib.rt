@@ -1,0 +1,17 @@
+//! Security descriptors (MS-DTYP, 2.4.6, self-relative form) as bytes, both ways: owner, group and
+//! the list of who may do what. Auditing lists are left out.
+#![tactic(auto)]
+
+pub mod codes;
+mod laws;
+mod layout;
+mod numbers;
+mod reading;
+mod value;
+mod writing;
+
+pub use laws::written_is_read;
+pub use layout::{AceHeader, AclHeader, Header, read_ace_header, read_acl_header, read_header};
+pub use reading::read_descriptor;
+pub use value::{Ace, DescFault, Descriptor, Sid};
+pub use writing::write_descriptor;
