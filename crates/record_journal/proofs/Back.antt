@@ -12,7 +12,7 @@ use Rattle.service_record.specs.Spelling.{FitsText, IsConfig, held, number, spel
 use Rattle.service_record.proofs.Fields.{a_number}
 use Rattle.service_record.proofs.Records.{record_again}
 use Rattle.service_record.proofs.Texts.{a_text}
-use Rattle.record_journal.specs.Entries.{Entries, Whole, all_from, can_replay, change_in, entries, entries_from, first_of, followed, if_read, name_of, replay_of, replayable, whole_entry, with_body, with_change}
+use Rattle.record_journal.specs.Entries.{Entries, IsPart, Whole, all_from, can_replay, change_in, entries, entries_from, first_of, followed, if_read, last_of, name_of, replay_of, replayable, whole_entry, with_body, with_change}
 use Rattle.record_journal.specs.Format.{HasEntry, body_of, entry_bytes, entry_kind, header}
 use Rattle.record_journal.specs.ReadBack.{AreReplayable, IsReadBack, held_change}
 use Rattle.record_journal.specs.Replay.{after_change, replayed}
@@ -40,15 +40,15 @@ change_back (Created config) entry = ap (λ (r : Result Config ℕ). option_map 
 change_back (Changed config) entry = ap (λ (r : Result Config ℕ). option_map Changed (if_read r)) (config_back config entry.body)
 change_back (Removed name) entry = ap (λ (r : Result (List ℕ) ℕ). option_map Removed (if_read r)) (name_back name entry.body)
 
-abbrev entry_of : Change → List ℕ → Whole
+abbrev pub entry_of : Change → List ℕ → Whole
 entry_of change rest = record { kind = entry_kind change; body = body_of change; rest = rest }
 
-body_back : (kind : ℕ) (body rest : List ℕ) → with_body kind (Some (length body, body ++ rest)) ≡ Some (record { kind = kind; body = body; rest = rest })
+pub body_back : (kind : ℕ) (body rest : List ℕ) → with_body kind (Some (length body, body ++ rest)) ≡ Some (record { kind = kind; body = body; rest = rest })
 body_back kind body rest =
     let long = length-append body rest in
     rw (le-ltb (length (body ++ rest)) (length body) (omega (arith, long)), take_at body rest (length body) refl, drop_at body rest (length body) refl) refl
 
-front_back : (change : Change) (rest : List ℕ) → HasEntry change → whole_entry (entry_bytes change ++ rest) ≡ Some (entry_of change rest)
+pub front_back : (change : Change) (rest : List ℕ) → HasEntry change → whole_entry (entry_bytes change ++ rest) ≡ Some (entry_of change rest)
 unfolding entry_bytes
 front_back change rest entry =
     let size = length (body_of change) in
@@ -58,28 +58,29 @@ front_back change rest entry =
 
 -- ## Entry after entry
 
-ended : (n : ℕ) (configs : List Config) (tail : List ℕ) → whole_entry tail ≡ None → entries_from n configs tail ≡ Ok (record { changes = []; left = length tail })
+ended : (n : ℕ) (configs : List Config) (tail : List ℕ) → IsPart tail → entries_from n configs tail ≡ Ok (record { changes = []; left = length tail })
 unfolding entries_from
-ended zero configs tail none = refl
-ended (suc n) configs tail none = ap (first_of (entries_from n) configs (length tail)) none
+ended zero configs tail part = refl
+ended (suc n) configs tail part = ap (first_of (entries_from n) configs tail) part.less ∙ ap (last_of (length tail)) part.unfinished
 
 entry_back : (n : ℕ) (configs : List Config) (change : Change) (rest : List ℕ) → HasEntry change → can_replay configs (held_change change) ≡ true
     → entries_from (suc n) configs (entry_bytes change ++ rest) ≡ with_change (held_change change) (entries_from n (after_change configs (held_change change)) rest)
 unfolding entries_from
 entry_back n configs change rest entry can =
-    let left = length (entry_bytes change ++ rest) in
-    ap (first_of (entries_from n) configs left) (front_back change rest entry)
+    let bytes = entry_bytes change ++ rest in
+    let left = length bytes in
+    ap (first_of (entries_from n) configs bytes) (front_back change rest entry)
     ∙ ap (λ (o : Option Change). followed (entries_from n) configs left rest (option_and_then (replayable configs) o)) (change_back change entry)
     ∙ ap (λ (b : Bool). followed (entries_from n) configs left rest (cond b (Some (held_change change)) None)) can
 
-all_back : (n : ℕ) (configs : List Config) (changes : List Change) (tail : List ℕ) → length changes ≤ n → AreReplayable configs changes → whole_entry tail ≡ None
+all_back : (n : ℕ) (configs : List Config) (changes : List Change) (tail : List ℕ) → length changes ≤ n → AreReplayable configs changes → IsPart tail
     → entries_from n configs (flat_map entry_bytes changes ++ tail) ≡ Ok (record { changes = map held_change changes; left = length tail })
-all_back n configs [] tail enough can none = ended n configs tail none
-all_back zero configs (change ∷ changes) tail enough can none = absurd (omega (arith, enough))
-all_back (suc n) configs (change ∷ changes) tail enough can none =
+all_back n configs [] tail enough can part = ended n configs tail part
+all_back zero configs (change ∷ changes) tail enough can part = absurd (omega (arith, enough))
+all_back (suc n) configs (change ∷ changes) tail enough can part =
     ap (entries_from (suc n) configs) (append_assoc (entry_bytes change) (flat_map entry_bytes changes) tail)
     ∙ entry_back n configs change (flat_map entry_bytes changes ++ tail) can.0 can.1
-    ∙ ap (with_change (held_change change)) (all_back n (after_change configs (held_change change)) changes tail (omega (arith, enough)) can.2 none)
+    ∙ ap (with_change (held_change change)) (all_back n (after_change configs (held_change change)) changes tail (omega (arith, enough)) can.2 part)
 
 -- ## A journal
 
@@ -87,7 +88,7 @@ long_entry : (change : Change) → 1 ≤ length (entry_bytes change)
 unfolding entry_bytes
 long_entry change = omega arith
 
-enough : (changes : List Change) → length changes ≤ length (flat_map entry_bytes changes)
+pub enough : (changes : List Change) → length changes ≤ length (flat_map entry_bytes changes)
 enough [] = omega arith
 enough (change ∷ changes) =
     let one = long_entry change in
@@ -99,11 +100,11 @@ headed : (entries_of : List ℕ) → entries (header ++ entries_of) ≡ all_from
 headed rest = rw (and_right (starts_with eqb header (header ++ rest)) (nat_lt (length (header ++ rest)) 8) (le-ltb (length (header ++ rest)) 8 (omega arith))) refl
 
 pub read_back : (changes : List Change) → AreReplayable [] changes → IsReadBack changes
-read_back changes can tail none =
+read_back changes can tail part =
     let behind = flat_map entry_bytes changes ++ tail in
     let long = length-append (flat_map entry_bytes changes) tail in
     let few = enough changes in
     let read : entries (header ++ behind) ≡ Ok (record { changes = map held_change changes; left = length tail }) =
-    headed behind ∙ all_back (length behind) [] changes tail (omega (arith, few, long)) can none in
+    headed behind ∙ all_back (length behind) [] changes tail (omega (arith, few, long)) can part in
     ap (λ (r : Result Entries ℕ). replay_of (length (header ++ behind)) [] r) read
     ∙ ap (λ n. Ok (record { configs = replayed [] (map held_change changes); kept = n })) (omega (arith, long))

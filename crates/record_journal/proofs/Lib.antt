@@ -3,6 +3,9 @@ pub mod Fronts
 pub mod Growing
 pub mod Rows
 pub mod Names
+pub mod Readers
+pub mod Parts
+pub mod Changed
 pub mod Begins
 pub mod Told
 pub mod Turns

@@ -1,6 +1,6 @@
 -- A name that is all of some bytes.
-use Rattle.std.proofs.Common.{ℕ, ◌≡◌, ◌≢◌, ◌*◌, ◌==◌, ◌||◌, Bool, true, false, cond, List, drop, length, Option, None, Some, Ok, Err, refl, sym, subst, arith, nat_lt, ne_eqb, eq-eqb, ltb-false, le-ltb}
-use Rattle.std.specs.Prelude.{Result}
+use Rattle.std.proofs.Common.{ℕ, ◌≡◌, ◌≢◌, ◌∙◌, ◌<◌, ◌≤◌, ◌*◌, ◌==◌, ◌||◌, not, Bool, true, false, cond, List, drop, length, Option, None, Some, Ok, Err, refl, sym, ap, subst, arith, nat_lt, lt-ltb, ne_eqb, eq-eqb, ltb-false, le-ltb}
+use Rattle.std.specs.Prelude.{Result, is_ok}
 use Rattle.std.specs.List.{list_any}
 use Rattle.std.proofs.lemmas.List.{length-drop}
 use Rattle.ndr_body.specs.Units.{le_units}
@@ -65,3 +65,31 @@ is_name bytes rest n is long none =
     (subst (λ (r : Result (ℕ × List ℕ) ℕ). Some (le_units n rest) ≡ named (length bytes) r) (sym (read_is (n, rest) (take_number bytes) is))
     (let end : (length (drop (2 * n) rest) == 0) ≡ true = eq-eqb (length (drop (2 * n) rest)) 0 (let l = length-drop (2 * n) rest in omega (arith, l, long)) in
     rw (le-ltb (length rest) (2 * n) (omega (arith, long)), none, end) refl))
+
+-- ## A name at the front of some bytes
+
+text_is : (bytes : List ℕ) → take_text bytes ≡ (take_number bytes >>= λ n. text_read (length bytes) (nat_lt (length n.1) (2 * n.0)) (list_any (λ u. u == 0) (le_units n.0 n.1)) (le_units n.0 n.1) (drop (2 * n.0) n.1))
+unfolding take_text
+text_is bytes = refl
+
+guarded : (left : ℕ) (short zero : Bool) (units end : List ℕ) → is_ok (text_read left short zero units end) ≡ not (short || zero)
+guarded left true zero units end = refl
+guarded left false true units end = refl
+guarded left false false units end = refl
+
+pub no_text : (bytes : List ℕ) → None ≡ if_read (take_number bytes) → false ≡ is_ok (take_text bytes)
+no_text bytes is =
+    let p = none_is (take_number bytes) is in
+    sym (ap is_ok (text_is bytes ∙ ap (λ (r : Result (ℕ × List ℕ) ℕ). r >>= λ n. text_read (length bytes) (nat_lt (length n.1) (2 * n.0)) (list_any (λ u. u == 0) (le_units n.0 n.1)) (le_units n.0 n.1) (drop (2 * n.0) n.1)) p.1))
+
+text_at : (bytes rest : List ℕ) (n : ℕ) → Some (n, rest) ≡ if_read (take_number bytes) → is_ok (take_text bytes) ≡ not (nat_lt (length rest) (2 * n) || list_any (λ u. u == 0) (le_units n rest))
+text_at bytes rest n is =
+    ap is_ok (text_is bytes ∙ ap (λ (r : Result (ℕ × List ℕ) ℕ). r >>= λ n. text_read (length bytes) (nat_lt (length n.1) (2 * n.0)) (list_any (λ u. u == 0) (le_units n.0 n.1)) (le_units n.0 n.1) (drop (2 * n.0) n.1))
+    (read_is (n, rest) (take_number bytes) is))
+    ∙ guarded (length bytes) (nat_lt (length rest) (2 * n)) (list_any (λ u. u == 0) (le_units n rest)) (le_units n rest) (drop (2 * n) rest)
+
+pub short_text : (bytes rest : List ℕ) (n : ℕ) → Some (n, rest) ≡ if_read (take_number bytes) → length rest < 2 * n → false ≡ is_ok (take_text bytes)
+short_text bytes rest n is less = sym (text_at bytes rest n is ∙ rw (lt-ltb (length rest) (2 * n) less) refl)
+
+pub long_text : (bytes rest : List ℕ) (n : ℕ) (zero : Bool) → Some (n, rest) ≡ if_read (take_number bytes) → 2 * n ≤ length rest → zero ≡ list_any (λ u. u == 0) (le_units n rest) → not zero ≡ is_ok (take_text bytes)
+long_text bytes rest n zero is long has = ap not has ∙ sym (text_at bytes rest n is ∙ rw (le-ltb (length rest) (2 * n) long) refl)

@@ -5,7 +5,7 @@ use Rattle.outside.specs.Written.{Begins}
 use Rattle.outside.specs.declared.Failed.{Failed}
 use Rattle.scm_model.specs.declared.steps.Change.{Change}
 use Rattle.record_journal.specs.declared.journal.Journal.{Journal}
-use Rattle.record_journal.specs.Format.{piece}
+use Rattle.record_journal.specs.Format.{HasEntry, piece}
 use Rattle.record_journal.specs.Keepers.{IsEmptied}
 use Rattle.record_journal.specs.Bearing.{Bears, BearsMore, BearsSame, Borne, Puts, Tail, and_change, broken, kept_of, journal_grown}
 
@@ -38,39 +38,39 @@ more change j None told' puts (Some good) bears = absurd bears
 more change j (Some bytes) None puts (Some good) bears = absurd puts
 
 -- nothing is a front of any piece
-any_tail : (good tail : List ℕ) (dirty : Bool) (change : Change) → Tail good dirty tail → Tail good true tail
-any_tail good tail false change part = (change, (piece (length good) change, sym (ap (λ (t : List ℕ). t ++ piece (length good) change) part)))
-any_tail good tail true change part = part
+any_tail : (good tail : List ℕ) (dirty : Bool) (change : Change) → HasEntry change → Tail good dirty tail → Tail good true tail
+any_tail good tail false change fits part = (change, fits, (piece (length good) change, sym (ap (λ (t : List ℕ). t ++ piece (length good) change) part)))
+any_tail good tail true change fits part = part
 
-left : (good bytes now : List ℕ) (j : Journal) (change : Change) → now ≡ bytes → Borne good j bytes → Borne good (broken j) now
-left good bytes now j change is borne = record {
+left : (good bytes now : List ℕ) (j : Journal) (change : Change) → HasEntry change → now ≡ bytes → Borne good j bytes → Borne good (broken j) now
+left good bytes now j change fits is borne = record {
   tail = borne.tail;
   holds = is ∙ borne.holds;
-  part = any_tail good borne.tail j.dirty change borne.part;
+  part = any_tail good borne.tail j.dirty change fits borne.part;
   long = borne.long;
 }
 
 -- a front of a piece more stands behind what is kept
-part_more : (good bytes now front : List ℕ) (j : Journal) (change : Change) → Begins front (piece j.good change) → now ≡ kept_of j bytes ++ front → Borne good j bytes
+part_more : (good bytes now front : List ℕ) (j : Journal) (change : Change) → HasEntry change → Begins front (piece j.good change) → now ≡ kept_of j bytes ++ front → Borne good j bytes
     → Borne good (broken j) now
-part_more good bytes now front j change begins is borne = record {
+part_more good bytes now front j change fits begins is borne = record {
   tail = front;
   holds = is ∙ ap (λ (kept : List ℕ). kept ++ front) (kept good bytes j borne);
-  part = (change, subst (λ (n : ℕ). Begins front (piece n change)) borne.long begins);
+  part = (change, fits, subst (λ (n : ℕ). Begins front (piece n change)) borne.long begins);
   long = borne.long;
 }
 
-pub same : (change : Change) (j : Journal) (told told' : Option (List ℕ)) (fault : Failed) → Puts (piece j.good change) j told told' (Err fault)
+pub same : (change : Change) (j : Journal) (told told' : Option (List ℕ)) (fault : Failed) → HasEntry change → Puts (piece j.good change) j told told' (Err fault)
     → BearsSame j told (broken j) told'
 unfolding BearsSame
-same change j told told' fault puts None bears = tt
-same change j (Some bytes) (Some now) fault puts (Some good) bears = ⊎_elim
-    (λ (is : now ≡ bytes). left good bytes now j change is bears)
+same change j told told' fault fits puts None bears = tt
+same change j (Some bytes) (Some now) fault fits puts (Some good) bears = ⊎_elim
+    (λ (is : now ≡ bytes). left good bytes now j change fits is bears)
     (λ (p : (front : List ℕ) × Begins front (piece j.good change) × (now ≡ kept_of j bytes ++ front)).
-    part_more good bytes now p.0 j change p.1 p.2 bears)
+    part_more good bytes now p.0 j change fits p.1 p.2 bears)
     puts
-same change j None told' fault puts (Some good) bears = absurd bears
-same change j (Some bytes) None fault puts (Some good) bears = absurd puts
+same change j None told' fault fits puts (Some good) bears = absurd bears
+same change j (Some bytes) None fault fits puts (Some good) bears = absurd puts
 
 pub unchanged : (j : Journal) (told : Option (List ℕ)) → BearsSame j told j told
 unfolding BearsSame

@@ -3,7 +3,7 @@ use Rattle.std.proofs.Common.{ℕ, suc, ◌≡◌, ◌∙◌, ◌<◌, ◌≤◌
 use Rattle.std.specs.Prelude.{Result, option_and_then}
 use Rattle.scm_model.specs.declared.flat.Config.{Config}
 use Rattle.scm_model.specs.declared.steps.Change.{Change}
-use Rattle.record_journal.specs.Entries.{Entries, Goes, IsDone, Whole, all_from, can_replay, change_in, entries, entries_from, first_of, followed, gone, read_journal, replay_of, replayable, whole_entry, with_change}
+use Rattle.record_journal.specs.Entries.{Entries, Goes, IsDone, Whole, all_from, can_replay, change_in, entries, entries_from, first_of, followed, gone, is_unfinished, last_of, read_journal, replay_of, replayable, whole_entry, with_change}
 use Rattle.record_journal.specs.Replay.{after_change}
 use Rattle.record_journal.specs.declared.replaying.Next.{Next}
 use Rattle.record_journal.specs.declared.replaying.Next.TheVariants as nexts
@@ -22,20 +22,28 @@ one_more size old change (Err left) = refl
 
 pub goes_on : (old new : List Config) (bytes : List ℕ) (whole : Whole) (rest : Next) → whole_entry bytes ≡ Some whole → IsDone old (option_and_then (replayable old) (change_in whole.kind whole.body)) new true
     → ((size left : ℕ) (later : List Config → List ℕ → Result Entries ℕ) → gone size left later new rest ≡ replay_of size new (later new whole.rest)) → Goes old bytes new rest
-goes_on old new bytes whole rest is done behind size left later =
-    ap (λ (o : Option Whole). replay_of size old (first_of later old left o)) is
-    ∙ ap (λ (o : Option Change). replay_of size old (followed later old left whole.rest o)) done.1
+goes_on old new bytes whole rest is done behind size later =
+    ap (λ (o : Option Whole). replay_of size old (first_of later old bytes o)) is
+    ∙ ap (λ (o : Option Change). replay_of size old (followed later old (length bytes) whole.rest o)) done.1
     ∙ one_more size old done.0 (later (after_change old done.0) whole.rest)
     ∙ ap (λ (configs : List Config). replay_of size configs (later configs whole.rest)) (sym done.2)
-    ∙ sym (behind size left later)
+    ∙ sym (behind size (length bytes) later)
 
 pub is_damaged : (old new : List Config) (bytes : List ℕ) (whole : Whole) → whole_entry bytes ≡ Some whole → option_and_then (replayable old) (change_in whole.kind whole.body) ≡ None → Goes old bytes new nexts.Damaged
-is_damaged old new bytes whole is none size left later =
-    ap (λ (o : Option Whole). replay_of size old (first_of later old left o)) is
-    ∙ ap (λ (o : Option Change). replay_of size old (followed later old left whole.rest o)) none
+is_damaged old new bytes whole is none size later =
+    ap (λ (o : Option Whole). replay_of size old (first_of later old bytes o)) is
+    ∙ ap (λ (o : Option Change). replay_of size old (followed later old (length bytes) whole.rest o)) none
 
-pub is_unfinished : (old : List Config) (bytes : List ℕ) → whole_entry bytes ≡ None → Goes old bytes old nexts.Unfinished
-is_unfinished old bytes is size left later = ap (λ (o : Option Whole). replay_of size old (first_of later old left o)) is
+ended_so : (size left : ℕ) (later : List Config → List ℕ → Result Entries ℕ) (old : List Config) (b : Bool)
+    → replay_of size old (last_of left b) ≡ gone size left later old (cond b nexts.Unfinished nexts.Damaged)
+ended_so size left later old true = refl
+ended_so size left later old false = refl
+
+pub ends_before : (old : List Config) (bytes : List ℕ) (next : Next) → whole_entry bytes ≡ None → next ≡ cond (is_unfinished bytes) nexts.Unfinished nexts.Damaged → Goes old bytes old next
+ends_before old bytes next none is size later =
+    ap (λ (o : Option Whole). replay_of size old (first_of later old bytes o)) none
+    ∙ ended_so size (length bytes) later old (is_unfinished bytes)
+    ∙ ap (gone size (length bytes) later old) (sym is)
 
 -- ## Entry after entry
 
@@ -47,7 +55,7 @@ looked : (size count i : ℕ) (old new : List Config) (bytes : List ℕ) (next :
 unfolding entries_from
 looked size count i old new bytes next lt goes =
     let k : count - i ≡ suc (count - (i + 1)) = omega (arith, lt) in
-    ap (λ n. replay_of size old (entries_from n old bytes)) k ∙ goes size (length bytes) (entries_from (count - (i + 1)))
+    ap (λ n. replay_of size old (entries_from n old bytes)) k ∙ goes size (entries_from (count - (i + 1)))
 
 pub starts : (size : ℕ) (bytes : List ℕ) → Left size (length bytes) 0 [] bytes ≡ replay_of size [] (all_from [] bytes)
 starts size bytes = ap (λ n. replay_of size [] (entries_from n [] bytes)) (omega arith)

@@ -2,7 +2,7 @@
 use Rattle.std.specs.Prelude.{ℕ, ◌≡◌, ◌⊎◌, ◌+◌, Bool, true, false, List, [], ◌++◌, fold, length, take, Option, None, Some, Result, Ok, Err, if◌then◌else◌}
 use Rattle.outside.specs.Written.{Begins}
 use Rattle.scm_model.specs.declared.steps.Change.{Change}
-use Rattle.record_journal.specs.Format.{piece}
+use Rattle.record_journal.specs.Format.{HasEntry, piece}
 use Rattle.record_journal.specs.declared.journal.Journal.{Journal}
 
 -- ## What one call does to the bytes
@@ -38,7 +38,8 @@ Puts piece j (Some bytes) (Some now) (Err fault) = (now ≡ bytes) ⊎ ((front :
 -- behind what is kept stands nothing; or, where an append failed and nothing was cut since, a front of one piece more
 abbrev pub Tail : List ℕ → Bool → List ℕ → Type 0
 Tail good false tail = tail ≡ []
-Tail good true tail = (change : Change) × Begins tail (piece (length good) change)
+Tail good true tail =
+    (change : Change) × HasEntry change × Begins tail (piece (length good) change)
 
 -- what is kept, and behind it no more than a front of one piece
 pub record Borne (good : List ℕ) (j : Journal) (now : List ℕ) : Type 0 where

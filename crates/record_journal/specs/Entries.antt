@@ -1,5 +1,5 @@
 -- The entries of a journal's bytes.
-use Rattle.std.specs.Prelude.{ℕ, zero, suc, ◌≡◌, Bool, true, false, not, ◌&&◌, ◌==◌, ◌-◌, eqb, nat_lt, List, [], ◌∷◌, take, drop, length, Option, None, Some, option_and_then, option_map, Result, Ok, Err, if◌then◌else◌}
+use Rattle.std.specs.Prelude.{ℕ, zero, suc, ◌≡◌, Bool, true, false, not, ◌&&◌, ◌==◌, ◌-◌, eqb, nat_lt, List, [], ◌∷◌, take, drop, length, Option, None, Some, option_and_then, option_map, Result, Ok, Err, is_ok, ◌||◌, if◌then◌else◌}
 use Rattle.std.specs.List.{list_any, starts_with}
 use Rattle.scm_text.specs.Fold.{same_text}
 use Rattle.scm_model.specs.declared.flat.Config.{Config}
@@ -8,7 +8,7 @@ use Rattle.scm_model.specs.declared.steps.Change.{Change}
 use Rattle.scm_model.specs.declared.steps.Change.TheVariants.{Created, Changed, Removed}
 use Rattle.scm_model.specs.Order.{is_cyclic}
 use Rattle.service_record.specs.Checks.{check_new}
-use Rattle.service_record.specs.Reading.{◌>>=◌, take_number, take_text, whole_of}
+use Rattle.service_record.specs.Reading.{◌>>=◌, take_config, take_number, take_text, whole_of}
 use Rattle.scm_rules.specs.Needs.{need_rows}
 use Rattle.scm_rules.specs.Opening.{services_from}
 use Rattle.record_journal.specs.Format.{header}
@@ -57,6 +57,24 @@ change_in kind body =
     else if kind == 2 then option_map Changed (if_read (whole_of body))
     else if kind == 3 then option_map Removed (if_read (name_of body))
     else None
+
+-- ## What can still become an entry
+
+-- whether more bytes can make a body of this kind: no whole configuration, or name, is there yet
+abbrev pub can_grow : ℕ → List ℕ → Bool
+can_grow kind body =
+    if kind == 1 || kind == 2 then not (is_ok (take_config body))
+    else kind == 3 && not (is_ok (take_text body))
+
+-- whether less than a whole entry can become one; its body begins after the kind and the length
+abbrev pub is_unfinished : List ℕ → Bool
+is_unfinished [] = true
+is_unfinished (kind ∷ bytes) = can_grow kind (drop 4 bytes)
+
+-- a part of an entry, and not all of it
+pub record IsPart (bytes : List ℕ) : Type 0 where
+  pub less : whole_entry bytes ≡ None
+  pub unfinished : is_unfinished bytes ≡ true
 
 -- ## What can be replayed
 
@@ -110,18 +128,22 @@ followed later configs left rest None = Err left
 followed later configs left rest (Some change) =
     with_change change (later (after_change configs change) rest)
 
--- less than a whole entry ends them
-abbrev pub first_of : (List Config → List ℕ → Result Entries ℕ) → List Config → ℕ → Option Whole → Result Entries ℕ
-first_of later configs left None = Ok (record { changes = []; left = left })
-first_of later configs left (Some whole) =
-    followed later configs left whole.rest
+-- an unfinished entry ends them; what is less than a whole entry and can't become one is damage
+abbrev pub last_of : ℕ → Bool → Result Entries ℕ
+last_of left true = Ok (record { changes = []; left = left })
+last_of left false = Err left
+
+abbrev pub first_of : (List Config → List ℕ → Result Entries ℕ) → List Config → List ℕ → Option Whole → Result Entries ℕ
+first_of later configs bytes None = last_of (length bytes) (is_unfinished bytes)
+first_of later configs bytes (Some whole) =
+    followed later configs (length bytes) whole.rest
     (option_and_then (replayable configs) (change_in whole.kind whole.body))
 
 -- entry after entry over these configurations, so many at most
 unfoldable pub entries_from : ℕ → List Config → List ℕ → Result Entries ℕ
 entries_from zero configs bytes = Ok (record { changes = []; left = length bytes })
 entries_from (suc n) configs bytes =
-    first_of (entries_from n) configs (length bytes) (whole_entry bytes)
+    first_of (entries_from n) configs bytes (whole_entry bytes)
 
 -- no entry is shorter than a byte
 abbrev pub all_from : List Config → List ℕ → Result Entries ℕ
@@ -165,5 +187,6 @@ gone size left later new nexts.Damaged = Err (size - left)
 -- reading goes on behind an entry, or ends before one
 abbrev pub Goes : List Config → List ℕ → List Config → Next → Type 0
 Goes old bytes new next =
-    (size left : ℕ) (later : List Config → List ℕ → Result Entries ℕ)
-    → replay_of size old (first_of later old left (whole_entry bytes)) ≡ gone size left later new next
+    (size : ℕ) (later : List Config → List ℕ → Result Entries ℕ)
+    → replay_of size old (first_of later old bytes (whole_entry bytes))
+    ≡ gone size (length bytes) later new next

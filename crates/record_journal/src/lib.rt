@@ -15,6 +15,9 @@ mod replaying;
 pub use file::FileKeeper;
 pub use journal::Journal;
 pub use keeper::{KeepFault, Keeper};
-pub use law::{a_journal_is_read_back, appended_changes_are_a_journal};
+pub use law::{
+    a_changed_byte_cuts_nothing, a_journal_is_read_back, an_entry_has_parts,
+    appended_changes_are_a_journal,
+};
 pub use memory::{Fate, MemoryKeeper};
 pub use opening::{JournalFault, Restored, open_journal};

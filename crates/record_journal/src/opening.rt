@@ -28,7 +28,8 @@ pub enum JournalFault {
     /// The keeper failed, and its count of faults rose.
     Failed,
     OutOfMemory,
-    /// Here the header or the first whole entry that is damaged begins.
+    /// Here the header or the first entry that is damaged begins: a whole one, or less than one
+    /// that can't become an entry.
     Damaged(u64),
 }
 
@@ -72,9 +73,10 @@ fn restore<K: Keeper>(alloc: Global, keeper: &mut K, bytes: &[u8]) -> Result<Res
     }
 }
 
-/// Opens a keeper, and reads the journal that stands under the path; without a path it is empty. An
-/// unfinished last entry is cut, and so is a part of a header. A journal that is damaged is never
-/// written to.
+/// Opens a keeper, and reads the journal that stands under the path; without a path it is empty. A
+/// part of an entry at the end, as an append that was cut off leaves, is cut, and so is a part of a
+/// header. It is no part if its kind is none, or if its body has a whole configuration or name. A
+/// journal that is damaged is never written to.
 pub fn open_journal<K: Keeper>(
     alloc: Global,
     keeper: &mut K,

@@ -1,9 +1,9 @@
 //! Entries, read.
-ghost use Rattle.std.specs.Prelude.{◌≡◌, IfOk, option_map};
+ghost use Rattle.std.specs.Prelude.{◌≡◌, IfOk, is_ok, option_map};
 ghost use Rattle.scm_model.specs.declared.steps.Change.TheVariants as changes;
-ghost use Rattle.service_record.specs.Reading.{take_number, whole_of};
-ghost use Rattle.record_journal.specs.Entries.{change_in, if_read, name_of, seen};
-ghost use Rattle.record_journal.specs.Entries.{whole_entry, with_body};
+ghost use Rattle.service_record.specs.Reading.{take_config, take_number, take_text, whole_of};
+ghost use Rattle.record_journal.specs.Entries.{can_grow, change_in, if_read, is_unfinished};
+ghost use Rattle.record_journal.specs.Entries.{name_of, seen, whole_entry, with_body};
 
 use crate::entry::{CHANGED, CREATED, REMOVED};
 use ndr_body::{has_zero, units_of};
@@ -117,4 +117,74 @@ pub fn change_in(alloc: Global, kind: u8, body: &[u8]) -> Result<Option<Change>,
         return Ok(removed(name_in(alloc, body)?));
     }
     Ok(None)
+}
+
+/// Whether a body is a configuration.
+#[tactic(auto, using(crate::proofs::Parts::is_placed))]
+fn is_config(alloc: Global, body: &[u8]) -> Result<bool, OutOfMemory>
+    ensures { IfOk result (λ is. is ≡ is_ok (whole_of body.now)) }
+{
+    match read_record(alloc, body) {
+        Ok(config) => {
+            drop(config);
+            Ok(true)
+        }
+        Err(RecordFault::Bad(_)) => Ok(false),
+        Err(RecordFault::OutOfMemory) => Err(OutOfMemory),
+    }
+}
+
+/// Whether a body begins with a configuration. What follows one is where reading it fails.
+fn has_config(alloc: Global, body: &[u8]) -> Result<bool, OutOfMemory>
+    ensures { IfOk result (λ has. has ≡ is_ok (take_config body.now)) }
+{
+    match read_record(alloc, body) {
+        Ok(config) => {
+            drop(config);
+            Ok(true)
+        }
+        Err(RecordFault::Bad(place)) => is_config(alloc, &body[..place]),
+        Err(RecordFault::OutOfMemory) => Err(OutOfMemory),
+    }
+}
+
+/// Whether a body begins with a name.
+fn has_name(alloc: Global, body: &[u8]) -> Result<bool, OutOfMemory>
+    ensures { IfOk result (λ has. has ≡ is_ok (take_text body.now)) }
+{
+    let Some((count, rest)) = number_at(body) else {
+        return Ok(false);
+    };
+    let count = count as usize;
+    if rest.len() < 2 * count {
+        return Ok(false);
+    }
+    let Ok(units) = units_of(alloc, rest, count) else {
+        return Err(OutOfMemory);
+    };
+    let has_zero = has_zero(units.as_slice());
+    drop(units);
+    Ok(!has_zero)
+}
+
+/// Whether more bytes can make a body of this kind.
+fn can_grow(alloc: Global, kind: u8, body: &[u8]) -> Result<bool, OutOfMemory>
+    ensures { IfOk result (λ can. can ≡ can_grow kind body.now) }
+{
+    match kind {
+        CREATED | CHANGED => Ok(!has_config(alloc, body)?),
+        REMOVED => Ok(!has_name(alloc, body)?),
+        _ => Ok(false),
+    }
+}
+
+/// Whether less than a whole entry can become one.
+pub fn is_unfinished(alloc: Global, bytes: &[u8]) -> Result<bool, OutOfMemory>
+    ensures { IfOk result (λ is. is ≡ is_unfinished bytes.now) }
+{
+    match bytes {
+        [kind, _, _, _, _, body @ ..] => can_grow(alloc, *kind, body),
+        [kind, ..] => can_grow(alloc, *kind, &[]),
+        [] => Ok(true),
+    }
 }

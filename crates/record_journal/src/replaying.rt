@@ -1,18 +1,22 @@
 //! Changes, replayed over configurations.
 ghost use Rattle.std.specs.Prelude.{◌≡◌, ◌<◌, ◌-◌, [], not, false, true, filter, map, length};
-ghost use Rattle.std.specs.Prelude.{slice_get, is_some, option_and_then, AllPairs, IfOk, IfSome, IsOk, OnOk};
+ghost use Rattle.std.specs.Prelude.{slice_get, is_some, option_and_then, if◌then◌else◌};
+ghost use Rattle.std.specs.Prelude.{AllPairs, IfOk, IfSome, IsOk, OnOk};
 ghost use Rattle.std.specs.List.{list_any};
 ghost use Rattle.scm_text.specs.Fold.{same_text};
 ghost use Rattle.scm_model.specs.declared.steps.Change.TheVariants.{Created, Changed, Removed};
-ghost use Rattle.record_journal.specs.Entries.{Goes, IsDone, all_from, can_replay, change_in, has_name};
-ghost use Rattle.record_journal.specs.Entries.{is_fit, read_journal, replay_of, replayable, shows_as};
+ghost use Rattle.record_journal.specs.Entries.{Goes, IsDone, all_from, can_replay, change_in};
+ghost use Rattle.record_journal.specs.Entries.{has_name};
+ghost use Rattle.record_journal.specs.Entries.{is_fit, is_unfinished, read_journal, replay_of};
+ghost use Rattle.record_journal.specs.Entries.{replayable, shows_as};
+ghost use Rattle.record_journal.specs.declared.replaying.Next.TheVariants as nexts;
 ghost use Rattle.record_journal.specs.Opening.{CanBegin, Reads};
 ghost use Rattle.record_journal.specs.Replay.{after_change, replaced_by};
 
 use crate::entry::HEADER;
 use crate::numbered::closes;
 use crate::opening::JournalFault;
-use crate::reading::{change_in, whole_entry};
+use crate::reading::{change_in, is_unfinished, whole_entry};
 use scm_model::{Change, Config};
 use scm_text::{Buffer, Items, OutOfMemory, WText, same};
 use service_record::check_new;
@@ -202,10 +206,22 @@ fn replay_body(
 enum Next<'a> {
     /// An entry was replayed, and this stands behind it.
     Rest(&'a [u8]),
-    /// Less than a whole entry is left.
+    /// Nothing is left, or a part of an entry.
     Unfinished,
-    /// A whole entry is damaged.
+    /// What is left is damaged.
     Damaged,
+}
+
+/// How reading ends before less than a whole entry.
+fn end_before<'a>(alloc: Global, bytes: &'a [u8]) -> Result<Next<'a>, OutOfMemory>
+    ensures { IfOk result (λ next. next ≡
+        (if is_unfinished bytes.now then nexts.Unfinished else nexts.Damaged)) }
+{
+    if is_unfinished(alloc, bytes)? {
+        Ok(Next::Unfinished)
+    } else {
+        Ok(Next::Damaged)
+    }
 }
 
 /// Replays the entry at the front of some bytes.
@@ -220,7 +236,7 @@ fn replay_entry<'a>(
     ensures begins { IsOk result → CanBegin configs.new.items }
 {
     let Some(front) = whole_entry(bytes) else {
-        return Ok(Next::Unfinished);
+        return end_before(alloc, bytes);
     };
     if replay_body(alloc, configs, front.kind, front.body, searched)? {
         Ok(Next::Rest(front.rest))
