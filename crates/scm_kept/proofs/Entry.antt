@@ -56,8 +56,9 @@ pub entry_back : (n : ℕ) (configs : List Config) (change : Change) (rest : Lis
     → entries_from (suc n) configs (entry_bytes change ++ rest) ≡ with_change (held_change change) (entries_from n (after_change configs (held_change change)) rest)
 unfolding entries_from
 entry_back n configs change rest entry can =
-    let left = length (entry_bytes change ++ rest) in
-    ap (first_of (entries_from n) configs left) (front_back change rest entry)
+    let bytes = entry_bytes change ++ rest in
+    let left = length bytes in
+    ap (first_of (entries_from n) configs bytes) (front_back change rest entry)
     ∙ ap (λ (o : Option Change). followed (entries_from n) configs left rest (option_and_then (replayable configs) o)) (change_back change entry)
     ∙ ap (λ (b : Bool). followed (entries_from n) configs left rest (cond b (Some (held_change change)) None)) can
 

@@ -5,4 +5,5 @@ pub mod Calls
 pub mod Runs
 pub mod Entry
 pub mod ReadOn
+pub mod ReadCut
 pub mod Opened

@@ -1,5 +1,5 @@
 -- A journal is read behind what was read before.
-use Rattle.std.proofs.Common.{ℕ, zero, suc, ◌≡◌, ◌≢◌, ◌∙◌, ◌≤◌, ◌-◌, ◌+◌, ◌&&◌, true, false, cond, List, [], ◌∷◌, ◌++◌, None, Some, Ok, Err, take, drop, length, length-append, append_assoc, refl, sym, ap, subst, arith, nat_lt, le-ltb, ltb-false, ne_eqb, eqb, ⊎_elim, inl, inr, ◌⊎◌}
+use Rattle.std.proofs.Common.{ℕ, zero, suc, ◌≡◌, ◌≢◌, ◌∙◌, ◌≤◌, ◌-◌, ◌+◌, ◌&&◌, Bool, true, false, cond, List, [], ◌∷◌, ◌++◌, None, Some, Ok, Err, take, drop, length, length-append, append_assoc, refl, sym, ap, subst, arith, nat_lt, le-ltb, ltb-false, ne_eqb, eqb, ⊎_elim, inl, inr, ◌⊎◌}
 use Rattle.std.specs.Prelude.{Result, option_and_then}
 use Rattle.std.specs.Int.{w32, from_le_bytes}
 use Rattle.std.specs.List.{starts_with}
@@ -10,7 +10,7 @@ use Rattle.std.proofs.lemmas.Slice.Eq.{starts_is}
 use Rattle.scm_model.specs.declared.flat.Config.{Config}
 use Rattle.scm_model.specs.declared.steps.Change.{Change}
 use Rattle.service_record.specs.Reading.{Item, take_number}
-use Rattle.record_journal.specs.Entries.{Entries, Whole, all_from, can_replay, change_in, entries, entries_from, first_of, followed, if_read, read_journal, replay_of, replayable, whole_entry, with_body, with_change}
+use Rattle.record_journal.specs.Entries.{Entries, IsPart, Whole, all_from, can_replay, change_in, entries, entries_from, first_of, followed, if_read, is_unfinished, last_of, read_journal, replay_of, replayable, whole_entry, with_body, with_change}
 use Rattle.record_journal.specs.Format.{HasEntry, entry_bytes, header, piece}
 use Rattle.record_journal.specs.ReadBack.{held_change, written}
 use Rattle.record_journal.specs.Replay.{after_change, replayed}
@@ -73,12 +73,12 @@ parted (kind ∷ bytes) whole is =
 
 -- ## Entry after entry, whatever stands behind them
 
-with_all : List Change → Result Entries ℕ → Result Entries ℕ
+pub with_all : List Change → Result Entries ℕ → Result Entries ℕ
 with_all [] read = read
 with_all (change ∷ changes) read = with_change change (with_all changes read)
 
 -- so many turns and one for each change
-turns : List Change → ℕ → ℕ
+pub turns : List Change → ℕ → ℕ
 turns [] m = m
 turns (change ∷ changes) m = suc (turns changes m)
 
@@ -112,17 +112,22 @@ behind n configs bytes whole change later p done r = record {
   any = λ m x.
       let t = turns later.changes m in
       ap (entries_from (suc t) configs) (append_assoc p.front r.front x)
-      ∙ ap (first_of (entries_from t) configs (length (p.front ++ (r.front ++ x)))) (p.any (r.front ++ x))
+      ∙ ap (first_of (entries_from t) configs (p.front ++ (r.front ++ x))) (p.any (r.front ++ x))
       ∙ ap (followed (entries_from t) configs (length (p.front ++ (r.front ++ x))) (r.front ++ x)) done
       ∙ ap (with_change change) (r.any m x);
 }
+
+-- what ends a journal that is read
+last_is : (left : ℕ) (b : Bool) (read : Entries) → last_of left b ≡ Ok read → ◌≡◌ {A = Result Entries ℕ} (Ok (record { changes = []; left = left })) (Ok read)
+last_is left true read is = is
+last_is left false read is = absurd cc
 
 reaches : (n : ℕ) (configs : List Config) (bytes : List ℕ) (read : Entries) → entries_from n configs bytes ≡ Ok read → Reaches n configs bytes read
 unfolding entries_from
 reaches zero configs bytes read is = here zero configs bytes read is
 reaches (suc n) configs bytes read is =
-    elim (whole_entry bytes) as (λ o. whole_entry bytes ≡ o → first_of (entries_from n) configs (length bytes) o ≡ Ok read → Reaches (suc n) configs bytes read) [
-      | None ↦ λ e ended. here (suc n) configs bytes read ended
+    elim (whole_entry bytes) as (λ o. whole_entry bytes ≡ o → first_of (entries_from n) configs bytes o ≡ Ok read → Reaches (suc n) configs bytes read) [
+      | None ↦ λ e ended. here (suc n) configs bytes read (last_is (length bytes) (is_unfinished bytes) read ended)
       | Some whole ↦ λ e goes.
           elim (option_and_then (replayable configs) (change_in whole.kind whole.body)) as (λ o. option_and_then (replayable configs) (change_in whole.kind whole.body) ≡ o
           → followed (entries_from n) configs (length bytes) whole.rest o ≡ Ok read → Reaches (suc n) configs bytes read) [
@@ -137,20 +142,20 @@ reaches (suc n) configs bytes read is =
 -- ## A journal
 
 -- a header, and entries of these configurations
-record Stood (good : List ℕ) (configs : List Config) : Type 0 where
-  front : List ℕ
-  changes : List Change
-  headed : good ≡ header ++ front
-  few : length changes ≤ length front
-  any : (m : ℕ) (x : List ℕ) → entries_from (turns changes m) [] (front ++ x) ≡ with_all changes (entries_from m configs x)
-  comes : replayed [] changes ≡ configs
+pub record Stood (good : List ℕ) (configs : List Config) : Type 0 where
+  pub front : List ℕ
+  pub changes : List Change
+  pub headed : good ≡ header ++ front
+  pub few : length changes ≤ length front
+  pub any : (m : ℕ) (x : List ℕ) → entries_from (turns changes m) [] (front ++ x) ≡ with_all changes (entries_from m configs x)
+  pub comes : replayed [] changes ≡ configs
 
-turns_are : (changes : List Change) (m : ℕ) → turns changes m ≡ length changes + m
+pub turns_are : (changes : List Change) (m : ℕ) → turns changes m ≡ length changes + m
 unfolding turns
 turns_are [] m = omega arith
 turns_are (change ∷ changes) m = let rest = turns_are changes m in omega (arith, rest)
 
-all_are : (changes : List Change) (more : List Change) (left : ℕ) → with_all changes (Ok (record { changes = more; left = left })) ≡ Ok (record { changes = changes ++ more; left = left })
+pub all_are : (changes : List Change) (more : List Change) (left : ℕ) → with_all changes (Ok (record { changes = more; left = left })) ≡ Ok (record { changes = changes ++ more; left = left })
 unfolding with_all
 all_are [] more left = refl
 all_are (change ∷ changes) more left = ap (with_change change) (all_are changes more left)
@@ -160,7 +165,7 @@ unfolding entries_from
 nothing_more zero configs = refl
 nothing_more (suc m) configs = refl
 
-headed_read : (rest : List ℕ) → entries (header ++ rest) ≡ all_from [] rest
+pub headed_read : (rest : List ℕ) → entries (header ++ rest) ≡ all_from [] rest
 headed_read rest = rw (and_right (starts_with eqb header (header ++ rest)) (nat_lt (length (header ++ rest)) 8) (le-ltb (length (header ++ rest)) 8 (omega arith))) refl
 
 replayed_more : (configs : List Config) (changes : List Change) (change : Change) → replayed configs (changes ++ change ∷ []) ≡ after_change (replayed configs changes) change
@@ -206,7 +211,7 @@ stood_more good configs change s entry can =
 
 -- ## What was read
 
-abbrev WasRead : List ℕ → Replay → Type 0
+abbrev pub WasRead : List ℕ → Replay → Type 0
 WasRead bytes replay = ((replay.kept ≡ 0) × (replay.configs ≡ [])) ⊎ Stood (take replay.kept bytes) replay.configs
 
 ok_is : {A : Type 0} (x y : A) → ◌≡◌ {A = Result A ℕ} (Ok x) (Ok y) → x ≡ y
@@ -235,7 +240,7 @@ of_part bytes replay is =
     let e = ok_is _ p.0 p.1 in
     subst (λ (q : Replay). WasRead bytes q) (ok_is _ replay is) (inl (omega arith, refl))
 
-was_read : (bytes : List ℕ) (replay : Replay) → read_journal bytes ≡ Ok replay → WasRead bytes replay
+pub was_read : (bytes : List ℕ) (replay : Replay) → read_journal bytes ≡ Ok replay → WasRead bytes replay
 was_read bytes replay is =
     elim (starts_with eqb header bytes && nat_lt (length bytes) 8) as (λ b. replay_of (length bytes) [] (cond b (Ok (record { changes = []; left = length bytes }))
     (cond (starts_with eqb bytes header) (all_from [] (drop 8 bytes)) (Err (length bytes)))) ≡ Ok replay → WasRead bytes replay) [
@@ -263,13 +268,14 @@ first_piece : (change : Change) → piece 0 change ≡ written (change ∷ []) +
 unfolding piece
 first_piece change = ap (λ (xs : List ℕ). header ++ xs) (sym (append-nil (entry_bytes change))) ∙ sym (append-nil (written (change ∷ [])))
 
-later_piece : (n : ℕ) (change : Change) → n ≢ 0 → piece n change ≡ entry_bytes change
+pub later_piece : (n : ℕ) (change : Change) → n ≢ 0 → piece n change ≡ entry_bytes change
 unfolding piece
 later_piece n change some = rw (ne_eqb n 0 some) refl
 
-one_more : (good : List ℕ) (configs : List Config) (change : Change) → IsJournalOf good configs → HasEntry change → can_replay configs (held_change change) ≡ true
+pub one_more : (good : List ℕ) (configs : List Config) (change : Change) → IsJournalOf good configs → HasEntry change → can_replay configs (held_change change) ≡ true
     → IsJournalOf (good ++ piece (length good) change) (after_change configs (held_change change))
 one_more good configs change is entry can =
+    let nothing : IsPart [] = record { less = refl; unfinished = refl } in
     ⊎_elim
     (λ (p : (length good ≡ 0) × (configs ≡ [])).
     let none : good ≡ [] = nil_from_length good p.0 in
@@ -277,7 +283,7 @@ one_more good configs change is entry can =
     subst (λ (cs : List Config). IsJournalOf (good ++ piece (length good) change) (after_change cs (held_change change))) (sym p.1)
     (subst (λ (xs : List ℕ). IsJournalOf (xs ++ piece (length xs) change) (after_change [] (held_change change))) (sym none)
     (subst (λ (xs : List ℕ). IsJournalOf xs (after_change [] (held_change change))) (sym (first_piece change))
-    (read_back (change ∷ []) (entry, first, tt) [] refl ∙ ap (λ (xs : List ℕ). Ok (record { configs = after_change [] (held_change change); kept = length xs })) (sym (append-nil (written (change ∷ []))))))))
+    (read_back (change ∷ []) (entry, first, tt) [] nothing ∙ ap (λ (xs : List ℕ). Ok (record { configs = after_change [] (held_change change); kept = length xs })) (sym (append-nil (written (change ∷ []))))))))
     (λ (s : Stood (take (length good) good) configs).
     let all : Stood good configs = subst (λ (xs : List ℕ). Stood xs configs) (take_all (length good) good (omega arith)) s in
     let some : length good ≢ 0 = (λ q. let h = ap length all.headed in absurd (omega (arith, q, h))) in

@@ -1,11 +1,13 @@
 -- What is read of a journal that changes were appended to.
-use Rattle.std.specs.Prelude.{ℕ, ◌≡◌, List, Some, Ok, IfSome, length, map, take}
+use Rattle.std.specs.Prelude.{ℕ, ◌≡◌, ◌≤◌, ◌⊎◌, true, List, ◌++◌, Some, Ok, IfSome, length, map, take}
+use Rattle.outside.specs.Written.{Begins}
 use Rattle.scm_model.specs.declared.flat.Config.{Config}
 use Rattle.scm_model.specs.declared.steps.Change.{Change}
 use Rattle.record_journal.specs.Bearing.{and_changes}
-use Rattle.record_journal.specs.Entries.{read_journal}
+use Rattle.record_journal.specs.Entries.{can_replay, read_journal}
+use Rattle.record_journal.specs.Format.{HasEntry, piece}
 use Rattle.record_journal.specs.ReadBack.{AreReplayable, held_change}
-use Rattle.record_journal.specs.Replay.{replayed}
+use Rattle.record_journal.specs.Replay.{after_change, replayed}
 use Rattle.record_journal.specs.declared.replaying.Replay.{Replay}
 
 -- the bytes are a journal of these configurations, each of them
@@ -23,3 +25,16 @@ IsReadOn bytes configs changes =
     IsJournalOf bytes configs → AreReplayable configs changes
     → IfSome (and_changes (Some bytes) changes)
     (λ now. IsJournalOf now (replayed configs (map held_change changes)))
+
+-- all that was kept is kept, and read as it was, or with one change more
+pub record Stays (bytes : List ℕ) (configs : List Config) (change : Change) (now : List ℕ) : Type 0 where
+  pub replay : Replay
+  pub read : read_journal now ≡ Ok replay
+  pub kept : length bytes ≤ replay.kept
+  pub either : (replay.configs ≡ configs) ⊎ (replay.configs ≡ after_change configs (held_change change))
+
+-- an append that was cut off anywhere leaves no damage
+abbrev pub IsReadCut : List ℕ → List Config → Change → List ℕ → Type 0
+IsReadCut bytes configs change front =
+    IsJournalOf bytes configs → HasEntry change → can_replay configs (held_change change) ≡ true
+    → Begins front (piece (length bytes) change) → Stays bytes configs change (bytes ++ front)

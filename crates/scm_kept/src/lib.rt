@@ -2,7 +2,7 @@
 #![tactic(auto)]
 
 ghost use Rattle.std.specs.Prelude.{◌≡◌, List, ℕ};
-ghost use Rattle.scm_kept.specs.Read.{IsReadAgain, IsReadOn};
+ghost use Rattle.scm_kept.specs.Read.{IsReadAgain, IsReadCut, IsReadOn};
 ghost use Rattle.scm_kept.specs.Replayed.{UnmarkedAreKept, unmarked};
 ghost use Rattle.scm_model.specs.declared.flat.Config.{Config};
 ghost use Rattle.scm_model.specs.declared.flat.Limits.{Limits};
@@ -24,12 +24,15 @@ pub fn unmarked_configurations_are_kept(limits: &Limits, steps: &Items<(u64, Ste
 {}
 
 /// Read once more, what an opening keeps of a journal comes to the same configurations, and changes
-/// that are appended to it and can be replayed are read behind them: so what one run kept is what
-/// the next one opens with.
+/// that are appended to it and can be replayed are read after them: so what one run kept is what
+/// the next one opens with. Where the last append was cut off, the journal isn't damaged: all before
+/// it is read, or all with its change.
 pub fn what_was_kept_is_read()
     ensures again { (bytes : List ℕ) (replay : Replay) → IsReadAgain bytes replay }
     ensures on { (bytes : List ℕ) (configs : List Config) (changes : List Change) →
         IsReadOn bytes configs changes }
+    ensures cut { (bytes : List ℕ) (configs : List Config) (change : Change) (front : List ℕ) →
+        IsReadCut bytes configs change front }
 {}
 
 /// The unmarked configurations of a state that a history opens in are those that it opens with, in
