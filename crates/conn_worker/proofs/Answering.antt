@@ -1,5 +1,5 @@
 -- What a pass's requests are told answers them.
-use Rattle.std.proofs.Common.{◌≡◌, ◌∙◌, ◌⊎◌, ℕ, List, [], Option, None, Some, true, false, inl, inr, refl, sym, subst}
+use Rattle.std.proofs.Common.{◌≡◌, ◌∙◌, ◌⊎◌, ℕ, Bool, List, [], Option, None, Some, true, false, inl, inr, refl, sym, subst}
 use Rattle.scm_model.specs.declared.calls.Reply.{Reply}
 use Rattle.scm_model.specs.declared.calls.Reply.TheVariants as replies
 use Rattle.scm_model.specs.declared.calls.Request.{Request}
@@ -44,9 +44,9 @@ module _ (o : Opening) (opens : Opens o) where
   of_end : (k k' : Known) (moment caller plan : ℕ) (asked : Request) (reply : Reply) → is_start asked ≡ true → Made o k moment (EndStart caller plan) (answers.Reply reply) k' → Answers asked reply
   of_end k k' moment caller plan asked reply start made = for_start asked reply start (rightly k k' moment (EndStart caller plan) (answers.Reply reply) made)
 
-  module _ (tells : ℕ → Type 0) (k : Known) (moment : ℕ) (told : tells moment) (asked : Request) where
+  module _ (silent : Bool) (tells : ℕ → Type 0) (k : Known) (moment : ℕ) (told : tells moment) (asked : Request) where
     -- a request that was answered at once
-    pub at_once : (k' : Known) (reply : Reply) → AnsweredSo o k moment asked reply k' → CallAnswered (IsServed tells o) k k' (asks.Call asked) reply
+    pub at_once : (k' : Known) (reply : Reply) → AnsweredSo o k moment asked reply k' → CallAnswered (IsServed silent tells o) k k' (asks.Call asked) reply
     at_once k' reply (inl made) = record {
       heard = Some reply;
       made = inl (record { moment = moment; told = told; made = made });
@@ -61,8 +61,8 @@ module _ (o : Opening) (opens : Opens o) where
     }
 
     -- a start that waited
-    pub waited_for : (begun k' : Known) (plan : ℕ) (reply : Reply) → is_start asked ≡ true → MadeSo o k moment (called k asked) (answers.Begun plan) begun → WaitsAndEnds tells o plan begun reply k'
-        → CallAnswered (IsServed tells o) k k' (asks.Call asked) reply
+    pub waited_for : (begun k' : Known) (plan : ℕ) (reply : Reply) → is_start asked ≡ true → MadeSo o k moment (called k asked) (answers.Begun plan) begun → WaitsAndEnds silent tells o plan begun reply k'
+        → CallAnswered (IsServed silent tells o) k k' (asks.Call asked) reply
     waited_for begun k' plan reply start made ends = record {
       heard = Some reply;
       made = inr (record { moment = moment; told = told; plan = plan; begun = begun; made = made; ends = ends });
@@ -78,7 +78,7 @@ a_code o k k' moment subtype reply (inl made) = (made.code, made.is)
 a_code o k k' moment subtype reply (inr wants) = (8, wants.refused)
 
 raise_at_once : (tells : ℕ → Type 0) (o : Opening) (k k' : Known) (moment : ℕ) → tells moment → (subtype : List ℕ) (code : ℕ)
-    → RaisedSo o k moment subtype (replies.Code code) k' ⊎ RaiseWants o k moment subtype (replies.Code code) k' → CallAnswered (IsServed tells o) k k' (asks.Raise subtype) (replies.Code code)
+    → RaisedSo o k moment subtype (replies.Code code) k' ⊎ RaiseWants o k moment subtype (replies.Code code) k' → CallAnswered (IsServed true tells o) k k' (asks.Raise subtype) (replies.Code code)
 raise_at_once tells o k k' moment told subtype code (inl made) = record {
   heard = Some (replies.Code code);
   made = record { moment = moment; told = told; made = made };
@@ -94,10 +94,25 @@ raise_at_once tells o k k' moment told subtype code (inr wants) = record {
 
 -- a raise, whose reply is this code
 pub raise_answered : (tells : ℕ → Type 0) (o : Opening) (k k' : Known) (moment : ℕ) → tells moment → (subtype : List ℕ) (reply : Reply) (code : ℕ) → reply ≡ replies.Code code
-    → RaisedSo o k moment subtype reply k' ⊎ RaiseWants o k moment subtype reply k' → CallAnswered (IsServed tells o) k k' (asks.Raise subtype) (replies.Code code)
+    → RaisedSo o k moment subtype reply k' ⊎ RaiseWants o k moment subtype reply k' → CallAnswered (IsServed true tells o) k k' (asks.Raise subtype) (replies.Code code)
 raise_answered tells o k k' moment told subtype reply code is raised =
     raise_at_once tells o k k' moment told subtype code
     (subst (λ (r : Reply). RaisedSo o k moment subtype r k' ⊎ RaiseWants o k moment subtype r k') is raised)
+
+raised_with : (silent : Bool) (tells : ℕ → Type 0) (o : Opening) (k k' : Known) (subtype : List ℕ) (heard : Option Reply)
+    → IsServed true tells o k k' (asks.Raise subtype) heard → IsServed silent tells o k k' (asks.Raise subtype) heard
+raised_with silent tells o k k' subtype (Some reply) made = made
+raised_with silent tells o k k' subtype None made = made
+
+-- it is so with any waiter, since a raise doesn't wait
+pub raised_beside : (silent : Bool) (tells : ℕ → Type 0) (o : Opening) (k k' : Known) (subtype : List ℕ) (reply : Reply)
+    → CallAnswered (IsServed true tells o) k k' (asks.Raise subtype) reply → CallAnswered (IsServed silent tells o) k k' (asks.Raise subtype) reply
+raised_beside silent tells o k k' subtype reply raised = record {
+  heard = raised.heard;
+  made = raised_with silent tells o k k' subtype raised.heard raised.made;
+  told = raised.told;
+  answers = raised.answers;
+}
 
 pub raised_caller : (o : Opening) (k k' : Known) (moment : ℕ) (subtype : List ℕ) (reply : Reply) → RaisedSo o k moment subtype reply k' ⊎ RaiseWants o k moment subtype reply k' → k'.caller ≡ k.caller
 raised_caller o k k' moment subtype reply (inl raised) = raised.made.made.caller
@@ -113,8 +128,8 @@ pub answered_caller : (o : Opening) (k k' : Known) (moment : ℕ) (asked : Reque
 answered_caller o k k' moment asked reply (inl made) = made.made.caller
 answered_caller o k k' moment asked reply (inr wants) = wants.made.made.caller
 
-pub ended_caller : (tells : ℕ → Type 0) (o : Opening) (plan : ℕ) (k : Known) (reply : Reply) (k' : Known) → WaitsAndEnds tells o plan k reply k' → k'.caller ≡ k.caller
-ended_caller tells o plan k reply k' ends = ends.ends.made.caller ∙ waits_caller o plan ends.turns k ends.waited ends.waits
+pub ended_caller : (silent : Bool) (tells : ℕ → Type 0) (o : Opening) (plan : ℕ) (k : Known) (reply : Reply) (k' : Known) → WaitsAndEnds silent tells o plan k reply k' → k'.caller ≡ k.caller
+ended_caller silent tells o plan k reply k' ends = ends.ends.made.caller ∙ waits_caller silent o plan ends.turns k ends.waited ends.waits
 
 -- ## Full
 

@@ -1,5 +1,5 @@
 -- A connection at which nothing failed ends as its input does.
-use Rattle.std.proofs.Common.{[], ◌∷◌, ◌≤◌, subst, ℕ, ◌≡◌, inl, inr, ◌<◌, ◌^◌, List, ◌++◌, length, Option, None, Some, refl, sym, ap, ◌∙◌, append-nil, length-append, arith}
+use Rattle.std.proofs.Common.{[], ◌∷◌, ◌≤◌, subst, ℕ, Bool, ◌≡◌, inl, inr, ◌<◌, ◌^◌, List, ◌++◌, length, Option, None, Some, refl, sym, ap, ◌∙◌, append-nil, length-append, arith}
 use Rattle.std.proofs.lemmas.Bool.{false≢true}
 use Rattle.std.specs.Io.KnownBytes.{Consumes, IsAtEnd}
 use Rattle.outside.specs.Causes.{Rose}
@@ -97,17 +97,17 @@ module _ {D : Type 0} (full : D → Asked → Type 0) (at : D) (bytes read : Lis
 
 -- ## A connection
 
-module _ (tells : ℕ → Type 0) (o : Opening) (k k' : Known) (left_now held held_now : Option (List ℕ)) (source source_now sink sink_now : ℕ) where
+module _ (silent : Bool) (tells : ℕ → Type 0) (o : Opening) (k k' : Known) (left_now held held_now : Option (List ℕ)) (source source_now sink sink_now : ℕ) where
   -- there was room for the next request
-  not_full : (bytes : List ℕ) (how : Served) (c : Connects tells o k k' (Some bytes) left_now held held_now how) → HasRoomForAll tells o k bytes
+  not_full : (bytes : List ℕ) (how : Served) (c : Connects silent tells o k k' (Some bytes) left_now held held_now how) → HasRoomForAll silent tells o k bytes
       → how ≡ served.Full → HasNoRoom (HasNoRoomFor o) c.stood c.read c.done → ⊥
   not_full bytes how c room is none =
       let learnt : Learnt o c.last c.stood = subst (λ (h : Served). Leaves (Learnt o) h c.last c.stood) is c.leaves in
       false≢true (sym none.met ∙ room c.done none.next none.request
       (front_of_all c.read bytes (c.done ++ none.next ∷ []) (rest_of bytes c.read left_now c.consumed) none.follows) none.asks c.heard c.last c.stood c.chain learnt)
 
-  pub complete : (left : Option (List ℕ)) (how : Served) → Connects tells o k k' left left_now held held_now how → IsServedFor how source source_now sink sink_now
-      → IsComplete (HasRoomForAll tells o k) left source source_now sink sink_now how
+  pub complete : (left : Option (List ℕ)) (how : Served) → Connects silent tells o k k' left left_now held held_now how → IsServedFor how source source_now sink sink_now
+      → IsComplete (HasRoomForAll silent tells o k) left source source_now sink sink_now how
   complete None how c cause = tt
   complete (Some bytes) how c cause = λ no_read no_write room.
       ends_as (HasNoRoomFor o) c.stood bytes c.read c.done c.heard c.written left_now c.consumed c.most source source_now sink sink_now

@@ -1,5 +1,5 @@
 -- From a desk to its pass, and the going behind the last request.
-use Rattle.std.proofs.Common.{◌≡◌, ◌≢◌, ◌∙◌, ℕ, List, [], ◌∷◌, ◌++◌, Option, inl, inr, refl, sym, ap, subst, append-nil}
+use Rattle.std.proofs.Common.{◌≡◌, ◌≢◌, ◌∙◌, ℕ, Bool, List, [], ◌∷◌, ◌++◌, Option, inl, inr, refl, sym, ap, subst, append-nil}
 use Rattle.scm_model.specs.declared.calls.Reply.{Reply}
 use Rattle.scm_model.specs.declared.steps.Answer.TheVariants as answers
 use Rattle.scm_model.specs.declared.steps.Step.TheVariants.{Gone}
@@ -21,9 +21,9 @@ use Rattle.conn_worker.specs.Serving.{IsServed}
 use Rattle.conn_worker.proofs.Owning.{DidAll, Makes, adds_made, adds_then, makes_learnt, makes_none, makes_then, of_chain}
 
 -- a desk that has a pass, a book and a clock
-module _ {D Ck : Type 0} (pass : D → Known) (book : D → Identity) (clock : D → Ck) (tells_at : Ck → ℕ → Type 0) where
+module _ {D Ck : Type 0} (silent : Bool) (pass : D → Known) (book : D → Identity) (clock : D → Ck) (tells_at : Ck → ℕ → Type 0) where
   abbrev pub called : D → D → Asked → Option Reply → Type 0
-  called d e request heard = (book e ≡ book d) × (clock e ≡ clock d) × IsServed (tells_at (clock d)) (book d).opening (pass d) (pass e) request heard
+  called d e request heard = (book e ≡ book d) × (clock e ≡ clock d) × IsServed silent (tells_at (clock d)) (book d).opening (pass d) (pass e) request heard
 
   abbrev pub rests : D → D → Type 0
   rests d e = (book e ≡ book d) × (clock e ≡ clock d) × Learnt (book d).opening (pass d) (pass e)
@@ -35,10 +35,10 @@ module _ {D Ck : Type 0} (pass : D → Known) (book : D → Identity) (clock : D
     abbrev Is : D → Type 0
     Is d = (book d ≡ b) × (clock d ≡ k)
 
-    calls : (d e : D) (r : Asked) (h : Option Reply) → Is d → called d e r h → Is e × IsServed (tells_at k) b.opening (pass d) (pass e) r h
+    calls : (d e : D) (r : Asked) (h : Option Reply) → Is d → called d e r h → Is e × IsServed silent (tells_at k) b.opening (pass d) (pass e) r h
     calls d e r h is made = (
       (made.0 ∙ is.0, made.1 ∙ is.1),
-      subst (λ (x : Identity). IsServed (tells_at k) x.opening (pass d) (pass e) r h) is.0 (subst (λ (x : Ck). IsServed (tells_at x) (book d).opening (pass d) (pass e) r h) is.1 made.2),
+      subst (λ (x : Identity). IsServed silent (tells_at k) x.opening (pass d) (pass e) r h) is.0 (subst (λ (x : Ck). IsServed silent (tells_at x) (book d).opening (pass d) (pass e) r h) is.1 made.2),
     )
 
     left : (d e : D) → Is d → rests d e → Is e × Learnt b.opening (pass d) (pass e)
@@ -47,7 +47,7 @@ module _ {D Ck : Type 0} (pass : D → Known) (book : D → Identity) (clock : D
     fills : (d : D) (r : Asked) → Is d → full d r → HasNoRoomFor b.opening (pass d) r
     fills d r is none = subst (λ (x : Identity). HasNoRoomFor x.opening (pass d) r) is.0 none
 
-    chain_on : (d e : D) (rs : List Asked) (hs : List (Option Reply)) → Is d → Chain called d e rs hs → Is e × Chain (IsServed (tells_at k) b.opening) (pass d) (pass e) rs hs
+    chain_on : (d e : D) (rs : List Asked) (hs : List (Option Reply)) → Is d → Chain called d e rs hs → Is e × Chain (IsServed silent (tells_at k) b.opening) (pass d) (pass e) rs hs
     chain_on d e [] [] is same = (subst Is (sym same) is, ap pass same)
     chain_on d e (r ∷ rs) (h ∷ hs) is chain =
         let one = calls d chain.0 r h is chain.1 in
@@ -88,25 +88,25 @@ makes_left tells o served.OutOfMemory k k' (inl same) = makes_none tells o k k' 
 makes_left tells o served.OutOfMemory k k' (inr learnt) = makes_learnt tells o k k' learnt
 makes_left tells o how k k' leaves = makes_none tells o k k' leaves
 
-module _ {D Ck : Type 0} (pass : D → Known) (book : D → Identity) (clock : D → Ck) (tells_at : Ck → ℕ → Type 0) where
+module _ {D Ck : Type 0} (silent : Bool) (pass : D → Known) (book : D → Identity) (clock : D → Ck) (tells_at : Ck → ℕ → Type 0) where
   -- the pass is still of the book
   pub serves_of : (d e : D) (bytes bytes_now held held_now : Option (List ℕ)) (how : Served)
-      → Serves (called pass book clock tells_at) (rests pass book clock tells_at) (full pass book clock tells_at) d e bytes bytes_now held held_now how
+      → Serves (called silent pass book clock tells_at) (rests silent pass book clock tells_at) (full silent pass book clock tells_at) d e bytes bytes_now held held_now how
       → IsOf (book e) (pass e) → IsOf (book d) (pass e)
   serves_of d e bytes bytes_now held held_now how serves of =
-      let chain = chain_on pass book clock tells_at (book d) (clock d) d serves.last (asked serves.done) serves.heard (refl, refl) serves.chain in
-      subst (λ (b : Identity). IsOf b (pass e)) (leaves_on pass book clock tells_at (book d) (clock d) how serves.last e chain.0 serves.leaves).0.0 of
+      let chain = chain_on silent pass book clock tells_at (book d) (clock d) d serves.last (asked serves.done) serves.heard (refl, refl) serves.chain in
+      subst (λ (b : Identity). IsOf b (pass e)) (leaves_on silent pass book clock tells_at (book d) (clock d) how serves.last e chain.0 serves.leaves).0.0 of
 
   pub connects : (d e : D) (bytes bytes_now held held_now : Option (List ℕ)) (how : Served) (moment : ℕ) (k' : Known) → (pass d).caller ≢ 0
-      → Serves (called pass book clock tells_at) (rests pass book clock tells_at) (full pass book clock tells_at) d e bytes bytes_now held held_now how
-      → tells_at (clock d) moment → Goes (book d).opening (pass e) moment k' → Connects (tells_at (clock d)) (book d).opening (pass d) k' bytes bytes_now held held_now how
+      → Serves (called silent pass book clock tells_at) (rests silent pass book clock tells_at) (full silent pass book clock tells_at) d e bytes bytes_now held held_now how
+      → tells_at (clock d) moment → Goes (book d).opening (pass e) moment k' → Connects silent (tells_at (clock d)) (book d).opening (pass d) k' bytes bytes_now held held_now how
   connects d e bytes bytes_now held held_now how moment k' some serves told goes =
       let tells : ℕ → Type 0 = tells_at (clock d) in
       let o : Opening = (book d).opening in
       let k : Known = pass d in
-      let chain = chain_on pass book clock tells_at (book d) (clock d) d serves.last (asked serves.done) serves.heard (refl, refl) serves.chain in
-      let leaves = leaves_on pass book clock tells_at (book d) (clock d) how serves.last e chain.0 serves.leaves in
-      let did : DidAll tells o k (pass serves.last) (asked serves.done) serves.heard = of_chain tells o k (pass serves.last) (asked serves.done) serves.heard chain.1 in
+      let chain = chain_on silent pass book clock tells_at (book d) (clock d) d serves.last (asked serves.done) serves.heard (refl, refl) serves.chain in
+      let leaves = leaves_on silent pass book clock tells_at (book d) (clock d) how serves.last e chain.0 serves.leaves in
+      let did : DidAll tells o silent k (pass serves.last) (asked serves.done) serves.heard = of_chain tells o silent k (pass serves.last) (asked serves.done) serves.heard chain.1 in
       let stood : Makes tells o k (did.entries ++ []) (pass e) = makes_then tells o k (pass serves.last) (pass e) did.entries [] did.makes (makes_left tells o how (pass serves.last) (pass e) leaves.1) in
       let all : Makes tells o k did.entries (pass e) = subst (λ (es : List Told). Makes tells o k es (pass e)) (append-nil did.entries) stood in
       let gone : Made o (pass e) moment (Gone k.caller) answers.Done k' =
@@ -122,7 +122,7 @@ module _ {D Ck : Type 0} (pass : D → Known) (book : D → Identity) (clock : D
         chain = chain.1;
         stood = pass e;
         leaves = leaves.1;
-        reached = reached_on pass book clock tells_at (book d) (clock d) how e serves.read bytes_now serves.done serves.heard serves.written leaves.0 serves.reached;
+        reached = reached_on silent pass book clock tells_at (book d) (clock d) how e serves.read bytes_now serves.done serves.heard serves.written leaves.0 serves.reached;
         moment = moment;
         told = told;
         goes = gone;

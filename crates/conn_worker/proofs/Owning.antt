@@ -1,5 +1,5 @@
 -- Which own entries each step of a pass adds, and those of a chain of requests.
-use Rattle.std.proofs.Common.{◌≡◌, ◌∙◌, ℕ, List, [], ◌∷◌, ◌++◌, length, map, Option, None, Some, inl, inr, refl, sym, ap, subst, append_assoc, append-nil}
+use Rattle.std.proofs.Common.{◌≡◌, ◌∙◌, ℕ, Bool, true, false, List, [], ◌∷◌, ◌++◌, length, map, Option, None, Some, inl, inr, refl, sym, ap, subst, append_assoc, append-nil}
 use Rattle.std.specs.Prelude.{All}
 use Rattle.std.proofs.lemmas.List.Elements.{All-append, All-cons, All-head, All-nil, All-tail}
 use mathlib.Core.List.{IsPrefix, map-append}
@@ -20,9 +20,9 @@ use Rattle.scm_book.specs.Passes.{Known, Learnt, Made, MadeSo}
 use Rattle.conn_desk.specs.declared.asked.Asked.{Asked}
 use Rattle.conn_desk.specs.declared.asked.Asked.TheVariants as asks
 use Rattle.conn_desk.specs.Desks.{Chain}
-use Rattle.conn_worker.specs.Owning.{Adds, AreFailures, AreOf, AreOfAll, AreTold, Owns, StandAt, StandsAt}
+use Rattle.conn_worker.specs.Owning.{Adds, AreFailures, AreOf, AreOfAll, AreOfTurns, AreTold, Owns, StandAt, StandsAt}
 use Rattle.conn_worker.specs.Serving.{IsServed, Wants}
-use Rattle.conn_worker.specs.Waiting.{Turns, Waits, WaitsOnce}
+use Rattle.conn_worker.specs.Waiting.{FailsLaunch, Turns, Waits, WaitsOnce}
 
 -- ## Places stay
 
@@ -108,6 +108,25 @@ pub want_made : (o : Opening) (k k' : Known) (moment : ℕ) (asked : Asked) → 
 want_made o k k' moment (asks.Call request) wants = wants.made
 want_made o k k' moment (asks.Raise subtype) wants = wants.made
 
+-- ## What turns made
+
+no_turns : (silent : Bool) → AreOfTurns silent []
+no_turns true = refl
+no_turns false = tt
+
+failed_turns : (silent : Bool) (entries : List Told) → silent ≡ false → AreFailures entries → AreOfTurns silent entries
+failed_turns true entries loud failures = absurd cc
+failed_turns false entries loud failures = failures
+
+failures_then : (xs ys : List Told) → AreFailures xs → AreFailures ys → AreFailures (xs ++ ys)
+failures_then [] ys first then = then
+failures_then (one ∷ []) ys first then = absurd first
+failures_then (taken ∷ failed ∷ xs) ys first then = (first.0, failures_then xs ys first.1 then)
+
+turns_then : (silent : Bool) (xs ys : List Told) → AreOfTurns silent xs → AreOfTurns silent ys → AreOfTurns silent (xs ++ ys)
+turns_then true xs ys first then = ap (λ (es : List Told). es ++ ys) first ∙ then
+turns_then false xs ys first then = failures_then xs ys first then
+
 -- ## At moments that the clock tells, by the same caller
 
 pub record Makes (tells : ℕ → Type 0) (o : Opening) (k : Known) (entries : List Told) (k' : Known) : Type 0 where
@@ -136,109 +155,106 @@ module _ (tells : ℕ → Type 0) (o : Opening) where
     caller = then.caller ∙ first.caller;
   }
 
-  -- ## Turns
+  module _ (silent : Bool) where
+    -- ## Turns
 
-  pub record Failed (k k' : Known) : Type 0 where
-    pub entries : List Told
-    pub makes : Makes tells o k entries k'
-    pub failures : AreFailures entries
+    pub record Turned (k k' : Known) : Type 0 where
+      pub entries : List Told
+      pub makes : Makes tells o k entries k'
+      pub of_turns : AreOfTurns silent entries
 
-  of_turn : (k k' : Known) (moment : ℕ) → tells moment → Turns o k moment k' → Failed k k'
-  of_turn k k' moment so (inl (inl same)) = record { entries = []; makes = makes_none k k' same; failures = tt }
-  of_turn k k' moment so (inl (inr learnt)) = record { entries = []; makes = makes_learnt k k' learnt; failures = tt }
-  of_turn k k' moment so (inr fails) =
-      let taken : Told = made_of (moment, LaunchTaken) (answers.Launch fails.process) in
-      let failed : Told = made_of (moment, LaunchFailed fails.process 1054) answers.Done in record {
-        entries = taken ∷ failed ∷ [];
-        makes = makes_then k fails.taken k' (taken ∷ []) (failed ∷ [])
-            (makes_one k fails.taken moment LaunchTaken (answers.Launch fails.process) so fails.takes fails.takes.caller)
-            (makes_one fails.taken k' moment (LaunchFailed fails.process 1054) answers.Done so fails.fails fails.fails.caller);
-        failures = (record { process = fails.process; moment = moment; takes = refl; fails = refl }, tt);
-      }
+    of_turn : (k k' : Known) (moment : ℕ) → tells moment → Turns silent o k moment k' → Turned k k'
+    of_turn k k' moment so (inl (inl same)) = record { entries = []; makes = makes_none k k' same; of_turns = no_turns silent }
+    of_turn k k' moment so (inl (inr learnt)) = record { entries = []; makes = makes_learnt k k' learnt; of_turns = no_turns silent }
+    of_turn k k' moment so (inr may) =
+        let fails : FailsLaunch o k moment k' = may.1 in
+        let taken : Told = made_of (moment, LaunchTaken) (answers.Launch fails.process) in
+        let failed : Told = made_of (moment, LaunchFailed fails.process 1054) answers.Done in record {
+          entries = taken ∷ failed ∷ [];
+          makes = makes_then k fails.taken k' (taken ∷ []) (failed ∷ [])
+              (makes_one k fails.taken moment LaunchTaken (answers.Launch fails.process) so fails.takes fails.takes.caller)
+              (makes_one fails.taken k' moment (LaunchFailed fails.process 1054) answers.Done so fails.fails fails.fails.caller);
+          of_turns = failed_turns silent (taken ∷ failed ∷ []) may.0 (record { process = fails.process; moment = moment; takes = refl; fails = refl }, tt);
+        }
 
-  failures_then : (xs ys : List Told) → AreFailures xs → AreFailures ys → AreFailures (xs ++ ys)
-  failures_then [] ys first then = then
-  failures_then (one ∷ []) ys first then = absurd first
-  failures_then (taken ∷ failed ∷ xs) ys first then = (first.0, failures_then xs ys first.1 then)
+    of_waits : (plan : ℕ) (moments : List ℕ) (k k' : Known) → All tells moments → Waits silent o plan moments k k' → Turned k k'
+    of_waits plan [] k k' all same = record { entries = []; makes = makes_none k k' same; of_turns = no_turns silent }
+    of_waits plan (moment ∷ moments) k k' all waits =
+        let once : WaitsOnce silent o plan k moment waits.0 = waits.1 in
+        let first : Turned once.looked waits.0 = of_turn once.looked waits.0 moment (All-head tells moment moments all) once.turns in
+        let rest : Turned waits.0 k' = of_waits plan moments waits.0 k' (All-tail tells moment moments all) waits.2 in record {
+          entries = first.entries ++ rest.entries;
+          makes = makes_then k waits.0 k' first.entries rest.entries (makes_then k once.looked waits.0 [] first.entries (makes_learnt k once.looked once.learnt) first.makes) rest.makes;
+          of_turns = turns_then silent first.entries rest.entries first.of_turns rest.of_turns;
+        }
 
-  of_waits : (plan : ℕ) (moments : List ℕ) (k k' : Known) → All tells moments → Waits o plan moments k k' → Failed k k'
-  of_waits plan [] k k' all same = record { entries = []; makes = makes_none k k' same; failures = tt }
-  of_waits plan (moment ∷ moments) k k' all waits =
-      let once : WaitsOnce o plan k moment waits.0 = waits.1 in
-      let first : Failed once.looked waits.0 = of_turn once.looked waits.0 moment (All-head tells moment moments all) once.turns in
-      let rest : Failed waits.0 k' = of_waits plan moments waits.0 k' (All-tail tells moment moments all) waits.2 in record {
-        entries = first.entries ++ rest.entries;
-        makes = makes_then k waits.0 k' first.entries rest.entries (makes_then k once.looked waits.0 [] first.entries (makes_learnt k once.looked once.learnt) first.makes) rest.makes;
-        failures = failures_then first.entries rest.entries first.failures rest.failures;
-      }
+    -- ## Requests
 
-  -- ## Requests
+    pub record Did (k k' : Known) (asked : Asked) (heard : Option Reply) : Type 0 where
+      pub entries : List Told
+      pub makes : Makes tells o k entries k'
+      pub of : AreOf silent k.caller asked heard entries
 
-  pub record Did (k k' : Known) (asked : Asked) (heard : Option Reply) : Type 0 where
-    pub entries : List Told
-    pub makes : Makes tells o k entries k'
-    pub of : AreOf k.caller asked heard entries
+    of_served : (k k' : Known) (asked : Asked) (heard : Option Reply) → IsServed silent tells o k k' asked heard → Did k k' asked heard
+    of_served k k' asked None wanted =
+        let want = want_made o k k' wanted.moment asked wanted.wants in record {
+          entries = made_of (wanted.moment, NoMemory k.caller) answers.Done ∷ [];
+          makes = makes_one k k' wanted.moment (NoMemory k.caller) answers.Done wanted.told want.made want.made.caller;
+          of = (wanted.moment, refl);
+        }
+    of_served k k' (asks.Raise subtype) (Some reply) raised =
+        let made : RaisedSo o k raised.moment subtype reply k' = raised.made in
+        let step : Made o k raised.moment (Raised k.caller subtype) (answers.Reply reply) k' = made.made.made in record {
+          entries = made_of (raised.moment, Raised k.caller subtype) (answers.Reply reply) ∷ [];
+          makes = makes_one k k' raised.moment (Raised k.caller subtype) (answers.Reply reply) raised.told step step.caller;
+          of = record { moment = raised.moment; code = made.code; is_code = made.is; is = refl };
+        }
+    of_served k k' (asks.Call asked) (Some reply) (inl at_once) =
+        let made = at_once.made in
+        let one : Told = made_of (at_once.moment, Call k.caller asked made.append) (answers.Reply reply) in record {
+          entries = one ∷ [];
+          makes = makes_one k k' at_once.moment (Call k.caller asked made.append) (answers.Reply reply) at_once.told made.made made.made.caller;
+          of = inl (one, record { moment = at_once.moment; append = made.append; is = refl }, refl);
+        }
+    of_served k k' (asks.Call asked) (Some reply) (inr waited) =
+        let made = waited.made in
+        let ends = waited.ends in
+        let last = ends.ends in
+        let one : Told = made_of (waited.moment, Call k.caller asked made.append) (answers.Begun waited.plan) in
+        let turns : Turned waited.begun ends.waited = of_waits waited.plan ends.turns waited.begun ends.waited ends.told ends.waits in
+        let same : ends.waited.caller ≡ k.caller = turns.makes.caller ∙ made.made.caller in
+        let close : Told = made_of (last.moment, EndStart k.caller waited.plan) (answers.Reply reply) in
+        let end : Made o ends.waited last.moment (EndStart k.caller waited.plan) (answers.Reply reply) k' =
+        subst (λ (c : ℕ). Made o ends.waited last.moment (EndStart c waited.plan) (answers.Reply reply) k') same last.made in record {
+          entries = one ∷ turns.entries ++ close ∷ [];
+          makes = makes_then k waited.begun k' (one ∷ []) (turns.entries ++ close ∷ [])
+              (makes_one k waited.begun waited.moment (Call k.caller asked made.append) (answers.Begun waited.plan) waited.told made.made made.made.caller)
+              (makes_then waited.begun ends.waited k' turns.entries (close ∷ []) turns.makes
+              (makes_one ends.waited k' last.moment (EndStart k.caller waited.plan) (answers.Reply reply) last.told end end.caller));
+          of = inr (record {
+            plan = waited.plan;
+            call = one;
+            calls = record { moment = waited.moment; append = made.append; is = refl };
+            turns = turns.entries;
+            of_turns = turns.of_turns;
+            moment = last.moment;
+            is = refl;
+          });
+        }
 
-  of_served : (k k' : Known) (asked : Asked) (heard : Option Reply) → IsServed tells o k k' asked heard → Did k k' asked heard
-  of_served k k' asked None wanted =
-      let want = want_made o k k' wanted.moment asked wanted.wants in record {
-        entries = made_of (wanted.moment, NoMemory k.caller) answers.Done ∷ [];
-        makes = makes_one k k' wanted.moment (NoMemory k.caller) answers.Done wanted.told want.made want.made.caller;
-        of = (wanted.moment, refl);
-      }
-  of_served k k' (asks.Raise subtype) (Some reply) raised =
-      let made : RaisedSo o k raised.moment subtype reply k' = raised.made in
-      let step : Made o k raised.moment (Raised k.caller subtype) (answers.Reply reply) k' = made.made.made in record {
-        entries = made_of (raised.moment, Raised k.caller subtype) (answers.Reply reply) ∷ [];
-        makes = makes_one k k' raised.moment (Raised k.caller subtype) (answers.Reply reply) raised.told step step.caller;
-        of = record { moment = raised.moment; code = made.code; is_code = made.is; is = refl };
-      }
-  of_served k k' (asks.Call asked) (Some reply) (inl at_once) =
-      let made = at_once.made in
-      let one : Told = made_of (at_once.moment, Call k.caller asked made.append) (answers.Reply reply) in record {
-        entries = one ∷ [];
-        makes = makes_one k k' at_once.moment (Call k.caller asked made.append) (answers.Reply reply) at_once.told made.made made.made.caller;
-        of = inl (one, record { moment = at_once.moment; append = made.append; is = refl }, refl);
-      }
-  of_served k k' (asks.Call asked) (Some reply) (inr waited) =
-      let made = waited.made in
-      let ends = waited.ends in
-      let last = ends.ends in
-      let one : Told = made_of (waited.moment, Call k.caller asked made.append) (answers.Begun waited.plan) in
-      let turns : Failed waited.begun ends.waited = of_waits waited.plan ends.turns waited.begun ends.waited ends.told ends.waits in
-      let same : ends.waited.caller ≡ k.caller = turns.makes.caller ∙ made.made.caller in
-      let close : Told = made_of (last.moment, EndStart k.caller waited.plan) (answers.Reply reply) in
-      let end : Made o ends.waited last.moment (EndStart k.caller waited.plan) (answers.Reply reply) k' =
-      subst (λ (c : ℕ). Made o ends.waited last.moment (EndStart c waited.plan) (answers.Reply reply) k') same last.made in record {
-        entries = one ∷ turns.entries ++ close ∷ [];
-        makes = makes_then k waited.begun k' (one ∷ []) (turns.entries ++ close ∷ [])
-            (makes_one k waited.begun waited.moment (Call k.caller asked made.append) (answers.Begun waited.plan) waited.told made.made made.made.caller)
-            (makes_then waited.begun ends.waited k' turns.entries (close ∷ []) turns.makes
-            (makes_one ends.waited k' last.moment (EndStart k.caller waited.plan) (answers.Reply reply) last.told end end.caller));
-        of = inr (record {
-          plan = waited.plan;
-          call = one;
-          calls = record { moment = waited.moment; append = made.append; is = refl };
-          turns = turns.entries;
-          failures = turns.failures;
-          moment = last.moment;
-          is = refl;
-        });
-      }
+    pub record DidAll (k k' : Known) (requests : List Asked) (heard : List (Option Reply)) : Type 0 where
+      pub entries : List Told
+      pub makes : Makes tells o k entries k'
+      pub of : AreOfAll silent k.caller requests heard entries
 
-  pub record DidAll (k k' : Known) (requests : List Asked) (heard : List (Option Reply)) : Type 0 where
-    pub entries : List Told
-    pub makes : Makes tells o k entries k'
-    pub of : AreOfAll k.caller requests heard entries
-
-  pub of_chain : (k k' : Known) (requests : List Asked) (heard : List (Option Reply)) → Chain (IsServed tells o) k k' requests heard → DidAll k k' requests heard
-  of_chain k k' [] [] same = record { entries = []; makes = makes_none k k' same; of = refl }
-  of_chain k k' (asked ∷ requests) (told ∷ heard) chain =
-      let first : Did k chain.0 asked told = of_served k chain.0 asked told chain.1 in
-      let rest : DidAll chain.0 k' requests heard = of_chain chain.0 k' requests heard chain.2 in record {
-        entries = first.entries ++ rest.entries;
-        makes = makes_then k chain.0 k' first.entries rest.entries first.makes rest.makes;
-        of = (first.entries, rest.entries, refl, first.of, subst (λ (c : ℕ). AreOfAll c requests heard rest.entries) first.makes.caller rest.of);
-      }
-  of_chain k k' [] (told ∷ heard) chain = absurd chain
-  of_chain k k' (asked ∷ requests) [] chain = absurd chain
+    pub of_chain : (k k' : Known) (requests : List Asked) (heard : List (Option Reply)) → Chain (IsServed silent tells o) k k' requests heard → DidAll k k' requests heard
+    of_chain k k' [] [] same = record { entries = []; makes = makes_none k k' same; of = refl }
+    of_chain k k' (asked ∷ requests) (told ∷ heard) chain =
+        let first : Did k chain.0 asked told = of_served k chain.0 asked told chain.1 in
+        let rest : DidAll chain.0 k' requests heard = of_chain chain.0 k' requests heard chain.2 in record {
+          entries = first.entries ++ rest.entries;
+          makes = makes_then k chain.0 k' first.entries rest.entries first.makes rest.makes;
+          of = (first.entries, rest.entries, refl, first.of, subst (λ (c : ℕ). AreOfAll silent c requests heard rest.entries) first.makes.caller rest.of);
+        }
+    of_chain k k' [] (told ∷ heard) chain = absurd chain
+    of_chain k k' (asked ∷ requests) [] chain = absurd chain

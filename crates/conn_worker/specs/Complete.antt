@@ -1,5 +1,5 @@
 -- A connection at which nothing failed ends as its input does, unless room or memory is wanting.
-use Rattle.std.specs.Prelude.{ℕ, ◌≡◌, ◌⊎◌, ◌<◌, ◌^◌, ◌++◌, true, List, [], ◌∷◌, length, Option, Some, IfSome}
+use Rattle.std.specs.Prelude.{ℕ, Bool, ◌≡◌, ◌⊎◌, ◌<◌, ◌^◌, ◌++◌, true, List, [], ◌∷◌, length, Option, Some, IfSome}
 use Rattle.outside.specs.Causes.{Rose}
 use Rattle.outside.specs.Written.{Begins}
 use Rattle.scm_model.specs.declared.calls.Reply.{Reply}
@@ -41,8 +41,8 @@ IsComplete room left source source_now sink sink_now how =
 -- ## Room
 
 -- behind whatever a pass may come to by the first requests of these bytes, the limits have room for the next one
-abbrev pub HasRoomForAll : (tells : ℕ → Type 0) → Opening → Known → List ℕ → Type 0
-HasRoomForAll tells o k bytes =
+abbrev pub HasRoomForAll : (silent : Bool) → (tells : ℕ → Type 0) → Opening → Known → List ℕ → Type 0
+HasRoomForAll silent tells o k bytes =
     (done : List Incoming) (next : Incoming) (request : Asked) → Begins (done ++ next ∷ []) (items bytes).items → asked_by next ≡ Some request
-    → (heard : List (Option Reply)) (last now : Known) → Chain (IsServed tells o) k last (asked done) heard → Learnt o last now
+    → (heard : List (Option Reply)) (last now : Known) → Chain (IsServed silent tells o) k last (asked done) heard → Learnt o last now
     → room_behind o now.seen (step_for now.caller request) ≡ true

@@ -1,5 +1,5 @@
 -- A whole connection over the book, with its caller's going.
-use Rattle.std.specs.Prelude.{◌^◌, ℕ, ◌≡◌, ◌≤◌, ◌++◌, false, List, [], ◌∷◌, length, Option}
+use Rattle.std.specs.Prelude.{◌^◌, ℕ, Bool, ◌≡◌, ◌≤◌, ◌++◌, false, List, [], ◌∷◌, length, Option}
 use Rattle.std.specs.Io.KnownBytes.{Appends, Consumes}
 use Rattle.scm_model.specs.declared.calls.Reply.{Reply}
 use Rattle.scm_model.specs.declared.steps.Answer.TheVariants as answers
@@ -21,7 +21,7 @@ use Rattle.conn_worker.specs.Serving.{IsServed, step_for}
 abbrev pub HasNoRoomFor : Opening → Known → Asked → Type 0
 HasNoRoomFor o k asked = room_behind o k.seen (step_for k.caller asked) ≡ false
 
-pub record Connects (tells : ℕ → Type 0) (o : Opening) (k k' : Known) (left left_now held held_now : Option (List ℕ)) (how : Served) : Type 0 where
+pub record Connects (silent : Bool) (tells : ℕ → Type 0) (o : Opening) (k k' : Known) (left left_now held held_now : Option (List ℕ)) (how : Served) : Type 0 where
   -- what was read and written, the items that were answered, and what was heard of their requests
   pub read : List ℕ
   pub done : List Incoming
@@ -32,7 +32,7 @@ pub record Connects (tells : ℕ → Type 0) (o : Opening) (k k' : Known) (left 
   pub appended : Appends held held_now written
   -- one request after another led to last, and what ended the connection left the pass as it then stood
   pub last : Known
-  pub chain : Chain (IsServed tells o) k last (asked done) heard
+  pub chain : Chain (IsServed silent tells o) k last (asked done) heard
   pub stood : Known
   pub leaves : Leaves (Learnt o) how last stood
   pub reached : Reached (HasNoRoomFor o) stood how read left_now done heard written
@@ -42,6 +42,6 @@ pub record Connects (tells : ℕ → Type 0) (o : Opening) (k k' : Known) (left 
   pub goes : Made o stood moment (Gone k.caller) answers.Done k'
   -- so the pass's own entries are those that it had, those of the requests, and the going
   pub entries : List Told
-  pub requests : AreOfAll k.caller (asked done) heard entries
+  pub requests : AreOfAll silent k.caller (asked done) heard entries
   pub all_told : AreTold tells entries
   pub adds : Adds o k (entries ++ made_of (moment, Gone k.caller) answers.Done ∷ []) k'

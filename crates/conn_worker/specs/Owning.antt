@@ -1,5 +1,5 @@
 -- A pass's own entries, and those that became of its requests.
-use Rattle.std.specs.Prelude.{ℕ, ◌≡◌, ◌⊎◌, ◌++◌, All, true, List, [], ◌∷◌, length, map, Option, None, Some}
+use Rattle.std.specs.Prelude.{ℕ, Bool, ◌≡◌, ◌⊎◌, ◌++◌, All, true, false, List, [], ◌∷◌, length, map, Option, None, Some}
 use mathlib.Core.List.{IsPrefix}
 use Rattle.scm_model.specs.declared.codes.TheConstants.{ERROR_SERVICE_NO_THREAD}
 use Rattle.scm_model.specs.declared.calls.Reply.{Reply}
@@ -70,17 +70,22 @@ AreFailures [] = Unit {0}
 AreFailures (one ∷ []) = ⊥
 AreFailures (taken ∷ failed ∷ more) = IsFailure taken failed × AreFailures more
 
+-- what the turns of a waiter made: nothing where it is silent
+abbrev pub AreOfTurns : (silent : Bool) → List Told → Type 0
+AreOfTurns true entries = entries ≡ []
+AreOfTurns false entries = AreFailures entries
+
 -- the call alone, told the reply
 abbrev pub IsAtOnce : ℕ → Request → Reply → List Told → Type 0
 IsAtOnce caller asked reply entries = (one : Told) × IsCall caller asked (answers.Reply reply) one × (entries ≡ one ∷ [])
 
--- the call that began a start, failures of launches, and the start's end, told the reply
-pub record HasWaited (caller : ℕ) (asked : Request) (reply : Reply) (entries : List Told) : Type 0 where
+-- the call that began a start, what the turns made, and the start's end, told the reply
+pub record HasWaited (silent : Bool) (caller : ℕ) (asked : Request) (reply : Reply) (entries : List Told) : Type 0 where
   pub plan : ℕ
   pub call : Told
   pub calls : IsCall caller asked (answers.Begun plan) call
   pub turns : List Told
-  pub failures : AreFailures turns
+  pub of_turns : AreOfTurns silent turns
   pub moment : ℕ
   pub is : entries ≡ call ∷ turns ++ made_of (moment, EndStart caller plan) (answers.Reply reply) ∷ []
 
@@ -92,19 +97,19 @@ pub record IsRaise (caller : ℕ) (subtype : List ℕ) (reply : Reply) (entries 
   pub is : entries ≡ made_of (moment, Raised caller subtype) (answers.Reply reply) ∷ []
 
 -- the entries of a request that was told a reply
-abbrev pub AreOfTold : ℕ → Asked → Reply → List Told → Type 0
-AreOfTold caller (asks.Call request) reply entries = IsAtOnce caller request reply entries ⊎ HasWaited caller request reply entries
-AreOfTold caller (asks.Raise subtype) reply entries = IsRaise caller subtype reply entries
+abbrev pub AreOfTold : (silent : Bool) → ℕ → Asked → Reply → List Told → Type 0
+AreOfTold silent caller (asks.Call request) reply entries = IsAtOnce caller request reply entries ⊎ HasWaited silent caller request reply entries
+AreOfTold silent caller (asks.Raise subtype) reply entries = IsRaise caller subtype reply entries
 
 -- the entries of a caller's request, by what was heard of it
-abbrev pub AreOf : ℕ → Asked → Option Reply → List Told → Type 0
-AreOf caller asked (Some reply) entries = AreOfTold caller asked reply entries
-AreOf caller asked None entries = (moment : ℕ) × (entries ≡ made_of (moment, NoMemory caller) answers.Done ∷ [])
+abbrev pub AreOf : (silent : Bool) → ℕ → Asked → Option Reply → List Told → Type 0
+AreOf silent caller asked (Some reply) entries = AreOfTold silent caller asked reply entries
+AreOf silent caller asked None entries = (moment : ℕ) × (entries ≡ made_of (moment, NoMemory caller) answers.Done ∷ [])
 
 -- those of its requests, one after another
-abbrev pub AreOfAll : ℕ → List Asked → List (Option Reply) → List Told → Type 0
-AreOfAll caller [] [] entries = entries ≡ []
-AreOfAll caller (asked ∷ more) (heard ∷ others) entries =
-    (first : List Told) × (rest : List Told) × (entries ≡ first ++ rest) × AreOf caller asked heard first × AreOfAll caller more others rest
-AreOfAll caller [] (heard ∷ others) entries = ⊥
-AreOfAll caller (asked ∷ more) [] entries = ⊥
+abbrev pub AreOfAll : (silent : Bool) → ℕ → List Asked → List (Option Reply) → List Told → Type 0
+AreOfAll silent caller [] [] entries = entries ≡ []
+AreOfAll silent caller (asked ∷ more) (heard ∷ others) entries =
+    (first : List Told) × (rest : List Told) × (entries ≡ first ++ rest) × AreOf silent caller asked heard first × AreOfAll silent caller more others rest
+AreOfAll silent caller [] (heard ∷ others) entries = ⊥
+AreOfAll silent caller (asked ∷ more) [] entries = ⊥

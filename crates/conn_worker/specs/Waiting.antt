@@ -1,5 +1,5 @@
--- What a connection does while its start waits.
-use Rattle.std.specs.Prelude.{ℕ, ◌≡◌, ◌⊎◌, All, false, List, [], ◌∷◌, Option, None, Some}
+-- What a connection does while its start waits. A waiter is silent where its turns make no step.
+use Rattle.std.specs.Prelude.{ℕ, Bool, ◌≡◌, ◌⊎◌, All, false, List, [], ◌∷◌, Option, None, Some}
 use Rattle.scm_model.specs.declared.calls.Reply.{Reply}
 use Rattle.scm_model.specs.declared.codes.TheConstants.{ERROR_SERVICE_NO_THREAD}
 use Rattle.scm_model.specs.declared.steps.Answer.TheVariants as answers
@@ -22,9 +22,9 @@ pub record FailsLaunch (o : Opening) (k : Known) (moment : ℕ) (k' : Known) : T
 abbrev pub OnlySees : Opening → Known → Known → Type 0
 OnlySees o k k' = (k' ≡ k) ⊎ Learnt o k k'
 
--- a turn leaves the pass, or lets one launch fail
-abbrev pub Turns : Opening → Known → ℕ → Known → Type 0
-Turns o k moment k' = OnlySees o k k' ⊎ FailsLaunch o k moment k'
+-- a turn leaves the pass, or lets one launch fail where the waiter isn't silent
+abbrev pub Turns : (silent : Bool) → Opening → Known → ℕ → Known → Type 0
+Turns silent o k moment k' = OnlySees o k k' ⊎ ((silent ≡ false) × FailsLaunch o k moment k')
 
 -- where no process is run, it leaves the pass only where nothing is wanted in what that has then seen
 abbrev pub FailsWanted : Opening → Known → ℕ → Known → Type 0
@@ -37,16 +37,16 @@ KeepsPlans o k k' = (plan : ℕ) → HasPlan o k plan → HasPlan o k' plan
 -- ## Turns behind looks
 
 -- a look that found the plan undecided, and the turn behind it
-pub record WaitsOnce (o : Opening) (plan : ℕ) (k : Known) (moment : ℕ) (k' : Known) : Type 0 where
+pub record WaitsOnce (silent : Bool) (o : Opening) (plan : ℕ) (k : Known) (moment : ℕ) (k' : Known) : Type 0 where
   pub looked : Known
   pub learnt : Learnt o k looked
   pub undecided : IsUndecided o looked.seen plan
-  pub turns : Turns o looked moment k'
+  pub turns : Turns silent o looked moment k'
 
 -- so it went on, with a turn at each of these moments
-abbrev pub Waits : Opening → ℕ → List ℕ → Known → Known → Type 0
-Waits o plan [] k k' = k' ≡ k
-Waits o plan (moment ∷ moments) k k' = (mid : Known) × WaitsOnce o plan k moment mid × Waits o plan moments mid k'
+abbrev pub Waits : (silent : Bool) → Opening → ℕ → List ℕ → Known → Known → Type 0
+Waits silent o plan [] k k' = k' ≡ k
+Waits silent o plan (moment ∷ moments) k k' = (mid : Known) × WaitsOnce silent o plan k moment mid × Waits silent o plan moments mid k'
 
 -- ## The end of a start, at moments that the clock tells
 
@@ -57,21 +57,21 @@ pub record Ends (tells : ℕ → Type 0) (o : Opening) (plan : ℕ) (k : Known) 
   pub made : Made o k moment (EndStart k.caller plan) (answers.Reply reply) k'
 
 -- it waits still, behind one turn more
-pub record StillWaits (tells : ℕ → Type 0) (o : Opening) (plan : ℕ) (k k' : Known) : Type 0 where
+pub record StillWaits (silent : Bool) (tells : ℕ → Type 0) (o : Opening) (plan : ℕ) (k k' : Known) : Type 0 where
   pub moment : ℕ
   pub told : tells moment
-  pub waits : WaitsOnce o plan k moment k'
+  pub waits : WaitsOnce silent o plan k moment k'
   pub has : HasPlan o k' plan
 
 -- one look comes to the answer, or to a turn
-abbrev pub Looks : (tells : ℕ → Type 0) → Opening → ℕ → Known → Known → Option Reply → Type 0
-Looks tells o plan k k' (Some reply) = Ends tells o plan k reply k'
-Looks tells o plan k k' None = StillWaits tells o plan k k'
+abbrev pub Looks : (silent : Bool) → (tells : ℕ → Type 0) → Opening → ℕ → Known → Known → Option Reply → Type 0
+Looks silent tells o plan k k' (Some reply) = Ends tells o plan k reply k'
+Looks silent tells o plan k k' None = StillWaits silent tells o plan k k'
 
 -- the start waited behind turns, and then was answered
-pub record WaitsAndEnds (tells : ℕ → Type 0) (o : Opening) (plan : ℕ) (k : Known) (reply : Reply) (k' : Known) : Type 0 where
+pub record WaitsAndEnds (silent : Bool) (tells : ℕ → Type 0) (o : Opening) (plan : ℕ) (k : Known) (reply : Reply) (k' : Known) : Type 0 where
   pub turns : List ℕ
   pub told : All tells turns
   pub waited : Known
-  pub waits : Waits o plan turns k waited
+  pub waits : Waits silent o plan turns k waited
   pub ends : Ends tells o plan waited reply k'

@@ -41,7 +41,8 @@ fn look<R: Wait, K: Keeper, C: Clock, W: Waiter<K>>(
     requires book { IsOf book.now pass.old }
     requires plan { HasPlan book.now.opening pass.old plan }
     ensures book { IsOf book.now pass.new }
-    ensures looks { Looks (C.tells clock.now) book.now.opening plan pass.old pass.new result }
+    ensures looks { Looks W.silent (C.tells clock.now) book.now.opening plan pass.old pass.new
+        result }
 {
     match book.end_start(rt, pass, clock.now(), plan) {
         EndLook::Done(reply) => Some(reply),
@@ -64,7 +65,8 @@ fn wait<R: Wait, K: Keeper, C: Clock, W: Waiter<K>>(
     requires book { IsOf book.now pass.old }
     requires plan { HasPlan book.now.opening pass.old plan }
     ensures book { IsOf book.now pass.new }
-    ensures ends { WaitsAndEnds (C.tells clock.now) book.now.opening plan pass.old result pass.new }
+    ensures ends { WaitsAndEnds W.silent (C.tells clock.now) book.now.opening plan pass.old
+        result pass.new }
 {
     let mut seen = book.bell().count();
     for _ in rt.forever() {
@@ -91,7 +93,7 @@ pub fn ask<R: Wait, K: Keeper, C: Clock, W: Waiter<K>>(
     ensures book { IsOf book.now pass.new }
     ensures caller { pass.new.caller ≡ pass.old.caller }
     ensures answered { IfOk result (λ reply.
-        CallAnswered (IsServed (C.tells clock.now) book.now.opening) pass.old pass.new
+        CallAnswered (IsServed W.silent (C.tells clock.now) book.now.opening) pass.old pass.new
         (Call request) reply) }
     ensures left { OnErr result (Learnt book.now.opening pass.old pass.new) }
     ensures full { IsErrOf result Lacks.Full →

@@ -35,14 +35,14 @@ pub fn serve_connection<R: Wait, K: Keeper, I: Source, O: Sink, C: Clock, W: Wai
     requires book { IsOf book.now pass }
     requires caller { pass.caller ≢ 0 }
     ensures book { IsOf book.now result.spent }
-    ensures connects { Connects (C.tells clock.now) book.now.opening pass result.spent
+    ensures connects { Connects W.silent (C.tells clock.now) book.now.opening pass result.spent
         (I.left input.old) (I.left input.new) (O.held output.old) (O.held output.new) result.how }
     ensures input { I.faults input.old ≤ I.faults input.new }
     ensures output { O.faults output.old ≤ O.faults output.new }
     ensures cause { IsServedFor result.how (I.faults input.old) (I.faults input.new)
         (O.faults output.old) (O.faults output.new) }
     // Nothing else ends a connection without faults.
-    ensures complete { IsComplete (HasRoomForAll (C.tells clock.now) book.now.opening pass)
+    ensures complete { IsComplete (HasRoomForAll W.silent (C.tells clock.now) book.now.opening pass)
         (I.left input.old) (I.faults input.old) (I.faults input.new)
         (O.faults output.old) (O.faults output.new) result.how }
 {

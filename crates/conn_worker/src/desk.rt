@@ -29,7 +29,7 @@ impl<'a, R: Wait, K: Keeper, C: Clock, W: Waiter<K>> Desk for BookDesk<'a, R, K,
     ghost ready = { λ d. IsOf d.book.now d.pass × (d.pass.caller ≢ 0) };
 
     ghost called = { λ d e asked heard. (e.book.now ≡ d.book.now) × (e.clock.now ≡ d.clock.now)
-        × IsServed (C.tells d.clock.now) d.book.now.opening d.pass e.pass asked heard };
+        × IsServed W.silent (C.tells d.clock.now) d.book.now.opening d.pass e.pass asked heard };
 
     ghost rests = { λ d e. (e.book.now ≡ d.book.now) × (e.clock.now ≡ d.clock.now)
         × Learnt d.book.now.opening d.pass e.pass };

@@ -1,5 +1,5 @@
 // One raise at the book.
-ghost use Rattle.std.specs.Prelude.{◌≡◌, ◌≢◌, IfOk, IsErrOf, OnErr};
+ghost use Rattle.std.specs.Prelude.{◌≡◌, ◌≢◌, IfOk, IsErrOf, OnErr, true};
 ghost use Rattle.scm_model.specs.declared.calls.Reply.TheVariants.{Code};
 ghost use Rattle.scm_book.specs.Passes.{IsOf, Learnt};
 ghost use Rattle.conn_desk.specs.declared.asked.Asked.TheVariants.{Raise};
@@ -38,7 +38,7 @@ pub fn raise<R: Wait, K: Keeper, C: Clock>(
     ensures book { IsOf book.now pass.new }
     ensures caller { pass.new.caller ≡ pass.old.caller }
     ensures answered { IfOk result (λ code.
-        CallAnswered (IsServed (C.tells clock.now) book.now.opening) pass.old pass.new
+        CallAnswered (IsServed true (C.tells clock.now) book.now.opening) pass.old pass.new
         (Raise subtype) (Code code)) }
     ensures left { OnErr result (Learnt book.now.opening pass.old pass.new) }
     ensures full { IsErrOf result Lacks.Full →

@@ -1,5 +1,5 @@
 // What a connection does while its start waits.
-ghost use Rattle.std.specs.Prelude.{◌≡◌, ◌≤◌};
+ghost use Rattle.std.specs.Prelude.{◌≡◌, ◌≤◌, Bool, false};
 ghost use Rattle.scm_book.specs.Passes.{IsOf};
 ghost use Rattle.conn_worker.specs.Waiting.{FailsWanted, KeepsPlans, Turns};
 
@@ -13,13 +13,16 @@ use std::sync::Wait;
 
 /// Has a turn behind each look that found a start undecided.
 pub trait Waiter<K: Keeper> {
+    /// Whether no turn makes a step.
+    ghost silent: { Bool };
+
     /// Leaves the pass as it is, but for what it has seen, or lets the launch that is wanted first
-    /// fail. `seen` is the count of the book's bell before the look; the answer is the count for
+    /// fail; a silent waiter does only the first. `seen` is the count of the book's bell before the look; the answer is the count for
     /// the next one.
     fn turn(&mut self, book: &Book<K>, pass: &mut Pass, moment: u64, seen: u64) -> u64
         requires { IsOf book.now pass.old }
         ensures book { IsOf book.now pass.new }
-        ensures turns { Turns book.now.opening pass.old moment pass.new }
+        ensures turns { Turns silent book.now.opening pass.old moment pass.new }
         ensures plans { KeepsPlans book.now.opening pass.old pass.new };
 }
 
@@ -59,7 +62,7 @@ fn fail_launch<R: Wait, K: Keeper>(
     requires path { 2048 ≤ room.old.path.room }
     ensures path { room.new.path.room ≡ room.old.path.room }
     ensures book { IsOf book.now pass.new }
-    ensures turns { Turns book.now.opening pass.old moment pass.new }
+    ensures turns { Turns false book.now.opening pass.old moment pass.new }
     ensures plans { KeepsPlans book.now.opening pass.old pass.new }
     ensures wanted { FailsWanted book.now.opening pass.old moment pass.new }
 {
@@ -72,10 +75,12 @@ fn fail_launch<R: Wait, K: Keeper>(
 }
 
 impl<'a, R: Wait, K: Keeper> Waiter<K> for PipeWaiter<'a, R> {
+    ghost silent = { false };
+
     fn turn(&mut self, book: &Book<K>, pass: &mut Pass, moment: u64, seen: u64) -> u64
         requires { IsOf book.now pass.old }
         ensures book { IsOf book.now pass.new }
-        ensures turns { Turns book.now.opening pass.old moment pass.new }
+        ensures turns { Turns false book.now.opening pass.old moment pass.new }
         ensures plans { KeepsPlans book.now.opening pass.old pass.new }
         ensures wanted { FailsWanted book.now.opening pass.old moment pass.new }
     {

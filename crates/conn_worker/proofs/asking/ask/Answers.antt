@@ -8,17 +8,17 @@ returns-in-Answered-clause-caller g c =
 
 pub returns-in-Answered-clause-answered : goal.returns-in-Answered-clause-answered
 returns-in-Answered-clause-answered g c =
-    at_once c.args.book.now.opening c.opens.ensures (g.C.Clock.tells c.args.clock.now) c.args.pass.now c.now-moment.result c.now-moment.ensures c.args.request
+    at_once c.args.book.now.opening c.opens.ensures g.W.Waiter.silent (g.C.Clock.tells c.args.clock.now) c.args.pass.now c.now-moment.result c.now-moment.ensures c.args.request
     c.begin_start.new.pass c.in-Answered.reply c.in-Answered.ensures.starts
 
 pub returns-in-Waiting-clause-caller : goal.returns-in-Waiting-clause-caller
 returns-in-Waiting-clause-caller g c =
-    ended_caller (g.C.Clock.tells c.args.clock.now) c.args.book.now.opening c.in-Waiting.plan c.begin_start.new.pass c.wait.result c.wait.new.pass c.wait.ensures.ends
+    ended_caller g.W.Waiter.silent (g.C.Clock.tells c.args.clock.now) c.args.book.now.opening c.in-Waiting.plan c.begin_start.new.pass c.wait.result c.wait.new.pass c.wait.ensures.ends
     ∙ c.in-Waiting.ensures.starts.made.made.caller
 
 pub returns-in-Waiting-clause-answered : goal.returns-in-Waiting-clause-answered
 returns-in-Waiting-clause-answered g c =
-    waited_for c.args.book.now.opening c.opens.ensures (g.C.Clock.tells c.args.clock.now) c.args.pass.now c.now-moment.result c.now-moment.ensures c.args.request
+    waited_for c.args.book.now.opening c.opens.ensures g.W.Waiter.silent (g.C.Clock.tells c.args.clock.now) c.args.pass.now c.now-moment.result c.now-moment.ensures c.args.request
     c.begin_start.new.pass c.wait.new.pass c.in-Waiting.plan c.wait.result (sym c.is_start.ensures ∙ c.if-is_start.true) c.in-Waiting.ensures.starts.made c.wait.ensures.ends
 
 pub returns-in-Full-clause-full : goal.returns-in-Full-clause-full
@@ -27,5 +27,5 @@ returns-in-Full-clause-full g c = λ _.
 
 pub returns-in-Answered-call-clause-answered : goal.returns-in-Answered-call-clause-answered
 returns-in-Answered-call-clause-answered g c =
-    at_once c.args.book.now.opening c.opens.ensures (g.C.Clock.tells c.args.clock.now) c.args.pass.now c.now-moment.result c.now-moment.ensures c.args.request
+    at_once c.args.book.now.opening c.opens.ensures g.W.Waiter.silent (g.C.Clock.tells c.args.clock.now) c.args.pass.now c.now-moment.result c.now-moment.ensures c.args.request
     c.call.new.pass c.in-Answered-call.reply c.in-Answered-call.ensures.calls

@@ -11,5 +11,5 @@ invariant-loop g l = record {
   plan : HasPlan l.book.opening l.pass l.plan;
   turns : List ℕ;
   told : All (g.C.Clock.tells l.clock) turns;
-  waits : Waits l.book.opening l.plan turns l.fn.pass l.pass;
+  waits : Waits g.W.Waiter.silent l.book.opening l.plan turns l.fn.pass l.pass;
 }

@@ -1,13 +1,16 @@
-use Rattle.std.proofs.Common.{inl, inr}
+use Rattle.std.proofs.Common.{inl, inr, refl}
 use Rattle.conn_worker.proofs.waiter.fail_launch.Goals as goal
 
 pub returns-in-Launch-clause-turns : goal.returns-in-Launch-clause-turns
-returns-in-Launch-clause-turns g c = inr (record {
-  process = c.in-Launch.process;
-  taken = c.take_launch.new.pass;
-  takes = c.in-Launch.ensures.look.0.made;
-  fails = c.launch_failed.ensures.made;
-})
+returns-in-Launch-clause-turns g c = inr (
+  refl,
+  record {
+    process = c.in-Launch.process;
+    taken = c.take_launch.new.pass;
+    takes = c.in-Launch.ensures.look.0.made;
+    fails = c.launch_failed.ensures.made;
+  },
+)
 
 pub returns-in-Launch-clause-plans : goal.returns-in-Launch-clause-plans
 returns-in-Launch-clause-plans g c = λ plan has. c.launch_failed.ensures.rest.plans plan (c.take_launch.ensures.keeps.plans plan has)
