@@ -99,21 +99,6 @@ raise_answered tells o k k' moment told subtype reply code is raised =
     raise_at_once tells o k k' moment told subtype code
     (subst (λ (r : Reply). RaisedSo o k moment subtype r k' ⊎ RaiseWants o k moment subtype r k') is raised)
 
-raised_with : (silent : Bool) (tells : ℕ → Type 0) (o : Opening) (k k' : Known) (subtype : List ℕ) (heard : Option Reply)
-    → IsServed true tells o k k' (asks.Raise subtype) heard → IsServed silent tells o k k' (asks.Raise subtype) heard
-raised_with silent tells o k k' subtype (Some reply) made = made
-raised_with silent tells o k k' subtype None made = made
-
--- it is so with any waiter, since a raise doesn't wait
-pub raised_beside : (silent : Bool) (tells : ℕ → Type 0) (o : Opening) (k k' : Known) (subtype : List ℕ) (reply : Reply)
-    → CallAnswered (IsServed true tells o) k k' (asks.Raise subtype) reply → CallAnswered (IsServed silent tells o) k k' (asks.Raise subtype) reply
-raised_beside silent tells o k k' subtype reply raised = record {
-  heard = raised.heard;
-  made = raised_with silent tells o k k' subtype raised.heard raised.made;
-  told = raised.told;
-  answers = raised.answers;
-}
-
 pub raised_caller : (o : Opening) (k k' : Known) (moment : ℕ) (subtype : List ℕ) (reply : Reply) → RaisedSo o k moment subtype reply k' ⊎ RaiseWants o k moment subtype reply k' → k'.caller ≡ k.caller
 raised_caller o k k' moment subtype reply (inl raised) = raised.made.made.caller
 raised_caller o k k' moment subtype reply (inr wants) = wants.made.made.caller
