@@ -90,7 +90,7 @@ reached_so o how stood read left_now done heard written mine reached = reached
 -- ## The whole connection
 
 module _ (tells : ℕ → Type 0) (principal : Principal) (o : Opening) (k k' : Known) (left left_now held held_now : Option (List ℕ)) (how : Served)
-    (joined : HasJoined tells principal k) (c : Connects tells o k k' left left_now held held_now how) where
+    (joined : HasJoined tells principal k) (c : Connects false tells o k k' left left_now held held_now how) where
   abbrev pub l : Limits
   l = o.limits
 
@@ -158,7 +158,7 @@ module _ (tells : ℕ → Type 0) (principal : Principal) (o : Opening) (k k' : 
     };
     legal = subst (Legal l f) gone_is c.goes.legal;
     moments = moments;
-    replied = subst (λ (ts : List (Option Reply)). AsMany (asked c.done) ts) (sym told_all) (chain_as_many (IsServed tells o) k c.last (asked c.done) c.heard c.chain);
+    replied = subst (λ (ts : List (Option Reply)). AsMany (asked c.done) ts) (sym told_all) (chain_as_many (IsServed false tells o) k c.last (asked c.done) c.heard c.chain);
     reached = subst (λ (ts : List (Option Reply)). Reached (HasNoRoomBehind l f) run how c.read left_now c.done ts c.written) (sym told_all) came;
   }
 
@@ -179,7 +179,7 @@ module _ {K : Type 0} (told : K → Option (List ℕ)) (faulted : K → ℕ) whe
 
   -- a connection that was served
   pub joined_end : (tells : ℕ → Type 0) (principal : Principal) (o : Opening) (k k' : Known) (left left_now held held_now : Option (List ℕ)) (how : Served) (end : Piped K)
-      → HasJoined tells principal k → Connects tells o k k' left left_now held held_now how → end.how ≡ how
+      → HasJoined tells principal k → Connects false tells o k k' left left_now held held_now how → end.how ≡ how
       → (k'.alone ≡ true → IsKept told faulted o k'.seen end.keeper) → IsJoined told faulted tells principal o left left_now held held_now end
   joined_end tells principal o k k' left left_now held held_now how end joined c same kept = record {
     history = history tells principal o k k' left left_now held held_now how joined c;

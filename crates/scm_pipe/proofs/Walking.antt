@@ -1,5 +1,5 @@
 -- The requests of a pass that is alone, as one stretch of the book's history.
-use Rattle.std.proofs.Common.{ℕ, ◌≡◌, ◌∙◌, true, List, [], ◌∷◌, ◌++◌, length, Option, None, Some, inl, inr, refl, sym, ap, subst, append_assoc, append-nil}
+use Rattle.std.proofs.Common.{ℕ, ◌≡◌, ◌∙◌, true, false, List, [], ◌∷◌, ◌++◌, length, Option, None, Some, inl, inr, refl, sym, ap, subst, append_assoc, append-nil}
 use Rattle.std.specs.Prelude.{All}
 use Rattle.std.specs.List.{cons_option}
 use Rattle.std.proofs.lemmas.List.Elements.{All-append, All-cons, All-head, All-nil, All-tail}
@@ -118,7 +118,7 @@ module _ (tells : ℕ → Type 0) (o : Opening) where
 
   -- behind a turn
   turned : (c plan t : ℕ) (looked mid k' : Known) (g : Flat) (reply : Reply) → looked.alone ≡ true → at looked ≡ g → looked.caller ≡ c → tells t → code_of g.plans plan ≡ None
-      → Turns o looked t mid → ((h : Flat) → mid.alone ≡ true → at mid ≡ h → mid.caller ≡ c → WaitsTo c plan mid k' h reply) → WaitsTo c plan looked k' g reply
+      → Turns false o looked t mid → ((h : Flat) → mid.alone ≡ true → at mid ≡ h → mid.caller ≡ c → WaitsTo c plan mid k' h reply) → WaitsTo c plan looked k' g reply
   turned c plan t looked mid k' g reply alone is mine so undecided (inl (inl same)) rest =
       wait_on c plan looked mid k' g reply (ap (λ (x : Known). x.seen) same)
       (rest g (ap (λ (x : Known). x.alone) same ∙ alone) (ap at same ∙ is) (ap (λ (x : Known). x.caller) same ∙ mine))
@@ -126,7 +126,7 @@ module _ (tells : ℕ → Type 0) (o : Opening) where
       let same : mid.seen ≡ looked.seen = learnt.alone alone in
       wait_on c plan looked mid k' g reply same (rest g (learnt.same.alone ∙ alone) (ap (λ (es : List Entry). state l o.first es) same ∙ is) (learnt.caller ∙ mine))
   turned c plan t looked mid k' g reply alone is mine so undecided (inr fails) rest =
-      let f : FailsLaunch o looked t mid = fails in
+      let f : FailsLaunch o looked t mid = fails.1 in
       let d : Entry = (t, LaunchFailed f.process ERROR_SERVICE_NO_THREAD) in
       let taken = steps looked f.taken t LaunchTaken (answers.Launch f.process) g alone is f.takes in
       let failed = steps f.taken mid t (LaunchFailed f.process ERROR_SERVICE_NO_THREAD) answers.Done (step_of l g t LaunchTaken).flat taken.alone taken.leads f.fails in
@@ -135,11 +135,11 @@ module _ (tells : ℕ → Type 0) (o : Opening) where
       (rest (run_state l g ((t, LaunchTaken) ∷ d ∷ [])) failed.alone failed.leads (f.fails.caller ∙ (f.takes.caller ∙ mine)))
 
   it_waits : (c plan : ℕ) (moments : List ℕ) (k waited k' : Known) (g : Flat) (reply : Reply) → k.alone ≡ true → at k ≡ g → k.caller ≡ c → All tells moments
-      → WaitsBehind o plan moments k waited → Ends tells o plan waited reply k' → WaitsTo c plan k k' g reply
+      → WaitsBehind false o plan moments k waited → Ends tells o plan waited reply k' → WaitsTo c plan k k' g reply
   it_waits c plan [] k waited k' g reply alone is mine all same ends =
       it_ends c plan k k' g reply alone is mine (subst (λ (x : Known). Ends tells o plan x reply k') same ends)
   it_waits c plan (moment ∷ moments) k waited k' g reply alone is mine all waits ends =
-      let once : WaitsOnce o plan k moment waits.0 = waits.1 in
+      let once : WaitsOnce false o plan k moment waits.0 = waits.1 in
       let learnt : Learnt o k once.looked = once.learnt in
       let same : once.looked.seen ≡ k.seen = learnt.alone alone in
       let here : at once.looked ≡ g = ap (λ (es : List Entry). state l o.first es) same ∙ is in
@@ -222,7 +222,7 @@ module _ (tells : ℕ → Type 0) (o : Opening) where
         caller = made.caller ∙ mine;
       }
 
-  waited_for : (c : ℕ) (k k' : Known) (g : Flat) (asked : Request) (reply : Reply) → k.alone ≡ true → at k ≡ g → k.caller ≡ c → IsWaitedFor tells o k asked reply k' → Serves c k k' g (asks.Call asked) (Some reply)
+  waited_for : (c : ℕ) (k k' : Known) (g : Flat) (asked : Request) (reply : Reply) → k.alone ≡ true → at k ≡ g → k.caller ≡ c → IsWaitedFor false tells o k asked reply k' → Serves c k k' g (asks.Call asked) (Some reply)
   waited_for c k k' g asked reply alone is mine one =
       let t = one.moment in
       let append = one.made.append in
@@ -240,7 +240,7 @@ module _ (tells : ℕ → Type 0) (o : Opening) where
         caller = rest.caller;
       }
 
-  serves : (c : ℕ) (k k' : Known) (g : Flat) (asked : Asked) (heard : Option Reply) → k.alone ≡ true → at k ≡ g → k.caller ≡ c → IsServedBy tells o k k' asked heard → Serves c k k' g asked heard
+  serves : (c : ℕ) (k k' : Known) (g : Flat) (asked : Asked) (heard : Option Reply) → k.alone ≡ true → at k ≡ g → k.caller ≡ c → IsServedBy false tells o k k' asked heard → Serves c k k' g asked heard
   serves c k k' g (asks.Call asked) (Some reply) alone is mine (inl one) = at_once c k k' g asked reply alone is mine one
   serves c k k' g (asks.Call asked) (Some reply) alone is mine (inr one) = waited_for c k k' g asked reply alone is mine one
   serves c k k' g (asks.Raise subtype) (Some reply) alone is mine one = raised_so c k k' g subtype reply alone is mine one
@@ -252,7 +252,7 @@ module _ (tells : ℕ → Type 0) (o : Opening) where
       ap (λ (es : List Entry). state l o.first es) seen ∙ state_behind l o.first k.seen entries ∙ ap (λ (f : Flat). state l f entries) is ∙ state_is l g entries
 
   pub runs : (c : ℕ) (k k' : Known) (g : Flat) (requests : List Asked) (heard : List (Option Reply)) → k.alone ≡ true → at k ≡ g → k.caller ≡ c
-      → Chain (IsServedBy tells o) k k' requests heard → RunsTo c k k' g requests heard
+      → Chain (IsServedBy false tells o) k k' requests heard → RunsTo c k k' g requests heard
   runs c k k' g [] [] alone is mine same = record {
     entries = [];
     seen = ap (λ (x : Known). x.seen) same ∙ sym (append-nil k.seen);
