@@ -17,8 +17,8 @@ pub trait Waiter<K: Keeper> {
     ghost silent: { Bool };
 
     /// Leaves the pass as it is, but for what it has seen, or lets the launch that is wanted first
-    /// fail; a silent waiter does only the first. `seen` is the count of the book's bell before the look; the answer is the count for
-    /// the next one.
+    /// fail; a silent waiter does only the first. `seen` is the count of the book's bell before the
+    /// look; the answer is the count for the next one.
     fn turn(&mut self, book: &Book<K>, pass: &mut Pass, moment: u64, seen: u64) -> u64
         requires { IsOf book.now pass.old }
         ensures book { IsOf book.now pass.new }
