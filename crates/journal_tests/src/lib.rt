@@ -13,4 +13,6 @@ mod keepers;
 #[cfg(test)]
 mod opening;
 #[cfg(test)]
+mod parts;
+#[cfg(test)]
 mod values;

@@ -7,7 +7,7 @@ use std::test::*;
 
 /// What an opening comes to.
 #[derive(Clone, Copy)]
-enum Answer {
+pub enum Answer {
     /// Services of these names, of one letter each, from so many bytes.
     Opens(&'static str, u64),
     DamagedAt(u64),
@@ -63,7 +63,7 @@ fn comes_to(alloc: Global, keeper: &mut MemoryKeeper, answer: Answer) -> bool {
 
 /// Whether a keeper of these bytes whose calls come to these fates is opened to this, and so many
 /// of its bytes are left.
-fn opens(
+pub fn opens(
     alloc: Global,
     bytes: &[u8],
     fates: &[Fate],
@@ -93,10 +93,10 @@ fn opens_parts(
 }
 
 /// The service `A`, of 66 bytes.
-const A: &[u8] = CREATED;
+pub const A: &[u8] = CREATED;
 
 /// The same with the display name `B`.
-const B_SHOWN: &[u8] = &[
+pub const B_SHOWN: &[u8] = &[
     2, 0x3D, 0, 0, 0, // a change
     1, 0, 0, 0, 0x41, 0, // name
     1, 0, 0, 0, 0x42, 0, // display name
@@ -108,7 +108,7 @@ const B_SHOWN: &[u8] = &[
 ];
 
 /// The service `B`, which needs `A`, of 73 bytes.
-const B: &[u8] = &[
+pub const B: &[u8] = &[
     1, 0x44, 0, 0, 0, // a creation
     1, 0, 0, 0, 0x42, 0, // name
     1, 0, 0, 0, 0x42, 0, // display name
@@ -120,7 +120,7 @@ const B: &[u8] = &[
 ];
 
 /// `A`, which needs `B` from then on.
-const A_NEEDS_B: &[u8] = &[
+pub const A_NEEDS_B: &[u8] = &[
     2, 0x44, 0, 0, 0, // a change
     1, 0, 0, 0, 0x41, 0, // name
     1, 0, 0, 0, 0x41, 0, // display name
@@ -132,12 +132,12 @@ const A_NEEDS_B: &[u8] = &[
 ];
 
 /// `a` is removed, whose name is `A` too.
-const NO_A: &[u8] = &[3, 6, 0, 0, 0, 1, 0, 0, 0, 0x61, 0];
+pub const NO_A: &[u8] = &[3, 6, 0, 0, 0, 1, 0, 0, 0, 0x61, 0];
 
 const NO_DB: &[u8] = &[3, 8, 0, 0, 0, 2, 0, 0, 0, 0x44, 0, 0x62, 0];
 
 /// What stands, what an opening comes to, and how many bytes are left.
-const ROWS: [(&[&[u8]], Answer, usize); 18] = [
+const ROWS: [(&[&[u8]], Answer, usize); 24] = [
     (&[], Answer::Opens("", 0), 0),
     (&[&[0x53, 0x43, 0x4D, 0x4A, 1, 0]], Answer::Opens("", 0), 0),
     (&[&[0x53, 0x43, 0x4D, 0x4B]], Answer::DamagedAt(0), 4),
@@ -162,9 +162,32 @@ const ROWS: [(&[&[u8]], Answer, usize); 18] = [
     (&[HEADER, A, A_NEEDS_B], Answer::Opens("A", 147), 147),
     (&[HEADER, B, B_SHOWN], Answer::DamagedAt(81), 147),
     (&[HEADER, A, B_SHOWN, B], Answer::DamagedAt(140), 213),
-    // a kind that there isn't is damage, but for an unfinished last entry
+    // a kind that there isn't is damage, however much of an entry follows it
     (&[HEADER, A, &[7, 0, 0, 0, 0]], Answer::DamagedAt(74), 79),
-    (&[HEADER, A, &[7, 1, 0, 0, 0]], Answer::Opens("A", 74), 74),
+    (&[HEADER, A, &[7, 1, 0, 0, 0]], Answer::DamagedAt(74), 79),
+    (&[HEADER, A, &[9]], Answer::DamagedAt(74), 75),
+    (
+        &[HEADER, A, &[9, 6, 0, 0, 0, 1, 0]],
+        Answer::DamagedAt(74),
+        81,
+    ),
+    (&[HEADER, A, &[0]], Answer::DamagedAt(74), 75),
+    (
+        &[HEADER, A, &[0, 6, 0, 0, 0, 1, 0]],
+        Answer::DamagedAt(74),
+        81,
+    ),
+    // a name that is whole is shorter than the entry says, or it isn't whole yet
+    (
+        &[HEADER, A, &[3, 7, 0, 0, 0, 1, 0, 0, 0, 0x61, 0]],
+        Answer::DamagedAt(74),
+        85,
+    ),
+    (
+        &[HEADER, A, &[3, 7, 0, 0, 0, 1, 0, 0, 0, 0x61]],
+        Answer::Opens("A", 74),
+        74,
+    ),
 ];
 
 #[test]
