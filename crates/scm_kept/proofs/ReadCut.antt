@@ -154,5 +154,7 @@ cut_at good configs change front [] is entry can parts = cut_behind good configs
 cut_at good configs change front (x ∷ more) is entry can parts = cut_within good configs change front (x ∷ more) is entry parts
     (omega arith)
 
-pub read_cut : (bytes : List ℕ) (configs : List Config) (change : Change) (front : List ℕ) → IsReadCut bytes configs change front
-read_cut bytes configs change front is entry can begins = cut_at bytes configs change front begins.0 is entry can begins.1
+pub read_cut : (bytes : List ℕ) (configs : List Config) (change : Change) (size : ℕ) → IsReadCut bytes configs change size
+read_cut bytes configs change size is entry can =
+    let all = piece (length bytes) change in
+    cut_at bytes configs change (take size all) (drop size all) is entry can (sym (take-append-drop size all))

@@ -1,6 +1,5 @@
 -- What is read of a journal that changes were appended to.
 use Rattle.std.specs.Prelude.{ℕ, ◌≡◌, ◌≤◌, ◌⊎◌, true, List, ◌++◌, Some, Ok, IfSome, length, map, take}
-use Rattle.outside.specs.Written.{Begins}
 use Rattle.scm_model.specs.declared.flat.Config.{Config}
 use Rattle.scm_model.specs.declared.steps.Change.{Change}
 use Rattle.record_journal.specs.Bearing.{and_changes}
@@ -33,8 +32,8 @@ pub record Stays (bytes : List ℕ) (configs : List Config) (change : Change) (n
   pub kept : length bytes ≤ replay.kept
   pub either : (replay.configs ≡ configs) ⊎ (replay.configs ≡ after_change configs (held_change change))
 
--- an append that was cut off anywhere leaves no damage
-abbrev pub IsReadCut : List ℕ → List Config → Change → List ℕ → Type 0
-IsReadCut bytes configs change front =
+-- an append of which only so many bytes were written leaves no damage
+abbrev pub IsReadCut : List ℕ → List Config → Change → ℕ → Type 0
+IsReadCut bytes configs change size =
     IsJournalOf bytes configs → HasEntry change → can_replay configs (held_change change) ≡ true
-    → Begins front (piece (length bytes) change) → Stays bytes configs change (bytes ++ front)
+    → Stays bytes configs change (bytes ++ take size (piece (length bytes) change))

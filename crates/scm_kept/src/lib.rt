@@ -31,8 +31,8 @@ pub fn what_was_kept_is_read()
     ensures again { (bytes : List ℕ) (replay : Replay) → IsReadAgain bytes replay }
     ensures on { (bytes : List ℕ) (configs : List Config) (changes : List Change) →
         IsReadOn bytes configs changes }
-    ensures cut { (bytes : List ℕ) (configs : List Config) (change : Change) (front : List ℕ) →
-        IsReadCut bytes configs change front }
+    ensures cut { (bytes : List ℕ) (configs : List Config) (change : Change) (size : ℕ) →
+        IsReadCut bytes configs change size }
 {}
 
 /// The unmarked configurations of a state that a history opens in are those that it opens with, in
