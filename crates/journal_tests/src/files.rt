@@ -2,12 +2,13 @@ use crate::values::{append, plain};
 use record_journal::{FileKeeper, Journal, Keeper, open_journal};
 use scm_model::Change;
 use std::alloc::Global;
+use std::fs::File;
 use std::rt::Files;
 use std::test::*;
 use std::{env, fs};
 
 /// How many services the journal in a file has, and how many of its bytes are kept.
-fn opened<R: Files + Drop>(
+fn opened<R: Files<File = File> + Drop>(
     alloc: Global,
     keeper: &mut FileKeeper<R>,
     path: &str,
@@ -23,7 +24,7 @@ fn opened<R: Files + Drop>(
 }
 
 /// Appends the creation of a service to an empty journal, and says whether it is kept.
-fn creates<R: Files + Drop>(alloc: Global, keeper: &mut FileKeeper<R>) -> bool {
+fn creates<R: Files<File = File> + Drop>(alloc: Global, keeper: &mut FileKeeper<R>) -> bool {
     let Ok(config) = plain(alloc) else {
         return false;
     };
@@ -45,18 +46,22 @@ const ROWS: [Row; 3] = [
     (&[7, 0, 0, 0, 0], None, 79),
 ];
 
-/// Appends to a file, and says whether another keeper then finds what it should.
-fn is_found<R: Files + Drop>(
+/// Appends to a file, which no other keeper can open meanwhile, and says whether another keeper then
+/// finds what it should.
+fn is_found<R: Files<File = File> + Drop>(
     alloc: Global,
-    keeper: &mut FileKeeper<R>,
+    mut keeper: FileKeeper<R>,
     mut other: FileKeeper<R>,
     path: &str,
     row: &Row,
 ) -> bool {
+    let is_opened = keeper.open_at(Some(path)).is_ok();
+    let is_held = other.open_at(Some(path)).is_err();
     let is_appended = keeper.append(row.0).is_ok();
+    drop(keeper);
     let found = opened(alloc, &mut other, path);
     drop(other);
-    is_appended && found == row.1
+    is_opened && is_held && is_appended && found == row.1
 }
 
 #[test]
@@ -68,16 +73,17 @@ fn a_file_keeps_a_journal(rt: HostRuntime) -> Result<(), Fail> {
     let mut keeper = FileKeeper::new(alloc, rt);
     assert!(rt; opened(alloc, &mut keeper, path) == Some((0, 0)));
     assert!(rt; creates(alloc, &mut keeper));
+    drop(keeper);
     for row in &ROWS {
+        let keeper = FileKeeper::new(alloc, rt);
         let other = FileKeeper::new(alloc, rt);
-        assert!(rt; is_found(alloc, &mut keeper, other, path, row));
+        assert!(rt; is_found(alloc, keeper, other, path, row));
         let length = match fs::read(&rt, path) {
             Ok(bytes) => bytes.len(),
             Err(_) => 0,
         };
         assert!(rt; length == row.2);
     }
-    drop(keeper);
     fs::remove_file(&rt, path)?;
     Ok(())
 }
