@@ -148,7 +148,7 @@ found first second tail d fits is e =
           (ap (part_at acl_at bytes) (sym (list_offset_is (has_bits control 4) list_number)) ∙ list.1);
     })
 
-by_parts : (bytes : List ℕ) (d : Descriptor) → described bytes ≡ Ok d → (is_header bytes ≡ true) × (parts_of bytes (header_of bytes) ≡ Ok d)
+pub by_parts : (bytes : List ℕ) (d : Descriptor) → described bytes ≡ Ok d → (is_header bytes ≡ true) × (parts_of bytes (header_of bytes) ≡ Ok d)
 unfolding described header_in
 by_parts bytes d e =
     let first = bind_ok (header_in bytes) (parts_of bytes) d e in

@@ -21,12 +21,13 @@ size_within entry ace h =
     let front = ace_front ace (length entry) in
     omega (arith, ap length h.parts, length-append (front ++ sid_bytes ace.sid) h.slack, length-append front (sid_bytes ace.sid), front_length ace (length entry), length_sid ace.sid h.value.sid.authority)
 
-record Fit (bytes : List ℕ) (aces : List Ace) : Type 0 where
-  short : AllByRecursion (λ (ace : Ace). IsShort ace.sid) aces
-  values : AllByRecursion IsAceValue aces
-  size : size_of_aces aces ≤ length bytes
+-- what is known of entries that stand in bytes
+pub record Fit (bytes : List ℕ) (aces : List Ace) : Type 0 where
+  pub short : AllByRecursion (λ (ace : Ace). IsShort ace.sid) aces
+  pub values : AllByRecursion IsAceValue aces
+  pub size : size_of_aces aces ≤ length bytes
 
-aces_fit : (bytes : List ℕ) (aces : List Ace) → AreAces bytes aces → Fit bytes aces
+pub aces_fit : (bytes : List ℕ) (aces : List Ace) → AreAces bytes aces → Fit bytes aces
 unfolding AreAces size_of_aces
 aces_fit bytes [] h = record { short = tt; values = tt; size = omega arith }
 aces_fit bytes (ace ∷ aces) h =

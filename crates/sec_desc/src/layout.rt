@@ -1,4 +1,4 @@
-ghost use Rattle.std.specs.Prelude.{◌≡◌, None, Some, if◌then◌else◌};
+ghost use Rattle.std.specs.Prelude.{◌≡◌, None, Some, drop, if◌then◌else◌};
 ghost use Rattle.sec_desc.specs.Layout.{ace_header_of, acl_header_of, header_of, is_ace, is_acl, is_header, is_sid, list_offset, offset, sid_size};
 
 use crate::codes::{
@@ -32,6 +32,17 @@ pub struct AceHeader {
     pub mask: u32,
     /// How many bytes the entry has, these eight too.
     pub size: usize,
+}
+
+/// The bytes from a place on, none if it is past the end. It takes no memory.
+pub fn from_place(bytes: &[u8], place: usize) -> &[u8]
+    ensures { result.now ≡ drop place bytes.now }
+{
+    if place <= bytes.len() {
+        &bytes[place..]
+    } else {
+        &[]
+    }
 }
 
 fn offset(number: u32) -> Option<usize>

@@ -11,7 +11,10 @@ mod value;
 mod writing;
 
 pub use laws::written_is_read;
-pub use layout::{AceHeader, AclHeader, Header, read_ace_header, read_acl_header, read_header};
+pub use layout::{
+    AceHeader, AclHeader, Header, from_place, read_ace_header, read_acl_header, read_header,
+};
+pub use numbers::has_bits;
 pub use reading::read_descriptor;
 pub use value::{Ace, DescFault, Descriptor, Sid};
 pub use writing::write_descriptor;

@@ -1,5 +1,5 @@
 ghost use Rattle.std.specs.Prelude.{◌≡◌, ◌+◌, ◌*◌, ◌≤◌, ◌++◌, drop, length, OnOk};
-ghost use Rattle.sec_desc.specs.Numbers.{number_16, number_32, numbers};
+ghost use Rattle.sec_desc.specs.Numbers.{has_bits, number_16, number_32, numbers};
 
 use scm_text::{Items, OutOfMemory};
 
@@ -33,4 +33,11 @@ pub fn append_numbers(to: &mut Items<u32>, bytes: &[u8], count: usize) -> Result
         }
     }
     Ok(())
+}
+
+/// Whether the mask has each of the bits.
+pub fn has_bits(mask: u32, bits: u32) -> bool
+    ensures { result ≡ has_bits mask bits }
+{
+    mask & bits == bits
 }

@@ -6,23 +6,12 @@ ghost use Rattle.sec_desc.specs.Layout.{is_sid, sid_of};
 ghost use Rattle.sec_desc.specs.Reading.{Fails, Tells, ace_in, aces_in, acl_at, described, part_at, parts_of, sid_at, with_front};
 ghost use Rattle.sec_desc.specs.Writing.{IsValue, IsWritable};
 
-use crate::layout::{Header, is_sid, read_ace_header, read_acl_header, read_header};
+use crate::layout::{Header, from_place, is_sid, read_ace_header, read_acl_header, read_header};
 use crate::numbers::append_numbers;
 use crate::value::{Ace, DescFault, Descriptor, Sid};
 use scm_text::{Items, OutOfMemory};
 use std::alloc::Global;
 use std::mem::replace;
-
-/// The bytes from a place on, none if it is past the end.
-fn from_place(bytes: &[u8], place: usize) -> &[u8]
-    ensures { result.now ≡ drop place bytes.now }
-{
-    if place <= bytes.len() {
-        &bytes[place..]
-    } else {
-        &[]
-    }
-}
 
 /// The identity that stands at the front of the bytes.
 fn sid_of(alloc: Global, bytes: &[u8]) -> Result<Sid, OutOfMemory>

@@ -2,7 +2,7 @@ ghost use Rattle.std.specs.Prelude.{◌≡◌, ◌++◌, ◌+◌, ◌<◌, ◌�
 ghost use Rattle.std.specs.List.{flat_map};
 ghost use Rattle.std.specs.Option.{option_copied};
 ghost use Rattle.sec_desc.specs.declared.value.Ace.{Ace};
-ghost use Rattle.sec_desc.specs.Numbers.{bytes_32, has_bits};
+ghost use Rattle.sec_desc.specs.Numbers.{bytes_32};
 ghost use Rattle.sec_desc.specs.Writing.{IsShort, IsWritable, IsWritableAcl, ace_bytes, ace_front as front_of_ace, acl_bytes, acl_front as front_of_acl, control_for, descriptor_bytes, header_for, offset_of, part_bytes, part_if, part_size, sid_bytes, size_of_ace, size_of_aces, size_of_sid, written};
 
 use crate::codes::{
@@ -10,6 +10,7 @@ use crate::codes::{
     GROUP_SECURITY_INFORMATION, OWNER_SECURITY_INFORMATION, SE_DACL_PRESENT, SE_SELF_RELATIVE,
     SECURITY_DESCRIPTOR_REVISION, SID_REVISION,
 };
+use crate::numbers::has_bits;
 use crate::value::{Ace, Descriptor, Sid};
 use scm_text::{Items, OutOfMemory};
 use std::alloc::Global;
@@ -218,12 +219,6 @@ fn part_if<T>(asked: bool, part: &Option<T>) -> Option<&T>
     ensures { option_copied result ≡ part_if asked part.now }
 {
     if asked { part.as_ref() } else { None }
-}
-
-fn has_bits(mask: u32, bits: u32) -> bool
-    ensures { result ≡ has_bits mask bits }
-{
-    mask & bits == bits
 }
 
 /// Writes the parts of a descriptor that are asked for, a bit of `SECURITY_INFORMATION` each, in

@@ -1,0 +1,5 @@
+pub mod Masking
+pub mod Deciding
+pub mod Sids
+pub mod Forward
+pub mod Secured
