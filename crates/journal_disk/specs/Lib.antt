@@ -1,0 +1,5 @@
+pub mod Files
+pub mod Images
+pub mod Past
+pub mod Calls
+pub mod Tears

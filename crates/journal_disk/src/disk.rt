@@ -1,0 +1,53 @@
+ghost use Rattle.std.specs.Prelude.{◌+◌, ◌≤◌, ◌^◌, ℕ, IfOk, OnOk, length};
+ghost use Rattle.outside.specs.Causes.{HasCause};
+ghost use Rattle.journal_disk.specs.Images.{Disked, HasSize, IsDisk, IsWithin, Looks, Opens, Reads, Syncs, Writes};
+ghost use Rattle.journal_disk.specs.Images.{has_path};
+
+use outside::Failed;
+
+/// Three files: file 0 says which log is read, files 1 and 2 are the logs. A call that fails has
+/// raised the count of faults, and may be made again.
+pub trait Disk: Drop {
+    /// What a read gives, and what a crash may leave, now and since a moment.
+    ghost state: { Self → Disked };
+
+    /// How often it failed.
+    ghost faults: { Self → ℕ };
+
+    ghost is_disk: { (d : Self) → IsDisk (state d) };
+
+    /// Goes on with the files under a path. Without a path it has empty files from then on, in memory.
+    fn open_at(&mut self, path: Option<&str>) -> Result<(), Failed>
+        ensures opens { Opens (has_path path.entry) (state self.old) (state self.new) result }
+        ensures cause { HasCause (faults self.old) (faults self.new) result };
+
+    /// How many bytes a file has.
+    fn size(&mut self, file: u8) -> Result<u64, Failed>
+        requires file { file ≤ 2 }
+        ensures size { IfOk result (λ size. HasSize file size (state self.old).seen) }
+        ensures bound { IfOk result (λ size. size ≤ 2 ^ 62) }
+        ensures looks { Looks (state self.old) (state self.new) }
+        ensures cause { HasCause (faults self.old) (faults self.new) result };
+
+    /// Reads bytes that a file has from a place on.
+    fn read_at(&mut self, file: u8, place: u64, into: &mut [u8]) -> Result<(), Failed>
+        requires file { file ≤ 2 }
+        requires within { IsWithin file (place + length into.old) (state self.old).seen }
+        ensures bytes { IfOk result (λ _. Reads file place into.new (state self.old).seen) }
+        ensures looks { Looks (state self.old) (state self.new) }
+        ensures cause { HasCause (faults self.old) (faults self.new) result };
+
+    /// Writes over what a file has from a place on, and past its end. Until a sync a crash may leave
+    /// any bytes there. A write whose end passes 2^62 fails.
+    fn write_at(&mut self, file: u8, place: u64, from: &[u8]) -> Result<(), Failed>
+        requires file { file ≤ 2 }
+        requires within { IsWithin file place (state self.old).seen }
+        ensures writes { Writes file place from.now (state self.old) (state self.new) result }
+        ensures bound { OnOk result (place + length from.now ≤ 2 ^ 62) }
+        ensures cause { HasCause (faults self.old) (faults self.new) result };
+
+    /// Puts on the disk what was written: after it a crash leaves what a read gives.
+    fn sync(&mut self) -> Result<(), Failed>
+        ensures syncs { Syncs (state self.old) (state self.new) result }
+        ensures cause { HasCause (faults self.old) (faults self.new) result };
+}
