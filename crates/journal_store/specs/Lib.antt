@@ -1,0 +1,4 @@
+pub mod Content
+pub mod Ends
+pub mod Kept
+pub mod Copies

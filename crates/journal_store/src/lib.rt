@@ -1,0 +1,10 @@
+//! A journal whose content is right after a stop at any moment.
+#![tactic(auto)]
+
+mod appending;
+mod copying;
+mod reading;
+mod replacing;
+mod store;
+
+pub use store::JournalStore;
