@@ -30,7 +30,8 @@ pub record Takes (event : Event) (row : Registration) : Type 0 where
 -- a mask has no event 0
 some_bit : (mask bit : ℕ) → (bit_and mask bit == 0) ≡ false → (bit == 0) ≡ false
 some_bit mask bit asked =
-    ne_eqb bit 0 (λ none. absurd (let zero : (bit_and mask bit == 0) ≡ true = ap (λ n. bit_and mask n == 0) none ∙ eq-eqb (bit_and mask 0) 0 (and_zero_r mask) in cc))
+    ne_eqb bit 0 (λ none. absurd (let zero : (bit_and mask bit == 0) ≡ true = ap (λ n. bit_and mask n == 0) none
+    ∙ eq-eqb (bit_and mask 0) 0 (and_zero_r mask) in cc))
 
 pub takes : (event : Event) (row : Registration) → takes_event event row ≡ true → Takes event row
 takes event row e =
@@ -47,10 +48,12 @@ takes event row e =
     }
 
 -- what a registration that a Notify makes keeps of one that was told nothing
-pub made_keeps : (P : Registration → Type 0) (f : Flat) (caller handle mask : ℕ) (of : Opened) → Sound f → P (new_registration f.next.registration caller of.service mask)
+pub made_keeps : (P : Registration → Type 0) (f : Flat) (caller handle mask : ℕ) (of : Opened) → Sound f
+    → P (new_registration f.next.registration caller of.service mask)
     → ((event : Event) (row : Registration) → IsProper event → P row → P (notified event row)) → P (watching_row f caller handle mask of)
 made_keeps P f caller handle mask of s was each =
     let new = new_registration f.next.registration caller of.service mask in
     found_keeps P (λ (row : Service). notified (event_of_state (pid_of f.processes row) row)) (held_service f caller handle) new was
     (λ row is. each (event_of_state (pid_of f.processes row) row) new
-    (state_proper (pid_of f.processes row) row (found_has IsNamed (λ (r : Service). r.number == row.number) row f.services (are_named f s) (held_is f caller handle row is))) was)
+    (state_proper (pid_of f.processes row) row
+    (found_has IsNamed (λ (r : Service). r.number == row.number) row f.services (are_named f s) (held_is f caller handle row is))) was)

@@ -32,18 +32,23 @@ told_in_order event row proper o =
     })) o
 
 taken_in_order : (number : ℕ) (row : Registration) → IsInOrder row → IsInOrder (taken_if number row)
-taken_in_order number row o = taken_or IsInOrder number row (λ e. record { told = λ some. absurd cc; untold = λ none. (refl, refl); spent = λ spent. refl }) o
+taken_in_order number row o = taken_or IsInOrder number row
+    (λ e. record { told = λ some. absurd cc; untold = λ none. (refl, refl); spent = λ spent. refl }) o
 
 -- ## All of them
 
 stand : (f : Flat) (step : Step) → Sound f → All IsInOrder f.registrations → Stands (All IsInOrder) f step
 stand f step s was = record {
-  tells = λ event rows proper all. All-map IsInOrder (notified event) rows (λ k d lt. told_in_order event (get_or rows k d) proper (all k d lt));
+  tells = λ event rows proper all. All-map IsInOrder (notified event) rows
+      (λ k d lt. told_in_order event (get_or rows k d) proper (all k d lt));
   was = λ quiet. was;
   comes = λ caller handle mask append of e is. all_put IsInOrder (watching_row f caller handle mask of) f.registrations was
-      (made_keeps IsInOrder f caller handle mask of s (record { told = λ some. absurd cc; untold = λ none. (refl, refl); spent = λ spent. absurd cc }) told_in_order);
-  taken = λ caller handle number append e is. All-map IsInOrder (taken_if number) f.registrations (λ k d lt. taken_in_order number (get_or f.registrations k d) (was k d lt));
-  closed = λ caller handle number append e is. All-filter (λ (row : Registration). not (row.number == number)) IsInOrder f.registrations was;
+      (made_keeps IsInOrder f caller handle mask of s
+      (record { told = λ some. absurd cc; untold = λ none. (refl, refl); spent = λ spent. absurd cc }) told_in_order);
+  taken = λ caller handle number append e is. All-map IsInOrder (taken_if number) f.registrations
+      (λ k d lt. taken_in_order number (get_or f.registrations k d) (was k d lt));
+  closed = λ caller handle number append e is. All-filter
+      (λ (row : Registration). not (row.number == number)) IsInOrder f.registrations was;
   gone = λ caller e. All-filter (λ (row : Registration). not (row.caller == caller)) IsInOrder f.registrations was;
 }
 
@@ -54,7 +59,12 @@ pub record Ordered (f : Flat) : Type 0 where
   pub ordered : All IsInOrder f.registrations
 
 pub ordered_begun : (l : Limits) (f : Flat) → IsOpening l f → Ordered f
-ordered_begun l f o = record { sound = begun l f o; ordered = subst (λ (g : Flat). All IsInOrder g.registrations) (sym o.is) (All-nil IsInOrder) }
+ordered_begun l f o = record {
+  sound = begun l f o;
+  ordered = subst (λ (g : Flat). All IsInOrder g.registrations) (sym o.is)
+      (All-nil IsInOrder);
+}
 
 pub ordered_keeps : (l : Limits) → Keeps Ordered l
-ordered_keeps l f e o ok = record { sound = keeps l f e o.sound ok; ordered = of_step l (All IsInOrder) f e.0 e.1 (stand f e.1 o.sound o.ordered) o.sound ok }
+ordered_keeps l f e o ok = record
+    { sound = keeps l f e o.sound ok; ordered = of_step l (All IsInOrder) f e.0 e.1 (stand f e.1 o.sound o.ordered) o.sound ok }

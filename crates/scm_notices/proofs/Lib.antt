@@ -1,7 +1,10 @@
 pub mod Events
 pub mod InOrder
 pub mod Steps
-pub mod Waiting
-pub mod Reaching
-pub mod Moving
+pub mod Firsts
+pub mod Between
+pub mod Coming
+pub mod Entering
+pub mod Own
+pub mod Effects
 pub mod Whole

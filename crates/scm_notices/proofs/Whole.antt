@@ -1,71 +1,95 @@
 -- The law of events.
-use Rattle.std.proofs.Common.{ℕ, ◌≡◌, ◌∙◌, ◌==◌, not, Bool, true, false, IsTrue, List, [], ◌∷◌, filter, get_or, ap, sym, refl, ◌||◌}
-use Rattle.std.specs.Prelude.{All, Contains}
-use Rattle.std.specs.List.{list_any}
-use Rattle.std.proofs.lemmas.List.Elements.{All-contains_itself, All-head, All-tail, All-weaker}
-use Rattle.std.proofs.lemmas.List.Folds.{list_any-append}
+use Rattle.std.proofs.Common.{ℕ, ◌≡◌, ◌≤◌, ◌==◌, true, false, IsTrue, refl, ne_eqb, arith}
+use Rattle.std.proofs.lemmas.List.Elements.{All-weaker}
+use Rattle.scm_model.specs.Changes.{with_moment}
 use Rattle.scm_model.specs.Entries.{Entry}
-use Rattle.scm_model.specs.Purge.{leaves}
+use Rattle.scm_model.specs.declared.calls.Request.{Request}
+use Rattle.scm_model.specs.declared.calls.Request.TheVariants as request
 use Rattle.scm_model.specs.declared.flat.Flat.{Flat}
 use Rattle.scm_model.specs.declared.flat.Limits.{Limits}
 use Rattle.scm_model.specs.declared.flat.Service.{Service}
-use Rattle.scm_rules.specs.Steps.{may, step_of}
-use Rattle.scm_runs.specs.Leaving.{before_leaving, created, numbers}
+use Rattle.scm_model.specs.declared.steps.Kept.{Kept}
+use Rattle.scm_model.specs.declared.steps.Step.{Step}
+use Rattle.scm_model.specs.declared.steps.Step.TheVariants.{Call, Gone}
+use Rattle.start_plan.proofs.Enterings.{all_units}
+use Rattle.start_plan.proofs.Keeps.{Keeps, keeps_all}
+use Rattle.start_plan.specs.Settle.{settled}
+use Rattle.scm_rules.specs.Steps.{at_moment, effect_of, finished_step, may, stages_of}
+use Rattle.scm_rules.specs.Verdicts.{call_of, done_of, told_refused, verdict}
 use Rattle.scm_runs.proofs.Along.{Gives}
-use Rattle.scm_runs.proofs.Leaving.{gives as gives_leaving}
-use Rattle.scm_runs.proofs.Lists.{has_own, none_any}
+use Rattle.scm_runs.proofs.Calls.{before_sound, by_verdict, of_effect as sound_effect}
+use Rattle.scm_runs.proofs.Founds.{notify_apart}
+use Rattle.scm_runs.proofs.Frames.{finished_keeps}
 use Rattle.scm_runs.proofs.Sound.{Sound}
+use Rattle.scm_moves.proofs.Known.{Known}
 use Rattle.scm_moves.proofs.Whole.{Whole}
-use Rattle.scm_history.specs.Once.{has_number, has_service}
-use Rattle.scm_notices.specs.Events.{LawOfEvents, NobodyWaits}
-use Rattle.scm_notices.proofs.Moving.{creating, creating_enters, creating_reaches, marking, marking_enters, marking_reaches, moving, moving_enters, moving_reaches}
-use Rattle.scm_notices.proofs.Reaching.{of_step}
-use Rattle.scm_notices.proofs.Waiting.{left_none}
+use Rattle.scm_notices.specs.Events.{LawOfEvents, Notifies, NotifiesEach, changes_registrations, is_about_registrations}
+use Rattle.scm_notices.proofs.Between.{changed_same, notified_of_nothing}
+use Rattle.scm_notices.proofs.Coming.{notified_of_leaving}
+use Rattle.scm_notices.proofs.Effects.{of_effect}
+use Rattle.scm_notices.proofs.Entering.{Settles, entering_settles}
+use Rattle.scm_notices.proofs.Firsts.{maps_nothing}
+use Rattle.std.proofs.Common.{sym}
 
--- ## Services that leave
+-- ## Settling
 
-has_among : (number : ℕ) (rows : List Service) → has_number (λ (row : Service). row.number) number rows ≡ list_any (λ n. n == number) (numbers rows)
-has_among number [] = refl
-has_among number (row ∷ rows) = ap (λ b. (row.number == number) || b) (has_among number rows)
+settling : (l : Limits) (h : Flat) → Keeps l (Settles h) (λ plan. Unit {0})
+settling l h = record {
+  enters = λ g plan n words entry s. entering_settles h g n words entry.row entry.found entry.stopped s;
+  tries = λ g plan n entry q. tt;
+  drops = λ plan n rest code q. tt;
+}
 
-all_stay : (p : Service → Bool) (rows : List Service) → All (λ (row : Service). p row ≡ false) rows → filter (λ (row : Service). not (p row)) rows ≡ rows
-all_stay p [] none = refl
-all_stay p (row ∷ rows) none = rw (All-head (λ (r : Service). p r ≡ false) row rows none) (ap (λ rs. row ∷ rs) (all_stay p rows (All-tail (λ (r : Service). p r ≡ false) row rows none)))
+unsettled : (h : Flat) → Sound h → Settles h h
+unsettled h s = record {
+  notifies = notified_of_nothing h h refl refl;
+  same = changed_same h h (λ row. row) (λ row. refl) (sym (maps_nothing (λ (row : Service). row) (λ row. refl) h.services));
+  stopped = λ n row is stopped. is;
+  named = All-weaker (λ (row : Service). 1 ≤ row.number) (λ (row : Service). (row.number == 0) ≡ false)
+      (λ row first. ne_eqb row.number 0 (λ none. absurd (omega (arith, none, first)))) h.services s.services.numbered.positive;
+  current = s.services.current;
+  listed = s.processes.numbered.below;
+}
 
--- who stood stands until some leave
-still_there : (l : Limits) (f : Flat) (e : Entry) → Sound f → IsTrue (may l f e.0 e.1) → All (λ (old : Service). has_number (λ (row : Service). row.number) old.number (before_leaving l f e).services ≡ true) f.services
-still_there l f e s ok =
-    let told = (step_of l f e.0 e.1).answer in
-    let stood = (gives_leaving l f e s ok).stood in
-    All-weaker (λ (old : Service). has_number (λ (row : Service). row.number) old.number f.services ≡ true) (λ (old : Service). has_number (λ (row : Service). row.number) old.number (before_leaving l f e).services ≡ true)
-    (λ old there. has_among old.number (before_leaving l f e).services ∙ ap (list_any (λ n. n == old.number)) stood
-    ∙ list_any-append (λ n. n == old.number) (numbers f.services) (created f e.1 told)
-    ∙ ap (λ b. b || list_any (λ n. n == old.number) (created f e.1 told)) (sym (has_among old.number f.services) ∙ there))
-    f.services (has_own (λ (row : Service). row.number) f.services)
+pub of_settling : (l : Limits) (h : Flat) → Sound h → Notifies h (settled l h)
+of_settling l h s = (keeps_all l (Settles h) (λ plan. Unit {0}) (settling l h) h h.plans (unsettled h s) (all_units h.plans)).flat.notifies
 
--- where one that stood is gone, the manager's registrations were told
-left_told : (l : Limits) (f : Flat) (e : Entry) → Sound f → IsTrue (may l f e.0 e.1)
-    → All (λ (old : Service). has_service old.number (step_of l f e.0 e.1).flat ≡ false → NobodyWaits 0 256 (step_of l f e.0 e.1).flat.registrations) f.services
-left_told l f e s ok k d lt away =
-    let g = before_leaving l f e in
-    let after = (step_of l f e.0 e.1).flat in
-    let number = (get_or f.services k d).number in
-    elim (list_any (leaves g.handles) g.services) as (λ b. list_any (leaves g.handles) g.services ≡ b → NobodyWaits 0 256 after.registrations) [
-      | true ↦ λ some. left_none (leaves g.handles) g.services g.registrations some
-      | false ↦ λ none. absurd (
-          let same : after.services ≡ g.services = all_stay (leaves g.handles) g.services (none_any (leaves g.handles) g.services none) in
-          let there : has_number (λ (row : Service). row.number) number after.services ≡ true = ap (has_number (λ (row : Service). row.number) number) same ∙ still_there l f e s ok k d lt in
-          cc)
-    ] refl
+-- ## What changes registrations changes no service
+
+same_done : (l : Limits) (f : Flat) (caller : ℕ) (asked : Request) → is_about_registrations asked ≡ true
+    → (done_of l f caller asked).flat.services ≡ f.services
+same_done l f caller (request.Notify handle mask) about = notify_apart (λ (g : Flat). g.services ≡ f.services) f caller handle mask
+    (λ rows next. refl)
+same_done l f caller (request.GetNotify handle) about = refl
+same_done l f caller (request.CloseNotify handle) about = refl
+same_done l f caller asked about = absurd cc
+
+same_call : (l : Limits) (f : Flat) (caller : ℕ) (asked : Request) (append : Kept) → is_about_registrations asked ≡ true
+    → (call_of l f caller asked append).flat.services ≡ f.services
+same_call l f caller asked append about =
+    let code = verdict l f caller asked append in
+    by_verdict (λ d. d.flat.services ≡ f.services) code (told_refused f caller asked code) f (done_of l f caller asked)
+    (λ e. same_done l f caller asked about) (λ e. refl)
+
+same_services : (l : Limits) (f : Flat) (moment : ℕ) (step : Step) → changes_registrations step ≡ true
+    → (effect_of l (at_moment f moment step) step).flat.services ≡ f.services
+same_services l f moment (Call caller asked append) about = same_call l (with_moment f moment) caller asked append about
+same_services l f moment (Gone caller) about = refl
+same_services l f moment step about = absurd cc
 
 -- ## The law
 
-pub gives : (l : Limits) → Gives (Whole l) (LawOfEvents l) l
-gives l f e whole ok =
-    let s = whole.clear.sound in
+pub each_stage : (l : Limits) (f : Flat) (e : Entry) → Sound f → Known f → IsTrue (may l f e.0 e.1)
+    → NotifiesEach f e.1 (stages_of l f e.0 e.1)
+each_stage l f e s known ok =
+    let done = effect_of l (at_moment f e.0 e.1) e.1 in
     record {
-      moved = All-weaker (Contains f.services) _ (λ old there. of_step l (moving old) f e.0 e.1 (moving_enters old) (moving_reaches f old s whole.known there) s ok) f.services (All-contains_itself f.services);
-      marked = All-weaker (Contains f.services) _ (λ old there. of_step l (marking old) f e.0 e.1 (marking_enters old) (marking_reaches f old s there) s ok) f.services (All-contains_itself f.services);
-      created = of_step l (creating f.next.service) f e.0 e.1 (creating_enters f.next.service) (creating_reaches f s) s ok;
-      left = left_told l f e s ok;
+      effect = of_effect l f e.0 e.1 s known ok;
+      services = same_services l f e.0 e.1;
+      settled = finished_keeps (Notifies done.flat) (λ g plans q. q) (settled l done.flat) done.answer
+          (of_settling l done.flat (sound_effect l f e.0 e.1 s ok));
+      purged = notified_of_leaving (finished_step l f e.0 e.1).flat (before_sound l f e.0 e.1 s ok).services.numbered.rising;
     }
+
+pub gives : (l : Limits) → Gives (Whole l) (LawOfEvents l) l
+gives l f e whole ok = each_stage l f e whole.clear.sound whole.known ok

@@ -1,5 +1,6 @@
 -- What registrations are told, and what becomes of them.
-use Rattle.std.specs.Prelude.{◌≡◌, ◌⊎◌, ◌==◌, ◌&&◌, ◌||◌, not, ℕ, Bool, true, false, Some, All, Contains, bit_and, option_map, []}
+use Rattle.std.specs.Prelude.{◌≡◌, ◌⊎◌, ◌==◌, ◌&&◌, ◌||◌, ◌++◌, not, ℕ, Bool, true, false, List, [], ◌∷◌, Option, None, Some, All, Contains}
+use Rattle.std.specs.Prelude.{bit_and, option_map}
 use Rattle.scm_history.specs.Once.{has_registration}
 use Rattle.scm_model.specs.Refused.{zero_process_status}
 use Rattle.scm_model.specs.declared.calls.Request.TheVariants as request
@@ -12,8 +13,14 @@ use Rattle.scm_model.specs.declared.steps.Answer.{Answer}
 use Rattle.scm_model.specs.declared.steps.Step.{Step}
 use Rattle.scm_model.specs.declared.steps.Step.TheVariants.{Call, Gone}
 use Rattle.scm_model.specs.Entries.{Entry}
+use Rattle.scm_model.specs.Notices.{Event, event_of_state, new_registration, pid_of}
+use Rattle.scm_model.specs.Rows.{service_of}
+use Rattle.scm_model.specs.declared.flat.Process.{Process}
+use Rattle.scm_model.specs.declared.flat.Service.{Service}
 use Rattle.scm_rules.specs.Named.{is_it}
 use Rattle.scm_rules.specs.Notify.{notify_of, watched}
+use Rattle.scm_runs.specs.Leaving.{succeeds}
+use Rattle.scm_notices.specs.Events.{events_of_step, notified_first}
 
 -- ## A registration in any state
 
@@ -34,13 +41,6 @@ pub record IsInOrder (row : Registration) : Type 0 where
 
 -- ## A registration over a step
 
--- it had been told nothing, and is told of one event
-pub record TakesEvent (old new : Registration) : Type 0 where
-  pub waited : old.fired ≡ 0
-  pub unspent : old.spent ≡ false
-  pub told : (new.fired == 0) ≡ false
-  pub row : new ≡ record old { fired = new.fired; status = new.status; name = new.name }
-
 -- what it was told is taken
 abbrev pub taken_from : Registration → Registration
 taken_from row = record row { fired = 0; status = zero_process_status; name = []; spent = true }
@@ -56,31 +56,45 @@ closes f (Call caller (request.CloseNotify handle) append) row = is_it row.numbe
 closes f (Gone caller) row = row.caller == caller
 closes f step row = false
 
--- what a registration that stays is after a step: what it was told is taken, or it is as it was, or is told of one event
-pub record IsFrom (before : Flat) (step : Step) (old new : Registration) : Type 0 where
+-- what a registration that stays is after a step with these events of each service: what it was told is taken, or it is notified of the
+-- first of its service's events that it waits for
+pub record IsFrom (events : ℕ → List Event) (before : Flat) (step : Step) (old new : Registration) : Type 0 where
   pub stays : closes before step old ≡ false
   pub taken : takes_result before step old ≡ true → new ≡ taken_from old
-  pub goes : takes_result before step old ≡ false → (new ≡ old) ⊎ TakesEvent old new
+  pub told : takes_result before step old ≡ false → new ≡ notified_first (events old.service) old
 
 -- one that stood before the step
-pub record HasStayed (before : Flat) (step : Step) (new : Registration) : Type 0 where
+pub record HasStayed (events : ℕ → List Event) (before : Flat) (step : Step) (new : Registration) : Type 0 where
   pub old : Registration
   pub stood : Contains before.registrations old
-  pub from : IsFrom before step old new
+  pub from : IsFrom events before step old new
 
--- whether a step is a call for a registration like this
-abbrev pub AsksFor : Flat → Step → Registration → Type 0
-AsksFor f (Call caller (request.Notify handle mask) append) row =
-    (row.caller ≡ caller) × (row.mask ≡ mask) × (option_map (λ (of : Opened). of.service) (watched f caller handle) ≡ Some row.service)
-AsksFor f step row = ⊥
+-- the registration that a call asks for, which was told nothing yet
+abbrev pub asked_by : Flat → Step → Option Registration
+asked_by f (Call caller (request.Notify handle mask) append) =
+    option_map (λ (of : Opened). new_registration f.next.registration caller of.service mask) (watched f caller handle)
+asked_by f step = None
 
--- one that the step made, which may have been told already
-pub record IsMade (before : Flat) (step : Step) (new : Registration) : Type 0 where
-  pub number : new.number ≡ before.next.registration
-  pub unspent : new.spent ≡ false
-  pub asked : AsksFor before step new
+-- the state that a service is in already counts as an event of it
+abbrev pub event_at_once : List Process → Option Service → List Event
+event_at_once processes None = []
+event_at_once processes (Some row) = event_of_state (pid_of processes row) row ∷ []
 
--- each registration stood before the step, or was asked for by it; one that stood stays, unless it is closed or its caller is gone
+abbrev pub events_at_once : Flat → ℕ → List Event
+events_at_once f service = event_at_once f.processes (service_of f service)
+
+-- one that the step made, which is notified of its service's state at once
+pub record IsMade (events : ℕ → List Event) (before : Flat) (step : Step) (new : Registration) : Type 0 where
+  pub asked : Registration
+  pub by : asked_by before step ≡ Some asked
+  pub told : new ≡ notified_first (events_at_once before asked.service ++ events asked.service) asked
+
+abbrev pub HasComeFrom : (ℕ → List Event) → Flat → Step → Registration → Type 0
+HasComeFrom events before step row = HasStayed events before step row ⊎ IsMade events before step row
+
+-- each registration stood before the step, or was asked for by it; one that stood stays, unless it is closed or its caller is gone; and one
+-- that a call asked for that was not refused is there
 pub record LawOfNotices (l : Limits) (before : Flat) (e : Entry) (told : Answer) (after : Flat) : Type 0 where
-  pub rows : All (λ row. HasStayed before e.1 row ⊎ IsMade before e.1 row) after.registrations
+  pub rows : All (HasComeFrom (events_of_step l before e) before e.1) after.registrations
   pub stay : All (λ row. closes before e.1 row ≡ false → has_registration row.number after ≡ true) before.registrations
+  pub made : (asked : Registration) → asked_by before e.1 ≡ Some asked → succeeds told ≡ true → has_registration asked.number after ≡ true

@@ -1,4 +1,4 @@
-//! What registrations are told, and what becomes of them.
+//! Which events registrations are notified of, and what becomes of them.
 #![tactic(auto)]
 
 ghost use Rattle.std.specs.Prelude.{All};
@@ -20,18 +20,23 @@ pub fn registrations_are_in_order(limits: &Limits, steps: &Items<(u64, Step)>, o
     ensures { All IsInOrder (state limits.now opening.now steps.now).registrations }
 {}
 
-/// The law of notices: in each step a registration stays as it is, or is told of one event, where
-/// it had been told nothing; only a GetNotify by its handle takes what it was told. One that is new
-/// was asked for by the step, and one that leaves was closed by its handle or its caller is gone.
+/// The law of notices: a registration that stays is notified of the first event of the step that
+/// its mask has, with the status and the name of that event, unless it was notified before; only a
+/// GetNotify by its handle takes that result, and then no second one comes. One that is new was
+/// asked for by the step, and the state that its service is in counts as the first event. One that
+/// leaves was closed by its handle, or its caller is gone; and a call that asks for one and is not
+/// refused makes it.
 pub fn law_of_notices(limits: &Limits, steps: &Items<(u64, Step)>, opening: &Flat)
     requires begins { IsOpening limits.now opening.now }
     requires legal { IsLegal limits.now opening.now steps.now }
     ensures { EachStep (LawOfNotices limits.now) limits.now opening.now steps.now }
 {}
 
-/// The law of events: no registration is passed over. Where a step brings a service to another
-/// state, or marks it, none of its registrations waits for that any more, and where one comes or
-/// leaves, none of the manager's does.
+/// The law of events: the events of a step are those of its effect, then those of settling, then
+/// those of the purge, and each of the three notifies all registrations that it finds. A service
+/// that comes to another state or is marked is an event of that service; one that comes or leaves
+/// is an event of the manager. So a service that stops and is started again in one step notifies a
+/// registration for STOPPED.
 pub fn law_of_events(limits: &Limits, steps: &Items<(u64, Step)>, opening: &Flat)
     requires begins { IsOpening limits.now opening.now }
     requires legal { IsLegal limits.now opening.now steps.now }

@@ -6,5 +6,6 @@ use Rattle.scm_notices.proofs.law_of_events.Goals as goal
 
 pub returns : goal.returns
 returns c =
-    along (Whole c.args.limits.now) (LawOfEvents c.args.limits.now) c.args.limits.now (whole_keeps c.args.limits.now) (gives c.args.limits.now) c.args.opening.now c.args.steps.now
+    along (Whole c.args.limits.now) (LawOfEvents c.args.limits.now) c.args.limits.now (whole_keeps c.args.limits.now)
+    (gives c.args.limits.now) c.args.opening.now c.args.steps.now
     (whole_begun c.args.limits.now c.args.opening.now c.requires.begins) c.requires.legal

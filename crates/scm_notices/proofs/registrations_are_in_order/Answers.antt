@@ -12,4 +12,5 @@ returns c =
     let l = c.args.limits.now in
     let f = c.args.opening.now in
     let es = c.args.steps.now in
-    subst (λ (g : Flat). All IsInOrder g.registrations) (sym (state_is l f es)) (at_end Ordered l (ordered_keeps l) f es (ordered_begun l f c.requires.begins) c.requires.legal).ordered
+    subst (λ (g : Flat). All IsInOrder g.registrations) (sym (state_is l f es))
+    (at_end Ordered l (ordered_keeps l) f es (ordered_begun l f c.requires.begins) c.requires.legal).ordered
