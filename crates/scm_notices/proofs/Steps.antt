@@ -21,6 +21,9 @@ use Rattle.scm_model.specs.declared.flat.Limits.{Limits}
 use Rattle.scm_model.specs.declared.flat.Opened.{Opened}
 use Rattle.scm_model.specs.declared.flat.Registration.{Registration}
 use Rattle.scm_model.specs.declared.flat.Service.{Service}
+use Rattle.scm_model.specs.declared.calls.Reply.TheVariants as reply
+use Rattle.scm_model.specs.declared.steps.Answer.{Answer}
+use Rattle.scm_model.specs.declared.steps.Answer.TheVariants as answers
 use Rattle.scm_model.specs.declared.steps.Kept.{Kept}
 use Rattle.scm_model.specs.declared.steps.Step.{Step}
 use Rattle.scm_model.specs.declared.steps.Step.TheVariants.{Call, Gone}
@@ -71,9 +74,10 @@ spent_stays events row spent = takes_none row events (λ k d lt.
 abbrev stage : (ℕ → List Event) → Registration → Registration
 stage later row = notified_first (later row.service) row
 
-more_told : (f : Flat) (step : Step) (events later : ℕ → List Event) (row : Registration) → HasComeFrom events f step row
-    → HasComeFrom (λ n. events n ++ later n) f step (stage later row)
-more_told f step events later row (inl is) = inl (record {
+more_told : (f : Flat) (step : Step) (answer : Answer) (events later : ℕ → List Event) (row : Registration)
+    → HasComeFrom events f step answer row
+    → HasComeFrom (λ n. events n ++ later n) f step answer (stage later row)
+more_told f step answer events later row (inl is) = inl (record {
   old = is.old;
   stood = is.stood;
   from = record {
@@ -85,11 +89,12 @@ more_told f step events later row (inl is) = inl (record {
         ∙ sym (in_turn (events is.old.service) (later is.old.service) is.old));
   };
 })
-more_told f step events later row (inr is) =
+more_told f step answer events later row (inr is) =
     let front = events_at_once f is.asked.service ++ events is.asked.service in
     inr (record {
       asked = is.asked;
       by = is.by;
+      granted = is.granted;
       told =
           ap (λ (r : Registration). notified_first (later r.service) r) is.told
           ∙ ap (λ n. notified_first (later n) (notified_first front is.asked)) (same_service front is.asked)
@@ -98,11 +103,12 @@ more_told f step events later row (inr is) =
           (append_assoc (events_at_once f is.asked.service) (events is.asked.service) (later is.asked.service));
     })
 
-all_more_told : (f : Flat) (step : Step) (events later : ℕ → List Event) (rows : List Registration) → All (HasComeFrom events f step) rows
-    → All (HasComeFrom (λ n. events n ++ later n) f step) (map (stage later) rows)
-all_more_told f step events later rows all =
-    All-map (HasComeFrom (λ n. events n ++ later n) f step) (stage later) rows
-    (λ k d lt. more_told f step events later (get_or rows k d) (all k d lt))
+all_more_told : (f : Flat) (step : Step) (answer : Answer) (events later : ℕ → List Event) (rows : List Registration)
+    → All (HasComeFrom events f step answer) rows
+    → All (HasComeFrom (λ n. events n ++ later n) f step answer) (map (stage later) rows)
+all_more_told f step answer events later rows all =
+    All-map (HasComeFrom (λ n. events n ++ later n) f step answer) (stage later) rows
+    (λ k d lt. more_told f step answer events later (get_or rows k d) (all k d lt))
 
 -- ## What the effect leaves
 
@@ -113,9 +119,9 @@ as_it_was : (events : ℕ → List Event) (f : Flat) (step : Step) (old new : Re
 as_it_was events f step old new stays quiet told = record
     { stays = stays; taken = λ e. absurd (unmet (takes_result f step old) e quiet); told = λ e. told }
 
-stayed : (events : ℕ → List Event) (f : Flat) (step : Step) (old new : Registration) → Contains f.registrations old
-    → IsFrom events f step old new → HasComeFrom events f step new
-stayed events f step old new there is = inl (record { old = old; stood = there; from = is })
+stayed : (events : ℕ → List Event) (f : Flat) (step : Step) (answer : Answer) (old new : Registration) → Contains f.registrations old
+    → IsFrom events f step old new → HasComeFrom events f step answer new
+stayed events f step answer old new there is = inl (record { old = old; stood = there; from = is })
 
 -- no call asks anything of registrations
 quiet_call : (f : Flat) (caller : ℕ) (asked : Request) (append : Kept) (row : Registration) → is_about_registrations asked ≡ false
@@ -130,14 +136,14 @@ quiet_step f (Call caller asked append) row quiet = quiet_call f caller asked ap
 quiet_step f (Gone caller) row quiet = absurd cc
 quiet_step f step row quiet = (refl, refl)
 
-quiet_stood : (f g : Flat) (step : Step) → changes_registrations step ≡ false → Notifies f g
-    → All (HasComeFrom (events_between f g) f step) g.registrations
-quiet_stood f g step quiet told =
-    subst (All (HasComeFrom (events_between f g) f step)) (sym told)
-    (All-map (HasComeFrom (events_between f g) f step) (notified_between f g) f.registrations
+quiet_stood : (f g : Flat) (step : Step) (answer : Answer) → changes_registrations step ≡ false → Notifies f g
+    → All (HasComeFrom (events_between f g) f step answer) g.registrations
+quiet_stood f g step answer quiet told =
+    subst (All (HasComeFrom (events_between f g) f step answer)) (sym told)
+    (All-map (HasComeFrom (events_between f g) f step answer) (notified_between f g) f.registrations
     (λ k d lt. (let row = get_or f.registrations k d in
     let tests = quiet_step f step row quiet in
-    stayed (events_between f g) f step row (notified_between f g row) (All-contains_itself f.registrations k d lt)
+    stayed (events_between f g) f step answer row (notified_between f g row) (All-contains_itself f.registrations k d lt)
     (as_it_was (events_between f g) f step row (notified_between f g row) tests.0 tests.1 refl))))
 
 -- ## What a step leaves that changes registrations
@@ -146,20 +152,22 @@ abbrev none : ℕ → List Event
 none n = []
 
 -- rows as they were
-all_were : (f : Flat) (step : Step) → ((row : Registration) → (closes f step row ≡ false) × (takes_result f step row ≡ false))
-    → All (HasComeFrom none f step) f.registrations
-all_were f step tests k d lt =
+all_were : (f : Flat) (step : Step) (answer : Answer)
+    → ((row : Registration) → (closes f step row ≡ false) × (takes_result f step row ≡ false))
+    → All (HasComeFrom none f step answer) f.registrations
+all_were f step answer tests k d lt =
     let row = get_or f.registrations k d in
-    stayed none f step row row (All-contains_itself f.registrations k d lt) (as_it_was none f step row row (tests row).0 (tests row).1 refl)
+    stayed none f step answer row row (All-contains_itself f.registrations k d lt)
+    (as_it_was none f step row row (tests row).0 (tests row).1 refl)
 
 -- those that pass a test
-some_were : (f : Flat) (step : Step) (p : Registration → Bool)
+some_were : (f : Flat) (step : Step) (answer : Answer) (p : Registration → Bool)
     → ((row : Registration) → p row ≡ true → (closes f step row ≡ false) × (takes_result f step row ≡ false))
-    → All (HasComeFrom none f step) (filter p f.registrations)
-some_were f step p tests k d lt =
+    → All (HasComeFrom none f step answer) (filter p f.registrations)
+some_were f step answer p tests k d lt =
     let row = get_or (filter p f.registrations) k d in
     let both = tests row (filter_passes p f.registrations k d lt) in
-    stayed none f step row row (All-filter p (Contains f.registrations) f.registrations (All-contains_itself f.registrations) k d lt)
+    stayed none f step answer row row (All-filter p (Contains f.registrations) f.registrations (All-contains_itself f.registrations) k d lt)
     (as_it_was none f step row row both.0 both.1 refl)
 
 -- the service that a handle is of is the one that it watches
@@ -203,12 +211,14 @@ at_once f None row = refl
 at_once f (Some one) row = sym (one_by_one (event_of_state (pid_of f.processes one) one) [] row)
 
 made : (f : Flat) (caller handle mask : ℕ) (append : Kept) (of : Opened) → Sound f → watched f caller handle ≡ Some of
-    → IsMade none f (Call caller (request.Notify handle mask) append) (watching_row f caller handle mask of)
+    → IsMade none f (Call caller (request.Notify handle mask) append) (answers.Reply (reply.Handle f.next.handle 0))
+    (watching_row f caller handle mask of)
 made f caller handle mask append of s is =
     let asked = new_registration f.next.registration caller of.service mask in
     record {
       asked = asked;
       by = ap (option_map (λ (one : Opened). new_registration f.next.registration caller one.service mask)) is;
+      granted = refl;
       told = ap (λ (found : Option Service). told_at_once f found asked) (held_watched f caller handle of s is)
           ∙ at_once f (service_of f of.service) asked;
     }
@@ -236,29 +246,38 @@ nobody None e = refl
 nobody (Some number) e = absurd cc
 
 call_stood : (l : Limits) (f : Flat) (moment caller : ℕ) (asked : Request) (append : Kept) → Sound f → is_about_registrations asked ≡ true
-    → All (HasComeFrom none f (Call caller asked append)) (call_of l (with_moment f moment) caller asked append).flat.registrations
+    → All (HasComeFrom none f (Call caller asked append) (answers.Reply (call_of l (with_moment f moment) caller asked append).reply))
+    (call_of l (with_moment f moment) caller asked append).flat.registrations
 call_stood l f moment caller (request.Notify handle mask) append s about =
     let g = with_moment f moment in
     let step = Call caller (request.Notify handle mask) append in
     let code = verdict l g caller (request.Notify handle mask) append in
-    let were = all_were f step (λ row. (refl, refl)) in
-    by_verdict (λ d. All (HasComeFrom none f step) d.flat.registrations) code (told_refused g caller (request.Notify handle mask) code) g
+    let given = answers.Reply (reply.Handle g.next.handle 0) in
+    let refusal = answers.Reply (told_refused g caller (request.Notify handle mask) code) in
+    by_verdict (λ d. All (HasComeFrom none f step (answers.Reply d.reply)) d.flat.registrations) code
+    (told_refused g caller (request.Notify handle mask) code) g
     (done_of l g caller (request.Notify handle mask))
-    (λ e. notify_keeps (λ (h : Flat). All (HasComeFrom none f step) h.registrations) g caller handle mask were
-    (λ of is. all_put (HasComeFrom none f step) (watching_row f caller handle mask of) f.registrations were
+    (λ e. notify_keeps (λ (h : Flat). All (HasComeFrom none f step given) h.registrations) g caller handle mask
+    (all_were f step given (λ row. (refl, refl)))
+    (λ of is. all_put (HasComeFrom none f step given) (watching_row f caller handle mask of) f.registrations
+    (all_were f step given (λ row. (refl, refl)))
     (inr (made f caller handle mask append of s is))))
-    (λ e. were)
+    (λ e. all_were f step refusal (λ row. (refl, refl)))
 call_stood l f moment caller (request.GetNotify handle) append s about =
     let g = with_moment f moment in
     let step = Call caller (request.GetNotify handle) append in
     let code = verdict l g caller (request.GetNotify handle) append in
-    by_verdict (λ d. All (HasComeFrom none f step) d.flat.registrations) code (told_refused g caller (request.GetNotify handle) code) g
+    let given = answers.Reply (done_of l g caller (request.GetNotify handle)).reply in
+    let refusal = answers.Reply (told_refused g caller (request.GetNotify handle) code) in
+    by_verdict (λ d. All (HasComeFrom none f step (answers.Reply d.reply)) d.flat.registrations) code
+    (told_refused g caller (request.GetNotify handle) code) g
     (done_of l g caller (request.GetNotify handle))
-    (λ e. by_number (λ n. All (HasComeFrom none f step) (map (taken_if n) f.registrations)) (notify_of f caller handle) e
-    (λ number is. All-map (HasComeFrom none f step) (taken_if number) f.registrations
+    (λ e. by_number (λ n. All (HasComeFrom none f step given) (map (taken_if n) f.registrations)) (notify_of f caller handle) e
+    (λ number is. All-map (HasComeFrom none f step given) (taken_if number) f.registrations
     (λ k d lt. (let row = get_or f.registrations k d in
-    stayed none f step row (taken_if number row) (All-contains_itself f.registrations k d lt) (got f caller handle number append row is)))))
-    (λ e. all_were f step (λ row. (
+    stayed none f step given row (taken_if number row) (All-contains_itself f.registrations k d lt)
+    (got f caller handle number append row is)))))
+    (λ e. all_were f step refusal (λ row. (
       refl,
       ap (λ (o : Option ℕ). is_it row.number o && not (row.fired == 0))
           (nobody (notify_of f caller handle) e),
@@ -267,20 +286,28 @@ call_stood l f moment caller (request.CloseNotify handle) append s about =
     let g = with_moment f moment in
     let step = Call caller (request.CloseNotify handle) append in
     let code = verdict l g caller (request.CloseNotify handle) append in
-    by_verdict (λ d. All (HasComeFrom none f step) d.flat.registrations) code (told_refused g caller (request.CloseNotify handle) code) g
+    let given = answers.Reply (done_of l g caller (request.CloseNotify handle)).reply in
+    let refusal = answers.Reply (told_refused g caller (request.CloseNotify handle) code) in
+    by_verdict (λ d. All (HasComeFrom none f step (answers.Reply d.reply)) d.flat.registrations) code
+    (told_refused g caller (request.CloseNotify handle) code) g
     (done_of l g caller (request.CloseNotify handle))
-    (λ e. by_number (λ n. All (HasComeFrom none f step) (filter (λ (row : Registration). not (row.number == n)) f.registrations))
+    (λ e. by_number (λ n. All (HasComeFrom none f step given) (filter (λ (row : Registration). not (row.number == n)) f.registrations))
     (notify_of f caller handle) e
-    (λ number is. some_were f step (λ (row : Registration). not (row.number == number))
+    (λ number is. some_were f step given (λ (row : Registration). not (row.number == number))
     (λ row other. (ap (is_it row.number) is ∙ untrue (row.number == number) other, refl))))
-    (λ e. all_were f step (λ row. (ap (is_it row.number) (nobody (notify_of f caller handle) e), refl)))
+    (λ e. all_were f step refusal (λ row. (ap (is_it row.number) (nobody (notify_of f caller handle) e), refl)))
 call_stood l f moment caller asked append s about = absurd cc
 
 step_stood : (l : Limits) (f : Flat) (moment : ℕ) (step : Step) → Sound f → changes_registrations step ≡ true
-    → All (HasComeFrom none f step) (effect_of l (at_moment f moment step) step).flat.registrations
-step_stood l f moment (Call caller asked append) s about = call_stood l f moment caller asked append s about
+    → All (HasComeFrom none f step (step_of l f moment step).answer) (effect_of l (at_moment f moment step) step).flat.registrations
+step_stood l f moment (Call caller (request.Notify handle mask) append) s about = call_stood l f moment caller
+    (request.Notify handle mask) append s about
+step_stood l f moment (Call caller (request.GetNotify handle) append) s about = call_stood l f moment caller
+    (request.GetNotify handle) append s about
+step_stood l f moment (Call caller (request.CloseNotify handle) append) s about = call_stood l f moment caller
+    (request.CloseNotify handle) append s about
 step_stood l f moment (Gone caller) s about =
-    some_were f (Gone caller) (λ (row : Registration). not (row.caller == caller))
+    some_were f (Gone caller) answers.Done (λ (row : Registration). not (row.caller == caller))
     (λ row other. (untrue (row.caller == caller) other, refl))
 step_stood l f moment step s about = absurd cc
 
@@ -289,9 +316,10 @@ nothing_between : (f g : Flat) → g.services ≡ f.services → (n : ℕ) → e
 nothing_between f g services n = no_events f g (λ row. row) (λ row. refl)
     (services ∙ sym (maps_nothing (λ (row : Service). row) (λ row. refl) f.services)) (λ k d lt. unmoved (get_or f.services k d)) n
 
-other_events : (events later : ℕ → List Event) → ((n : ℕ) → events n ≡ later n) → (f : Flat) (step : Step) (row : Registration)
-    → HasComeFrom events f step row → HasComeFrom later f step row
-other_events events later same f step row (inl is) = inl (record {
+other_events : (events later : ℕ → List Event) → ((n : ℕ) → events n ≡ later n)
+    → (f : Flat) (step : Step) (answer : Answer) (row : Registration)
+    → HasComeFrom events f step answer row → HasComeFrom later f step answer row
+other_events events later same f step answer row (inl is) = inl (record {
   old = is.old;
   stood = is.stood;
   from = record {
@@ -301,35 +329,39 @@ other_events events later same f step row (inl is) = inl (record {
         ∙ ap (λ es. notified_first es is.old) (same is.old.service);
   };
 })
-other_events events later same f step row (inr is) = inr (record {
+other_events events later same f step answer row (inr is) = inr (record {
   asked = is.asked;
   by = is.by;
+  granted = is.granted;
   told = is.told ∙ ap (λ es. notified_first (events_at_once f is.asked.service ++ es) is.asked) (same is.asked.service);
 })
 
 effect_stood : (l : Limits) (f : Flat) (e : Entry) → Sound f → NotifiesEach f e.1 (stages_of l f e.0 e.1)
-    → All (HasComeFrom (events_between f (effect_of l (at_moment f e.0 e.1) e.1).flat) f e.1)
+    → All (HasComeFrom (events_between f (effect_of l (at_moment f e.0 e.1) e.1).flat) f e.1 (step_of l f e.0 e.1).answer)
     (effect_of l (at_moment f e.0 e.1) e.1).flat.registrations
 effect_stood l f e s each =
     let g = (effect_of l (at_moment f e.0 e.1) e.1).flat in
     elim (changes_registrations e.1) as
-    (λ b. changes_registrations e.1 ≡ b → All (HasComeFrom (events_between f g) f e.1) g.registrations) [
-      | true ↦ λ about. All-weaker (HasComeFrom none f e.1) (HasComeFrom (events_between f g) f e.1)
-          (other_events none (events_between f g) (λ n. sym (nothing_between f g (each.services about) n)) f e.1) g.registrations
+    (λ b. changes_registrations e.1 ≡ b → All (HasComeFrom (events_between f g) f e.1 (step_of l f e.0 e.1).answer) g.registrations) [
+      | true ↦ λ about. All-weaker (HasComeFrom none f e.1 (step_of l f e.0 e.1).answer)
+          (HasComeFrom (events_between f g) f e.1 (step_of l f e.0 e.1).answer)
+          (other_events none (events_between f g) (λ n. sym (nothing_between f g (each.services about) n)) f e.1
+          (step_of l f e.0 e.1).answer) g.registrations
           (step_stood l f e.0 e.1 s about)
-      | false ↦ λ quiet. quiet_stood f g e.1 quiet (each.effect quiet)
+      | false ↦ λ quiet. quiet_stood f g e.1 (step_of l f e.0 e.1).answer quiet (each.effect quiet)
     ] refl
 
 rows_stand : (l : Limits) (f : Flat) (e : Entry) → Sound f → NotifiesEach f e.1 (stages_of l f e.0 e.1)
-    → All (HasComeFrom (events_of_step l f e) f e.1) (stages_of l f e.0 e.1).purged.registrations
+    → All (HasComeFrom (events_of_step l f e) f e.1 (step_of l f e.0 e.1).answer) (stages_of l f e.0 e.1).purged.registrations
 rows_stand l f e s each =
     let st = stages_of l f e.0 e.1 in
     let first = events_between f st.effect in
     let second = events_between st.effect st.settled in
-    let settled = subst (All (HasComeFrom (λ n. first n ++ second n) f e.1)) (sym each.settled)
-    (all_more_told f e.1 first second st.effect.registrations (effect_stood l f e s each)) in
-    subst (All (HasComeFrom (events_of_step l f e) f e.1)) (sym each.purged)
-    (all_more_told f e.1 (λ n. first n ++ second n) (events_between st.settled st.purged) st.settled.registrations settled)
+    let settled = subst (All (HasComeFrom (λ n. first n ++ second n) f e.1 (step_of l f e.0 e.1).answer)) (sym each.settled)
+    (all_more_told f e.1 (step_of l f e.0 e.1).answer first second st.effect.registrations (effect_stood l f e s each)) in
+    subst (All (HasComeFrom (events_of_step l f e) f e.1 (step_of l f e.0 e.1).answer)) (sym each.purged)
+    (all_more_told f e.1 (step_of l f e.0 e.1).answer (λ n. first n ++ second n)
+    (events_between st.settled st.purged) st.settled.registrations settled)
 
 -- ## Who stays
 

@@ -83,18 +83,19 @@ event_at_once processes (Some row) = event_of_state (pid_of processes row) row �
 abbrev pub events_at_once : Flat → ℕ → List Event
 events_at_once f service = event_at_once f.processes (service_of f service)
 
--- one that the step made, which is notified of its service's state at once
-pub record IsMade (events : ℕ → List Event) (before : Flat) (step : Step) (new : Registration) : Type 0 where
+-- one that a step made which was not refused; it is notified of its service's state at once
+pub record IsMade (events : ℕ → List Event) (before : Flat) (step : Step) (answer : Answer) (new : Registration) : Type 0 where
   pub asked : Registration
   pub by : asked_by before step ≡ Some asked
+  pub granted : succeeds answer ≡ true
   pub told : new ≡ notified_first (events_at_once before asked.service ++ events asked.service) asked
 
-abbrev pub HasComeFrom : (ℕ → List Event) → Flat → Step → Registration → Type 0
-HasComeFrom events before step row = HasStayed events before step row ⊎ IsMade events before step row
+abbrev pub HasComeFrom : (ℕ → List Event) → Flat → Step → Answer → Registration → Type 0
+HasComeFrom events before step answer row = HasStayed events before step row ⊎ IsMade events before step answer row
 
 -- each registration stood before the step, or was asked for by it; one that stood stays, unless it is closed or its caller is gone; and one
 -- that a call asked for that was not refused is there
 pub record LawOfNotices (l : Limits) (before : Flat) (e : Entry) (told : Answer) (after : Flat) : Type 0 where
-  pub rows : All (HasComeFrom (events_of_step l before e) before e.1) after.registrations
+  pub rows : All (HasComeFrom (events_of_step l before e) before e.1 told) after.registrations
   pub stay : All (λ row. closes before e.1 row ≡ false → has_registration row.number after ≡ true) before.registrations
   pub made : (asked : Registration) → asked_by before e.1 ≡ Some asked → succeeds told ≡ true → has_registration asked.number after ≡ true
