@@ -1,5 +1,6 @@
 -- Where a pair stands among pairs that rise.
-use Rattle.std.proofs.Common.{ℕ, ◌≡◌, ◌<◌, ◌≤◌, ◌+◌, ◌∙◌, inl, inr, zero, suc, Bool, true, false, not, ◌||◌, cond, List, [], ◌∷◌, ◌++◌, refl, sym, ap, subst, length, get_or, take, drop, filter, arith, insert, remove}
+use Rattle.std.proofs.Common.{ℕ, ◌≡◌, ◌<◌, ◌≤◌, ◌+◌, ◌∙◌, inl, inr, zero, suc, Bool, true, false, not, ◌||◌, cond, List, [], ◌∷◌, ◌++◌}
+use Rattle.std.proofs.Common.{refl, sym, ap, subst, length, length-append, get_or, take, drop, filter, arith, insert, remove}
 use Rattle.std.specs.List.{AllByRecursion, AllWithin, HoldsAt}
 use Rattle.std.specs.Cmp.{IsTotalOrder}
 use Rattle.std.specs.List.Sorted.{IsNonDecreasingBy, IsPartitionPoint}
@@ -186,10 +187,31 @@ rising_with [] p rising = (tt, tt)
 rising_with (x ∷ xs) p rising =
     elim (pair_cmp x p) as (λ o. pair_cmp x p ≡ o → AreRising (with_pair (x ∷ xs) p)) [
       | Less ↦ λ e.
-          subst AreRising (sym (with_lesser x xs p e)) (all_with (λ y. pair_cmp x y ≡ Less) xs p rising.1 rising.0 e, rising_with xs p rising.1)
+          subst AreRising (sym (with_lesser x xs p e))
+          (all_with (λ y. pair_cmp x y ≡ Less) xs p rising.1 rising.0 e, rising_with xs p rising.1)
       | Equal ↦ λ e. subst AreRising (sym (with_same x xs p e rising.0)) rising
       | Greater ↦ λ e. subst AreRising (sym (with_greater x xs p e rising.0)) (below_all x xs p e rising.0, rising)
     ] refl
+
+few_others : (xs : List Pair) (p : Pair)
+    → length (filter (λ y. is_lt (pair_cmp y p)) xs) + length (filter (λ y. is_gt (pair_cmp y p)) xs) ≤ length xs
+few_others [] p = omega arith
+few_others (x ∷ xs) p =
+    let lesser = filter (λ y. is_lt (pair_cmp y p)) xs in
+    let greater = filter (λ y. is_gt (pair_cmp y p)) xs in
+    elim (pair_cmp x p) as (λ o. length (cond (is_lt o) (x ∷ lesser) lesser) + length (cond (is_gt o) (x ∷ greater) greater) ≤ suc
+    (length xs)) [
+      | Less ↦ omega (arith, few_others xs p)
+      | Equal ↦ omega (arith, few_others xs p)
+      | Greater ↦ omega (arith, few_others xs p)
+    ]
+
+-- one more at most
+pub one_more : (xs : List Pair) (p : Pair) → length (with_pair xs p) ≤ length xs + 1
+one_more xs p =
+    let lesser = filter (λ y. is_lt (pair_cmp y p)) xs in
+    let greater = filter (λ y. is_gt (pair_cmp y p)) xs in
+    omega (arith, length-append lesser (p ∷ greater), few_others xs p)
 
 -- ## A pair less
 

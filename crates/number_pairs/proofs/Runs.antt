@@ -1,5 +1,6 @@
 -- The pairs with one key stand side by side.
-use Rattle.std.proofs.Common.{ℕ, ◌≡◌, ◌≤◌, ◌∙◌, ◌-◌, inl, inr, zero, suc, Bool, true, false, not, List, [], ◌∷◌, refl, ap, leb, ltb, length, get_or, take, drop, filter, arith}
+use Rattle.std.proofs.Common.{ℕ, ◌≡◌, ◌≤◌, ◌∙◌, ◌-◌, inl, inr, zero, suc, Bool, true, false, not, List, [], ◌∷◌, refl, ap, leb, ltb, length}
+use Rattle.std.proofs.Common.{get_or, take, drop, filter, arith}
 use Rattle.std.specs.List.Sorted.{IsNonDecreasingBy, IsPartitionPoint}
 use Rattle.std.specs.declared.cmp.Ordering.TheVariants.{Less}
 use Rattle.std.proofs.lemmas.Bool.Decides.{nat_tests}

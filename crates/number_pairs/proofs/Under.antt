@@ -1,5 +1,6 @@
 -- The numbers under each key, as pairs come and leave.
-use Rattle.std.proofs.Common.{ℕ, ◌≡◌, ◌<◌, ◌∙◌, inl, inr, true, false, not, cond, List, [], ◌∷◌, refl, sym, ap, subst, eqb, filter, map, arith}
+use Rattle.std.proofs.Common.{ℕ, ◌≡◌, ◌<◌, ◌∙◌, inl, inr, true, false, not, cond, List, [], ◌∷◌, refl, sym, ap, subst, eqb, filter, map}
+use Rattle.std.proofs.Common.{arith}
 use Rattle.std.specs.List.{AllByRecursion}
 use Rattle.std.specs.Ordering.{is_eq}
 use Rattle.std.specs.declared.cmp.Ordering.TheVariants.{Less, Equal, Greater}
@@ -38,7 +39,11 @@ pub numbers_rise : (key : ℕ) (xs : List Pair) → AreRising xs → numbers.Are
 numbers_rise key [] rising = tt
 numbers_rise key (x ∷ xs) rising =
     elim (cases_Bool (has_key key x)) [
-      | inl is ↦ rw is (subst (λ k. NumbersAbove x.number k xs) (eqb-true x.key key is) (numbers_above x xs rising.0), numbers_rise key xs rising.1)
+      | inl is ↦ rw is (
+        subst (λ k. NumbersAbove x.number k xs) (eqb-true x.key key is)
+            (numbers_above x xs rising.0),
+        numbers_rise key xs rising.1,
+      )
       | inr other ↦ rw other (numbers_rise key xs rising.1)
     ]
 
@@ -104,7 +109,8 @@ put_under (x ∷ xs) p rising other =
     ] refl
   where
     split : (key : ℕ) (y : Pair) (ys : List Pair) → numbers_under key (y ∷ ys) ≡ led_by key y (numbers_under key ys)
-    split key y ys = elim (has_key key y) as (λ b. map (λ (q : Pair). q.number) (cond b (y ∷ filter (has_key key) ys) (filter (has_key key) ys))
+    split key y ys = elim (has_key key y) as
+        (λ b. map (λ (q : Pair). q.number) (cond b (y ∷ filter (has_key key) ys) (filter (has_key key) ys))
         ≡ cond b (y.number ∷ numbers_under key ys) (numbers_under key ys)) [ true ↦ refl | false ↦ refl ]
 
 -- ## A number less
@@ -119,7 +125,8 @@ other_number x p unequal same = ne_eqb x.number p.number (λ is. absurd (equal_i
 pub drop_under : (xs : List Pair) (p : Pair) (other : ℕ)
     → numbers_under other (without_pair xs p) ≡ taken_out other p (numbers_under other xs)
 drop_under [] p other =
-    elim (has_key other p) as (λ b. numbers_under other [] ≡ cond b (without_number (numbers_under other []) p.number) (numbers_under other [])) [ true ↦ refl | false ↦ refl ]
+    elim (has_key other p) as (λ b. numbers_under other [] ≡ cond b (without_number (numbers_under other []) p.number)
+    (numbers_under other [])) [ true ↦ refl | false ↦ refl ]
 drop_under (x ∷ xs) p other =
     elim (pair_cmp x p) as (λ o. pair_cmp x p ≡ o → numbers_under other (cond (not (is_eq o)) (x ∷ without_pair xs p) (without_pair xs p))
     ≡ taken_out other p (numbers_under other (x ∷ xs))) [
@@ -143,8 +150,10 @@ drop_under (x ∷ xs) p other =
       | inl is ↦ rw is (elim (cases_Bool (has_key key q)) [
         | inl too ↦
             let differ = other_number y q unequal (eqb-true y.key key is ∙ sym (eqb-true q.key key too)) in
-            rw (too, differ) (ap (λ ns. y.number ∷ ns) (rest ∙ ap (λ b. cond b (without_number (numbers_under key ys) q.number) (numbers_under key ys)) too))
-        | inr apart ↦ rw apart (ap (λ ns. y.number ∷ ns) (rest ∙ ap (λ b. cond b (without_number (numbers_under key ys) q.number) (numbers_under key ys)) apart))
+            rw (too, differ) (ap (λ ns. y.number ∷ ns)
+            (rest ∙ ap (λ b. cond b (without_number (numbers_under key ys) q.number) (numbers_under key ys)) too))
+        | inr apart ↦ rw apart (ap (λ ns. y.number ∷ ns)
+            (rest ∙ ap (λ b. cond b (without_number (numbers_under key ys) q.number) (numbers_under key ys)) apart))
       ])
       | inr apart ↦ rw apart rest
     ]

@@ -109,6 +109,7 @@ impl NumberPairs {
         ensures items { self.new.items ≡ with_pair self.old.items pair }
         ensures under { ChangesUnder pair.key self.old.items self.new.items
             (λ numbers. with_number numbers pair.number) }
+        ensures room { self.old.room ≤ self.new.room + 1 }
         ensures held { length self.old.items + self.old.room
             ≤ length self.new.items + self.new.room }
     {
