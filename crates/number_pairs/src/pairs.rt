@@ -1,4 +1,4 @@
-ghost use Rattle.std.specs.Prelude.{◌≡◌, ◌+◌, ◌<◌, ◌≤◌, [], true, false, IsOk, OnOk, filter, length, vec_capacity, vec_len};
+ghost use Rattle.std.specs.Prelude.{◌≡◌, ◌+◌, ◌<◌, ◌≤◌, [], true, false, IsOk, OnErr, OnOk, filter, length, vec_capacity, vec_len};
 ghost use Rattle.number_lists.specs.Rising.{with_number, without_number};
 ghost use Rattle.number_lists.specs.Rising as numbers;
 ghost use Rattle.number_pairs.specs.Keyed.{AreRising, ChangesUnder, has_key, has_pair, numbers_under, with_pair, without_pair};
@@ -90,10 +90,11 @@ impl NumberPairs {
         run_of(self.list.as_slice(), key)
     }
 
-    /// Makes room for one pair more.
+    /// Makes room for one pair more. An `Err` changes nothing.
     pub fn reserve(&mut self) -> Result<(), OutOfMemory>
         ensures items { self.new.items ≡ self.old.items }
         ensures ok { OnOk result (1 ≤ self.new.room) }
+        ensures err { OnErr result (self.new ≡ self.old) }
         ensures room { self.old.room ≤ self.new.room }
         ensures enough { 1 ≤ self.old.room → IsOk result }
     {
