@@ -6,3 +6,5 @@ pub mod Switching
 pub mod OtherLog
 pub mod Showing
 pub mod Storing
+pub mod Keepers
+pub mod Contents

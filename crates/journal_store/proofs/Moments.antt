@@ -1,9 +1,9 @@
 -- How a run of disk calls goes on.
-use Rattle.std.proofs.Common.{◌≡◌, ◌⊎◌, inl, inr, ⊎_elim, ℕ, ◌≤◌, List, Option, Some, None, refl, sym, ◌∙◌, ap, subst, arith, IfSome}
-use Rattle.std.proofs.Common.{Result, Ok, Err, ◌<◌, length}
+use Rattle.std.proofs.Common.{◌≡◌, inl, inr, ⊎_elim, ℕ, List, Option, Some, None, refl, sym, ◌∙◌, subst, arith, IfSome}
+use Rattle.std.proofs.Common.{Result, Ok, Err, length}
 use Rattle.std.specs.Prelude.{OnOk}
 use Rattle.journal_disk.specs.Files.{Files, TornFile, written}
-use Rattle.journal_disk.specs.Images.{Disked, Elapses, HasWritten, IsToldAlike, Looks, Only, Writes}
+use Rattle.journal_disk.specs.Images.{Disked, Elapses, HasWritten, IsToldAlike, Looks, Writes}
 use Rattle.journal_store.specs.Kept.{Leaves, Looked}
 
 pub told : {A : Type 0} (P : A → Type 0) (o : Option A) (f : A) → o ≡ Some f → IfSome o P → P f

@@ -1,13 +1,13 @@
 -- What is written into the log that isn't read.
-use Rattle.std.proofs.Common.{◌≡◌, ◌⊎◌, inl, inr, ⊎_elim, ℕ, zero, suc, ◌+◌, ◌-◌, ◌<◌, ◌≤◌, min, Bool, true, false, cond, List, [], ◌∷◌, ◌++◌, length, take, drop, Option, Some, None, Result, refl, sym, ◌∙◌, ap, subst, arith, IfSome, append_assoc, length-append, length-drop, length-take, take-append-drop}
-use Rattle.std.proofs.lemmas.List.{take_at, drop_at, drop-drop, take_all, take-take, take-append-le, length-take-le}
+use Rattle.std.proofs.Common.{◌≡◌, inl, inr, ℕ, zero, suc, ◌+◌, ◌-◌, ◌<◌, ◌≤◌, min, List, [], ◌∷◌, ◌++◌, length, take, drop, Option, Some, None, Result, refl, sym, ◌∙◌, ap, subst, arith, IfSome, append_assoc, length-append, length-drop, length-take, take-append-drop}
+use Rattle.std.proofs.lemmas.List.{drop-drop, take_all, take-take, length-take-le}
 use Rattle.std.proofs.lemmas.Bool.{cases_lt}
-use Rattle.journal_disk.specs.Files.{Files, TornFile, file, put, with_file, written}
+use Rattle.journal_disk.specs.Files.{Files, file, put, with_file, written}
 use Rattle.journal_disk.specs.Images.{Disked, HasSize, HasWritten, IsToldAlike, IsWithin, Looks, Writes}
-use Rattle.journal_store.specs.Content.{log_content, record_at}
+use Rattle.journal_store.specs.Content.{log_content}
 use Rattle.journal_store.specs.Ends.{Fronts, IsRecord}
 use Rattle.journal_store.specs.Copies.{ButFor, HasPut, WritesOnly}
-use Rattle.journal_store.specs.Kept.{Leaves, Looked}
+use Rattle.journal_store.specs.Kept.{Looked}
 use Rattle.journal_store.proofs.Moments.{goes_on, if_told, joins, now_seen, same_file, started, stayed, told, was_told, weaker}
 use Rattle.journal_store.proofs.Records.{fronts_content, fronts_more, take_two, whole_nothing}
 use Rattle.journal_store.proofs.Writing.{file_with, put_front}

@@ -1,11 +1,9 @@
 -- What records stand for, in whatever front of a log they stand.
-use Rattle.std.proofs.Common.{◌≡◌, ◌≢◌, inl, inr, ⊎_elim, ℕ, zero, suc, ◌+◌, ◌-◌, ◌^◌, ◌<◌, ◌≤◌, ◌==◌, ◌⊎◌, Bool, true, false, not, nat_lt, cond, List, [], ◌∷◌, ◌++◌, length, take, drop, Option, Some, None, refl, sym, ◌∙◌, ap, subst, arith, append_assoc, length-append, length-take, length-drop, take-append-drop}
-use Rattle.std.proofs.lemmas.List.{append-nil, take_at, drop_at, drop-drop, take-take, take-append-le, take_all, drop_all, length-take-le, append_assoc as assoc}
-use Rattle.std.proofs.lemmas.Nat.{from_le_bytes-to_le_bytes_8}
-use Rattle.std.proofs.lemmas.Bool.{cases_eq}
+use Rattle.std.proofs.Common.{◌≡◌, ◌≢◌, inr, ⊎_elim, ℕ, zero, suc, ◌+◌, ◌<◌, ◌≤◌, ◌==◌, Bool, true, false, not, nat_lt, cond, List, [], ◌∷◌, ◌++◌, length, take, drop, Option, Some, None, refl, sym, ◌∙◌, ap, subst, arith, append_assoc, length-append, length-drop, take-append-drop}
+use Rattle.std.proofs.lemmas.List.{append-nil, take_at, drop_at, drop-drop, take-take, take-append-le, length-take-le}
 use Rattle.std.proofs.lemmas.Bool.Decides.{nat_tests}
-use Rattle.std.specs.Int.{w64, from_le_bytes, to_le_bytes}
-use Rattle.journal_store.specs.Content.{body_at, content_within, is_open, joined, log_content, number, record_at}
+use Rattle.std.specs.Int.{w64, from_le_bytes}
+use Rattle.journal_store.specs.Content.{body_at, content_within, joined, log_content, record_at}
 use Rattle.journal_store.specs.Ends.{EndsAt, Fronts, IsRecord, Whole}
 
 -- ## One record

@@ -1,5 +1,5 @@
 -- A log that was written becomes the one that is read.
-use Rattle.std.proofs.Common.{◌≡◌, ◌⊎◌, inl, inr, ⊎_elim, ℕ, zero, suc, ◌+◌, ◌-◌, ◌^◌, ◌<◌, ◌≤◌, ◌==◌, Bool, true, false, not, cond, List, [], ◌∷◌, ◌++◌, length, take, drop, Option, Some, refl, sym, ◌∙◌, ap, subst, arith, IfSome, append_assoc, length-append, length-drop, take-append-drop}
+use Rattle.std.proofs.Common.{◌≡◌, ◌⊎◌, inl, inr, ⊎_elim, ℕ, ◌+◌, ◌-◌, ◌^◌, ◌<◌, ◌≤◌, ◌==◌, Bool, true, false, not, cond, List, [], ◌∷◌, ◌++◌, length, take, drop, Some, refl, sym, ◌∙◌, ap, subst, arith, IfSome, append_assoc, length-append, length-drop, take-append-drop}
 use Rattle.std.proofs.lemmas.List.{take_at, drop_at, length-take-le}
 use Rattle.std.proofs.lemmas.Nat.{from_le_bytes-to_le_bytes_8}
 use Rattle.std.specs.Int.{w64, from_le_bytes}
@@ -8,7 +8,7 @@ use Rattle.journal_disk.specs.Images.{Disked, HasWritten, IsDisk, IsSynced, IsTo
 use Rattle.journal_store.specs.Content.{content, is_open, log_content, number, selected}
 use Rattle.journal_store.specs.Ends.{Guarded, IsShut, Whole}
 use Rattle.journal_store.specs.Copies.{ButFor, HasPut, IsSealed, IsUnread, OneRecord, WritesOnly, blank_head}
-use Rattle.journal_store.specs.Kept.{Has, HasEither, IsEitherLog, IsOldOr, IsReady, Leaves, Stood}
+use Rattle.journal_store.specs.Kept.{HasEither, IsEitherLog, IsOldOr, IsReady, Leaves, Stood}
 use Rattle.journal_store.proofs.Moments.{if_told, joins, now_seen, same_file, still_told, told, was_told, weaker}
 use Rattle.journal_store.proofs.Records.{shut_none, whole_ends, whole_more, whole_nothing}
 use Rattle.journal_store.proofs.Switching.{other_first, other_second}

@@ -1,5 +1,5 @@
 -- The steps of an append, over plain disks.
-use Rattle.std.proofs.Common.{◌≡◌, ◌⊎◌, ⊎_elim, inl, inr, ℕ, ◌+◌, ◌^◌, ◌<◌, ◌≤◌, List, [], ◌∷◌, ◌++◌, length, Option, Some, Result, refl, sym, ◌∙◌, ap, subst, arith, IfSome}
+use Rattle.std.proofs.Common.{◌≡◌, ⊎_elim, inl, inr, ℕ, ◌+◌, ◌^◌, ◌<◌, ◌≤◌, List, [], ◌∷◌, ◌++◌, length, Some, Result, refl, sym, ◌∙◌, ap, subst}
 use Rattle.journal_disk.specs.Files.{Files, TornFile, file, written}
 use Rattle.journal_disk.specs.Images.{Disked, HasWritten, IsDisk, IsSynced, IsToldAlike, IsWithin, Looks, Only, Writes}
 use Rattle.std.proofs.Common.{false, true}

@@ -1,6 +1,5 @@
 -- What the calls of a store do, from what their parts do.
-use Rattle.std.proofs.Common.{◌≡◌, ◌⊎◌, inl, inr, ⊎_elim, ℕ, Bool, true, false, List, [], Option, Some, None, Result, Ok, Err, refl, sym, ◌∙◌, ap, subst}
-use Rattle.std.specs.Prelude.{OnOk}
+use Rattle.std.proofs.Common.{◌≡◌, ◌⊎◌, inl, inr, ⊎_elim, ℕ, Bool, true, false, List, [], Option, Some, None, Result, Ok, Err, refl, sym, ◌∙◌, ap}
 use Rattle.journal_disk.specs.Files.{Files, no_files}
 use Rattle.journal_disk.specs.Images.{Disked, IsDisk, IsEmptied, IsToldAlike, Opens}
 use Rattle.journal_store.specs.Content.{content}

@@ -1,16 +1,16 @@
 -- What a write leaves, whole and torn.
-use Rattle.std.proofs.Common.{◌≡◌, inl, inr, ⊎_elim, ℕ, zero, suc, ◌+◌, ◌-◌, ◌^◌, ◌<◌, ◌≤◌, ◌==◌, ◌⊎◌, max, Bool, true, false, not, cond, List, [], ◌∷◌, ◌++◌, length, take, drop, Option, Some, None, refl, sym, ◌∙◌, ap, subst, arith, append_assoc, length-append, length-drop, take-append-drop}
-use Rattle.std.proofs.lemmas.List.{append-nil, take_at, drop_at, drop-drop, take_all, drop_all, length-take-le}
+use Rattle.std.proofs.Common.{◌≡◌, inl, inr, ⊎_elim, ℕ, zero, suc, ◌+◌, ◌-◌, ◌^◌, ◌<◌, ◌≤◌, ◌==◌, ◌⊎◌, max, Bool, true, false, not, cond, List, [], ◌∷◌, ◌++◌, length, take, drop, None, refl, sym, ◌∙◌, ap, subst, arith, append_assoc, length-append, length-drop, take-append-drop}
+use Rattle.std.proofs.lemmas.List.{take_at, drop_at, drop-drop, length-take-le}
 use Rattle.std.proofs.lemmas.Nat.{from_le_bytes-to_le_bytes_8}
-use Rattle.std.specs.Int.{w64, from_le_bytes, to_le_bytes}
+use Rattle.std.specs.Int.{w64, from_le_bytes}
 use Rattle.journal_disk.specs.Files.{Files, Torn, TornFile, file, put, with_file, written}
 use Rattle.journal_store.specs.Content.{content, is_open, log_content, number, record_at, selected}
-use Rattle.journal_store.specs.Ends.{EndsAt, Guarded, IsShut, Staged, Whole}
+use Rattle.journal_store.specs.Ends.{Guarded, IsShut, Staged, Whole}
 use Rattle.std.proofs.lemmas.Bool.{cases_eq}
 use Rattle.std.proofs.lemmas.Bool.Decides.{nat_tests}
 use Rattle.journal_store.specs.Content.{body_at}
 use Rattle.journal_store.specs.Ends.{Found}
-use Rattle.journal_store.specs.Kept.{Has, HasEither}
+use Rattle.journal_store.specs.Kept.{HasEither}
 use Rattle.journal_store.proofs.Records.{either_none, gate_is, shut_none, take_two, too_short, whole_ends, whole_more}
 
 -- ## Files

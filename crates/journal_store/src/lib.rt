@@ -3,8 +3,11 @@
 
 mod appending;
 mod copying;
+mod gathering;
+mod keeping;
 mod reading;
 mod replacing;
 mod store;
 
+pub use keeping::Compactor;
 pub use store::JournalStore;

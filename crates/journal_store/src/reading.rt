@@ -15,7 +15,7 @@ use outside::Failed;
 pub const HEAD: u64 = 9;
 
 /// A place of a log.
-#[derive(Clone, Copy, Debug, PartialEq, Eq)]
+#[derive(Clone, Copy)]
 pub struct LogPlace {
     pub log: u8,
     pub place: u64,

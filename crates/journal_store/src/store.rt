@@ -2,14 +2,17 @@ ghost use Rattle.std.specs.Prelude.{◌≡◌, ◌≤◌, ◌^◌, ◌++◌, Lis
 ghost use Rattle.outside.specs.Causes.{HasCause};
 ghost use Rattle.journal_disk.specs.Files.{Files};
 ghost use Rattle.journal_disk.specs.Images.{IsToldAlike, has_path};
+ghost use Rattle.journal_store.specs.Compacting.{HasKeepCause};
 ghost use Rattle.journal_store.specs.Content.{content};
-ghost use Rattle.journal_store.specs.Kept.{Changes, IsReady, IsStored, Leaves, Stood, opened};
+ghost use Rattle.journal_store.specs.Kept.{AtEachMoment, Changes, IsReady, IsSettled, IsStored, Leaves, Stood, opened};
 
 use crate::appending::{append, open};
+use crate::gathering::read_content;
 use crate::reading::LogPlace;
 use crate::replacing::{cut_to, replace_by};
 use journal_disk::Disk;
 use outside::Failed;
+use record_journal::KeepFault;
 use std::alloc::Global;
 use std::marker::Model;
 
@@ -53,7 +56,7 @@ fn end_of<D: Disk>(disk: &mut D, end: Option<LogPlace>) -> Result<LogPlace, Fail
 }
 
 impl<D: Disk> JournalStore<D> {
-    /// A store over the files of a disk. It is out of memory only where `read_all` is.
+    /// A store over the files of a disk. `alloc` is where `read_all` takes its memory from.
     pub fn new(alloc: Global, disk: D) -> Self
         ensures { result ≡ disk }
     {
@@ -75,7 +78,7 @@ impl<D: Disk> JournalStore<D> {
 impl<D: Disk> JournalStore<D> {
     /// Opens what a crash may have left under a path. Without a path the files are empty, and the next
     /// call opens them.
-    pub fn open_path(&mut self, path: Option<&str>) -> Result<(), Failed>
+    pub(crate) fn open_path(&mut self, path: Option<&str>) -> Result<(), Failed>
         ensures changes { Changes (opened (has_path path.entry))
             (D.state self.old) (D.state self.new) result }
         ensures same { OnErr result ((f g : Files) → (D.state self.old).seen ≡ Some f
@@ -93,7 +96,7 @@ impl<D: Disk> JournalStore<D> {
     }
 
     /// Appends bytes.
-    pub fn add(&mut self, bytes: &[u8]) -> Result<(), Failed>
+    pub(crate) fn add(&mut self, bytes: &[u8]) -> Result<(), Failed>
         ensures changes { Changes (λ x. x ++ bytes.now) (D.state self.old) (D.state self.new) result }
         ensures cause { HasCause (D.faults self.old) (D.faults self.new) result }
     {
@@ -104,7 +107,7 @@ impl<D: Disk> JournalStore<D> {
     }
 
     /// Keeps a front alone.
-    pub fn keep_front(&mut self, length: u64) -> Result<(), Failed>
+    pub(crate) fn keep_front(&mut self, length: u64) -> Result<(), Failed>
         ensures changes { Changes (take length) (D.state self.old) (D.state self.new) result }
         ensures cause { HasCause (D.faults self.old) (D.faults self.new) result }
     {
@@ -115,7 +118,7 @@ impl<D: Disk> JournalStore<D> {
     }
 
     /// Keeps other bytes.
-    pub fn replace_all(&mut self, bytes: &[u8]) -> Result<(), Failed>
+    pub(crate) fn replace_all(&mut self, bytes: &[u8]) -> Result<(), Failed>
         ensures changes { Changes (λ x. bytes.now) (D.state self.old) (D.state self.new) result }
         ensures cause { HasCause (D.faults self.old) (D.faults self.new) result }
     {
@@ -123,5 +126,27 @@ impl<D: Disk> JournalStore<D> {
         let end = replace_by(&mut self.disk, end, bytes)?;
         self.end = Some(end);
         Ok(())
+    }
+}
+
+impl<D: Disk> JournalStore<D> {
+    /// Reads the content, and opens the files before that if a call failed.
+    pub(crate) fn read_bytes(&mut self) -> Result<Vec<u8>, KeepFault>
+        ensures bytes { IfOk result (λ bytes. (f : Files) → (D.state self.old).seen ≡ Some f →
+            bytes.items ≡ content f) }
+        ensures same { (f g : Files) → (D.state self.old).seen ≡ Some f
+            → (D.state self.new).seen ≡ Some g → content g ≡ content f }
+        ensures any_moment { AtEachMoment (D.state self.old) (D.state self.new) (λ x. x) }
+        ensures settled { OnOk result (IsSettled (D.state self.new)) }
+        ensures told { IsToldAlike (D.state self.old).seen (D.state self.new).seen }
+        ensures cause { HasKeepCause (D.faults self.old) (D.faults self.new) result }
+    {
+        let end = match end_of(&mut self.disk, self.end.take()) {
+            Ok(end) => end,
+            Err(Failed) => return Err(KeepFault::Failed),
+        };
+        let bytes = read_content(self.alloc, &mut self.disk, end)?;
+        self.end = Some(end);
+        Ok(bytes)
     }
 }

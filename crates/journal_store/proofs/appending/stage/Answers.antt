@@ -1,6 +1,4 @@
-use Rattle.std.proofs.Common.{◌≡◌, ◌<◌, ◌+◌, length, arith, Some}
-use Rattle.journal_disk.specs.Files.{Files}
-use Rattle.journal_store.specs.Content.{content}
+use Rattle.std.proofs.Common.{◌<◌, ◌+◌, length, arith}
 use Rattle.journal_store.proofs.Moments.{on_ok, stayed}
 use Rattle.journal_store.proofs.Steps.{following, guards, keeps, staged, within_one, within_three, within_two}
 use Rattle.journal_store.proofs.appending.stage.Goals as goal

@@ -1,4 +1,4 @@
-use Rattle.std.proofs.Common.{◌≡◌, refl, arith, drop, take, []}
+use Rattle.std.proofs.Common.{refl, arith, drop, take, []}
 use Rattle.journal_disk.specs.Files.{file}
 use Rattle.journal_store.proofs.Moments.{alike, alike_more}
 use Rattle.journal_store.proofs.OtherLog.{copied_more, only_more, only_none, put_none, range_size, within_put}

@@ -1,4 +1,4 @@
-use Rattle.std.proofs.Common.{◌≡◌, ◌≤◌, ◌∙◌, refl, arith, drop, subst, IfSome, length}
+use Rattle.std.proofs.Common.{◌≤◌, ◌∙◌, refl, arith, drop, subst, IfSome, length}
 use Rattle.journal_disk.specs.Files.{file}
 use Rattle.journal_store.specs.Ends.{IsRecord}
 use Rattle.journal_store.proofs.Moments.{alike, alike_more, told}

@@ -1,4 +1,4 @@
-use Rattle.std.proofs.Common.{◌≡◌, ◌+◌, Some, None, ◌∙◌, subst, drop, arith}
+use Rattle.std.proofs.Common.{◌∙◌, subst, drop, arith}
 use Rattle.journal_disk.specs.Files.{file}
 use Rattle.journal_store.specs.Ends.{Fronts, IsRecord}
 use Rattle.journal_store.proofs.Records.{fronts_more, fronts_end}

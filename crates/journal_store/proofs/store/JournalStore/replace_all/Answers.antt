@@ -1,4 +1,4 @@
-use Rattle.std.proofs.Common.{◌≡◌, ◌++◌, Some, subst, take}
+use Rattle.std.proofs.Common.{◌≡◌, Some, subst}
 use Rattle.std.proofs.lemmas.Result.{err_from_is_err_and}
 use Rattle.journal_disk.specs.Files.{Files}
 use Rattle.journal_disk.specs.Images.{IsToldAlike}
