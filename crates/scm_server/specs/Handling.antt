@@ -25,6 +25,7 @@ use Rattle.conn_worker.specs.Owning.{AreOfAll, AreTold, StandAt, StandsAt}
 use Rattle.conn_worker.specs.Serving.{step_for}
 use Rattle.scm_listener.specs.Connections.{PastConnection}
 use Rattle.scm_server.specs.Pairs.{IsRising}
+use Rattle.scm_server.specs.Works.{AreNamed}
 
 -- a connection that was handed out and is past
 pub record Handed : Type 0 where
@@ -72,8 +73,8 @@ pub record WasServed (full : List Entry → Asked → Type 0) (stood : List Entr
   pub reached : Reached full stood how read h.past.left done heard written
   pub cause : IsServedFor how 0 h.past.read_faults 0 h.past.write_faults
 
--- The caller joined with the principal, made the requests that were answered, and went: these are its entries in the history. Its pass's own
--- entries are these and those of its waiter's turns. How the connection ended is told behind all of them but the going.
+-- The caller joined with the principal, made the requests that were answered, and went: these are its entries in the history, and each of them
+-- names it, also those of a start that waited. How the connection ended is told behind all of them but the going.
 pub record StandsForIt (tells : ℕ → Type 0) (o : Opening) (log : List Entry) (principal : Principal) (h : Handed) (caller : ℕ) : Type 0 where
   pub how : Served
   pub done : List Incoming
@@ -86,7 +87,8 @@ pub record StandsForIt (tells : ℕ → Type 0) (o : Opening) (log : List Entry)
   pub joined : ℕ
   pub entries : List Told
   pub gone : ℕ
-  pub requests : AreOfAll caller (asked done) heard entries
+  pub requests : AreOfAll true caller (asked done) heard entries
+  pub named : AreNamed caller entries
   pub told : AreTold tells (made_of (joined, Joined principal) (answers.Caller caller) ∷ entries)
   pub told_last : tells gone
   -- where they stand

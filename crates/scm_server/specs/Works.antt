@@ -1,6 +1,8 @@
 -- Connections at work, and what becomes of one.
-use Rattle.std.specs.Prelude.{ℕ, ◌≡◌, ◌≢◌, List, [], Option, IfSome}
+use Rattle.std.specs.Prelude.{ℕ, ◌≡◌, ◌≢◌, All, true, List, [], Option, IfSome}
 use Rattle.scm_model.specs.declared.flat.Principal.{Principal}
+use Rattle.scm_rules.specs.Named.{names_caller}
+use Rattle.scm_history.specs.Owned.{Made as Told}
 use Rattle.book_rule.specs.declared.view.Opening.{Opening}
 use Rattle.book_rule.specs.Seats.{Identity}
 use Rattle.scm_book.specs.Joins.{Joins}
@@ -8,6 +10,7 @@ use Rattle.scm_book.specs.Passes.{IsOf, Known}
 use Rattle.conn_desk.specs.declared.served.Served.{Served}
 use Rattle.conn_desk.specs.Connection.{IsServedFor}
 use Rattle.conn_worker.specs.Connecting.{Connects}
+use Rattle.conn_worker.specs.Owning.{Adds}
 use Rattle.scm_listener.specs.Connections.{PastConnection}
 
 -- a connection that was handed out and is served: its number, what its ends told, and the pass of the caller that joined for it
@@ -39,9 +42,20 @@ pub record HasJoined (tells : ℕ → Type 0) (o : Opening) (principal : Princip
   pub somebody : out.pass.caller ≢ 0
   pub untouched : IsUntouched out.began out.read_faults out.write_faults
 
--- it was served as its caller, and then ended
+-- each entry names the caller
+abbrev pub AreNamed : ℕ → List Told → Type 0
+AreNamed caller entries = All (λ (one : Told). names_caller caller one.entry.1 ≡ true) entries
+
+-- each entry that the pass made since names its caller
+pub record MakesOwn (o : Opening) (k k' : Known) : Type 0 where
+  pub entries : List Told
+  pub adds : Adds o k entries k'
+  pub named : AreNamed k.caller entries
+
+-- it was served as its caller, and then ended; while a start waited its pass made no step
 pub record IsDone (tells : ℕ → Type 0) (b : Identity) (out : Out) (spent : Known) (past : PastConnection) (how : Served) : Type 0 where
   pub book : IsOf b spent
   pub number : past.number ≡ out.number
-  pub connects : Connects tells b.opening out.pass spent out.given past.left out.began past.written how
+  pub connects : Connects true tells b.opening out.pass spent out.given past.left out.began past.written how
+  pub own : MakesOwn b.opening out.pass spent
   pub cause : IsServedFor how out.read_faults past.read_faults out.write_faults past.write_faults
