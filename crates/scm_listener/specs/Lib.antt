@@ -1,3 +1,4 @@
 pub mod Connections
 pub mod Accepting
 pub mod InMemory
+pub mod Failures

@@ -1,30 +1,32 @@
 // The connections of a port, as the system's accept gives them.
+ghost use Rattle.std.specs.IoError.{raw_os_error};
 ghost use Rattle.std.specs.Prelude.{◌≡◌, None};
+ghost use Rattle.scm_listener.specs.Failures.{is_passing};
 
 use crate::spare::can_start;
 use outside::{Failed, ReadSource, Source};
 use sc_dial::CountedSource;
 use std::alloc::Global;
-use std::io;
+use std::io::{self, ErrorKind};
 use std::net::{Ipv4Addr, Net, TcpListener, TcpStream};
 use std::sync::Arc;
 use std::thread::{self, Threads};
 use std::time::{Clock, Duration};
 
 /// The failures of accept(2) that pass: their numbers in Linux's errno.h.
-const EAGAIN: i32 = 11;
+const EAGAIN: u32 = 11;
 
-const ENOMEM: i32 = 12;
+const ENOMEM: u32 = 12;
 
-const ENFILE: i32 = 23;
+const ENFILE: u32 = 23;
 
-const EMFILE: i32 = 24;
+const EMFILE: u32 = 24;
 
-const EPROTO: i32 = 71;
+const EPROTO: u32 = 71;
 
-const ECONNABORTED: i32 = 103;
+const ECONNABORTED: u32 = 103;
 
-const ENOBUFS: i32 = 105;
+const ENOBUFS: u32 = 105;
 
 /// How long it waits before it tries again, in milliseconds.
 const PAUSE: u64 = 20;
@@ -105,10 +107,12 @@ pub struct Open {
 }
 
 /// Whether a later accept may succeed.
-fn is_passing(fault: &io::Error) -> bool {
+fn is_passing(fault: &io::Error) -> bool
+    ensures { result ≡ is_passing (raw_os_error fault.now) }
+{
     match fault.raw_os_error() {
         Some(code) => matches!(
-            code,
+            code.unsigned_abs(),
             EAGAIN | ENOMEM | ENFILE | EMFILE | EPROTO | ECONNABORTED | ENOBUFS
         ),
         None => false,
@@ -130,7 +134,7 @@ impl Open {
         R: Net<Listener = TcpListener, Stream = TcpStream> + Threads,
     {
         if !can_start(net, alloc, SERVER_THREADS) {
-            return Err(io::Error::from_raw_os_error(EAGAIN));
+            return Err(io::Error::from(ErrorKind::WouldBlock));
         }
         let seat = Arc::new(alloc, ())?;
         match TcpListener::bind(net, (Ipv4Addr::LOCALHOST, port)) {
