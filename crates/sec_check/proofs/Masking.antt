@@ -22,7 +22,8 @@ of_has mask bits has i =
 
 to_has : (mask bits : ℕ) → IsWithin mask bits → has_bits mask bits ≡ true
 to_has mask bits within =
-    eq-eqb (bit_and mask bits) bits (same_from_bits (bit_and mask bits) bits (λ i. (let m = bit_at_and mask bits i in let w = within i in omega (arith, m, w))))
+    eq-eqb (bit_and mask bits) bits
+    (same_from_bits (bit_and mask bits) bits (λ i. (let m = bit_at_and mask bits i in let w = within i in omega (arith, m, w))))
 
 -- what is left without a mask, bit by bit
 pub without_at : (left m : ℕ) → left < 2 ^ 32 → m < 2 ^ 32 → (i : ℕ) → bit_at (without left m) i ≡ bit_at left i - bit_at m i
@@ -46,20 +47,25 @@ both_ways false false go back = refl
 allow_bits : (m r left : ℕ) → m < 2 ^ 32 → left < 2 ^ 32 → has_bits r (without left m) ≡ has_bits (bit_or m r) left
 allow_bits m r left p s =
     both_ways (has_bits r (without left m)) (has_bits (bit_or m r) left)
-    (λ has. to_has (bit_or m r) left (λ i. (let w = of_has r (without left m) has i in let e = without_at left m s p i in let o = bit_at_or m r i in
+    (λ has. to_has (bit_or m r) left
+    (λ i. (let w = of_has r (without left m) has i in let e = without_at left m s p i in let o = bit_at_or m r i in
     let a = bit_at-lt left i in let b = bit_at-lt m i in omega (arith, w, e, o, a, b))))
-    (λ has. to_has r (without left m) (λ i. (let w = of_has (bit_or m r) left has i in let e = without_at left m s p i in let o = bit_at_or m r i in
+    (λ has. to_has r (without left m)
+    (λ i. (let w = of_has (bit_or m r) left has i in let e = without_at left m s p i in let o = bit_at_or m r i in
     let a = bit_at-lt left i in let b = bit_at-lt m i in let c = bit_at-lt r i in omega (arith, w, e, o, a, b, c))))
 
-deny_bits : (m r left : ℕ) → m < 2 ^ 32 → r < 2 ^ 32 → left < 2 ^ 32 → (bit_and left m == 0) && has_bits r left ≡ has_bits (without r m) left
+deny_bits : (m r left : ℕ) → m < 2 ^ 32 → r < 2 ^ 32 → left < 2 ^ 32
+    → (bit_and left m == 0) && has_bits r left ≡ has_bits (without r m) left
 deny_bits m r left p q s =
     both_ways ((bit_and left m == 0) && has_bits r left) (has_bits (without r m) left)
     (λ is. (let two = and_parts (bit_and left m == 0) (has_bits r left) is in
-    to_has (without r m) left (λ i. (let none : bit_at (bit_and left m) i ≡ 0 = ap (λ n. bit_at n i) (eqb-true (bit_and left m) 0 two.0) ∙ bit_at-zero i in
+    to_has (without r m) left (λ i.
+    (let none : bit_at (bit_and left m) i ≡ 0 = ap (λ n. bit_at n i) (eqb-true (bit_and left m) 0 two.0) ∙ bit_at-zero i in
     let d = bit_at_and left m i in let w = of_has r left two.1 i in let e = without_at r m q p i in
     let a = bit_at-lt left i in let b = bit_at-lt m i in let c = bit_at-lt r i in omega (arith, none, d, w, e, a, b, c)))))
     (λ has. and_from (bit_and left m == 0) (has_bits r left)
-    (eq-eqb (bit_and left m) 0 (same_from_bits (bit_and left m) 0 (λ i. (let d = bit_at_and left m i in let w = of_has (without r m) left has i in
+    (eq-eqb (bit_and left m) 0 (same_from_bits (bit_and left m) 0
+    (λ i. (let d = bit_at_and left m i in let w = of_has (without r m) left has i in
     let e = without_at r m q p i in let z = bit_at-zero i in
     let a = bit_at-lt left i in let b = bit_at-lt m i in let c = bit_at-lt r i in omega (arith, d, w, e, z, a, b, c)))))
     (to_has r left (λ i. (let w = of_has (without r m) left has i in let e = without_at r m q p i in omega (arith, w, e)))))
@@ -72,12 +78,17 @@ unfolding maximum
 small [] all = omega arith
 small (ace ∷ aces) all =
     let rest = small aces all.1 in
-    elim (cases_Bool ace.deny) [ inl is ↦ rw is (fewer (maximum aces) ace.mask rest) | inr is ↦ rw is (or_lt 32 ace.mask (maximum aces) all.0 rest) ]
+    elim (cases_Bool ace.deny) [
+      | inl is ↦ rw is (fewer (maximum aces) ace.mask rest)
+      | inr is ↦ rw is
+          (or_lt 32 ace.mask (maximum aces) all.0 rest)
+    ]
 
 nothing : (left : ℕ) → (left == 0) ≡ has_bits 0 left
 nothing left =
     both_ways (left == 0) (has_bits 0 left)
-    (λ is. (let none = eqb-true left 0 is in to_has 0 left (λ i. (let e : bit_at left i ≡ bit_at 0 i = ap (λ n. bit_at n i) none in omega (arith, e)))))
+    (λ is. (let none = eqb-true left 0 is in
+    to_has 0 left (λ i. (let e : bit_at left i ≡ bit_at 0 i = ap (λ n. bit_at n i) none in omega (arith, e)))))
     (λ has. eq-eqb left 0 (same_from_bits left 0 (λ i. (let w = of_has 0 left has i in let z = bit_at-zero i in omega (arith, w, z)))))
 
 pub passes_by_bits : (aces : List Ace) (left : ℕ) → AreSmall aces → left < 2 ^ 32 → passes left aces ≡ has_bits (maximum aces) left
@@ -85,8 +96,10 @@ unfolding maximum passes
 passes_by_bits [] left all s = nothing left
 passes_by_bits (ace ∷ aces) left all s =
     elim (cases_Bool ace.deny) [
-      | inl is ↦ rw is (ap (λ b. (bit_and left ace.mask == 0) && b) (passes_by_bits aces left all.1 s) ∙ deny_bits ace.mask (maximum aces) left all.0 (small aces all.1) s)
-      | inr is ↦ rw is (passes_by_bits aces (without left ace.mask) all.1 (fewer left ace.mask s) ∙ allow_bits ace.mask (maximum aces) left all.0 s)
+      | inl is ↦ rw is (ap (λ b. (bit_and left ace.mask == 0) && b) (passes_by_bits aces left all.1 s)
+          ∙ deny_bits ace.mask (maximum aces) left all.0 (small aces all.1) s)
+      | inr is ↦ rw is (passes_by_bits aces (without left ace.mask) all.1 (fewer left ace.mask s)
+          ∙ allow_bits ace.mask (maximum aces) left all.0 s)
     ]
 
 -- all bits have any bits

@@ -8,6 +8,7 @@ use Rattle.sec_desc.specs.declared.value.Ace.{Ace}
 use Rattle.sec_desc.specs.declared.value.Descriptor.{Descriptor}
 use Rattle.sec_desc.specs.declared.value.Sid.{Sid}
 use Rattle.sec_desc.specs.Numbers.{has_bits}
+use Rattle.sec_desc.specs.Reading.{described}
 use Rattle.sec_check.specs.declared.checking.Decided.{Decided}
 
 -- ## Identities
@@ -49,31 +50,41 @@ unfoldable pub maximum : List Ace → ℕ
 maximum [] = 0
 maximum (ace ∷ aces) = if ace.deny then without (maximum aces) ace.mask else bit_or ace.mask (maximum aces)
 
--- bits are refused at the first deny that has one which no earlier allow gave, and where one is given by none
+-- refused at the first deny that has a bit which no earlier allow gave, and if no allow gives a bit
 unfoldable pub passes : ℕ → List Ace → Bool
 passes left [] = left == 0
 passes left (ace ∷ aces) = if ace.deny then bit_and left ace.mask == 0 && passes left aces else passes (without left ace.mask) aces
+
+-- the bits that the entries allow the principal
+abbrev pub maximum_for : Principal → List Ace → ℕ
+maximum_for principal aces = maximum (filter (counts principal) aces)
 
 -- ## A list, or none
 
 -- what the list allows of the rights that are asked for: all of them, or none; the maximum, if that is asked for
 abbrev pub allowed_in : List Ace → ℕ → Option ℕ
-allowed_in aces desired = if has_bits desired MAXIMUM_ALLOWED then Some (maximum aces) else if passes desired aces then Some desired else None
+allowed_in aces desired =
+    if has_bits desired MAXIMUM_ALLOWED then Some (maximum aces) else if passes desired aces then Some desired else None
 
 -- without a list all bits are allowed
 abbrev pub allowed_by : Option (List Ace) → Principal → ℕ → Option ℕ
 allowed_by None principal desired = Some (if has_bits desired MAXIMUM_ALLOWED then 0xFFFFFFFF else desired)
 allowed_by (Some aces) principal desired = allowed_in (filter (counts principal) aces) desired
 
--- the list of a descriptor that is read
-abbrev pub list_of : Result Descriptor ℕ → Option (List Ace)
-list_of (Ok d) = d.list
-list_of (Err place) = None
+-- the list of a descriptor that was read; what can't be read allows nothing
+abbrev pub list_read : Result Descriptor ℕ → Option (List Ace)
+list_read (Ok d) = d.list
+list_read (Err place) = Some []
+
+-- the list of the bytes that are kept; there is none as long as nothing is set
+abbrev pub list_of : List ℕ → Option (List Ace)
+list_of [] = None
+list_of (byte ∷ bytes) = list_read (described (byte ∷ bytes))
 
 -- every bit that is allowed
 abbrev pub maximum_by : Option (List Ace) → Principal → ℕ
 maximum_by None principal = 0xFFFFFFFF
-maximum_by (Some aces) principal = maximum (filter (counts principal) aces)
+maximum_by (Some aces) principal = maximum_for principal aces
 
 -- the entries that were read
 abbrev pub aces_of : Result (List Ace) ℕ → List Ace

@@ -18,10 +18,10 @@ abbrev pub bit_of : Option Ace → ℕ
 bit_of None = 0
 bit_of (Some ace) = if ace.deny then 0 else 1
 
--- a bit is allowed where the first entry that has it is an allow
+-- a bit is allowed if the first entry that has it is an allow
 abbrev pub FirstEntryDecides : Type 0
 FirstEntryDecides = (aces : List Ace) (i : ℕ) → AreSmall aces → bit_at (maximum aces) i ≡ bit_of (find (has_bit i) aces)
 
--- rights are allowed where each of their bits is
+-- rights are allowed if each of their bits is
 abbrev pub EachBitPasses : Type 0
 EachBitPasses = (aces : List Ace) (desired : ℕ) → AreSmall aces → desired < 2 ^ 32 → passes desired aces ≡ has_bits (maximum aces) desired

@@ -1,8 +1,8 @@
-ghost use Rattle.std.specs.Prelude.{◌≡◌, true, IsOk, filter};
+ghost use Rattle.std.specs.Prelude.{◌≡◌, true, IsOk};
 ghost use Rattle.sec_desc.specs.Layout.{ace_header_of, ace_of, is_ace};
-ghost use Rattle.sec_desc.specs.Reading.{aces_in, described};
+ghost use Rattle.sec_desc.specs.Reading.{aces_in};
 ghost use Rattle.sec_desc.specs.Writing.{IsWritten};
-ghost use Rattle.sec_check.specs.Allowed.{aces_of, after, allowed_by, counts as ace_counts, list_of, maximum as maximum_of, maximum_by as maximum_of_list, with_ace};
+ghost use Rattle.sec_check.specs.Allowed.{aces_of, after, allowed_by, counts as ace_counts, list_of, maximum_by as maximum_of_list, maximum_for, with_ace};
 
 use crate::identities::has_sid;
 use scm_model::Principal;
@@ -61,7 +61,7 @@ fn with_entry(so_far: Decided, principal: Principal, bytes: &[u8], entry: &AceHe
 /// Every bit that some entries, one after the other, allow.
 fn maximum(principal: Principal, entries: &[u8], count: u16) -> u32
     requires { IsOk (aces_in count 0 entries.now) }
-    ensures { result ≡ maximum_of (filter (ace_counts principal) (aces_of (aces_in count 0 entries.now))) }
+    ensures { result ≡ maximum_for principal (aces_of (aces_in count 0 entries.now)) }
 {
     let mut so_far = Decided { given: 0, known: 0 };
     let mut at = 0;
@@ -79,10 +79,13 @@ fn maximum(principal: Principal, entries: &[u8], count: u16) -> u32
 /// Every bit that a written descriptor allows.
 fn maximum_by(principal: Principal, security: &[u8]) -> u32
     requires { IsWritten security.now }
-    ensures { result ≡ maximum_of_list (list_of (described security.now)) principal }
+    ensures { result ≡ maximum_of_list (list_of security.now) principal }
 {
-    let Some(header) = read_header(security) else {
+    if security.is_empty() {
         return u32::MAX;
+    }
+    let Some(header) = read_header(security) else {
+        unreachable!()
     };
     let Some(place) = header.list else {
         return u32::MAX;
@@ -101,7 +104,7 @@ fn maximum_by(principal: Principal, security: &[u8]) -> u32
 /// being one.
 pub fn allowed(security: &[u8], principal: Principal, desired: u32) -> Option<u32>
     requires { IsWritten security.now }
-    ensures { result ≡ allowed_by (list_of (described security.now)) principal desired }
+    ensures { result ≡ allowed_by (list_of security.now) principal desired }
 {
     let maximum = maximum_by(principal, security);
     if has_bits(desired, MAXIMUM_ALLOWED) {

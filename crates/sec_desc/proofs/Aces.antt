@@ -62,12 +62,14 @@ type_is (suc zero) le = refl
 type_is (suc (suc n)) le = absurd (omega arith)
 
 -- the eight bytes before the identity
-front_is : (first flags : ℕ) (tail : List ℕ) → IsBytes tail → first ≤ 1 → 6 ≤ length tail → ace_front (ace_of (first ∷ flags ∷ tail)) (number_16 tail) ≡ first ∷ flags ∷ take 6 tail
+front_is : (first flags : ℕ) (tail : List ℕ) → IsBytes tail → first ≤ 1 → 6 ≤ length tail
+    → ace_front (ace_of (first ∷ flags ∷ tail)) (number_16 tail) ≡ first ∷ flags ∷ take 6 tail
 unfolding ace_front
 front_is first flags tail fits le long =
     let type = type_is first le in
     let size : bytes_16 (number_16 tail) ≡ take 2 tail = read_16 tail fits (omega arith) in
-    let mask : bytes_32 (number_32 (drop 2 tail)) ≡ take 4 (drop 2 tail) = read_32 (drop 2 tail) (bytes_drop 2 tail fits) (omega (arith, length-drop 2 tail)) in
+    let mask : bytes_32 (number_32 (drop 2 tail)) ≡ take 4 (drop 2 tail) =
+    read_32 (drop 2 tail) (bytes_drop 2 tail fits) (omega (arith, length-drop 2 tail)) in
     let cut : take 6 tail ≡ take 2 tail ++ take 4 (drop 2 tail) = take-add 2 4 tail in
     rw (type, size, mask, cut) refl
 
@@ -97,7 +99,13 @@ module _ (first flags : ℕ) (tail : List ℕ) (fits : IsBytes (first ∷ flags 
   front = ace_front found size ++ sid_bytes found.sid
 
   front_size : length front ≡ 8 + length (sid_bytes found.sid)
-  front_size = omega (arith, length-append (ace_front found size) (sid_bytes found.sid), ap length (front_is first flags tail tail_fits test.type (omega (arith, test.long))), length-take 6 tail, test.long)
+  front_size = omega (
+    arith,
+    length-append (ace_front found size) (sid_bytes found.sid),
+    ap length (front_is first flags tail tail_fits test.type (omega (arith, test.long))),
+    length-take 6 tail,
+    test.long,
+  )
 
   all_is : all ≡ front ++ sid_is.bytes_are.rest
   all_is =
@@ -107,7 +115,8 @@ module _ (first flags : ℕ) (tail : List ℕ) (fits : IsBytes (first ∷ flags 
       ∙ sym (append_assoc (ace_front found size) (sid_bytes found.sid) sid_is.bytes_are.rest)
 
   sid_size_is : length (sid_bytes found.sid) ≡ sid_size (slice_index all 9)
-  sid_size_is = length_sid found.sid sid_is.value.authority ∙ ap sid_size (numbers_length (slice_index (drop 6 tail) 1) (drop 8 (drop 6 tail)) ∙ count_is first flags tail)
+  sid_size_is = length_sid found.sid sid_is.value.authority
+      ∙ ap sid_size (numbers_length (slice_index (drop 6 tail) 1) (drop 8 (drop 6 tail)) ∙ count_is first flags tail)
 
   abbrev more : ℕ
   more = size - length front
@@ -115,7 +124,8 @@ module _ (first flags : ℕ) (tail : List ℕ) (fits : IsBytes (first ∷ flags 
   entry_is : take size all ≡ front ++ take more sid_is.bytes_are.rest
   entry_is =
       let whole : size ≡ length front + more = omega (arith, test.room, front_size, sid_size_is) in
-      ap (λ n. take n all) whole ∙ ap (λ (l : List ℕ). take (length front + more) l) all_is ∙ take-append-add front sid_is.bytes_are.rest more
+      ap (λ n. take n all) whole ∙ ap (λ (l : List ℕ). take (length front + more) l) all_is
+      ∙ take-append-add front sid_is.bytes_are.rest more
 
   all_found : IsAce (take size all) found
   all_found =
@@ -183,7 +193,8 @@ sid_count : (sid : Sid) (rest : List ℕ) → slice_index (sid_bytes sid ++ rest
 unfolding sid_bytes
 sid_count sid rest = refl
 
-module _ (ace : Ace) (n : ℕ) (slack rest : List ℕ) (small : n < 2 ^ 16) (value : IsAceValue ace) (short : IsShort ace.sid) (size : n ≡ 8 + length (sid_bytes ace.sid) + length slack) where
+module _ (ace : Ace) (n : ℕ) (slack rest : List ℕ) (small : n < 2 ^ 16) (value : IsAceValue ace) (short : IsShort ace.sid)
+    (size : n ≡ 8 + length (sid_bytes ace.sid) + length slack) where
   abbrev y : List ℕ
   y = sid_bytes ace.sid ++ (slack ++ rest)
 
@@ -204,7 +215,14 @@ module _ (ace : Ace) (n : ℕ) (slack rest : List ℕ) (small : n < 2 ^ 16) (val
     long = omega (arith, length_again ace n y small value.mask);
     type = omega (arith, type_there ace n y small value.mask, type_small ace.deny);
     sid = ap is_sid (drop_again ace n y small value.mask) ∙ sid_there.is;
-    room = omega (arith, size_again ace n y small value.mask, count_there ace n y small value.mask, sid_count ace.sid (slack ++ rest), sid_length, size);
+    room = omega (
+      arith,
+      size_again ace n y small value.mask,
+      count_there ace n y small value.mask,
+      sid_count ace.sid (slack ++ rest),
+      sid_length,
+      size,
+    );
     whole = omega (arith, size_again ace n y small value.mask, length_again ace n y small value.mask, y_length, size);
   }
 
@@ -229,7 +247,8 @@ ace_again bytes entry rest ace e h =
     let sid = sid_bytes ace.sid in
     let whole : bytes ≡ front ++ (sid ++ (h.slack ++ rest)) =
     e ∙ ap (λ (l : List ℕ). l ++ rest) h.parts ∙ append_assoc (front ++ sid) h.slack rest ∙ append_assoc front sid (h.slack ++ rest) in
-    let size : n ≡ 8 + length sid + length h.slack = omega (arith, ap length h.parts, length-append (front ++ sid) h.slack, length-append front sid, front_length ace n) in
+    let size : n ≡ 8 + length sid + length h.slack =
+    omega (arith, ap length h.parts, length-append (front ++ sid) h.slack, length-append front sid, front_length ace n) in
     subst (λ (l : List ℕ). AceAgain l entry ace) (sym whole) (record {
       is = ace_tested (front ++ (sid ++ (h.slack ++ rest))) (tested ace n h.slack rest h.size h.value h.short size);
       value = value_is ace n h.slack rest h.size h.value h.short size;

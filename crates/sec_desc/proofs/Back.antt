@@ -19,34 +19,45 @@ use Rattle.sec_desc.proofs.Sizes.{few_aces}
 -- ## Lists
 
 length_ace : (ace : Ace) → IsAceValue ace → length (ace_bytes ace) ≡ size_of_ace ace
-length_ace ace value = omega (arith, length-append (ace_front ace (size_of_ace ace)) (sid_bytes ace.sid), front_length ace (size_of_ace ace), length_sid ace.sid value.sid.authority)
+length_ace ace value = omega (
+  arith,
+  length-append (ace_front ace (size_of_ace ace)) (sid_bytes ace.sid),
+  front_length ace (size_of_ace ace),
+  length_sid ace.sid value.sid.authority,
+)
 
 length_aces : (aces : List Ace) → AllByRecursion IsAceValue aces → length (flat_map ace_bytes aces) ≡ size_of_aces aces
 unfolding size_of_aces
 length_aces [] values = refl
-length_aces (ace ∷ aces) values = omega (arith, length-append (ace_bytes ace) (flat_map ace_bytes aces), length_ace ace values.0, length_aces aces values.1)
+length_aces (ace ∷ aces) values =
+    omega (arith, length-append (ace_bytes ace) (flat_map ace_bytes aces), length_ace ace values.0, length_aces aces values.1)
 
 ace_is : (ace : Ace) → IsAceValue ace → IsShort ace.sid → IsAce (ace_bytes ace) ace
 ace_is ace value short =
     let size = length_ace ace value in
     record {
       slack = [];
-      parts = ap (λ n. ace_front ace n ++ sid_bytes ace.sid) (sym size) ∙ sym (append-nil (ace_front ace (length (ace_bytes ace)) ++ sid_bytes ace.sid));
+      parts = ap (λ n. ace_front ace n ++ sid_bytes ace.sid) (sym size)
+          ∙ sym (append-nil (ace_front ace (length (ace_bytes ace)) ++ sid_bytes ace.sid));
       size = omega (arith, size, short);
       value = value;
       short = short;
     }
 
-are_aces : (aces : List Ace) → AllByRecursion IsAceValue aces → AllByRecursion (λ (ace : Ace). IsShort ace.sid) aces → AreAces (flat_map ace_bytes aces) aces
+are_aces : (aces : List Ace) → AllByRecursion IsAceValue aces → AllByRecursion (λ (ace : Ace). IsShort ace.sid) aces
+    → AreAces (flat_map ace_bytes aces) aces
 unfolding AreAces
 are_aces [] values short = tt
-are_aces (ace ∷ aces) values short = (ace_bytes ace, flat_map ace_bytes aces, refl, ace_is ace values.0 short.0, are_aces aces values.1 short.1)
+are_aces (ace ∷ aces) values short =
+    (ace_bytes ace, flat_map ace_bytes aces, refl, ace_is ace values.0 short.0, are_aces aces values.1 short.1)
 
 front_of_acl : (size count : ℕ) → length (acl_front size count) ≡ 8
 unfolding acl_front bytes_16
 front_of_acl size count = refl
 
-acl_parts : (aces : List Ace) (size : ℕ) → acl_front size (length aces) ++ flat_map ace_bytes aces ≡ 2 ∷ 0 ∷ bytes_16 size ++ bytes_16 (length aces) ++ bytes_16 0 ++ flat_map ace_bytes aces
+acl_parts : (aces : List Ace) (size : ℕ)
+    → acl_front size (length aces) ++ flat_map ace_bytes aces
+    ≡ 2 ∷ 0 ∷ bytes_16 size ++ bytes_16 (length aces) ++ bytes_16 0 ++ flat_map ace_bytes aces
 unfolding acl_front
 acl_parts aces size = refl
 
@@ -58,7 +69,12 @@ acl_is : (aces : List Ace) → IsWritableAcl aces → All IsAceValue aces → Is
 acl_is aces h values =
     let each = recursion_from_All IsAceValue aces values in
     let size : length (acl_bytes aces) ≡ size_of_acl aces =
-    omega (arith, length-append (acl_front (size_of_acl aces) (length aces)) (flat_map ace_bytes aces), front_of_acl (size_of_acl aces) (length aces), length_aces aces each) in
+    omega (
+      arith,
+      length-append (acl_front (size_of_acl aces) (length aces)) (flat_map ace_bytes aces),
+      front_of_acl (size_of_acl aces) (length aces),
+      length_aces aces each,
+    ) in
     record {
       revision = 2;
       is_revision = inl refl;
@@ -66,7 +82,8 @@ acl_is aces h values =
       unread_too = bytes_16 0;
       two = length_16 0;
       body = flat_map ace_bytes aces;
-      parts = acl_parts aces (size_of_acl aces) ∙ ap (λ n. 2 ∷ 0 ∷ bytes_16 n ++ bytes_16 (length aces) ++ bytes_16 0 ++ flat_map ace_bytes aces) (sym size);
+      parts = acl_parts aces (size_of_acl aces)
+          ∙ ap (λ n. 2 ∷ 0 ∷ bytes_16 n ++ bytes_16 (length aces) ++ bytes_16 0 ++ flat_map ace_bytes aces) (sym size);
       size = omega (arith, size, h.size);
       count = omega (arith, few_aces aces, h.size);
       entries = are_aces aces each (recursion_from_All (λ (ace : Ace). IsShort ace.sid) aces h.short);
@@ -91,8 +108,10 @@ sid_there sid rest fit = record { bytes_are = record { rest = rest; parts = refl
 acl_there : (aces : List Ace) (rest : List ℕ) → IsAclFit aces → BeginsAcl (acl_bytes aces ++ rest) aces
 acl_there aces rest fit = record { list = acl_bytes aces; bytes_are = record { rest = rest; parts = refl }; is = acl_is aces fit.0 fit.1 }
 
-part_there : {A : Type 0} (item : A → List ℕ) (Is : List ℕ → A → Type 0) (P : A → Type 0) → ((x : A) (rest : List ℕ) → P x → Is (item x ++ rest) x)
-    → (bytes : List ℕ) (place : ℕ) (part : Option A) (rest : List ℕ) → 0 < place → IfSome part P → drop place bytes ≡ part_bytes item part ++ rest → IsPart Is bytes (offset_of place part) part
+part_there : {A : Type 0} (item : A → List ℕ) (Is : List ℕ → A → Type 0) (P : A → Type 0)
+    → ((x : A) (rest : List ℕ) → P x → Is (item x ++ rest) x)
+    → (bytes : List ℕ) (place : ℕ) (part : Option A) (rest : List ℕ) → 0 < place → IfSome part P
+    → drop place bytes ≡ part_bytes item part ++ rest → IsPart Is bytes (offset_of place part) part
 part_there item Is P there bytes place None rest lt fit e = refl
 part_there item Is P there bytes place (Some x) rest lt fit e = (lt, subst (λ (l : List ℕ). Is l x) (sym e) (there x rest fit))
 
@@ -116,7 +135,7 @@ self_relative : (list : Option (List Ace)) → has_bits (control_for list) 0x800
 self_relative None = refl
 self_relative (Some aces) = refl
 
--- the list's offset counts where there is a list
+-- the list's offset counts if there is a list
 list_counts : (list : Option (List Ace)) (place : ℕ) → cond (has_bits (control_for list) 4) (offset_of place list) 0 ≡ offset_of place list
 list_counts None place = refl
 list_counts (Some aces) place = refl
@@ -151,7 +170,8 @@ module _ (d : Descriptor) (w : IsWritable d) (v : IsValue d) where
   whole = append_assoc (header_for d ++ o) g l ∙ append_assoc (header_for d) o (g ++ l)
 
   at_owner : drop 20 (written d) ≡ o ++ (g ++ l)
-  at_owner = ap (drop 20) whole ∙ drop_at (header_for d) (o ++ (g ++ l)) 20 (header_length (control_for d.list) (offset_of 20 d.owner) (offset_of (group_place d) d.group) 0 (offset_of (list_place d) d.list))
+  at_owner = ap (drop 20) whole ∙ drop_at (header_for d) (o ++ (g ++ l)) 20
+      (header_length (control_for d.list) (offset_of 20 d.owner) (offset_of (group_place d) d.group) 0 (offset_of (list_place d) d.list))
 
   at_group : drop (group_place d) (written d) ≡ g ++ l
   at_group =

@@ -66,25 +66,34 @@ unfolding numbers
 numbers_small zero bytes fits = tt
 numbers_small (suc n) bytes fits = (small_32 bytes fits, numbers_small n (drop 4 bytes) (bytes_drop 4 bytes fits))
 
-pub numbers_bytes : (n : ℕ) (bytes : List ℕ) → IsBytes bytes → 4 * n ≤ length bytes → flat_map bytes_32 (numbers n bytes) ≡ take (4 * n) bytes
+pub numbers_bytes : (n : ℕ) (bytes : List ℕ) → IsBytes bytes → 4 * n ≤ length bytes
+    → flat_map bytes_32 (numbers n bytes) ≡ take (4 * n) bytes
 unfolding numbers
 numbers_bytes zero bytes fits le = refl
 numbers_bytes (suc n) bytes fits le =
-    let others : flat_map bytes_32 (numbers n (drop 4 bytes)) ≡ take (4 * n) (drop 4 bytes) = numbers_bytes n (drop 4 bytes) (bytes_drop 4 bytes fits) (omega (arith, length-drop 4 bytes)) in
+    let others : flat_map bytes_32 (numbers n (drop 4 bytes)) ≡ take (4 * n) (drop 4 bytes) =
+    numbers_bytes n (drop 4 bytes) (bytes_drop 4 bytes fits) (omega (arith, length-drop 4 bytes)) in
     let first : bytes_32 (number_32 bytes) ≡ take 4 bytes = read_32 bytes fits (omega arith) in
     let both : take (4 + 4 * n) bytes ≡ take 4 bytes ++ take (4 * n) (drop 4 bytes) = take-add 4 (4 * n) bytes in
     let count : 4 + 4 * n ≡ 4 * suc n = omega arith in
-    ap (λ (l : List ℕ). l ++ flat_map bytes_32 (numbers n (drop 4 bytes))) first ∙ ap (λ (l : List ℕ). take 4 bytes ++ l) others ∙ sym both ∙ ap (λ (k : ℕ). take k bytes) count
+    ap (λ (l : List ℕ). l ++ flat_map bytes_32 (numbers n (drop 4 bytes))) first ∙ ap (λ (l : List ℕ). take 4 bytes ++ l) others
+    ∙ sym both ∙ ap (λ (k : ℕ). take k bytes) count
 
 pub length_numbers : (parts : List ℕ) → length (flat_map bytes_32 parts) ≡ 4 * length parts
 length_numbers [] = refl
-length_numbers (part ∷ parts) = let rest = length_numbers parts in omega (arith, length-append (bytes_32 part) (flat_map bytes_32 parts), length_32 part)
+length_numbers (part ∷ parts) = let rest = length_numbers parts in
+    omega (arith, length-append (bytes_32 part) (flat_map bytes_32 parts), length_32 part)
 
-pub numbers_again : (parts rest : List ℕ) → AllByRecursion (λ part. part < 2 ^ 32) parts → numbers (length parts) (flat_map bytes_32 parts ++ rest) ≡ parts
+pub numbers_again : (parts rest : List ℕ) → AllByRecursion (λ part. part < 2 ^ 32) parts
+    → numbers (length parts) (flat_map bytes_32 parts ++ rest) ≡ parts
 unfolding numbers
 numbers_again [] rest small = refl
 numbers_again (part ∷ parts) rest small =
-    let regrouped : flat_map bytes_32 (part ∷ parts) ++ rest ≡ bytes_32 part ++ (flat_map bytes_32 parts ++ rest) = append_assoc (bytes_32 part) (flat_map bytes_32 parts) rest in
-    let first : number_32 (flat_map bytes_32 (part ∷ parts) ++ rest) ≡ part = ap number_32 regrouped ∙ again_32 part (flat_map bytes_32 parts ++ rest) small.0 in
-    let behind : drop 4 (flat_map bytes_32 (part ∷ parts) ++ rest) ≡ flat_map bytes_32 parts ++ rest = ap (λ (l : List ℕ). drop 4 l) regrouped ∙ drop_at (bytes_32 part) (flat_map bytes_32 parts ++ rest) 4 (length_32 part) in
-    ap (λ (v : ℕ). v ∷ numbers (length parts) (drop 4 (flat_map bytes_32 (part ∷ parts) ++ rest))) first ∙ ap (λ (l : List ℕ). part ∷ l) (ap (numbers (length parts)) behind ∙ numbers_again parts rest small.1)
+    let regrouped : flat_map bytes_32 (part ∷ parts) ++ rest ≡ bytes_32 part ++ (flat_map bytes_32 parts ++ rest) =
+    append_assoc (bytes_32 part) (flat_map bytes_32 parts) rest in
+    let first : number_32 (flat_map bytes_32 (part ∷ parts) ++ rest) ≡ part =
+    ap number_32 regrouped ∙ again_32 part (flat_map bytes_32 parts ++ rest) small.0 in
+    let behind : drop 4 (flat_map bytes_32 (part ∷ parts) ++ rest) ≡ flat_map bytes_32 parts ++ rest =
+    ap (λ (l : List ℕ). drop 4 l) regrouped ∙ drop_at (bytes_32 part) (flat_map bytes_32 parts ++ rest) 4 (length_32 part) in
+    ap (λ (v : ℕ). v ∷ numbers (length parts) (drop 4 (flat_map bytes_32 (part ∷ parts) ++ rest))) first
+    ∙ ap (λ (l : List ℕ). part ∷ l) (ap (numbers (length parts)) behind ∙ numbers_again parts rest small.1)

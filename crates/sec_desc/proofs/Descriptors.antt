@@ -1,4 +1,4 @@
--- A descriptor is read exactly where it is described.
+-- A descriptor is read exactly if it is described.
 use Rattle.std.proofs.Common.{◌≡◌, ℕ, zero, suc, ◌+◌, ◌^◌, ◌<◌, ◌≤◌, Bool, true, false, cond, Option, Some, None, List, [], ◌∷◌, ◌++◌, length, take, drop, Result, Ok, Err, refl, sym, ap, subst, ◌∙◌, arith}
 use Rattle.std.specs.Prelude.{◌==◌, ◌&&◌, nat_le, slice_index}
 use Rattle.std.proofs.lemmas.Bool.{and_parts, and_from, leb-true, le-leb, eqb-true, eq-eqb, ne_eqb}
@@ -47,18 +47,24 @@ header_tested bytes t =
     let b = slice_index bytes 0 == 1 in
     let c = slice_index bytes 1 == 0 in
     and_from (a && b && c) (has_bits (control_of bytes) 0x8000)
-    (and_from (a && b) c (and_from a b (le-leb 20 (length bytes) t.long) (eq-eqb (slice_index bytes 0) 1 t.revision)) (eq-eqb (slice_index bytes 1) 0 t.none))
+    (and_from (a && b) c (and_from a b (le-leb 20 (length bytes) t.long) (eq-eqb (slice_index bytes 0) 1 t.revision))
+    (eq-eqb (slice_index bytes 1) 0 t.none))
     t.self_relative
 
 header_parts : (first second : ℕ) (tail : List ℕ) → IsBytes tail → 18 ≤ length tail → first ≡ 1 → second ≡ 0
-    → header_bytes (number_16 tail) (number_32 (drop 2 tail)) (number_32 (drop 6 tail)) (number_32 (drop 10 tail)) (number_32 (drop 14 tail)) ≡ first ∷ second ∷ take 18 tail
+    → header_bytes (number_16 tail) (number_32 (drop 2 tail)) (number_32 (drop 6 tail)) (number_32 (drop 10 tail))
+    (number_32 (drop 14 tail)) ≡ first ∷ second ∷ take 18 tail
 unfolding header_bytes
 header_parts first second tail fits long one none =
     let a : bytes_16 (number_16 tail) ≡ take 2 tail = read_16 tail fits (omega arith) in
-    let b : bytes_32 (number_32 (drop 2 tail)) ≡ take 4 (drop 2 tail) = read_32 (drop 2 tail) (bytes_drop 2 tail fits) (omega (arith, length-drop 2 tail)) in
-    let c : bytes_32 (number_32 (drop 6 tail)) ≡ take 4 (drop 6 tail) = read_32 (drop 6 tail) (bytes_drop 6 tail fits) (omega (arith, length-drop 6 tail)) in
-    let d : bytes_32 (number_32 (drop 10 tail)) ≡ take 4 (drop 10 tail) = read_32 (drop 10 tail) (bytes_drop 10 tail fits) (omega (arith, length-drop 10 tail)) in
-    let f : bytes_32 (number_32 (drop 14 tail)) ≡ take 4 (drop 14 tail) = read_32 (drop 14 tail) (bytes_drop 14 tail fits) (omega (arith, length-drop 14 tail)) in
+    let b : bytes_32 (number_32 (drop 2 tail)) ≡ take 4 (drop 2 tail) =
+    read_32 (drop 2 tail) (bytes_drop 2 tail fits) (omega (arith, length-drop 2 tail)) in
+    let c : bytes_32 (number_32 (drop 6 tail)) ≡ take 4 (drop 6 tail) =
+    read_32 (drop 6 tail) (bytes_drop 6 tail fits) (omega (arith, length-drop 6 tail)) in
+    let d : bytes_32 (number_32 (drop 10 tail)) ≡ take 4 (drop 10 tail) =
+    read_32 (drop 10 tail) (bytes_drop 10 tail fits) (omega (arith, length-drop 10 tail)) in
+    let f : bytes_32 (number_32 (drop 14 tail)) ≡ take 4 (drop 14 tail) =
+    read_32 (drop 14 tail) (bytes_drop 14 tail fits) (omega (arith, length-drop 14 tail)) in
     let e14 : take 18 tail ≡ take 14 tail ++ take 4 (drop 14 tail) = take-add 14 4 tail in
     let e10 : take 14 tail ≡ take 10 tail ++ take 4 (drop 10 tail) = take-add 10 4 tail in
     let e6 : take 10 tail ≡ take 6 tail ++ take 4 (drop 6 tail) = take-add 6 4 tail in
@@ -70,7 +76,8 @@ header_parts first second tail fits long one none =
 offset_some : (n : ℕ) → offset (suc n) ≡ Some (suc n)
 offset_some n = let apart : suc n ≡ 0 → ⊥ = λ e. omega (arith, e) in ap (λ (b : Bool). cond b None (Some (suc n))) (ne_eqb (suc n) 0 apart)
 
-part_read : {A : Type 0} (item : List ℕ → ℕ → Result A ℕ) (Is : List ℕ → A → Type 0) (bytes : List ℕ) → ((place : ℕ) (x : A) → item bytes place ≡ Ok x → Is (drop place bytes) x)
+part_read : {A : Type 0} (item : List ℕ → ℕ → Result A ℕ) (Is : List ℕ → A → Type 0) (bytes : List ℕ)
+    → ((place : ℕ) (x : A) → item bytes place ≡ Ok x → Is (drop place bytes) x)
     → (n : ℕ) (part : Option A) → part_at item bytes (offset n) ≡ Ok part → IsPart Is bytes n part
 unfolding part_at
 part_read {A} item Is bytes reads zero part e = subst (λ (p : Option A). IsPart Is bytes 0 p) (ok_is None part e) refl
@@ -79,13 +86,15 @@ part_read {A} item Is bytes reads (suc n) part e =
     let b = bind_ok (item bytes (suc n)) (λ x. Ok (Some x)) part there in
     subst (λ (p : Option A). IsPart Is bytes (suc n) p) (ok_is (Some b.0) part b.2) (omega arith, reads (suc n) b.0 b.1)
 
-part_again : {A : Type 0} (item : List ℕ → ℕ → Result A ℕ) (Is : List ℕ → A → Type 0) (bytes : List ℕ) → ((place : ℕ) (x : A) → Is (drop place bytes) x → item bytes place ≡ Ok x)
+part_again : {A : Type 0} (item : List ℕ → ℕ → Result A ℕ) (Is : List ℕ → A → Type 0) (bytes : List ℕ)
+    → ((place : ℕ) (x : A) → Is (drop place bytes) x → item bytes place ≡ Ok x)
     → (n : ℕ) (part : Option A) → IsPart Is bytes n part → part_at item bytes (offset n) ≡ Ok part
 unfolding part_at
 part_again item Is bytes again zero None h = refl
 part_again item Is bytes again zero (Some x) h = absurd (omega (arith, h.0))
 part_again item Is bytes again (suc n) None h = absurd (omega (arith, h))
-part_again item Is bytes again (suc n) (Some x) h = ap (part_at item bytes) (offset_some n) ∙ ap (λ read. read >>= λ y. Ok (Some y)) (again (suc n) x h.1)
+part_again item Is bytes again (suc n) (Some x) h =
+    ap (part_at item bytes) (offset_some n) ∙ ap (λ read. read >>= λ y. Ok (Some y)) (again (suc n) x h.1)
 
 sid_at_read : (bytes : List ℕ) → IsBytes bytes → (place : ℕ) (sid : Sid) → sid_at bytes place ≡ Ok sid → IsSid (drop place bytes) sid
 unfolding sid_at
@@ -98,7 +107,8 @@ sid_at_again : (bytes : List ℕ) (place : ℕ) (sid : Sid) → IsSid (drop plac
 unfolding sid_at
 sid_at_again bytes place sid h = let a = sid_again (drop place bytes) sid h in rw (a.is, a.value) refl
 
-acl_at_read : (bytes : List ℕ) → IsBytes bytes → (place : ℕ) (aces : List Ace) → acl_at bytes place ≡ Ok aces → BeginsAcl (drop place bytes) aces
+acl_at_read : (bytes : List ℕ) → IsBytes bytes → (place : ℕ) (aces : List Ace) → acl_at bytes place ≡ Ok aces
+    → BeginsAcl (drop place bytes) aces
 unfolding acl_at
 acl_at_read bytes fits place aces e = acl_read place (drop place bytes) aces (bytes_drop place bytes fits) e
 
@@ -112,7 +122,8 @@ list_offset_is false n = refl
 
 -- ## All of it
 
-found : (first second : ℕ) (tail : List ℕ) (d : Descriptor) → IsBytes (first ∷ second ∷ tail) → is_header (first ∷ second ∷ tail) ≡ true → parts_of (first ∷ second ∷ tail) (header_of (first ∷ second ∷ tail)) ≡ Ok d
+found : (first second : ℕ) (tail : List ℕ) (d : Descriptor) → IsBytes (first ∷ second ∷ tail) → is_header (first ∷ second ∷ tail) ≡ true
+    → parts_of (first ∷ second ∷ tail) (header_of (first ∷ second ∷ tail)) ≡ Ok d
     → Describes (first ∷ second ∷ tail) d
 unfolding parts_of
 found first second tail d fits is e =
@@ -121,8 +132,11 @@ found first second tail d fits is e =
     let t = header_test bytes is in
     let header = header_of bytes in
     let list_at_header = part_at acl_at bytes header.list in
-    let owner = bind_ok (part_at sid_at bytes header.owner) (λ owner. part_at sid_at bytes header.group >>= λ group. list_at_header >>= λ list. Ok (record { owner = owner; group = group; list = list })) d e in
-    let group = bind_ok (part_at sid_at bytes header.group) (λ group. list_at_header >>= λ list. Ok (record { owner = owner.0; group = group; list = list })) d owner.2 in
+    let owner = bind_ok (part_at sid_at bytes header.owner)
+    (λ owner. part_at sid_at bytes header.group >>= λ group. list_at_header >>= λ list. Ok
+    (record { owner = owner; group = group; list = list })) d e in
+    let group = bind_ok (part_at sid_at bytes header.group)
+    (λ group. list_at_header >>= λ list. Ok (record { owner = owner.0; group = group; list = list })) d owner.2 in
     let list = bind_ok list_at_header (λ list. Ok (record { owner = owner.0; group = group.0; list = list })) d group.2 in
     let control = number_16 tail in
     let list_number = number_32 (drop 14 tail) in
@@ -148,7 +162,8 @@ found first second tail d fits is e =
           (ap (part_at acl_at bytes) (sym (list_offset_is (has_bits control 4) list_number)) ∙ list.1);
     })
 
-pub by_parts : (bytes : List ℕ) (d : Descriptor) → described bytes ≡ Ok d → (is_header bytes ≡ true) × (parts_of bytes (header_of bytes) ≡ Ok d)
+pub by_parts : (bytes : List ℕ) (d : Descriptor) → described bytes ≡ Ok d
+    → (is_header bytes ≡ true) × (parts_of bytes (header_of bytes) ≡ Ok d)
 unfolding described header_in
 by_parts bytes d e =
     let first = bind_ok (header_in bytes) (parts_of bytes) d e in
@@ -165,7 +180,8 @@ is_described (first ∷ second ∷ tail) d fits e = let p = by_parts (first ∷ 
 header_made : Option ℕ → Option ℕ → Option ℕ → Header
 header_made owner group list = record { owner = owner; group = group; list = list }
 
-module _ (control owner group audit list : ℕ) (rest : List ℕ) (c : control < 2 ^ 16) (o : owner < 2 ^ 32) (g : group < 2 ^ 32) (l : list < 2 ^ 32) where
+module _ (control owner group audit list : ℕ) (rest : List ℕ) (c : control < 2 ^ 16) (o : owner < 2 ^ 32) (g : group < 2 ^ 32)
+    (l : list < 2 ^ 32) where
   abbrev all : List ℕ
   all = header_bytes control owner group audit list ++ rest
 
@@ -198,17 +214,26 @@ module _ (control owner group audit list : ℕ) (rest : List ℕ) (c : control <
   second_again = refl
 
   is_again : has_bits control 0x8000 ≡ true → is_header all ≡ true
-  is_again self = header_tested all (record { long = omega (arith, length_again); revision = first_again; none = second_again; self_relative = ap (λ n. has_bits n 0x8000) control_again ∙ self })
+  is_again self = header_tested all
+      (record {
+        long = omega (arith, length_again);
+        revision = first_again;
+        none = second_again;
+        self_relative =
+            ap (λ n. has_bits n 0x8000) control_again ∙ self;
+      })
 
   header_again : header_of all ≡ header_made (offset owner) (offset group) (list_offset control list)
   unfolding header_made
   header_again =
-      ap (λ n. header_made (offset n) (offset (number_32 (drop 8 all))) (list_offset (control_of all) (number_32 (drop 16 all)))) owner_again
+      ap (λ n. header_made (offset n) (offset (number_32 (drop 8 all)))
+      (list_offset (control_of all) (number_32 (drop 16 all)))) owner_again
       ∙ ap (λ n. header_made (offset owner) (offset n) (list_offset (control_of all) (number_32 (drop 16 all)))) group_again
       ∙ ap (λ n. header_made (offset owner) (offset group) (list_offset n (number_32 (drop 16 all)))) control_again
       ∙ ap (λ n. header_made (offset owner) (offset group) (list_offset control n)) list_again
 
-parts_again : (bytes : List ℕ) (d : Descriptor) (owner group list : Option ℕ) → part_at sid_at bytes owner ≡ Ok d.owner → part_at sid_at bytes group ≡ Ok d.group → part_at acl_at bytes list ≡ Ok d.list
+parts_again : (bytes : List ℕ) (d : Descriptor) (owner group list : Option ℕ) → part_at sid_at bytes owner ≡ Ok d.owner
+    → part_at sid_at bytes group ≡ Ok d.group → part_at acl_at bytes list ≡ Ok d.list
     → parts_of bytes (header_made owner group list) ≡ Ok d
 unfolding parts_of header_made
 parts_again bytes d owner group list o g l = rw (o, g, l) refl
@@ -217,12 +242,17 @@ pub described_again : (bytes : List ℕ) (d : Descriptor) → Describes bytes d 
 unfolding described header_in
 described_again bytes d h =
     let e = h.header.parts in
-    let is : is_header bytes ≡ true = ap is_header e ∙ is_again h.control h.owner h.group h.audit h.list h.header.rest h.control_fits h.owner_fits h.group_fits h.list_fits h.self_relative in
+    let is : is_header bytes ≡ true =
+    ap is_header e
+    ∙ is_again h.control h.owner h.group h.audit h.list h.header.rest h.control_fits h.owner_fits h.group_fits h.list_fits
+    h.self_relative in
     let header : header_of bytes ≡ header_made (offset h.owner) (offset h.group) (list_offset h.control h.list) =
-    ap header_of e ∙ header_again h.control h.owner h.group h.audit h.list h.header.rest h.control_fits h.owner_fits h.group_fits h.list_fits in
+    ap header_of e
+    ∙ header_again h.control h.owner h.group h.audit h.list h.header.rest h.control_fits h.owner_fits h.group_fits h.list_fits in
     let owner = part_again sid_at IsSid bytes (sid_at_again bytes) h.owner d.owner h.owner_is in
     let group = part_again sid_at IsSid bytes (sid_at_again bytes) h.group d.group h.group_is in
     let list : part_at acl_at bytes (list_offset h.control h.list) ≡ Ok d.list =
-    ap (part_at acl_at bytes) (list_offset_is (has_bits h.control 4) h.list) ∙ part_again acl_at BeginsAcl bytes (acl_at_again bytes) (cond (has_bits h.control 4) h.list 0) d.list h.list_is in
+    ap (part_at acl_at bytes) (list_offset_is (has_bits h.control 4) h.list)
+    ∙ part_again acl_at BeginsAcl bytes (acl_at_again bytes) (cond (has_bits h.control 4) h.list 0) d.list h.list_is in
     let parts = parts_again bytes d (offset h.owner) (offset h.group) (list_offset h.control h.list) owner group list in
     ap (λ b. cond b (Ok (header_of bytes)) (Err 0) >>= parts_of bytes) is ∙ ap (parts_of bytes) header ∙ parts

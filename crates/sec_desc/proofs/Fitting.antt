@@ -19,7 +19,14 @@ use Rattle.sec_desc.proofs.Identities.{length_sid}
 size_within : (entry : List ℕ) (ace : Ace) → IsAce entry ace → size_of_ace ace ≤ length entry
 size_within entry ace h =
     let front = ace_front ace (length entry) in
-    omega (arith, ap length h.parts, length-append (front ++ sid_bytes ace.sid) h.slack, length-append front (sid_bytes ace.sid), front_length ace (length entry), length_sid ace.sid h.value.sid.authority)
+    omega (
+      arith,
+      ap length h.parts,
+      length-append (front ++ sid_bytes ace.sid) h.slack,
+      length-append front (sid_bytes ace.sid),
+      front_length ace (length entry),
+      length_sid ace.sid h.value.sid.authority,
+    )
 
 -- what is known of entries that stand in bytes
 pub record Fit (bytes : List ℕ) (aces : List Ace) : Type 0 where
@@ -54,7 +61,8 @@ acl_fits bytes aces h =
       All-from_recursion IsAceValue aces fit.values,
     )
 
-part_fits : {A : Type 0} (Is : List ℕ → A → Type 0) (P : A → Type 0) (bytes : List ℕ) → ((rest : List ℕ) (x : A) → Is rest x → P x) → (n : ℕ) (part : Option A) → IsPart Is bytes n part → IfSome part P
+part_fits : {A : Type 0} (Is : List ℕ → A → Type 0) (P : A → Type 0) (bytes : List ℕ) → ((rest : List ℕ) (x : A) → Is rest x → P x)
+    → (n : ℕ) (part : Option A) → IsPart Is bytes n part → IfSome part P
 part_fits Is P bytes fits n None h = tt
 part_fits Is P bytes fits n (Some x) h = fits (drop n bytes) x h.1
 
@@ -75,10 +83,12 @@ can_be_written bytes d h =
 
 -- ## What a reader returns
 
-pub told_found : (bytes : List ℕ) (result : Result Descriptor DescFault) → IsBytes bytes → Tells (λ d. d) result (described bytes) → IfOk result (λ d. Describes bytes d)
+pub told_found : (bytes : List ℕ) (result : Result Descriptor DescFault) → IsBytes bytes → Tells (λ d. d) result (described bytes)
+    → IfOk result (λ d. Describes bytes d)
 told_found bytes (Ok d) fits e = is_described bytes d fits e
 told_found bytes (Err fault) fits e = tt
 
-pub told_writable : (bytes : List ℕ) (result : Result Descriptor DescFault) → IsBytes bytes → Tells (λ d. d) result (described bytes) → IfOk result (λ d. IsWritable d × IsValue d)
+pub told_writable : (bytes : List ℕ) (result : Result Descriptor DescFault) → IsBytes bytes → Tells (λ d. d) result (described bytes)
+    → IfOk result (λ d. IsWritable d × IsValue d)
 told_writable bytes (Ok d) fits e = can_be_written bytes d (is_described bytes d fits e)
 told_writable bytes (Err fault) fits e = tt

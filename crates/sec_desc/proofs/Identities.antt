@@ -43,15 +43,18 @@ sid_tested bytes t =
     let c = nat_le (slice_index bytes 1) 15 in
     let d = nat_le (8 + 4 * slice_index bytes 1) (length bytes) in
     and_from (a && b && c) d
-    (and_from (a && b) c (and_from a b (le-leb 8 (length bytes) t.long) (eq-eqb (slice_index bytes 0) 1 t.revision)) (le-leb (slice_index bytes 1) 15 t.count))
+    (and_from (a && b) c (and_from a b (le-leb 8 (length bytes) t.long) (eq-eqb (slice_index bytes 0) 1 t.revision))
+    (le-leb (slice_index bytes 1) 15 t.count))
     (le-leb (8 + 4 * slice_index bytes 1) (length bytes) t.whole)
 
 -- the bytes of the identity that is read
-sid_front : (first count : ℕ) (tail : List ℕ) → IsBytes tail → first ≡ 1 → 6 + 4 * count ≤ length tail → sid_bytes (sid_of (first ∷ count ∷ tail)) ≡ first ∷ count ∷ take (6 + 4 * count) tail
+sid_front : (first count : ℕ) (tail : List ℕ) → IsBytes tail → first ≡ 1 → 6 + 4 * count ≤ length tail
+    → sid_bytes (sid_of (first ∷ count ∷ tail)) ≡ first ∷ count ∷ take (6 + 4 * count) tail
 unfolding sid_bytes
 sid_front first count tail fits one le =
     let counted : length (numbers count (drop 6 tail)) ≡ count = numbers_length count (drop 6 tail) in
-    let parts : flat_map bytes_32 (numbers count (drop 6 tail)) ≡ take (4 * count) (drop 6 tail) = numbers_bytes count (drop 6 tail) (bytes_drop 6 tail fits) (omega (arith, length-drop 6 tail)) in
+    let parts : flat_map bytes_32 (numbers count (drop 6 tail)) ≡ take (4 * count) (drop 6 tail) =
+    numbers_bytes count (drop 6 tail) (bytes_drop 6 tail fits) (omega (arith, length-drop 6 tail)) in
     let cut : take (6 + 4 * count) tail ≡ take 6 tail ++ take (4 * count) (drop 6 tail) = take-add 6 (4 * count) tail in
     rw (counted, parts, cut, one) refl
 
@@ -66,11 +69,13 @@ sid_read (first ∷ count ∷ tail) fits e =
     record {
       bytes_are = record {
         rest = drop (6 + 4 * count) tail;
-        parts = sym (ap (λ (l : List ℕ). l ++ drop (6 + 4 * count) tail) front ∙ ap (λ (l : List ℕ). first ∷ count ∷ l) (take-append-drop (6 + 4 * count) tail));
+        parts = sym (ap (λ (l : List ℕ). l ++ drop (6 + 4 * count) tail) front
+            ∙ ap (λ (l : List ℕ). first ∷ count ∷ l) (take-append-drop (6 + 4 * count) tail));
       };
       value = record {
         authority = omega (arith, length-take 6 tail, t.whole);
-        parts = All-from_recursion (λ part. part < 2 ^ 32) (numbers count (drop 6 tail)) (numbers_small count (drop 6 tail) (bytes_drop 6 tail tail_fits));
+        parts = All-from_recursion (λ part. part < 2 ^ 32) (numbers count (drop 6 tail))
+            (numbers_small count (drop 6 tail) (bytes_drop 6 tail tail_fits));
       };
       short = omega (arith, numbers_length count (drop 6 tail), t.count);
     }
@@ -94,13 +99,18 @@ again_of sid rest h =
     let flat = flat_map bytes_32 sid.parts in
     let bytes = sid_bytes sid ++ rest in
     let assoc : (sid.authority ++ flat) ++ rest ≡ sid.authority ++ (flat ++ rest) = append_assoc sid.authority flat rest in
-    let authority : take 6 ((sid.authority ++ flat) ++ rest) ≡ sid.authority = ap (take 6) assoc ∙ take_at sid.authority (flat ++ rest) 6 six in
+    let authority : take 6 ((sid.authority ++ flat) ++ rest) ≡ sid.authority =
+    ap (take 6) assoc ∙ take_at sid.authority (flat ++ rest) 6 six in
     let behind : drop 6 ((sid.authority ++ flat) ++ rest) ≡ flat ++ rest = ap (drop 6) assoc ∙ drop_at sid.authority (flat ++ rest) 6 six in
-    let parts : numbers (length sid.parts) (drop 6 ((sid.authority ++ flat) ++ rest)) ≡ sid.parts = ap (numbers (length sid.parts)) behind ∙ numbers_again sid.parts rest (recursion_from_All (λ part. part < 2 ^ 32) sid.parts h.value.parts) in
-    let size : length ((sid.authority ++ flat) ++ rest) ≡ 6 + 4 * length sid.parts + length rest = omega (arith, six, length_numbers sid.parts, length-append sid.authority flat, length-append (sid.authority ++ flat) rest) in
+    let parts : numbers (length sid.parts) (drop 6 ((sid.authority ++ flat) ++ rest)) ≡ sid.parts =
+    ap (numbers (length sid.parts)) behind
+    ∙ numbers_again sid.parts rest (recursion_from_All (λ part. part < 2 ^ 32) sid.parts h.value.parts) in
+    let size : length ((sid.authority ++ flat) ++ rest) ≡ 6 + 4 * length sid.parts + length rest =
+    omega (arith, six, length_numbers sid.parts, length-append sid.authority flat, length-append (sid.authority ++ flat) rest) in
     record {
       is = sid_tested bytes (record { long = omega (arith, size); revision = refl; count = h.short; whole = omega (arith, size) });
-      value = ap (λ a. sid_made a (numbers (length sid.parts) (drop 6 ((sid.authority ++ flat) ++ rest)))) authority ∙ ap (sid_made sid.authority) parts;
+      value = ap (λ a. sid_made a (numbers (length sid.parts) (drop 6 ((sid.authority ++ flat) ++ rest)))) authority
+          ∙ ap (sid_made sid.authority) parts;
     }
 
 pub sid_again : (bytes : List ℕ) (sid : Sid) → IsSid bytes sid → SidAgain bytes sid

@@ -60,7 +60,8 @@ aces_again place bytes (ace ∷ aces) h =
     let rest = h.1 in
     let again = ace_again bytes entry rest ace h.2 h.3 in
     let behind : drop (length entry) bytes ≡ rest = ap (drop (length entry)) h.2 ∙ drop_at entry rest (length entry) refl in
-    let others : aces_in (length aces) (place + length entry) (drop (length entry) bytes) ≡ Ok aces = ap (aces_in (length aces) (place + length entry)) behind ∙ aces_again (place + length entry) rest aces h.4 in
+    let others : aces_in (length aces) (place + length entry) (drop (length entry) bytes) ≡ Ok aces =
+    ap (aces_in (length aces) (place + length entry)) behind ∙ aces_again (place + length entry) rest aces h.4 in
     rw (again.is, again.size, again.value, others) refl
 
 -- ## One list
@@ -105,27 +106,34 @@ acl_tested bytes t =
     let c = nat_le 8 (acl_size bytes) in
     let d = nat_le (acl_size bytes) (length bytes) in
     and_from (a && b && c) d
-    (and_from (a && b) c (and_from a b (le-leb 8 (length bytes) t.long) (is_one (slice_index bytes 0) t.revision)) (le-leb 8 (acl_size bytes) t.room))
+    (and_from (a && b) c (and_from a b (le-leb 8 (length bytes) t.long) (is_one (slice_index bytes 0) t.revision))
+    (le-leb 8 (acl_size bytes) t.room))
     (le-leb (acl_size bytes) (length bytes) t.whole)
 
 -- the list's bytes, part by part
 acl_parts : (first second : ℕ) (tail : List ℕ) → IsBytes tail → 6 ≤ length tail → 8 ≤ number_16 tail
-    → take (number_16 tail) (first ∷ second ∷ tail) ≡ first ∷ second ∷ bytes_16 (number_16 tail) ++ bytes_16 (number_16 (drop 2 tail)) ++ take 2 (drop 4 tail) ++ take (number_16 tail - 8) (drop 6 tail)
+    → take (number_16 tail) (first ∷ second ∷ tail)
+    ≡ first ∷ second ∷ bytes_16 (number_16 tail) ++ bytes_16 (number_16 (drop 2 tail)) ++ take 2 (drop 4 tail) ++ take
+    (number_16 tail - 8) (drop 6 tail)
 acl_parts first second tail fits long room =
     let size = number_16 tail in
     let whole : size ≡ 8 + (size - 8) = omega arith in
-    let cut : take (8 + (size - 8)) (first ∷ second ∷ tail) ≡ first ∷ second ∷ take 6 tail ++ take (size - 8) (drop 6 tail) = take-add 8 (size - 8) (first ∷ second ∷ tail) in
+    let cut : take (8 + (size - 8)) (first ∷ second ∷ tail) ≡ first ∷ second ∷ take 6 tail ++ take (size - 8) (drop 6 tail) =
+    take-add 8 (size - 8) (first ∷ second ∷ tail) in
     let front : take 6 tail ≡ take 2 tail ++ take 4 (drop 2 tail) = take-add 2 4 tail in
     let middle : take 4 (drop 2 tail) ≡ take 2 (drop 2 tail) ++ take 2 (drop 2 (drop 2 tail)) = take-add 2 2 (drop 2 tail) in
     let last : drop 2 (drop 2 tail) ≡ drop 4 tail = drop-drop 2 2 tail in
     let size_is : bytes_16 size ≡ take 2 tail = read_16 tail fits (omega arith) in
-    let count_is : bytes_16 (number_16 (drop 2 tail)) ≡ take 2 (drop 2 tail) = read_16 (drop 2 tail) (bytes_drop 2 tail fits) (omega (arith, length-drop 2 tail)) in
+    let count_is : bytes_16 (number_16 (drop 2 tail)) ≡ take 2 (drop 2 tail) =
+    read_16 (drop 2 tail) (bytes_drop 2 tail fits) (omega (arith, length-drop 2 tail)) in
     let six : take 6 tail ≡ take 2 tail ++ take 2 (drop 2 tail) ++ take 2 (drop 4 tail) =
-    front ∙ ap (λ (l : List ℕ). take 2 tail ++ l) (middle ∙ ap (λ (l : List ℕ). take 2 (drop 2 tail) ++ take 2 l) last) ∙ sym (append_assoc (take 2 tail) (take 2 (drop 2 tail)) (take 2 (drop 4 tail))) in
+    front ∙ ap (λ (l : List ℕ). take 2 tail ++ l) (middle ∙ ap (λ (l : List ℕ). take 2 (drop 2 tail) ++ take 2 l) last)
+    ∙ sym (append_assoc (take 2 tail) (take 2 (drop 2 tail)) (take 2 (drop 4 tail))) in
     let named : take 6 tail ≡ bytes_16 size ++ bytes_16 (number_16 (drop 2 tail)) ++ take 2 (drop 4 tail) = rw (size_is, count_is) six in
     ap (λ n. take n (first ∷ second ∷ tail)) whole ∙ cut ∙ ap (λ (l : List ℕ). first ∷ second ∷ l ++ take (size - 8) (drop 6 tail)) named
 
-acl_found : (first second place : ℕ) (tail : List ℕ) (aces : List Ace) → IsBytes (first ∷ second ∷ tail) → acl_in place (first ∷ second ∷ tail) ≡ Ok aces → BeginsAcl (first ∷ second ∷ tail) aces
+acl_found : (first second place : ℕ) (tail : List ℕ) (aces : List Ace) → IsBytes (first ∷ second ∷ tail)
+    → acl_in place (first ∷ second ∷ tail) ≡ Ok aces → BeginsAcl (first ∷ second ∷ tail) aces
 acl_found first second place tail aces fits e =
     let bytes = first ∷ second ∷ tail in
     let size = number_16 tail in
@@ -199,14 +207,24 @@ acl_again place bytes aces h =
     let front = l.revision ∷ l.unread ∷ bytes_16 n ++ bytes_16 c in
     let y = l.body ++ rest in
     let whole : bytes ≡ made l.revision l.unread n c l.unread_too y l.size l.count l.two =
-    h.bytes_are.parts ∙ ap (λ (x : List ℕ). x ++ rest) l.parts ∙ append_assoc (front ++ l.unread_too) l.body rest ∙ append_assoc front l.unread_too y
+    h.bytes_are.parts ∙ ap (λ (x : List ℕ). x ++ rest) l.parts ∙ append_assoc (front ++ l.unread_too) l.body rest
+    ∙ append_assoc front l.unread_too y
     ∙ append_assoc (l.revision ∷ l.unread ∷ bytes_16 n) (bytes_16 c) (l.unread_too ++ y) in
-    let long : n ≡ 8 + length l.body = omega (arith, ap length l.parts, length-append (front ++ l.unread_too) l.body, length-append front l.unread_too, front_length l.revision l.unread n c, l.two) in
+    let long : n ≡ 8 + length l.body =
+    omega (
+      arith,
+      ap length l.parts,
+      length-append (front ++ l.unread_too) l.body,
+      length-append front l.unread_too,
+      front_length l.revision l.unread n c,
+      l.two,
+    ) in
     let size : acl_size bytes ≡ n = ap acl_size whole ∙ size_made l.revision l.unread n c l.unread_too y l.size l.count l.two in
     let count : acl_count bytes ≡ c = ap acl_count whole ∙ count_made l.revision l.unread n c l.unread_too y l.size l.count l.two in
     let behind : drop 8 bytes ≡ y = ap (drop 8) whole ∙ body_made l.revision l.unread n c l.unread_too y l.size l.count l.two in
     let body : take (n - 8) y ≡ l.body = take_at l.body rest (n - 8) (omega (arith, long)) in
-    let bytes_long : length bytes ≡ 8 + length y = ap length whole ∙ length_made l.revision l.unread n c l.unread_too y l.size l.count l.two in
+    let bytes_long : length bytes ≡ 8 + length y =
+    ap length whole ∙ length_made l.revision l.unread n c l.unread_too y l.size l.count l.two in
     let first : slice_index bytes 0 ≡ l.revision = ap (λ (x : List ℕ). slice_index x 0) whole in
     let is : is_acl bytes ≡ true = acl_tested bytes (record {
       long = omega (arith, bytes_long);

@@ -8,14 +8,19 @@ numbers_suc : (i : ℕ) (bytes : List ℕ) → numbers (suc i) bytes ≡ numbers
 unfolding numbers
 numbers_suc zero bytes = refl
 numbers_suc (suc i) bytes =
-    let at : drop (4 * i) (drop 4 bytes) ≡ drop (4 * suc i) bytes = drop-drop (4 * i) 4 bytes ∙ ap (λ (n : ℕ). drop n bytes) (omega arith) in
-    let more : numbers (suc i) (drop 4 bytes) ≡ numbers i (drop 4 bytes) ++ number_32 (drop (4 * suc i) bytes) ∷ [] = rw (← at) (numbers_suc i (drop 4 bytes)) in
+    let at : drop (4 * i) (drop 4 bytes) ≡ drop (4 * suc i) bytes =
+    drop-drop (4 * i) 4 bytes ∙ ap (λ (n : ℕ). drop n bytes) (omega arith) in
+    let more : numbers (suc i) (drop 4 bytes) ≡ numbers i (drop 4 bytes) ++ number_32 (drop (4 * suc i) bytes) ∷ [] =
+    rw (← at) (numbers_suc i (drop 4 bytes)) in
     ap (λ (ns : List ℕ). number_32 bytes ∷ ns) more
 
--- the same behind others
-pub with_another : (front : List ℕ) (i : ℕ) (bytes : List ℕ) → front ++ numbers (i + 1) bytes ≡ (front ++ numbers i bytes) ++ number_32 (drop (4 * i) bytes) ∷ []
-with_another front i bytes = rw add-one (ap (λ (ns : List ℕ). front ++ ns) (numbers_suc i bytes) ∙ sym (append_assoc front (numbers i bytes) (number_32 (drop (4 * i) bytes) ∷ [])))
+-- the same after others
+pub one_more : (front : List ℕ) (i : ℕ) (bytes : List ℕ)
+    → front ++ numbers (i + 1) bytes ≡ (front ++ numbers i bytes) ++ number_32 (drop (4 * i) bytes) ∷ []
+one_more front i bytes = rw add-one
+    (ap (λ (ns : List ℕ). front ++ ns) (numbers_suc i bytes)
+    ∙ sym (append_assoc front (numbers i bytes) (number_32 (drop (4 * i) bytes) ∷ [])))
 
-pub with_none : (front bytes : List ℕ) → front ++ numbers 0 bytes ≡ front
+pub none_yet : (front bytes : List ℕ) → front ++ numbers 0 bytes ≡ front
 unfolding numbers
-with_none front bytes = append-nil front
+none_yet front bytes = append-nil front

@@ -12,7 +12,8 @@ few_aces [] = omega arith
 few_aces (ace ∷ aces) = let rest = few_aces aces in omega arith
 
 -- from an entry on
-pub size_from : (aces : List Ace) (i : ℕ) (ace : Ace) → i < length aces → ace ≡ get_or aces i ace → size_of_aces (drop i aces) ≡ size_of_ace ace + size_of_aces (drop (i + 1) aces)
+pub size_from : (aces : List Ace) (i : ℕ) (ace : Ace) → i < length aces → ace ≡ get_or aces i ace
+    → size_of_aces (drop i aces) ≡ size_of_ace ace + size_of_aces (drop (i + 1) aces)
 unfolding size_of_aces
 size_from aces i ace lt is =
     let cut = ap size_of_aces (drop-cons aces i ace lt) in

@@ -53,7 +53,7 @@ abbrev pub IsPart : {A : Type 0} → (List ℕ → A → Type 0) → List ℕ �
 IsPart Is bytes offset None = offset ≡ 0
 IsPart Is bytes offset (Some x) = (0 < offset) × Is (drop offset bytes) x
 
--- the parts may stand anywhere within the bytes, one over the other too; an auditing list is unread
+-- the parts may stand anywhere within the bytes, also over one another; an auditing list is unread
 pub record Describes (bytes : List ℕ) (d : Descriptor) : Type 0 where
   pub control : ℕ
   pub owner : ℕ

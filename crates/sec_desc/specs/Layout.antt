@@ -22,7 +22,7 @@ is_header bytes =
 abbrev pub offset : ℕ → Option ℕ
 offset n = if n == 0 then None else Some n
 
--- where the list's offset counts
+-- the list's offset counts if the control says that there is a list
 abbrev pub list_offset : ℕ → ℕ → Option ℕ
 list_offset control n = if has_bits control SE_DACL_PRESENT then offset n else None
 

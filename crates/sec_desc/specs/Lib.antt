@@ -3,3 +3,4 @@ pub mod Layout
 pub mod Reading
 pub mod Writing
 pub mod Described
+pub mod Laws

@@ -1,4 +1,4 @@
--- Reading a descriptor: header, owner, group, list, entries. A fault is where the first item begins that isn't one.
+-- Reading a descriptor: header, owner, group, list, entries. A fault is the place of the first item that fails.
 use Rattle.std.specs.Prelude.{◌≡◌, ℕ, zero, suc, ◌+◌, List, [], ◌∷◌, ◌++◌, drop, Option, None, Some, Result, Ok, Err, if◌then◌else◌}
 use Rattle.sec_desc.specs.declared.value.Ace.{Ace}
 use Rattle.sec_desc.specs.declared.value.Sid.{Sid}
@@ -37,7 +37,7 @@ acl_in place bytes = if is_acl bytes then aces_in (acl_count bytes) (place + 8) 
 unfoldable pub acl_at : List ℕ → ℕ → Result (List Ace) ℕ
 acl_at bytes place = acl_in place (drop place bytes)
 
--- a part, where it has an offset
+-- a part, if it has an offset
 unfoldable pub part_at : {A : Type 0} → (List ℕ → ℕ → Result A ℕ) → List ℕ → Option ℕ → Result (Option A) ℕ
 part_at item bytes None = Ok None
 part_at item bytes (Some place) = item bytes place >>= λ x. Ok (Some x)
@@ -53,7 +53,7 @@ parts_of bytes header = do
 unfoldable pub described : List ℕ → Result Descriptor ℕ
 described bytes = header_in bytes >>= parts_of bytes
 
--- the same behind what was read before
+-- the same after what was read before
 abbrev pub with_front : {A : Type 0} → List A → Result (List A) ℕ → Result (List A) ℕ
 with_front front read = read >>= λ others. Ok (front ++ others)
 

@@ -1,10 +1,12 @@
 -- The written form of a descriptor.
 use Rattle.std.specs.Prelude.{◌≡◌, ◌⊎◌, ℕ, Bool, true, false, ◌+◌, ◌≤◌, ◌<◌, ◌^◌, List, [], ◌∷◌, ◌++◌, length, Option, None, Some, All, IfSome, if◌then◌else◌}
 use Rattle.std.specs.List.{flat_map}
+use Rattle.std.specs.Option.{option_copied}
 use Rattle.sec_desc.specs.declared.codes.TheConstants.{ACCESS_ALLOWED_ACE_TYPE, ACCESS_DENIED_ACE_TYPE, ACL_REVISION, DACL_SECURITY_INFORMATION, GROUP_SECURITY_INFORMATION, OWNER_SECURITY_INFORMATION, SECURITY_DESCRIPTOR_REVISION, SE_DACL_PRESENT, SE_SELF_RELATIVE, SID_MAX_SUB_AUTHORITIES, SID_REVISION}
 use Rattle.sec_desc.specs.declared.value.Ace.{Ace}
 use Rattle.sec_desc.specs.declared.value.Sid.{Sid}
 use Rattle.sec_desc.specs.declared.value.Descriptor.{Descriptor}
+use Rattle.sec_desc.specs.declared.writing.Parts.{Parts}
 use Rattle.sec_desc.specs.Numbers.{bytes_16, bytes_32, has_bits}
 use Rattle.sec_desc.specs.Layout.{sid_size}
 
@@ -60,7 +62,7 @@ part_size size (Some x) = size x
 abbrev pub size_of_sid : Sid → ℕ
 size_of_sid sid = sid_size (length sid.parts)
 
--- the offset of a part that begins at a place, where it is there
+-- the offset of a part that begins at a place, 0 if there is no part
 abbrev pub offset_of : {A : Type 0} → ℕ → Option A → ℕ
 offset_of place None = 0
 offset_of place (Some x) = place
@@ -76,7 +78,8 @@ abbrev pub list_place : Descriptor → ℕ
 list_place d = group_place d + part_size size_of_sid d.group
 
 abbrev pub header_for : Descriptor → List ℕ
-header_for d = header_bytes (control_for d.list) (offset_of 20 d.owner) (offset_of (group_place d) d.group) 0 (offset_of (list_place d) d.list)
+header_for d =
+    header_bytes (control_for d.list) (offset_of 20 d.owner) (offset_of (group_place d) d.group) 0 (offset_of (list_place d) d.list)
 
 -- the header, then owner, group and list as far as they are there, without gaps
 unfoldable pub written : Descriptor → List ℕ
@@ -95,6 +98,10 @@ asked d parts = record {
 
 abbrev pub descriptor_bytes : Descriptor → ℕ → List ℕ
 descriptor_bytes d parts = written (asked d parts)
+
+-- the descriptor that has these parts
+abbrev pub seen : Parts → Descriptor
+seen parts = record { owner = option_copied parts.owner; group = option_copied parts.group; list = option_copied parts.list }
 
 -- ## What has a written form
 

@@ -141,8 +141,8 @@ fn is_acl(bytes: &[u8]) -> bool
     8 <= size && size <= bytes.len()
 }
 
-/// The fixed part of the list at the front of the bytes, if one stands there; nothing is said of its
-/// entries. It takes no memory.
+/// The fixed part of the list at the front of the bytes, if one stands there; its entries are
+/// unread. It takes no memory.
 pub fn read_acl_header(bytes: &[u8]) -> Option<AclHeader>
     ensures { result ≡ (if is_acl bytes.now then Some (acl_header_of bytes.now) else None) }
 {

@@ -1,5 +1,5 @@
-//! Security descriptors (MS-DTYP, 2.4.6, self-relative form) as bytes, both ways: owner, group and
-//! the list of who may do what. Auditing lists are left out.
+//! Security descriptors (MS-DTYP, 2.4.6, in self-relative form) as bytes, both ways: owner, group
+//! and access list. Auditing lists are unread and never written.
 #![tactic(auto)]
 
 pub mod codes;

@@ -22,7 +22,7 @@ pub fn u32_at(bytes: &[u8], at: usize) -> u32
 }
 
 /// Appends so many numbers of four bytes each.
-#[tactic(auto, using(crate::proofs::NumberLists::with_another, crate::proofs::NumberLists::with_none))]
+#[tactic(auto, using(crate::proofs::NumberLists::one_more, crate::proofs::NumberLists::none_yet))]
 pub fn append_numbers(to: &mut Items<u32>, bytes: &[u8], count: usize) -> Result<(), OutOfMemory>
     requires { 4 * count ≤ length bytes.now }
     ensures { OnOk result (to.new ≡ to.old ++ numbers count bytes.now) }

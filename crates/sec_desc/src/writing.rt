@@ -3,7 +3,7 @@ ghost use Rattle.std.specs.List.{flat_map};
 ghost use Rattle.std.specs.Option.{option_copied};
 ghost use Rattle.sec_desc.specs.declared.value.Ace.{Ace};
 ghost use Rattle.sec_desc.specs.Numbers.{bytes_32};
-ghost use Rattle.sec_desc.specs.Writing.{IsShort, IsWritable, IsWritableAcl, ace_bytes, ace_front as front_of_ace, acl_bytes, acl_front as front_of_acl, control_for, descriptor_bytes, header_for, offset_of, part_bytes, part_if, part_size, sid_bytes, size_of_ace, size_of_aces, size_of_sid, written};
+ghost use Rattle.sec_desc.specs.Writing.{IsShort, IsWritable, IsWritableAcl, ace_bytes, ace_front as front_of_ace, acl_bytes, acl_front as front_of_acl, control_for, descriptor_bytes, header_for, offset_of, part_bytes, part_if, part_size, seen, sid_bytes, size_of_ace, size_of_aces, size_of_sid, written};
 
 use crate::codes::{
     ACCESS_ALLOWED_ACE_TYPE, ACCESS_DENIED_ACE_TYPE, ACL_REVISION, DACL_SECURITY_INFORMATION,
@@ -172,46 +172,41 @@ fn control_for(list: Option<&Items<Ace>>) -> u16
     }
 }
 
+/// The parts of a descriptor that are written.
+#[derive(Clone, Copy)]
+struct Parts<'a> {
+    owner: Option<&'a Sid>,
+    group: Option<&'a Sid>,
+    list: Option<&'a Items<Ace>>,
+}
+
 #[tactic(auto, unfolding(crate::specs::Writing::header_bytes, crate::specs::Numbers::bytes_16))]
-fn put_header(
-    out: &mut Items<u8>,
-    owner: Option<&Sid>,
-    group: Option<&Sid>,
-    list: Option<&Items<Ace>>,
-) -> Result<(), OutOfMemory>
-    requires owner_short { IfSome (option_copied owner) IsShort }
-    requires group_short { IfSome (option_copied group) IsShort }
-    ensures { OnOk result (out.new ≡ out.old ++ header_for (record { owner = option_copied owner.entry; group = option_copied group.entry; list = option_copied list.entry })) }
+fn put_header(out: &mut Items<u8>, parts: &Parts) -> Result<(), OutOfMemory>
+    requires { IsWritable (seen parts.now) }
+    ensures { OnOk result (out.new ≡ out.old ++ header_for (seen parts.now)) }
 {
-    let group_place = 20 + size_of_part(owner);
-    let list_place = group_place + size_of_part(group);
-    let [low, high] = control_for(list).to_le_bytes();
+    let group_place = 20 + size_of_part(parts.owner);
+    let list_place = group_place + size_of_part(parts.group);
+    let [low, high] = control_for(parts.list).to_le_bytes();
     out.append(&[SECURITY_DESCRIPTOR_REVISION, 0, low, high])?;
     let offsets = [
-        offset_of(20, owner),
-        offset_of(group_place, group),
+        offset_of(20, parts.owner),
+        offset_of(group_place, parts.group),
         0,
-        offset_of(list_place, list),
+        offset_of(list_place, parts.list),
     ];
     put_numbers(out, &offsets)
 }
 
 #[tactic(auto, unfolding(crate::specs::Writing::written))]
-fn put_descriptor(
-    out: &mut Items<u8>,
-    owner: Option<&Sid>,
-    group: Option<&Sid>,
-    list: Option<&Items<Ace>>,
-) -> Result<(), OutOfMemory>
-    requires owner_short { IfSome (option_copied owner) IsShort }
-    requires group_short { IfSome (option_copied group) IsShort }
-    requires list_writable { IfSome (option_copied list) IsWritableAcl }
-    ensures { OnOk result (out.new ≡ out.old ++ written (record { owner = option_copied owner.entry; group = option_copied group.entry; list = option_copied list.entry })) }
+fn put_parts(out: &mut Items<u8>, parts: &Parts) -> Result<(), OutOfMemory>
+    requires { IsWritable (seen parts.now) }
+    ensures { OnOk result (out.new ≡ out.old ++ written (seen parts.now)) }
 {
-    put_header(out, owner, group, list)?;
-    put_sid_part(out, owner)?;
-    put_sid_part(out, group)?;
-    put_acl_part(out, list)
+    put_header(out, parts)?;
+    put_sid_part(out, parts.owner)?;
+    put_sid_part(out, parts.group)?;
+    put_acl_part(out, parts.list)
 }
 
 /// A part, if it is asked for.
@@ -231,11 +226,13 @@ pub fn write_descriptor(
     requires { IsWritable value.now }
     ensures { IfOk result (λ bytes. bytes ≡ descriptor_bytes value.now parts) }
 {
-    let owner = part_if(has_bits(parts, OWNER_SECURITY_INFORMATION), &value.owner);
-    let group = part_if(has_bits(parts, GROUP_SECURITY_INFORMATION), &value.group);
-    let list = part_if(has_bits(parts, DACL_SECURITY_INFORMATION), &value.list);
+    let parts = Parts {
+        owner: part_if(has_bits(parts, OWNER_SECURITY_INFORMATION), &value.owner),
+        group: part_if(has_bits(parts, GROUP_SECURITY_INFORMATION), &value.group),
+        list: part_if(has_bits(parts, DACL_SECURITY_INFORMATION), &value.list),
+    };
     let mut out = Items::new(alloc);
-    match put_descriptor(&mut out, owner, group, list) {
+    match put_parts(&mut out, &parts) {
         Ok(()) => Ok(out),
         Err(fault) => {
             drop(out);

@@ -9,5 +9,6 @@ use Rattle.sec_check.proofs.checking.maximum.Given as goal
 abbrev pub invariant-loop : goal.invariant-loop
 invariant-loop l = record {
   within : l.at ≤ length l.entries;
-  left : Left l.principal (l.count - l.counter) (drop l.at l.entries) l.so_far (maximum (filter (counts l.principal) (aces_of (aces_in l.count 0 l.entries))));
+  left : Left l.principal (l.count - l.counter) (drop l.at l.entries) l.so_far
+      (maximum (filter (counts l.principal) (aces_of (aces_in l.count 0 l.entries))));
 }

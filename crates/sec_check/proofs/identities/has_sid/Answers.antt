@@ -22,4 +22,5 @@ returns-else-starts_with c =
     (c.starts_with.ensures.value ∙ ap (starts_with eqb bytes) c.group_of-group.ensures) in
     let second = told bytes everyone other.result (λ i. omega (arith, c.type_inv.bytes i)) c.requires everyone_known
     (other.ensures.value ∙ ap (starts_with eqb bytes) c.everyone-everyone.ensures) in
-    second_tells c.starts_with.result other.result (same_sid (sid_of bytes) group) (same_sid (sid_of bytes) everyone) c.if-starts_with.false first second
+    second_tells c.starts_with.result other.result (same_sid (sid_of bytes) group)
+    (same_sid (sid_of bytes) everyone) c.if-starts_with.false first second
