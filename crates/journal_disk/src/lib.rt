@@ -8,7 +8,7 @@ mod files;
 mod images;
 mod memory;
 
-pub use calls::{DiskCall, DiskFate};
+pub use calls::{DiskCall, DiskFate, TakenCall};
 pub use disk::Disk;
 pub use file_disk::FileDisk;
 pub use files::DiskFiles;
