@@ -1,5 +1,5 @@
 -- What an append that was cut off leaves is read.
-use Rattle.std.proofs.Common.{ℕ, zero, suc, ◌≡◌, ◌≢◌, ◌∙◌, ◌<◌, ◌≤◌, ◌-◌, ◌&&◌, true, cond, List, [], ◌∷◌, ◌++◌, Ok, Err, take, drop, length, length-append, append_assoc, refl, sym, ap, subst, arith, nat_lt, lt-ltb, eqb, ⊎_elim, inl, inr, ◌⊎◌, ◌+◌}
+use Rattle.std.proofs.Common.{ℕ, zero, suc, ◌≡◌, ◌≢◌, ◌∙◌, ◌<◌, ◌≤◌, ◌-◌, ◌&&◌, true, cond, List, [], ◌∷◌, ◌++◌, Ok, Err, take, drop, length, length-append, append_assoc, refl, sym, ap, subst, arith, nat_lt, lt-ltb, eqb, ⊎_elim, inl, inr, ◌+◌}
 use Rattle.std.specs.List.{starts_with}
 use Rattle.std.proofs.Math.Seq.{take-append-add}
 use Rattle.std.proofs.lemmas.Bool.{cases_lt}
