@@ -1,7 +1,7 @@
 mod Lists
 mod Entries
 mod Chains
-pub mod Named
+mod Named
 mod Far
 mod Cases
 mod Serving

@@ -9,14 +9,17 @@ use Rattle.scm_model.specs.declared.steps.Step.TheVariants.{EndStart, Gone, NoMe
 use Rattle.scm_rules.specs.Named.{names_caller}
 use Rattle.scm_history.specs.Owned.{Made as Told, made_of}
 use Rattle.book_rule.specs.declared.view.Opening.{Opening}
-use Rattle.scm_book.specs.Passes.{Known}
+use Rattle.book_rule.specs.Seats.{Identity}
+use Rattle.scm_book.specs.Passes.{IsOf, Known}
 use Rattle.conn_desk.specs.declared.asked.Asked.{Asked}
 use Rattle.conn_desk.specs.declared.asked.Asked.TheVariants as asks
 use Rattle.conn_desk.specs.declared.served.Served.{Served}
 use Rattle.conn_desk.specs.Bodies.{asked}
+use Rattle.conn_desk.specs.Connection.{IsServedFor}
 use Rattle.conn_worker.specs.Connecting.{Connects}
 use Rattle.conn_worker.specs.Owning.{AreOf, AreOfAll, AreOfTold, IsCall}
-use Rattle.scm_server.specs.Works.{AreNamed, MakesOwn}
+use Rattle.scm_listener.specs.Connections.{PastConnection, past_of}
+use Rattle.scm_server.specs.Works.{AreNamed, IsDone, MakesOwn, out_of}
 
 module _ (caller : ℕ) where
   abbrev Names : Told → Type 0
@@ -55,7 +58,7 @@ module _ (caller : ℕ) where
   are_named (request ∷ more) [] entries are = absurd are
 
 -- all that the pass made names its caller, its going too
-pub makes_own : (tells : ℕ → Type 0) (o : Opening) (k k' : Known) (left left_now held held_now : Option (List ℕ)) (how : Served)
+makes_own : (tells : ℕ → Type 0) (o : Opening) (k k' : Known) (left left_now held held_now : Option (List ℕ)) (how : Served)
     → Connects true tells o k k' left left_now held held_now how → MakesOwn o k k'
 makes_own tells o k k' left left_now held held_now how connects =
     let gone : Told = made_of (connects.moment, Gone k.caller) answers.Done in record {
@@ -64,3 +67,11 @@ makes_own tells o k k' left left_now held held_now how connects =
       named = All-append (Names k.caller) connects.entries (gone ∷ []) (are_named k.caller (asked connects.done) connects.heard connects.entries connects.requests)
           (one_named k.caller gone (itself k.caller));
     }
+
+-- a connection that was served, and then ended with what its ends told
+pub is_done : (tells : ℕ → Type 0) (b : Identity) (k spent : Known) (number : ℕ) (given left began written : Option (List ℕ)) (reads reads_now writes writes_now : ℕ) (past : PastConnection) (how : Served)
+    → past ≡ past_of number left written reads_now writes_now → IsOf b spent → Connects true tells b.opening k spent given left began written how
+    → IsServedFor how reads reads_now writes writes_now → IsDone tells b (out_of number given began reads writes k) spent past how
+is_done tells b k spent number given left began written reads reads_now writes writes_now past how is of connects cause =
+    subst (λ (p : PastConnection). IsDone tells b (out_of number given began reads writes k) spent p how) (sym is)
+    (record { book = of; number = refl; connects = connects; own = makes_own tells b.opening k spent given left began written how connects; cause = cause })

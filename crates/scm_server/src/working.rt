@@ -23,7 +23,6 @@ pub struct Worked<P> {
 }
 
 /// Serves a connection as the caller whose pass it is, and ends it.
-#[tactic(auto, using(crate::proofs::Named::makes_own))]
 pub fn work<R: Wait, K: Keeper, N: Listener, C: Clock>(
     rt: &R,
     alloc: Global,
