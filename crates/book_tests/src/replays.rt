@@ -22,7 +22,7 @@ struct Whole {
 }
 
 /// Closes a book that a crowd came to.
-fn whole<R: Wait>(rt: &R, book: Book<MemoryKeeper>, crowd: Crowd) -> Whole
+fn close_whole<R: Wait>(rt: &R, book: Book<MemoryKeeper>, crowd: Crowd) -> Whole
     requires { IsOf book crowd.pass }
 {
     let Crowd { pass, visits } = crowd;
@@ -37,7 +37,7 @@ fn many<R: Threads + Wait + Sync>(rt: &R, alloc: Global, threads: u64, calls: u6
 {
     let Opened { book, pass } = new_book(alloc, limits(4_194_304), Vec::new(alloc))?;
     match gather(rt, alloc, &book, pass, 0, threads, calls) {
-        Some(crowd) => Some(whole(rt, book, crowd)),
+        Some(crowd) => Some(close_whole(rt, book, crowd)),
         None => {
             drop(book);
             None
