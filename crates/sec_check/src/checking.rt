@@ -15,7 +15,7 @@ use sec_desc::{AceHeader, from_place, has_bits, read_ace_header, read_acl_header
 struct Decided {
     /// The bits that are allowed.
     given: u32,
-    /// The bits that an entry has had.
+    /// The bits that are decided, allowed or denied.
     known: u32,
 }
 
@@ -58,7 +58,7 @@ fn with_entry(so_far: Decided, principal: Principal, bytes: &[u8], entry: &AceHe
     }
 }
 
-/// Every bit that some entries, one after the other, allow.
+/// Every bit that so many entries, one after the other, allow.
 fn maximum(principal: Principal, entries: &[u8], count: u16) -> u32
     requires { IsOk (aces_in count 0 entries.now) }
     ensures { result ≡ maximum_for principal (aces_of (aces_in count 0 entries.now)) }
@@ -98,10 +98,10 @@ fn maximum_by(principal: Principal, security: &[u8]) -> u32
 }
 
 /// What a written descriptor allows a principal of the rights that it asks for: all of them, or
-/// none. With `MAXIMUM_ALLOWED` it answers every bit that is allowed. The generic rights are to be
-/// mapped before; an entry's mask is taken bit by bit as it is. An empty descriptor allows all. It
-/// takes no memory. The order of entries is that of MS-DTYP, 2.5.3.2; an owner has no rights for
-/// being one.
+/// none. With `MAXIMUM_ALLOWED` it returns every bit that is allowed, whatever else is asked for.
+/// Generic rights have to be mapped before, and an entry's mask is compared bit by bit. No bytes
+/// stand for a descriptor that isn't set, which allows everything. Entries are evaluated in order
+/// (MS-DTYP, 2.5.3.2); ownership gives no rights. It takes no memory.
 pub fn allowed(security: &[u8], principal: Principal, desired: u32) -> Option<u32>
     requires { IsWritten security.now }
     ensures { result ≡ allowed_by (list_of security.now) principal desired }

@@ -190,7 +190,8 @@ fn described(alloc: Global, bytes: &[u8]) -> Result<Descriptor, DescFault>
 }
 
 /// Reads a self-relative security descriptor (MS-DTYP, 2.4.6). Its parts may stand anywhere within
-/// the bytes; an auditing list and all bytes outside the parts are unread.
+/// the bytes, also over one another. Unread are an auditing list, all bytes outside the parts,
+/// reserved bytes but the one after the revision, and the control's other bits.
 pub fn read_descriptor(alloc: Global, bytes: &[u8]) -> Result<Descriptor, DescFault>
     // What is read is described by these bytes.
     ensures found { IfOk result (λ d. Describes bytes.now d) }

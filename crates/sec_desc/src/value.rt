@@ -25,11 +25,12 @@ pub struct Ace {
 pub struct Descriptor {
     pub owner: Option<Sid>,
     pub group: Option<Sid>,
-    /// Its entries in order. Without a list everything is allowed, by an empty one nothing.
+    /// The access list's entries in order. Without a list everything is allowed, by an empty one
+    /// nothing.
     pub list: Option<Items<Ace>>,
 }
 
-/// Why bytes are no descriptor that is read.
+/// Why bytes aren't read as a descriptor.
 #[derive(Clone, Copy, Debug, PartialEq, Eq, Error)]
 pub enum DescFault {
     /// The first item that is wrong begins at this byte. The items are the header, the owner, the

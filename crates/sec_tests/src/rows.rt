@@ -9,7 +9,7 @@ pub type Read = (&'static str, u32, &'static str);
 /// Bytes that aren't a descriptor, and where the first item begins that is wrong.
 pub type Bad = (&'static str, usize);
 
-/// The bytes of a descriptor, who asks for which rights, and what is allowed.
+/// The bytes of a descriptor, the principal, the rights that it asks for, and what is allowed.
 pub type Allowed = (&'static str, Principal, u32, Option<u32>);
 
 /// The list of the default descriptor alone: D:(A;;0xf81ff;;;BA)(A;;0x2008d;;;BU).
@@ -77,7 +77,8 @@ pub const READ: [Read; 13] = [
         "01000080 14000000 20000000 00000000 00000000 01010000 00000005 12000000 01010000 \
          00000005 12000000",
     ),
-    // The example of MS-DTYP, 2.5.1.4, with an auditing list, the list before the owner, and inherited entries.
+    // The example of MS-DTYP, 2.5.1.4: an auditing list, the list before the owner, inherited
+    // entries.
     (
         "010014b0 90000000 a0000000 14000000 30000000 02001c00 01000000 02801400 00000080 \
          01010000 00000001 00000000 02006000 04000000 00031800 000000a0 01020000 00000005 \
@@ -107,7 +108,7 @@ pub const READ: [Read; 13] = [
         "01000480 00000000 00000000 00000000 14000000 02001c00 01000000 00001400 04000000 \
          01010000 00000001 00000000",
     ),
-    // The owner stands where the group stands, in the list's entry; the control has bits that are unread.
+    // Owner and group are one, in the list's entry; the control has bits that are unread.
     (
         "01000494 24000000 24000000 00000000 14000000 02002000 01000000 00001800 01000000 \
          01020000 00000005 20000000 20020000",
