@@ -96,23 +96,23 @@ part_again item Is bytes again (suc n) None h = absurd (omega (arith, h))
 part_again item Is bytes again (suc n) (Some x) h =
     ap (part_at item bytes) (offset_some n) ∙ ap (λ read. read >>= λ y. Ok (Some y)) (again (suc n) x h.1)
 
-sid_at_read : (bytes : List ℕ) → IsBytes bytes → (place : ℕ) (sid : Sid) → sid_at bytes place ≡ Ok sid → IsSid (drop place bytes) sid
+pub sid_at_read : (bytes : List ℕ) → IsBytes bytes → (place : ℕ) (sid : Sid) → sid_at bytes place ≡ Ok sid → IsSid (drop place bytes) sid
 unfolding sid_at
 sid_at_read bytes fits place sid e =
     let rest = drop place bytes in
     let is = passed (is_sid rest) place (Ok (sid_of rest)) sid e in
     subst (λ (s : Sid). IsSid rest s) (ok_is (sid_of rest) sid is.1) (sid_read rest (bytes_drop place bytes fits) is.0)
 
-sid_at_again : (bytes : List ℕ) (place : ℕ) (sid : Sid) → IsSid (drop place bytes) sid → sid_at bytes place ≡ Ok sid
+pub sid_at_again : (bytes : List ℕ) (place : ℕ) (sid : Sid) → IsSid (drop place bytes) sid → sid_at bytes place ≡ Ok sid
 unfolding sid_at
 sid_at_again bytes place sid h = let a = sid_again (drop place bytes) sid h in rw (a.is, a.value) refl
 
-acl_at_read : (bytes : List ℕ) → IsBytes bytes → (place : ℕ) (aces : List Ace) → acl_at bytes place ≡ Ok aces
+pub acl_at_read : (bytes : List ℕ) → IsBytes bytes → (place : ℕ) (aces : List Ace) → acl_at bytes place ≡ Ok aces
     → BeginsAcl (drop place bytes) aces
 unfolding acl_at
 acl_at_read bytes fits place aces e = acl_read place (drop place bytes) aces (bytes_drop place bytes fits) e
 
-acl_at_again : (bytes : List ℕ) (place : ℕ) (aces : List Ace) → BeginsAcl (drop place bytes) aces → acl_at bytes place ≡ Ok aces
+pub acl_at_again : (bytes : List ℕ) (place : ℕ) (aces : List Ace) → BeginsAcl (drop place bytes) aces → acl_at bytes place ≡ Ok aces
 unfolding acl_at
 acl_at_again bytes place aces h = acl_again place (drop place bytes) aces h
 

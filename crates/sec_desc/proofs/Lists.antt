@@ -9,9 +9,9 @@ use Rattle.sec_desc.specs.declared.value.Ace.{Ace}
 use Rattle.sec_desc.specs.Numbers.{bytes_16, number_16}
 use Rattle.sec_desc.specs.Layout.{ace_of, ace_size, acl_count, acl_size, is_ace, is_acl}
 use Rattle.sec_desc.specs.Reading.{◌>>=◌, ace_in, aces_in, acl_in}
-use Rattle.sec_desc.specs.Described.{AreAces, BeginsAcl}
+use Rattle.sec_desc.specs.Described.{AreAces, BeginsAce, BeginsAcl}
 use Rattle.sec_desc.proofs.Bytes.{IsBytes, bytes_drop, bytes_take, read_16, small_16}
-use Rattle.sec_desc.proofs.Aces.{ace_again, ace_read}
+use Rattle.sec_desc.proofs.Aces.{ace_again, ace_read, ace_test}
 
 -- ## Entries
 
@@ -30,6 +30,27 @@ done x = Ok x
 
 pub ok_is : {A : Type 0} (x y : A) → done x ≡ done y → x ≡ y
 ok_is x y e = cc
+
+-- one entry
+pub ace_in_read : (place : ℕ) (bytes : List ℕ) (ace : Ace) (size : ℕ) → IsBytes bytes → ace_in place bytes ≡ Ok (ace, size)
+    → BeginsAce bytes ace size
+unfolding ace_in
+ace_in_read place bytes ace size fits e =
+    let is = passed (is_ace bytes) place (Ok (ace_of bytes, ace_size bytes)) (ace, size) e in
+    let pair : (ace_of bytes, ace_size bytes) ≡ (ace, size) = ok_is (ace_of bytes, ace_size bytes) (ace, size) is.1 in
+    let found : BeginsAce bytes (ace_of bytes) (ace_size bytes) = record {
+      entry = take (ace_size bytes) bytes;
+      bytes_are = record { rest = drop (ace_size bytes) bytes; parts = sym (take-append-drop (ace_size bytes) bytes) };
+      size_is = length-take-le (ace_size bytes) bytes (ace_test bytes is.0).whole;
+      is = ace_read bytes fits is.0;
+    } in
+    subst (λ (x : Ace × ℕ). BeginsAce bytes x.0 x.1) pair found
+
+pub ace_in_again : (place : ℕ) (bytes : List ℕ) (ace : Ace) (size : ℕ) → BeginsAce bytes ace size → ace_in place bytes ≡ Ok (ace, size)
+unfolding ace_in
+ace_in_again place bytes ace size h =
+    let again = ace_again bytes h.entry h.bytes_are.rest ace h.bytes_are.parts h.is in
+    rw (again.is, again.value, again.size, h.size_is) refl
 
 pub record AcesFound (n : ℕ) (bytes : List ℕ) (aces : List Ace) : Type 0 where
   pub are : AreAces bytes aces

@@ -25,6 +25,13 @@ pub record IsAce (bytes : List ℕ) (ace : Ace) : Type 0 where
   pub value : IsAceValue ace
   pub short : IsShort ace.sid
 
+-- an entry of so many bytes stands at the front
+pub record BeginsAce (bytes : List ℕ) (ace : Ace) (size : ℕ) : Type 0 where
+  pub entry : List ℕ
+  pub bytes_are : Begins bytes entry
+  pub size_is : length entry ≡ size
+  pub is : IsAce entry ace
+
 -- the entries stand at the front, one after the other
 unfoldable pub AreAces : List ℕ → List Ace → Type 0
 AreAces bytes [] = Unit {0}

@@ -10,7 +10,7 @@ mod reading;
 mod value;
 mod writing;
 
-pub use laws::written_is_read;
+pub use laws::{reading_is_exact, written_is_read};
 pub use layout::{
     AceHeader, AclHeader, Header, from_place, read_ace_header, read_acl_header, read_header,
 };
