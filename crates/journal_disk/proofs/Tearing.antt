@@ -8,7 +8,6 @@ use Rattle.journal_disk.specs.Calls.{call_of, past_of, past_onto}
 use Rattle.journal_disk.specs.Past.{Call, Opened, Read, Sized, Synced, Wrote, leaves, now_after, now_of}
 use Rattle.journal_disk.specs.Tears.{image_after, image_of, lost, open_after, open_writes, past_at, torn_by}
 use Rattle.journal_disk.specs.declared.calls.TakenCall.{TakenCall}
-use Rattle.journal_disk.specs.declared.calls.DiskFate.{DiskFate}
 use Rattle.journal_disk.specs.declared.calls.DiskFate.TheVariants.{Succeeds, Fails}
 use Rattle.journal_disk.specs.declared.images.Tear.{Tear}
 use Rattle.journal_disk.proofs.Putting.{torn_none, torn_piece}

@@ -1,8 +1,8 @@
 -- What a read of a disk gives, and the images that a crash may leave of it, now and since some moment.
-use Rattle.std.specs.Prelude.{ℕ, ◌≡◌, ◌⊎◌, ◌+◌, ◌≤◌, Bool, true, false, List, length, take, drop, Option, Some, None, Result, Ok, Err, IfSome, OnOk}
+use Rattle.std.specs.Prelude.{ℕ, ◌≡◌, ◌⊎◌, ◌≤◌, Bool, true, false, List, length, take, drop, Option, Some, None, Result, Err, IfSome, OnOk}
 use Rattle.journal_disk.specs.Files.{Files, TornFile, file, no_files, written}
 
-pub record Disked : Type 1 where
+pub record DiskState : Type 1 where
   -- what a read gives, if the object tells it
   pub seen : Option Files
   -- what a crash now may leave
@@ -13,7 +13,7 @@ pub record Disked : Type 1 where
   pub left_since : ℕ → Files → Type 0
 
 -- what a read gives is one of the images; this moment is one of those since an earlier one; and since this moment there is no other
-pub record IsDisk (d : Disked) : Type 0 where
+pub record IsDisk (d : DiskState) : Type 0 where
   pub seen : IfSome d.seen d.leaves
   pub counts_now : (t : ℕ) (c : Files) → t ≤ d.moment → d.leaves c → d.left_since t c
   pub only_now : (c : Files) → d.left_since d.moment c → d.leaves c
@@ -23,17 +23,17 @@ abbrev pub Only : Files → (Files → Type 0) → Type 0
 Only f leaves = (c : Files) → leaves c → c ≡ f
 
 -- a crash leaves what a read gives, if that is told
-abbrev pub IsSynced : Disked → Type 0
+abbrev pub IsSynced : DiskState → Type 0
 IsSynced d = IfSome d.seen (λ f. Only f d.leaves)
 
 -- time goes on: since a moment a crash might have left what it might have left before, or what it may leave now
-pub record Elapses (old new : Disked) : Type 0 where
+pub record Elapses (old new : DiskState) : Type 0 where
   pub later : old.moment ≤ new.moment
   pub nothing_else : (t : ℕ) (c : Files) → t ≤ old.moment → new.left_since t c → old.left_since t c ⊎ new.leaves c
   pub keeps : (t : ℕ) (c : Files) → t ≤ old.moment → old.left_since t c → new.left_since t c
 
 -- a call that writes nothing
-pub record Looks (old new : Disked) : Type 0 where
+pub record Looks (old new : DiskState) : Type 0 where
   pub time : Elapses old new
   pub seen : new.seen ≡ old.seen
   pub leaves : (c : Files) → new.leaves c → old.leaves c
@@ -51,14 +51,14 @@ HasWritten n at bytes None new = Unit {0}
 HasWritten n at bytes (Some old) new = new ≡ Some (written n at bytes old)
 
 -- a call that writes; until a sync a crash may leave any bytes in the range
-pub record Writes {E : Type 0} (n at : ℕ) (bytes : List ℕ) (old new : Disked) (result : Result (Unit {0}) E) : Type 0 where
+pub record Writes {E : Type 0} (n at : ℕ) (bytes : List ℕ) (old new : DiskState) (result : Result (Unit {0}) E) : Type 0 where
   pub time : Elapses old new
   pub told : IsToldAlike old.seen new.seen
   pub leaves : (c : Files) → new.leaves c → (d : Files) × old.leaves d × TornFile n at (length bytes) d c
   pub ok : OnOk result (HasWritten n at bytes old.seen new.seen)
 
 -- after a sync a crash leaves what a read gives
-pub record Syncs {E : Type 0} (old new : Disked) (result : Result (Unit {0}) E) : Type 0 where
+pub record Syncs {E : Type 0} (old new : DiskState) (result : Result (Unit {0}) E) : Type 0 where
   pub looks : Looks old new
   pub ok : OnOk result (IsSynced new)
 
@@ -79,7 +79,7 @@ abbrev pub IsEmptied : Option Files → Option Files → Type 0
 IsEmptied old (Some new) = new ≡ no_files
 IsEmptied old None = old ≡ None
 
-pub record Opens {E : Type 0} (path : Bool) (old new : Disked) (result : Result (Unit {0}) E) : Type 0 where
+pub record Opens {E : Type 0} (path : Bool) (old new : DiskState) (result : Result (Unit {0}) E) : Type 0 where
   pub time : Elapses old new
   pub told : IsToldAlike old.seen new.seen
   pub leaves : (c : Files) → new.leaves c → old.leaves c ⊎ ((path ≡ false) × (c ≡ no_files))
@@ -93,7 +93,7 @@ has_path None = false
 has_path (Some path) = true
 
 -- a disk that tells nothing, and of which nothing is claimed
-abbrev pub nothing_told : Disked
+abbrev pub nothing_told : DiskState
 nothing_told = record { seen = None; leaves = λ c. ⊥; moment = 0; left_since = λ t c. ⊥ }
 
 pub nothing_is_disk : IsDisk nothing_told

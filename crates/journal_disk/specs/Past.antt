@@ -2,7 +2,7 @@
 use Rattle.std.specs.Prelude.{ℕ, ◌≡◌, ◌⊎◌, ◌≤◌, Bool, true, false, List, [], ◌∷◌, length, take, Some}
 use Rattle.std.proofs.Common.{inl, inr, refl, arith}
 use Rattle.journal_disk.specs.Files.{Files, TornFile, no_files, written}
-use Rattle.journal_disk.specs.Images.{Disked, IsDisk}
+use Rattle.journal_disk.specs.Images.{DiskState, IsDisk}
 use Rattle.journal_disk.specs.declared.calls.DiskFate.{DiskFate}
 use Rattle.journal_disk.specs.declared.calls.DiskFate.TheVariants.{Succeeds, Fails}
 
@@ -46,8 +46,8 @@ abbrev pub left_since : Files → List Call → ℕ → Files → Type 0
 left_since first [] t c = (t ≤ 0) × (c ≡ first)
 left_since first (call ∷ past) t c = ((t ≤ length (call ∷ past)) × leaves first (call ∷ past) c) ⊎ left_since first past t c
 
-abbrev pub disked : Files → List Call → Disked
-disked first past = record {
+abbrev pub disk_state : Files → List Call → DiskState
+disk_state first past = record {
   seen = Some (now_of first past);
   leaves = leaves first past;
   moment = length past;
@@ -83,5 +83,5 @@ only_now first (call ∷ past) c (inr h) =
     let le = not_later first past (length (call ∷ past)) c h in
     absurd (omega arith)
 
-pub is_disk : (first : Files) (past : List Call) → IsDisk (disked first past)
+pub is_disk : (first : Files) (past : List Call) → IsDisk (disk_state first past)
 is_disk first past = record { seen = now_left first past; counts_now = counts_now first past; only_now = only_now first past }

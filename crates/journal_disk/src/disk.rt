@@ -1,6 +1,6 @@
 ghost use Rattle.std.specs.Prelude.{◌+◌, ◌≤◌, ◌^◌, ℕ, IfOk, OnOk, length};
 ghost use Rattle.outside.specs.Causes.{HasCause};
-ghost use Rattle.journal_disk.specs.Images.{Disked, HasSize, IsDisk, IsWithin, Looks, Opens, Reads, Syncs, Writes};
+ghost use Rattle.journal_disk.specs.Images.{DiskState, HasSize, IsDisk, IsWithin, Looks, Opens, Reads, Syncs, Writes};
 ghost use Rattle.journal_disk.specs.Images.{has_path};
 
 use outside::Failed;
@@ -9,7 +9,7 @@ use outside::Failed;
 /// raised the count of faults, and may be made again.
 pub trait Disk: Drop {
     /// What a read gives, and what a crash may leave, now and since a moment.
-    ghost state: { Self → Disked };
+    ghost state: { Self → DiskState };
 
     /// How often it failed.
     ghost faults: { Self → ℕ };

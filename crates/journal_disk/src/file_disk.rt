@@ -212,7 +212,7 @@ impl<R: Files<File = File> + Drop> Disk for FileDisk<R> {
             return Err(self.fail());
         }
         let done = match &mut self.place {
-            Place::Memory(files) => files.write(self.alloc, which, place, from).is_ok(),
+            Place::Memory(files) => files.write(which, place, from).is_ok(),
             Place::Path(files) => files.file(which).write(place, from).is_ok(),
         };
         if done { Ok(()) } else { Err(self.fail()) }

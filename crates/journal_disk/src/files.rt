@@ -70,20 +70,17 @@ impl DiskFiles {
         Ok(())
     }
 
-    /// Writes over the bytes of a file and past their end.
-    pub fn write(
-        &mut self,
-        alloc: Global,
-        which: u8,
-        place: u64,
-        from: &[u8],
-    ) -> Result<(), AllocError>
+    /// Writes over the bytes of a file and past their end; a place past their end counts as the end.
+    pub fn write(&mut self, which: u8, place: u64, from: &[u8]) -> Result<(), AllocError>
         ensures ok { OnOk result (self.new ≡ written which place from.now self.old) }
         ensures err { OnErr result (self.new ≡ self.old) }
     {
-        let made = changed(alloc, self.bytes(which), place as usize, from)?;
-        self.set(which, made);
-        Ok(())
+        let place = place as usize;
+        match which {
+            0 => write_over(&mut self.selector, place, from),
+            1 => write_over(&mut self.one, place, from),
+            _ => write_over(&mut self.two, place, from),
+        }
     }
 
     pub fn clear(&mut self)
@@ -93,6 +90,18 @@ impl DiskFiles {
         self.one.clear();
         self.two.clear();
     }
+}
+
+/// Writes over bytes and past their end; a place past their end counts as the end.
+fn write_over(bytes: &mut Vec<u8>, place: usize, from: &[u8]) -> Result<(), AllocError>
+    ensures ok { OnOk result (bytes.new.items ≡ put place from.now bytes.old.items) }
+    ensures err { OnErr result (bytes.new.items ≡ bytes.old.items) }
+{
+    let place = place.min(bytes.len());
+    let (over, past) = from.split_at(from.len().min(bytes.len() - place));
+    bytes.extend_from_slice(past)?;
+    bytes[place..place + over.len()].copy_from_slice(over);
+    Ok(())
 }
 
 /// Puts three pieces after some bytes.

@@ -76,7 +76,7 @@ fn tear_in(
         return Ok(());
     }
     let piece = torn(alloc, from, tear)?;
-    let done = image.write(alloc, which, place, &piece);
+    let done = image.write(which, place, &piece);
     drop(piece);
     done
 }
@@ -108,7 +108,7 @@ fn go_on(
 {
     match (&taken.call, taken.fate) {
         (DiskCall::Write { file, place, bytes }, fate) => {
-            held.write(alloc, *file, *place, reached(fate, bytes))?;
+            held.write(*file, *place, reached(fate, bytes))?;
             tear_in(alloc, image, *file, *place, bytes, tear)
         }
         (DiskCall::Sync, DiskFate::Succeeds) => image.copy_from(held),

@@ -4,7 +4,7 @@ ghost use Rattle.outside.specs.Fates.{later, one_more};
 ghost use Rattle.journal_disk.specs.Files.{Files, file, no_files};
 ghost use Rattle.journal_disk.specs.Images.{HasSize, IsWithin, Looks, Opens, Reads, Syncs, Writes, has_path};
 ghost use Rattle.journal_disk.specs.Calls.{IsTaken, call_of, next_fate, past_of, with_fate};
-ghost use Rattle.journal_disk.specs.Past.{Opened, Read, Sized, Synced, Wrote, disked, leaves, now_after, now_of};
+ghost use Rattle.journal_disk.specs.Past.{Opened, Read, Sized, Synced, Wrote, disk_state, leaves, now_after, now_of};
 ghost use Rattle.journal_disk.specs.Tears.{image_of, past_at};
 ghost use Rattle.journal_disk.specs.declared.calls.DiskFate.{DiskFate};
 
@@ -221,9 +221,9 @@ impl MemoryDisk {
 }
 
 impl Disk for MemoryDisk {
-    ghost use Rattle.journal_disk.specs.Past.{disked, is_disk};
+    ghost use Rattle.journal_disk.specs.Past.{disk_state, is_disk};
 
-    ghost state = { λ d. disked d.first d.past };
+    ghost state = { λ d. disk_state d.first d.past };
 
     ghost faults = { λ d. d.faults };
 
@@ -231,8 +231,8 @@ impl Disk for MemoryDisk {
 
     /// All paths are one: the files stand under each.
     fn open_at(&mut self, path: Option<&str>) -> Result<(), Failed>
-        ensures opens { Opens (has_path path.entry) (disked self.old.first self.old.past)
-            (disked self.new.first self.new.past) result }
+        ensures opens { Opens (has_path path.entry) (disk_state self.old.first self.old.past)
+            (disk_state self.new.first self.new.past) result }
         ensures cause { HasCause self.old.faults self.new.faults result }
         ensures taken { IsTaken (Opened (has_path path.entry)) self.old self.new (is_err result) }
     {
@@ -246,8 +246,8 @@ impl Disk for MemoryDisk {
         ensures size { IfOk result (λ size.
             size ≡ length (file (now_of self.old.first self.old.past) which)) }
         ensures bound { IfOk result (λ size. size ≤ 2 ^ 62) }
-        ensures looks { Looks (disked self.old.first self.old.past)
-            (disked self.new.first self.new.past) }
+        ensures looks { Looks (disk_state self.old.first self.old.past)
+            (disk_state self.new.first self.new.past) }
         ensures cause { HasCause self.old.faults self.new.faults result }
         ensures taken { length (file (now_of self.old.first self.old.past) which) ≤ 2 ^ 62 →
             IsTaken (Sized which) self.old self.new (is_err result) }
@@ -264,8 +264,8 @@ impl Disk for MemoryDisk {
         requires { place + length into.old ≤ length (file (now_of self.old.first self.old.past) which) }
         ensures bytes { IfOk result (λ _. into.new ≡ take (length into.new)
             (drop place (file (now_of self.old.first self.old.past) which))) }
-        ensures looks { Looks (disked self.old.first self.old.past)
-            (disked self.new.first self.new.past) }
+        ensures looks { Looks (disk_state self.old.first self.old.past)
+            (disk_state self.new.first self.new.past) }
         ensures cause { HasCause self.old.faults self.new.faults result }
         ensures taken { IsTaken (Read which place (length into.old))
             self.old self.new (is_err result) }
@@ -283,8 +283,8 @@ impl Disk for MemoryDisk {
 
     fn write_at(&mut self, which: u8, place: u64, from: &[u8]) -> Result<(), Failed>
         requires { place ≤ length (file (now_of self.old.first self.old.past) which) }
-        ensures writes { Writes which place from.now (disked self.old.first self.old.past)
-            (disked self.new.first self.new.past) result }
+        ensures writes { Writes which place from.now (disk_state self.old.first self.old.past)
+            (disk_state self.new.first self.new.past) result }
         ensures bound { OnOk result (place + length from.now ≤ 2 ^ 62) }
         ensures cause { HasCause self.old.faults self.new.faults result }
         ensures taken { IsTaken (Wrote which place from.now) self.old self.new (is_err result) }
@@ -304,8 +304,8 @@ impl Disk for MemoryDisk {
     }
 
     fn sync(&mut self) -> Result<(), Failed>
-        ensures syncs { Syncs (disked self.old.first self.old.past)
-            (disked self.new.first self.new.past) result }
+        ensures syncs { Syncs (disk_state self.old.first self.old.past)
+            (disk_state self.new.first self.new.past) result }
         ensures cause { HasCause self.old.faults self.new.faults result }
         ensures taken { IsTaken Synced self.old self.new (is_err result) }
     {

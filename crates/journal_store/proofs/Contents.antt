@@ -1,10 +1,10 @@
 -- Reading a content.
 use Rattle.std.proofs.Common.{◌≡◌, inl, ℕ, ◌+◌, arith, List, [], ◌++◌, drop, take, Some, None, refl, sym, ◌∙◌, ap}
 use Rattle.journal_disk.specs.Files.{Files, file}
-use Rattle.journal_disk.specs.Images.{Disked, IsToldAlike}
+use Rattle.journal_disk.specs.Images.{DiskState, IsToldAlike}
 use Rattle.journal_store.specs.Content.{content, log_content}
 use Rattle.journal_store.specs.Ends.{Fronts, IsRecord}
-use Rattle.journal_store.specs.Kept.{HasEither, IsReady, Leaves, Looked}
+use Rattle.journal_store.specs.Kept.{HasEitherContent, IsReady, Leaves, Looked}
 use Rattle.journal_store.proofs.Moments.{same_file, still_told, weaker}
 use Rattle.journal_store.proofs.Records.{fronts_content, fronts_more, whole_nothing}
 use Rattle.journal_store.proofs.Writing.{content_at}
@@ -27,23 +27,23 @@ gathered_all bytes place x so_far none = so_far.is ∙ sym (fronts_content bytes
 
 -- ## A store that is read
 
-pub ready_on : (b c : Disked) (log place : ℕ) → IsReady b log place → Looked b c → IsReady c log place
+pub ready_on : (b c : DiskState) (log place : ℕ) → IsReady b log place → Looked b c → IsReady c log place
 ready_on b c log place ready looked g at =
     let was = ready g (sym looked.seen ∙ at) in
     (was.0, λ e left. was.1 e (looked.moments.now e left))
 
-pub look_step : (b c : Disked) (log place : ℕ) → IsReady b log place → Looked b c → (g : Files) → b.seen ≡ Some g → Leaves (HasEither (content g) (content g)) b c
-look_step b c log place ready looked g at = weaker b c b.leaves (HasEither (content g) (content g)) looked.moments (λ e left. inl (ap content ((ready g at).1 e left)))
+pub look_step : (b c : DiskState) (log place : ℕ) → IsReady b log place → Looked b c → (g : Files) → b.seen ≡ Some g → Leaves (HasEitherContent (content g) (content g)) b c
+look_step b c log place ready looked g at = weaker b c b.leaves (HasEitherContent (content g) (content g)) looked.moments (λ e left. inl (ap content ((ready g at).1 e left)))
 
-pub same_looked : (b c : Disked) → Looked b c → (g h : Files) → b.seen ≡ Some g → c.seen ≡ Some h → content h ≡ content g
+pub same_looked : (b c : DiskState) → Looked b c → (g h : Files) → b.seen ≡ Some g → c.seen ≡ Some h → content h ≡ content g
 same_looked b c looked g h at now = ap content (sym (same_file c.seen g h (looked.seen ∙ at) now))
 
 -- the content of the log that is read
-pub read_is : (b : Disked) (log place : ℕ) (x : List ℕ) → IsReady b log place → (f : Files) → b.seen ≡ Some f → x ≡ log_content (file f log) → x ≡ content f
+pub read_is : (b : DiskState) (log place : ℕ) (x : List ℕ) → IsReady b log place → (f : Files) → b.seen ≡ Some f → x ≡ log_content (file f log) → x ≡ content f
 read_is b log place x ready f is e = e ∙ sym (content_at f log (ready f is).0.guarded.log_is)
 
 -- and of the store before it was opened again
-pub read_before : (a b : Disked) (x : List ℕ) → IsToldAlike a.seen b.seen → ((f g : Files) → a.seen ≡ Some f → b.seen ≡ Some g → content g ≡ content f) → ((g : Files) → b.seen ≡ Some g → x ≡ content g) → (f : Files) → a.seen ≡ Some f → x ≡ content f
+pub read_before : (a b : DiskState) (x : List ℕ) → IsToldAlike a.seen b.seen → ((f g : Files) → a.seen ≡ Some f → b.seen ≡ Some g → content g ≡ content f) → ((g : Files) → b.seen ≡ Some g → x ≡ content g) → (f : Files) → a.seen ≡ Some f → x ≡ content f
 read_before a b x alike same h f is =
     let mid = still_told a.seen b.seen f alike is in
     h mid.0 mid.1 ∙ same f mid.0 is mid.1

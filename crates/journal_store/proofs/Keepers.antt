@@ -6,9 +6,9 @@ use Rattle.std.proofs.lemmas.List.{append-nil}
 use Rattle.outside.specs.Written.{Writes}
 use Rattle.record_journal.specs.Keepers.{Cuts, IsUntold, Opens, has_path as keeper_path}
 use Rattle.journal_disk.specs.Files.{Files}
-use Rattle.journal_disk.specs.Images.{Disked, IsToldAlike, has_path}
+use Rattle.journal_disk.specs.Images.{DiskState, IsToldAlike, has_path}
 use Rattle.journal_store.specs.Content.{content, content_of}
-use Rattle.journal_store.specs.Kept.{IsSettled, Stood, opened}
+use Rattle.journal_store.specs.Kept.{IsSettled, CanLeave, opened}
 use Rattle.journal_store.specs.Compacting.{IsOnly, Replaces}
 
 -- what a read gives before and after a call that makes of a content another
@@ -68,9 +68,9 @@ pub if_content : (o : Option Files) (x : List ℕ) → ((f : Files) → o ≡ So
 if_content None x h = tt
 if_content (Some f) x h = h f refl
 
-pub only_settled : (d : Disked) → IsSettled d → IsOnly (content_of d.seen) (Stood d)
+pub only_settled : (d : DiskState) → IsSettled d → IsOnly (content_of d.seen) (CanLeave d)
 only_settled d settled = on d.seen refl
   where
-    on : (o : Option Files) → d.seen ≡ o → IsOnly (content_of o) (Stood d)
+    on : (o : Option Files) → d.seen ≡ o → IsOnly (content_of o) (CanLeave d)
     on None e = tt
     on (Some f) e = λ y stood. sym stood.2 ∙ settled f e stood.0 stood.1

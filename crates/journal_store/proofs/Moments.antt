@@ -3,7 +3,7 @@ use Rattle.std.proofs.Common.{◌≡◌, inl, inr, ⊎_elim, ℕ, List, Option, 
 use Rattle.std.proofs.Common.{Result, Ok, Err, length}
 use Rattle.std.specs.Prelude.{OnOk}
 use Rattle.journal_disk.specs.Files.{Files, TornFile, written}
-use Rattle.journal_disk.specs.Images.{Disked, Elapses, HasWritten, IsToldAlike, Looks, Writes}
+use Rattle.journal_disk.specs.Images.{DiskState, Elapses, HasWritten, IsToldAlike, Looks, Writes}
 use Rattle.journal_store.specs.Kept.{Leaves, Looked}
 
 pub told : {A : Type 0} (P : A → Type 0) (o : Option A) (f : A) → o ≡ Some f → IfSome o P → P f
@@ -14,11 +14,11 @@ if_told P None h = tt
 if_told P (Some f) h = h f refl
 
 -- before the first call
-pub started : (d : Disked) (P : Files → Type 0) → ((c : Files) → d.leaves c → P c) → Leaves P d d
+pub started : (d : DiskState) (P : Files → Type 0) → ((c : Files) → d.leaves c → P c) → Leaves P d d
 started d P here = record { later = omega arith; between = λ t c le left. inl left; now = here }
 
 -- one call more, after which each image has P
-pub goes_on : (a b c : Disked) (P : Files → Type 0) → Leaves P a b → Elapses b c → ((f : Files) → c.leaves f → P f) → Leaves P a c
+pub goes_on : (a b c : DiskState) (P : Files → Type 0) → Leaves P a b → Elapses b c → ((f : Files) → c.leaves f → P f) → Leaves P a c
 goes_on a b c P so_far time here = record {
   later = omega (arith, so_far.later, time.later);
   between = λ t f le left. ⊎_elim (so_far.between t f le) (λ now. inr (here f now)) (time.nothing_else t f (omega (arith, le, so_far.later)) left);
@@ -26,29 +26,29 @@ goes_on a b c P so_far time here = record {
 }
 
 -- another run more
-pub joins : (a b c : Disked) (P Q R : Files → Type 0) → Leaves P a b → Leaves Q b c → ((f : Files) → P f → R f) → ((f : Files) → Q f → R f) → Leaves R a c
+pub joins : (a b c : DiskState) (P Q R : Files → Type 0) → Leaves P a b → Leaves Q b c → ((f : Files) → P f → R f) → ((f : Files) → Q f → R f) → Leaves R a c
 joins a b c P Q R first second p q = record {
   later = omega (arith, first.later, second.later);
   between = λ t f le left. ⊎_elim (λ was. ⊎_elim inl (λ h. inr (p f h)) (first.between t f le was)) (λ h. inr (q f h)) (second.between t f (omega (arith, le, first.later)) left);
   now = λ f now. q f (second.now f now);
 }
 
-pub looked_none : (d : Disked) → Looked d d
+pub looked_none : (d : DiskState) → Looked d d
 looked_none d = record { moments = started d d.leaves (λ c now. now); seen = refl }
 
-pub looked_more : (a b c : Disked) → Looked a b → Looks b c → Looked a c
+pub looked_more : (a b c : DiskState) → Looked a b → Looks b c → Looked a c
 looked_more a b c so_far call = record {
   moments = goes_on a b c a.leaves so_far.moments call.time (λ f now. so_far.moments.now f (call.leaves f now));
   seen = call.seen ∙ so_far.seen;
 }
 
-pub looked_again : (a b c : Disked) → Looked a b → Looked b c → Looked a c
+pub looked_again : (a b c : DiskState) → Looked a b → Looked b c → Looked a c
 looked_again a b c first second = record {
   moments = joins a b c a.leaves b.leaves a.leaves first.moments second.moments (λ f now. now) (λ f now. first.moments.now f now);
   seen = second.seen ∙ first.seen;
 }
 
-pub weaker : (a b : Disked) (P Q : Files → Type 0) → Leaves P a b → ((f : Files) → P f → Q f) → Leaves Q a b
+pub weaker : (a b : DiskState) (P Q : Files → Type 0) → Leaves P a b → ((f : Files) → P f → Q f) → Leaves Q a b
 weaker a b P Q so_far h = record {
   later = so_far.later;
   between = λ t f le left. ⊎_elim inl (λ p. inr (h f p)) (so_far.between t f le left);
@@ -56,13 +56,13 @@ weaker a b P Q so_far h = record {
 }
 
 -- a write more, and what it tears has P
-pub wrote : {E : Type 0} (a b c : Disked) (P Q : Files → Type 0) (n at : ℕ) (bytes : List ℕ) (r : Result (Unit {0}) E) → Leaves P a b → Writes n at bytes b c r → ((f : Files) → P f → Q f)
+pub wrote : {E : Type 0} (a b c : DiskState) (P Q : Files → Type 0) (n at : ℕ) (bytes : List ℕ) (r : Result (Unit {0}) E) → Leaves P a b → Writes n at bytes b c r → ((f : Files) → P f → Q f)
     → ((d f : Files) → P d → TornFile n at (length bytes) d f → Q f) → Leaves Q a c
 wrote a b c P Q n at bytes r so_far call same torn =
     goes_on a b c Q (weaker a b P Q so_far same) call.time (λ f now. let from = call.leaves f now in torn from.0 f (so_far.now from.0 from.1) from.2)
 
 -- a call more that writes nothing
-pub stayed : (a b c : Disked) (P : Files → Type 0) → Leaves P a b → Looks b c → Leaves P a c
+pub stayed : (a b c : DiskState) (P : Files → Type 0) → Leaves P a b → Looks b c → Leaves P a c
 stayed a b c P so_far call = goes_on a b c P so_far call.time (λ f now. so_far.now f (call.leaves f now))
 
 -- ## What is told

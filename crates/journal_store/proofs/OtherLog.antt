@@ -3,7 +3,7 @@ use Rattle.std.proofs.Common.{◌≡◌, inl, inr, ℕ, zero, suc, ◌+◌, ◌-
 use Rattle.std.proofs.lemmas.List.{drop-drop, take_all, take-take, length-take-le}
 use Rattle.std.proofs.lemmas.Bool.{cases_lt}
 use Rattle.journal_disk.specs.Files.{Files, file, put, with_file, written}
-use Rattle.journal_disk.specs.Images.{Disked, HasSize, HasWritten, IsToldAlike, IsWithin, Looks, Writes}
+use Rattle.journal_disk.specs.Images.{DiskState, HasSize, HasWritten, IsToldAlike, IsWithin, Looks, Writes}
 use Rattle.journal_store.specs.Content.{log_content}
 use Rattle.journal_store.specs.Ends.{Fronts, IsRecord}
 use Rattle.journal_store.specs.Copies.{ButFor, HasPut, WritesOnly}
@@ -77,39 +77,39 @@ written_none n at f =
 
 -- ## What a read gives
 
-pub put_none : (n at : ℕ) (x : Files → List ℕ) (d : Disked) → ((f : Files) → x f ≡ []) → HasPut n at x d d
+pub put_none : (n at : ℕ) (x : Files → List ℕ) (d : DiskState) → ((f : Files) → x f ≡ []) → HasPut n at x d d
 put_none n at x d none f is = is ∙ ap (λ (g : Files). Some g) (sym (ap (λ (l : List ℕ). written n at l f) (none f) ∙ written_none n at f))
 
-pub put_more : (a b c : Disked) (n at k : ℕ) (x y z : Files → List ℕ) → HasPut n at x a b → HasPut n (at + k) y b c
+pub put_more : (a b c : DiskState) (n at k : ℕ) (x y z : Files → List ℕ) → HasPut n at x a b → HasPut n (at + k) y b c
     → ((f : Files) → a.seen ≡ Some f → length (x f) ≡ k) → ((f : Files) → a.seen ≡ Some f → at ≤ length (file f n))
     → ((f : Files) → a.seen ≡ Some f → z f ≡ x f ++ y (written n at (x f) f)) → HasPut n at z a c
 put_more a b c n at k x y z first second size within joined f is =
     second (written n at (x f) f) (first f is)
     ∙ ap (λ (g : Files). Some g) (written_two n at k (x f) (y (written n at (x f) f)) f (size f is) (within f is) ∙ ap (λ (l : List ℕ). written n at l f) (sym (joined f is)))
 
-pub put_once : (a b : Disked) (n at : ℕ) (x : List ℕ) → HasWritten n at x a.seen b.seen → HasPut n at (λ f. x) a b
+pub put_once : (a b : DiskState) (n at : ℕ) (x : List ℕ) → HasWritten n at x a.seen b.seen → HasPut n at (λ f. x) a b
 put_once a b n at x h f is = now_seen n at x a.seen b.seen f h is
 
-pub put_looked : (a b c : Disked) (n at : ℕ) (x : Files → List ℕ) → HasPut n at x a b → c.seen ≡ b.seen → HasPut n at x a c
+pub put_looked : (a b c : DiskState) (n at : ℕ) (x : Files → List ℕ) → HasPut n at x a b → c.seen ≡ b.seen → HasPut n at x a c
 put_looked a b c n at x h same f is = same ∙ h f is
 
 -- ## Images
 
-pub only_none : (n : ℕ) (d : Disked) → WritesOnly n d d
+pub only_none : (n : ℕ) (d : DiskState) → WritesOnly n d d
 only_none n d = started d (ButFor n d) (λ c now. (c, now, file c n, sym (with_same c n)))
 
-pub only_more : (n : ℕ) (a b c : Disked) → WritesOnly n a b → WritesOnly n b c → WritesOnly n a c
+pub only_more : (n : ℕ) (a b c : DiskState) → WritesOnly n a b → WritesOnly n b c → WritesOnly n a c
 only_more n a b c first second =
     joins a b c (ButFor n a) (ButFor n b) (ButFor n a) first second (λ f p. p)
     (λ f p. let was = first.now p.0 p.1 in (was.0, was.1, p.2, p.3 ∙ ap (λ (g : Files). with_file g n p.2) was.3 ∙ with_with was.0 n was.2 p.2))
 
-pub only_looks : (n : ℕ) (a b : Disked) → Looks a b → WritesOnly n a b
+pub only_looks : (n : ℕ) (a b : DiskState) → Looks a b → WritesOnly n a b
 only_looks n a b call = stayed a a b (ButFor n a) (only_none n a) call
 
-pub only_looked : (n : ℕ) (a b : Disked) → Looked a b → WritesOnly n a b
+pub only_looked : (n : ℕ) (a b : DiskState) → Looked a b → WritesOnly n a b
 only_looked n a b call = weaker a b a.leaves (ButFor n a) call.moments (λ c now. (c, now, file c n, sym (with_same c n)))
 
-pub only_writes : {E : Type 0} (n at : ℕ) (bytes : List ℕ) (a b : Disked) (r : Result (Unit {0}) E) → Writes n at bytes a b r → WritesOnly n a b
+pub only_writes : {E : Type 0} (n at : ℕ) (bytes : List ℕ) (a b : DiskState) (r : Result (Unit {0}) E) → Writes n at bytes a b r → WritesOnly n a b
 only_writes n at bytes a b r call =
     goes_on a a b (ButFor n a) (only_none n a) call.time (λ c now. let from = call.leaves c now in (from.0, from.1, from.2.bytes, from.2.is))
 
@@ -143,18 +143,18 @@ take_more_of most n done x l e =
 
 -- ## Copying
 
-pub log_stays : (a b : Disked) (m n at : ℕ) (x : Files → List ℕ) → m ≤ 2 → n ≤ 2 → (m ≡ n → ⊥) → HasPut n at x a b → (f g : Files) → a.seen ≡ Some f → b.seen ≡ Some g → file g m ≡ file f m
+pub log_stays : (a b : DiskState) (m n at : ℕ) (x : Files → List ℕ) → m ≤ 2 → n ≤ 2 → (m ≡ n → ⊥) → HasPut n at x a b → (f g : Files) → a.seen ≡ Some f → b.seen ≡ Some g → file g m ≡ file f m
 log_stays a b m n at x m2 n2 other h f g is now =
     ap (λ (e : Files). file e m) (same_file b.seen g _ now (h f is)) ∙ apart f m n (put at (x f) (file f n)) m2 n2 other
 
-pub within_apart : (a b : Disked) (m n at end : ℕ) (x : Files → List ℕ) → m ≤ 2 → n ≤ 2 → (m ≡ n → ⊥) → IsToldAlike a.seen b.seen → HasPut n at x a b → IsWithin m end a.seen → IsWithin m end b.seen
+pub within_apart : (a b : DiskState) (m n at end : ℕ) (x : Files → List ℕ) → m ≤ 2 → n ≤ 2 → (m ≡ n → ⊥) → IsToldAlike a.seen b.seen → HasPut n at x a b → IsWithin m end a.seen → IsWithin m end b.seen
 within_apart a b m n at end x m2 n2 other alike h within = if_told (λ g. end ≤ length (file g m)) b.seen (λ g now.
     let was = was_told a.seen b.seen g alike now in
     let long : end ≤ length (file was.0 m) = told (λ f. end ≤ length (file f m)) a.seen was.0 was.1 within in
     let same : length (file g m) ≡ length (file was.0 m) = ap length (log_stays a b m n at x m2 n2 other h was.0 g was.1 now) in
     omega (arith, long, same))
 
-pub within_put : (a b : Disked) (n at k : ℕ) (x : Files → List ℕ) → IsToldAlike a.seen b.seen → HasPut n at x a b → IsWithin n at a.seen → ((f : Files) → a.seen ≡ Some f → length (x f) ≡ k) → IsWithin n (at + k) b.seen
+pub within_put : (a b : DiskState) (n at k : ℕ) (x : Files → List ℕ) → IsToldAlike a.seen b.seen → HasPut n at x a b → IsWithin n at a.seen → ((f : Files) → a.seen ≡ Some f → length (x f) ≡ k) → IsWithin n (at + k) b.seen
 within_put a b n at k x alike h within size = if_told (λ g. at + k ≤ length (file g n)) b.seen (λ g now.
     let was = was_told a.seen b.seen g alike now in
     let from : at ≤ length (file was.0 n) = told (λ f. at ≤ length (file f n)) a.seen was.0 was.1 within in
@@ -163,12 +163,12 @@ within_put a b n at k x alike h within size = if_told (λ g. at + k ≤ length (
     omega (arith, long, same, size was.0 was.1))
 
 -- so many bytes from a place on
-pub range_size : (a : Disked) (m place count done : ℕ) → IsWithin m (place + count) a.seen → done ≤ count → (f : Files) → a.seen ≡ Some f → length (take done (drop place (file f m))) ≡ done
+pub range_size : (a : DiskState) (m place count done : ℕ) → IsWithin m (place + count) a.seen → done ≤ count → (f : Files) → a.seen ≡ Some f → length (take done (drop place (file f m))) ≡ done
 range_size a m place count done within le f is =
     let long : place + count ≤ length (file f m) = told (λ f. place + count ≤ length (file f m)) a.seen f is within in
     length-take-le done (drop place (file f m)) (omega (arith, long, length-drop place (file f m)))
 
-pub copied_more : (a b c : Disked) (m n place at count done next : ℕ) → m ≤ 2 → n ≤ 2 → (m ≡ n → ⊥) → IsWithin m (place + count) a.seen → IsWithin n at a.seen → done ≤ count
+pub copied_more : (a b c : DiskState) (m n place at count done next : ℕ) → m ≤ 2 → n ≤ 2 → (m ≡ n → ⊥) → IsWithin m (place + count) a.seen → IsWithin n at a.seen → done ≤ count
     → HasPut n at (λ f. take done (drop place (file f m))) a b → HasPut n (at + done) (λ f. take next (drop (place + done) (file f m))) b c → HasPut n at (λ f. take (done + next) (drop place (file f m))) a c
 copied_more a b c m n place at count done next m2 n2 other source target le first second =
     put_more a b c n at done (λ f. take done (drop place (file f m))) (λ f. take next (drop (place + done) (file f m))) (λ f. take (done + next) (drop place (file f m))) first second
@@ -191,7 +191,7 @@ front_none : (n : ℕ) → [] ≡ take {A = ℕ} n []
 front_none zero = refl
 front_none (suc n) = refl
 
-pub copied_none : (log to most : ℕ) (f : Files) (d : Disked) → d.seen ≡ Some f → Copied log to most 0 0 f d.seen
+pub copied_none : (log to most : ℕ) (f : Files) (d : DiskState) → d.seen ≡ Some f → Copied log to most 0 0 f d.seen
 copied_none log to most f d is = record {
   fronts = record { within = omega arith; x = []; whole = whole_nothing; following = inl (refl, refl) };
   seen = put_none to 9 (λ g. take most []) d (λ g. sym (front_none most)) f is;
@@ -214,7 +214,7 @@ module _ (log to most place done : ℕ) (f : Files) (now : Option Files) (c : Co
       let same : length (file g to) ≡ length (put 9 x (file f to)) = ap length (ap (λ (e : Files). file e to) (same_file now g _ at c.seen) ∙ file_with f to (put 9 x (file f to))) in
       omega (arith, long, same, c.done_is)
 
-  pub front_on : (b d : Disked) (found count : ℕ) → count ≡ min found (most - done) → b.seen ≡ now → 9 ≤ length (file f to) → IfSome now (λ g. IsRecord (drop place (file g log)) (Some found))
+  pub front_on : (b d : DiskState) (found count : ℕ) → count ≡ min found (most - done) → b.seen ≡ now → 9 ≤ length (file f to) → IfSome now (λ g. IsRecord (drop place (file g log)) (Some found))
       → HasPut to (9 + done) (λ g. take count (drop (place + 9) (file g log))) b d → Copied log to most (place + (9 + found)) (done + count) f d.seen
   front_on b d found count count_is same within record_is put_on =
       let is = here_is (Some found) record_is in
@@ -244,13 +244,13 @@ module _ (log to most place done : ℕ) (f : Files) (now : Option Files) (c : Co
 
 -- ## What the copying asks of the disk
 
-module _ (a b : Disked) (log to most place done : ℕ) (copied : (f : Files) → a.seen ≡ Some f → Copied log to most place done f b.seen) (alike : IsToldAlike a.seen b.seen) (log2 : log ≤ 2) (to2 : to ≤ 2) (other : log ≡ to → ⊥) where
+module _ (a b : DiskState) (log to most place done : ℕ) (copied : (f : Files) → a.seen ≡ Some f → Copied log to most place done f b.seen) (alike : IsToldAlike a.seen b.seen) (log2 : log ≤ 2) (to2 : to ≤ 2) (other : log ≡ to → ⊥) where
   pub size_on : (size : ℕ) → HasSize log size a.seen → HasSize log size b.seen
   size_on size is_size = if_told (λ g. size ≡ length (file g log)) b.seen (λ g at.
       let was = was_told a.seen b.seen g alike at in
       told (λ f. size ≡ length (file f log)) a.seen was.0 was.1 is_size ∙ ap length (sym (log_now log to most place done was.0 b.seen (copied was.0 was.1) log2 to2 other g at)))
 
-  pub target_on : (d : Disked) → d.seen ≡ b.seen → IsWithin to 9 a.seen → IsWithin to (9 + done) d.seen
+  pub target_on : (d : DiskState) → d.seen ≡ b.seen → IsWithin to 9 a.seen → IsWithin to (9 + done) d.seen
   target_on d same within = if_told (λ g. 9 + done ≤ length (file g to)) d.seen (λ g at.
       let now = sym same ∙ at in
       let was = was_told a.seen b.seen g alike now in

@@ -4,11 +4,11 @@ use Rattle.std.proofs.lemmas.List.{take_at, drop_at, length-take-le}
 use Rattle.std.proofs.lemmas.Nat.{from_le_bytes-to_le_bytes_8}
 use Rattle.std.specs.Int.{w64, from_le_bytes}
 use Rattle.journal_disk.specs.Files.{Files, file, put, with_file, written}
-use Rattle.journal_disk.specs.Images.{Disked, HasWritten, IsDisk, IsSynced, IsToldAlike, IsWithin, Only}
+use Rattle.journal_disk.specs.Images.{DiskState, HasWritten, IsDisk, IsSynced, IsToldAlike, IsWithin, Only}
 use Rattle.journal_store.specs.Content.{content, is_open, log_content, number, selected}
 use Rattle.journal_store.specs.Ends.{Guarded, IsShut, Whole}
 use Rattle.journal_store.specs.Copies.{ButFor, HasPut, IsSealed, IsUnread, OneRecord, WritesOnly, blank_head}
-use Rattle.journal_store.specs.Kept.{HasEither, IsEitherLog, IsOldOr, IsReady, Leaves, Stood}
+use Rattle.journal_store.specs.Kept.{HasEitherContent, IsEitherLog, IsOldOr, IsReady, Leaves, CanLeave}
 use Rattle.journal_store.proofs.Moments.{if_told, joins, now_seen, same_file, still_told, told, was_told, weaker}
 use Rattle.journal_store.proofs.Records.{shut_none, whole_ends, whole_more, whole_nothing}
 use Rattle.journal_store.proofs.Switching.{other_first, other_second}
@@ -53,13 +53,13 @@ headed n (g ∷ t) opened long = record {
 pub body_size : (n : ℕ) (l : List ℕ) → 9 + n ≤ length l → length (take n (drop 9 l)) ≡ n
 body_size n l long = length-take-le n (drop 9 l) (omega (arith, length-drop 9 l))
 
-pub size_body : (a : Disked) (to count : ℕ) → IsWithin to (9 + count) a.seen → (f : Files) → a.seen ≡ Some f → length (take count (drop 9 (file f to))) ≡ count
+pub size_body : (a : DiskState) (to count : ℕ) → IsWithin to (9 + count) a.seen → (f : Files) → a.seen ≡ Some f → length (take count (drop 9 (file f to))) ≡ count
 size_body a to count within f is = body_size count (file f to) (told (λ g. 9 + count ≤ length (file g to)) a.seen f is within)
 
-pub short_body : (a : Disked) (to count : ℕ) → IsWithin to (9 + count) a.seen → 9 + count ≤ 2 ^ 62 → (f : Files) → a.seen ≡ Some f → length (take count (drop 9 (file f to))) < 2 ^ 64
+pub short_body : (a : DiskState) (to count : ℕ) → IsWithin to (9 + count) a.seen → 9 + count ≤ 2 ^ 62 → (f : Files) → a.seen ≡ Some f → length (take count (drop 9 (file f to))) < 2 ^ 64
 short_body a to count within bound f is = let size = size_body a to count within f is in omega (arith, size, bound)
 
-pub sealed : (a b c d : Disked) (to count : ℕ) → IsWithin to (9 + count) a.seen → IfSome a.seen (λ f. is_open (file f to) ≡ true) → HasWritten to (9 + count) (0 ∷ []) a.seen b.seen
+pub sealed : (a b c d : DiskState) (to count : ℕ) → IsWithin to (9 + count) a.seen → IfSome a.seen (λ f. is_open (file f to) ≡ true) → HasWritten to (9 + count) (0 ∷ []) a.seen b.seen
     → HasWritten to 1 (number count) b.seen c.seen → d.seen ≡ c.seen → IsSealed to (λ f. take count (drop 9 (file f to))) a d
 sealed a b c d to count within gate first second same f is =
     let log = file f to in
@@ -161,13 +161,13 @@ either_is f c to bytes y (inr e) never is h =
 
 -- ## Showing a log
 
-module _ (a b : Disked) (to : ℕ) (x : Files → List ℕ) (to_is : (to ≡ 1) ⊎ (to ≡ 2)) (unread : IsUnread to a) (only : WritesOnly to a b) where
+module _ (a b : DiskState) (to : ℕ) (x : Files → List ℕ) (to_is : (to ≡ 1) ⊎ (to ≡ 2)) (unread : IsUnread to a) (only : WritesOnly to a b) where
   pub left_moments : (f : Files) → a.seen ≡ Some f → Leaves (IsOldOr a (x f)) a b
   left_moments f is =
       weaker a b (ButFor to a) (IsOldOr a (x f)) only (λ c p. inl (p.0, p.1, sym (ap content p.3 ∙ but_for p.0 to p.2 to_is (unread f p.0 is p.1))))
 
   module _ (disk : IsDisk a) (is_sealed : IsSealed to x a b) (short : (f : Files) → a.seen ≡ Some f → length (x f) < 2 ^ 64) where
-    pub shown_moments : (c : Disked) → ((g : Files) → b.seen ≡ Some g → Leaves (IsEitherLog g) b c) → (f : Files) → a.seen ≡ Some f → Leaves (IsOldOr a (x f)) a c
+    pub shown_moments : (c : DiskState) → ((g : Files) → b.seen ≡ Some g → Leaves (IsEitherLog g) b c) → (f : Files) → a.seen ≡ Some f → Leaves (IsOldOr a (x f)) a c
     shown_moments c switched f is =
         let s = is_sealed f is in
         let here : a.leaves f = told a.leaves a.seen f is disk.seen in
@@ -175,17 +175,17 @@ module _ (a b : Disked) (to : ℕ) (x : Files → List ℕ) (to_is : (to ≡ 1) 
         (λ e p. ⊎_elim (λ (h : content e ≡ content f). inl (f, here, sym h)) (λ (h : content e ≡ x f). inr h)
         (either_is f e to s.0 (x f) to_is (unread f f is here) (one_content (x f) s.0 s.2 (short f is)) p))
 
-    after_is : (c : Disked) → HasWritten 0 0 ((to - 1) ∷ []) b.seen c.seen → (f g : Files) (is : a.seen ≡ Some f) → c.seen ≡ Some g → after f to (x f) (is_sealed f is).0 to_is (is_sealed f is).2 (short f is) ≡ g
+    after_is : (c : DiskState) → HasWritten 0 0 ((to - 1) ∷ []) b.seen c.seen → (f g : Files) (is : a.seen ≡ Some f) → c.seen ≡ Some g → after f to (x f) (is_sealed f is).0 to_is (is_sealed f is).2 (short f is) ≡ g
     after_is c switched f g is at =
         let s = is_sealed f is in
         same_file c.seen _ g (now_seen 0 0 ((to - 1) ∷ []) b.seen c.seen (with_file f to s.0) switched s.1) at
 
-    pub shown_made : (c : Disked) → HasWritten 0 0 ((to - 1) ∷ []) b.seen c.seen → (f g : Files) → a.seen ≡ Some f → c.seen ≡ Some g → content g ≡ x f
+    pub shown_made : (c : DiskState) → HasWritten 0 0 ((to - 1) ∷ []) b.seen c.seen → (f g : Files) → a.seen ≡ Some f → c.seen ≡ Some g → content g ≡ x f
     shown_made c switched f g is at =
         let s = is_sealed f is in
         ap content (sym (after_is c switched f g is at)) ∙ after_content f to (x f) s.0 to_is s.2 (short f is)
 
-    pub shown_ready : (c : Disked) (count : ℕ) → ((f : Files) → a.seen ≡ Some f → length (x f) ≡ count) → HasWritten 0 0 ((to - 1) ∷ []) b.seen c.seen → IsSynced c → IsToldAlike a.seen b.seen → IsToldAlike b.seen c.seen
+    pub shown_ready : (c : DiskState) (count : ℕ) → ((f : Files) → a.seen ≡ Some f → length (x f) ≡ count) → HasWritten 0 0 ((to - 1) ∷ []) b.seen c.seen → IsSynced c → IsToldAlike a.seen b.seen → IsToldAlike b.seen c.seen
         → IsReady c to (9 + count)
     shown_ready c count size switched synced first second g at =
         let mid = was_told b.seen c.seen g second at in
@@ -216,7 +216,7 @@ is_filled f to x =
       body = ap (λ (l : List ℕ). take (length x) (drop 9 l)) is ∙ take_at x rest (length x) refl;
     }
 
-module _ (a d : Disked) (log place to : ℕ) (x : Files → List ℕ) (ready : IsReady a log place) (other : log ≡ to → ⊥) (to_is : (to ≡ 1) ⊎ (to ≡ 2)) (only : WritesOnly to a d) where
+module _ (a d : DiskState) (log place to : ℕ) (x : Files → List ℕ) (ready : IsReady a log place) (other : log ≡ to → ⊥) (to_is : (to ≡ 1) ⊎ (to ≡ 2)) (only : WritesOnly to a d) where
   but_content : (f c : Files) → a.seen ≡ Some f → ButFor to a c → content c ≡ content f
   but_content f c is p =
       let s = ready f is in
@@ -224,8 +224,8 @@ module _ (a d : Disked) (log place to : ℕ) (x : Files → List ℕ) (ready : I
       ap content p.3 ∙ ap (λ (e : Files). content (with_file e to p.2)) same ∙ but_for f to p.2 to_is (λ h. other (sym s.0.guarded.log_is ∙ h))
 
   -- before the other log is read
-  pub copied_moments : (f : Files) → a.seen ≡ Some f → Leaves (HasEither (content f) (x f)) a d
-  copied_moments f is = weaker a d (ButFor to a) (HasEither (content f) (x f)) only (λ c p. inl (but_content f c is p))
+  pub copied_moments : (f : Files) → a.seen ≡ Some f → Leaves (HasEitherContent (content f) (x f)) a d
+  copied_moments f is = weaker a d (ButFor to a) (HasEitherContent (content f) (x f)) only (λ c p. inl (but_content f c is p))
 
   module _ (alike : IsToldAlike a.seen d.seen) where
     pub unread : IsUnread to d
@@ -257,23 +257,23 @@ module _ (a d : Disked) (log place to : ℕ) (x : Files → List ℕ) (ready : I
       body_is : (f g : Files) → a.seen ≡ Some f → d.seen ≡ Some g → take count (drop 9 (file g to)) ≡ x f
       body_is f g is at = ap (λ (n : ℕ). take n (drop 9 (file g to))) (size f is) ∙ (filled f g is at).body
 
-      pub replaced_made : (e : Disked) → ((g h : Files) → d.seen ≡ Some g → e.seen ≡ Some h → content h ≡ take count (drop 9 (file g to))) → (f h : Files) → a.seen ≡ Some f → e.seen ≡ Some h → content h ≡ x f
+      pub replaced_made : (e : DiskState) → ((g h : Files) → d.seen ≡ Some g → e.seen ≡ Some h → content h ≡ take count (drop 9 (file g to))) → (f h : Files) → a.seen ≡ Some f → e.seen ≡ Some h → content h ≡ x f
       replaced_made e made f h is at =
           let mid = still_told a.seen d.seen f alike is in
           made mid.0 h mid.1 at ∙ body_is f mid.0 is mid.1
 
-      pub replaced_moments : (e : Disked) → ((g : Files) → d.seen ≡ Some g → Leaves (IsOldOr d (take count (drop 9 (file g to)))) d e) → (f : Files) → a.seen ≡ Some f → Leaves (HasEither (content f) (x f)) a e
+      pub replaced_moments : (e : DiskState) → ((g : Files) → d.seen ≡ Some g → Leaves (IsOldOr d (take count (drop 9 (file g to)))) d e) → (f : Files) → a.seen ≡ Some f → Leaves (HasEitherContent (content f) (x f)) a e
       replaced_moments e shown f is =
           let mid = still_told a.seen d.seen f alike is in
-          joins a d e (HasEither (content f) (x f)) (IsOldOr d (take count (drop 9 (file mid.0 to)))) (HasEither (content f) (x f)) (copied_moments f is) (shown mid.0 mid.1) (λ c p. p)
-          (λ c p. ⊎_elim (λ (h : Stood d (content c)). inl (sym h.2 ∙ but_content f h.0 is (only.now h.0 h.1))) (λ (h : content c ≡ take count (drop 9 (file mid.0 to))). inr (h ∙ body_is f mid.0 is mid.1)) p)
+          joins a d e (HasEitherContent (content f) (x f)) (IsOldOr d (take count (drop 9 (file mid.0 to)))) (HasEitherContent (content f) (x f)) (copied_moments f is) (shown mid.0 mid.1) (λ c p. p)
+          (λ c p. ⊎_elim (λ (h : CanLeave d (content c)). inl (sym h.2 ∙ but_content f h.0 is (only.now h.0 h.1))) (λ (h : content c ≡ take count (drop 9 (file mid.0 to))). inr (h ∙ body_is f mid.0 is mid.1)) p)
 
 pub log_le : (to : ℕ) → (to ≡ 1) ⊎ (to ≡ 2) → to ≤ 2
 log_le to (inl e) = omega (arith, e)
 log_le to (inr e) = omega (arith, e)
 
 -- up to the copying: the head was written, and the size was asked
-module _ (a b s : Disked) (log place to most : ℕ) (ready : IsReady a log place) (log2 : log ≤ 2) (to_is : (to ≡ 1) ⊎ (to ≡ 2)) (other : log ≡ to → ⊥) (head : HasWritten to 0 blank_head a.seen b.seen) (same : s.seen ≡ b.seen) where
+module _ (a b s : DiskState) (log place to most : ℕ) (ready : IsReady a log place) (log2 : log ≤ 2) (to_is : (to ≡ 1) ⊎ (to ≡ 2)) (other : log ≡ to → ⊥) (head : HasWritten to 0 blank_head a.seen b.seen) (same : s.seen ≡ b.seen) where
   head_put : HasPut to 0 (λ f. blank_head) a s
   head_put = put_looked a b s to 0 (λ f. blank_head) (put_once a b to 0 blank_head head) same
 
@@ -284,7 +284,7 @@ module _ (a b s : Disked) (log place to most : ℕ) (ready : IsReady a log place
   front_is f is =
       ap log_content (apart f log to (put 0 blank_head (file f to)) log2 (log_le to to_is) other) ∙ sym (content_at f log (ready f is).0.guarded.log_is)
 
-  pub cut_put : (d : Disked) → HasPut to 9 (λ f. take most (log_content (file f log))) s d → HasPut to 0 (λ f. blank_head ++ take most (content f)) a d
+  pub cut_put : (d : DiskState) → HasPut to 9 (λ f. take most (log_content (file f log))) s d → HasPut to 0 (λ f. blank_head ++ take most (content f)) a d
   cut_put d copied =
       put_more a s d to 0 9 (λ f. blank_head) (λ f. take most (log_content (file f log))) (λ f. blank_head ++ take most (content f)) head_put copied (λ f is. refl) (λ f is. omega arith)
       (λ f is. ap (λ (l : List ℕ). blank_head ++ take most l) (sym (front_is f is)))
@@ -293,6 +293,6 @@ module _ (a b s : Disked) (log place to most : ℕ) (ready : IsReady a log place
   cut_count count h f is = h (written to 0 blank_head f) (head_put f is) ∙ ap (λ (l : List ℕ). length (take most l)) (front_is f is)
 
 -- a replacement's bytes after the head
-pub replace_put : (a b d : Disked) (to : ℕ) (bytes : List ℕ) → HasWritten to 0 blank_head a.seen b.seen → HasWritten to 9 bytes b.seen d.seen → HasPut to 0 (λ f. blank_head ++ bytes) a d
+pub replace_put : (a b d : DiskState) (to : ℕ) (bytes : List ℕ) → HasWritten to 0 blank_head a.seen b.seen → HasWritten to 9 bytes b.seen d.seen → HasPut to 0 (λ f. blank_head ++ bytes) a d
 replace_put a b d to bytes head body =
     put_more a b d to 0 9 (λ f. blank_head) (λ f. bytes) (λ f. blank_head ++ bytes) (put_once a b to 0 blank_head head) (put_once b d to 9 bytes body) (λ f is. refl) (λ f is. omega arith) (λ f is. refl)

@@ -1,26 +1,26 @@
 -- What the calls of a store do, from what their parts do.
 use Rattle.std.proofs.Common.{◌≡◌, ◌⊎◌, inl, inr, ⊎_elim, ℕ, Bool, true, false, List, [], Option, Some, None, Result, Ok, Err, refl, sym, ◌∙◌, ap}
 use Rattle.journal_disk.specs.Files.{Files, no_files}
-use Rattle.journal_disk.specs.Images.{Disked, IsDisk, IsEmptied, IsToldAlike, Opens}
+use Rattle.journal_disk.specs.Images.{DiskState, IsDisk, IsEmptied, IsToldAlike, Opens}
 use Rattle.journal_store.specs.Content.{content}
-use Rattle.journal_store.specs.Kept.{AtEachMoment, Changes, HasEither, IsOldOr, IsSettled, Leaves, Stood, opened}
+use Rattle.journal_store.specs.Kept.{AtEachMoment, Changes, HasEitherContent, IsOldOr, IsSettled, Leaves, CanLeave, opened}
 use Rattle.journal_store.proofs.Moments.{alike_more, goes_on, joins, started, still_told, told, weaker}
 
 -- ## After the files were opened again
 
-module _ (a b : Disked) (alike : IsToldAlike a.seen b.seen) (moments : (f : Files) → a.seen ≡ Some f → Leaves (λ c. Stood a (content c)) a b)
+module _ (a b : DiskState) (alike : IsToldAlike a.seen b.seen) (moments : (f : Files) → a.seen ≡ Some f → Leaves (λ c. CanLeave a (content c)) a b)
     (same : (f g : Files) → a.seen ≡ Some f → b.seen ≡ Some g → content g ≡ content f) (made : List ℕ → List ℕ) where
   pub not_opened : {E : Type 0} (d : E) → Changes made a b (Err d)
   not_opened d = record {
-    any_moment = λ f is. weaker a b (λ c. Stood a (content c)) (IsOldOr a (made (content f))) (moments f is) (λ c p. inl p);
+    any_moment = λ f is. weaker a b (λ c. CanLeave a (content c)) (IsOldOr a (made (content f))) (moments f is) (λ c p. inl p);
     either = λ f g is at. inl (same f g is at);
     done = tt;
     settled = tt;
     told = alike;
   }
 
-  module _ (disk : IsDisk b) (c : Disked) (disk_now : IsDisk c) (alike_now : IsToldAlike b.seen c.seen)
-      (step : (g : Files) → b.seen ≡ Some g → Leaves (HasEither (content g) (made (content g))) b c) where
+  module _ (disk : IsDisk b) (c : DiskState) (disk_now : IsDisk c) (alike_now : IsToldAlike b.seen c.seen)
+      (step : (g : Files) → b.seen ≡ Some g → Leaves (HasEitherContent (content g) (made (content g))) b c) where
     either_now : (f h : Files) → a.seen ≡ Some f → c.seen ≡ Some h → (content h ≡ content f) ⊎ (content h ≡ made (content f))
     either_now f h is at =
         let mid = still_told a.seen b.seen f alike is in
@@ -32,8 +32,8 @@ module _ (a b : Disked) (alike : IsToldAlike a.seen b.seen) (moments : (f : File
     at_each f is =
         let mid = still_told a.seen b.seen f alike is in
         let eq = same f mid.0 is mid.1 in
-        let stood : Stood a (content mid.0) = (moments f is).now mid.0 (told b.leaves b.seen mid.0 mid.1 disk.seen) in
-        joins a b c (λ c. Stood a (content c)) (HasEither (content mid.0) (made (content mid.0))) (IsOldOr a (made (content f))) (moments f is) (step mid.0 mid.1) (λ e p. inl p)
+        let stood : CanLeave a (content mid.0) = (moments f is).now mid.0 (told b.leaves b.seen mid.0 mid.1 disk.seen) in
+        joins a b c (λ c. CanLeave a (content c)) (HasEitherContent (content mid.0) (made (content mid.0))) (IsOldOr a (made (content f))) (moments f is) (step mid.0 mid.1) (λ e p. inl p)
         (λ e p. ⊎_elim (λ (h : content e ≡ content mid.0). inl (stood.0, stood.1, stood.2 ∙ sym h)) (λ (h : content e ≡ made (content mid.0)). inr (h ∙ ap made eq)) p)
 
     pub not_changed : {E : Type 0} (d : E) → Changes made a c (Err d)
@@ -62,7 +62,7 @@ opened_none path x e = ap (λ (p : Bool). opened p x) e
 opened_path : (path : Bool) (x : List ℕ) → path ≡ true → opened path x ≡ x
 opened_path path x e = ap (λ (p : Bool). opened p x) e
 
-module _ {E : Type 0} (path : Bool) (a b : Disked) (r : Result (Unit {0}) E) (opens : Opens path a b r) where
+module _ {E : Type 0} (path : Bool) (a b : DiskState) (r : Result (Unit {0}) E) (opens : Opens path a b r) where
   -- an image is one of before, or has no bytes
   left : (f c : Files) → b.leaves c → IsOldOr a (opened path (content f)) c
   left f c now =
@@ -72,10 +72,10 @@ module _ {E : Type 0} (path : Bool) (a b : Disked) (r : Result (Unit {0}) E) (op
   pub opening_moments : AtEachMoment a b (opened path)
   opening_moments f is = goes_on a a b (IsOldOr a (opened path (content f))) (started a (IsOldOr a (opened path (content f))) (λ c now. inl (c, now, refl))) opens.time (left f)
 
-pub not_open_same : {E : Type 0} (path : Bool) (a b : Disked) (d : E) → Opens path a b (Err d) → (f g : Files) → a.seen ≡ Some f → b.seen ≡ Some g → content g ≡ content f
+pub not_open_same : {E : Type 0} (path : Bool) (a b : DiskState) (d : E) → Opens path a b (Err d) → (f g : Files) → a.seen ≡ Some f → b.seen ≡ Some g → content g ≡ content f
 not_open_same path a b d opens f g is at = same_content a.seen f g is (sym (opens.same (inr (d, refl))) ∙ at)
 
-pub not_open : {E : Type 0} (path : Bool) (a b : Disked) (d : E) → Opens path a b (Err d) → Changes (opened path) a b (Err d)
+pub not_open : {E : Type 0} (path : Bool) (a b : DiskState) (d : E) → Opens path a b (Err d) → Changes (opened path) a b (Err d)
 not_open path a b d opens = record {
   any_moment = opening_moments path a b (Err d) opens;
   either = λ f g is at. inl (not_open_same path a b d opens f g is at);
@@ -89,7 +89,7 @@ emptied o None g h e = absurd cc
 emptied o (Some x) g h e = let same : x ≡ g = cc in sym same ∙ h
 
 -- without a path
-pub none_opened : {E : Type 0} (path : Bool) (a b : Disked) (r : Result (Unit {0}) E) → r ≡ Ok tt → path ≡ false → Opens path a b r → Changes (opened path) a b r
+pub none_opened : {E : Type 0} (path : Bool) (a b : DiskState) (r : Result (Unit {0}) E) → r ≡ Ok tt → path ≡ false → Opens path a b r → Changes (opened path) a b r
 none_opened path a b (Err d) ok none opens = absurd cc
 none_opened path a b (Ok d) ok none opens = record {
   any_moment = opening_moments path a b (Ok d) opens;
@@ -102,8 +102,8 @@ none_opened path a b (Ok d) ok none opens = record {
     now : (f g : Files) → b.seen ≡ Some g → content g ≡ opened path (content f)
     now f g at = ap content (emptied a.seen b.seen g (opens.emptied none) at) ∙ no_content ∙ sym (opened_none path (content f) none)
 
-module _ {E : Type 0} (path : Bool) (a b c : Disked) (opens : Opens {E = E} path a b (Ok tt)) (disk : IsDisk b) (disk_now : IsDisk c) (alike : IsToldAlike b.seen c.seen)
-    (moments : (g : Files) → b.seen ≡ Some g → Leaves (λ c. Stood b (content c)) b c)
+module _ {E : Type 0} (path : Bool) (a b c : DiskState) (opens : Opens {E = E} path a b (Ok tt)) (disk : IsDisk b) (disk_now : IsDisk c) (alike : IsToldAlike b.seen c.seen)
+    (moments : (g : Files) → b.seen ≡ Some g → Leaves (λ c. CanLeave b (content c)) b c)
     (same : (g h : Files) → b.seen ≡ Some g → c.seen ≡ Some h → content h ≡ content g) where
   -- what a read gives once the files are open
   open_content : (f g : Files) → a.seen ≡ Some f → b.seen ≡ Some g → content g ≡ opened path (content f)
@@ -119,9 +119,9 @@ module _ {E : Type 0} (path : Bool) (a b c : Disked) (opens : Opens {E = E} path
   opening_each : AtEachMoment a c (opened path)
   opening_each f is =
       let mid = still_told a.seen b.seen f opens.told is in
-      joins a b c (IsOldOr a (opened path (content f))) (λ e. Stood b (content e)) (IsOldOr a (opened path (content f))) (opening_moments path a b (Ok tt) opens f is) (moments mid.0 mid.1) (λ e p. p)
+      joins a b c (IsOldOr a (opened path (content f))) (λ e. CanLeave b (content e)) (IsOldOr a (opened path (content f))) (opening_moments path a b (Ok tt) opens f is) (moments mid.0 mid.1) (λ e p. p)
       (λ e p.
-      ⊎_elim (λ (h : Stood a (content p.0)). inl (h.0, h.1, h.2 ∙ p.2)) (λ (h : content p.0 ≡ opened path (content f)). inr (sym p.2 ∙ h)) (left path a b (Ok tt) opens f p.0 p.1))
+      ⊎_elim (λ (h : CanLeave a (content p.0)). inl (h.0, h.1, h.2 ∙ p.2)) (λ (h : content p.0 ≡ opened path (content f)). inr (sym p.2 ∙ h)) (left path a b (Ok tt) opens f p.0 p.1))
 
   open_now : (f h : Files) → a.seen ≡ Some f → c.seen ≡ Some h → content h ≡ opened path (content f)
   open_now f h is at =

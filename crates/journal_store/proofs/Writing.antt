@@ -10,7 +10,7 @@ use Rattle.std.proofs.lemmas.Bool.{cases_eq}
 use Rattle.std.proofs.lemmas.Bool.Decides.{nat_tests}
 use Rattle.journal_store.specs.Content.{body_at}
 use Rattle.journal_store.specs.Ends.{Found}
-use Rattle.journal_store.specs.Kept.{HasEither}
+use Rattle.journal_store.specs.Kept.{HasEitherContent}
 use Rattle.journal_store.proofs.Records.{either_none, gate_is, shut_none, take_two, too_short, whole_ends, whole_more}
 
 -- ## Files
@@ -258,7 +258,7 @@ module _ (f : Files) (log place : ℕ) (bytes x : List ℕ) (short : length byte
       subst (λ (l : List ℕ). (log_content l ≡ x) ⊎ (log_content l ≡ x ++ bytes)) (sym (is ∙ ap (λ (l : List ℕ). s.front ++ g ∷ l) same)) (gate_content g)
 
   -- whatever byte the gate became, the record counts or it doesn't
-  pub gate_torn : (d : Files) → TornFile log place 1 f d → HasEither x (x ++ bytes) d
+  pub gate_torn : (d : Files) → TornFile log place 1 f d → HasEitherContent x (x ++ bytes) d
   gate_torn d torn =
       let byte = torn_byte s.front (0 ∷ text_rest) torn.bytes place s.place_is (subst (λ (l : List ℕ). Torn place 1 l torn.bytes) s.is torn.torn) in
       subst (λ (l : List ℕ). (l ≡ x) ⊎ (l ≡ x ++ bytes)) (sym (ap content torn.is ∙ content_with f log torn.bytes s.log_is)) (torn_gate torn.bytes byte.0 byte.1 byte.2 (omega (arith, byte.3)))

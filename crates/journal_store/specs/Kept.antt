@@ -1,58 +1,58 @@
 -- What a crash may leave at every moment of a call.
 use Rattle.std.specs.Prelude.{ℕ, ◌≡◌, ◌⊎◌, ◌≤◌, ◌^◌, Bool, true, false, List, [], Option, None, Some, Result, OnOk}
 use Rattle.journal_disk.specs.Files.{Files}
-use Rattle.journal_disk.specs.Images.{Disked, IsToldAlike, Only}
+use Rattle.journal_disk.specs.Images.{DiskState, IsToldAlike, Only}
 use Rattle.journal_store.specs.Content.{content, log_content}
 use Rattle.journal_store.specs.Ends.{IsShut, Staged}
 use Rattle.journal_store.specs.declared.reading.LogPlace.{LogPlace}
 
 -- since any moment before a call an image is one of before, or has P, and each image now has P
-pub record Leaves (P : Files → Type 0) (old new : Disked) : Type 0 where
+pub record Leaves (P : Files → Type 0) (old new : DiskState) : Type 0 where
   pub later : old.moment ≤ new.moment
   pub between : (t : ℕ) (c : Files) → t ≤ old.moment → new.left_since t c → old.left_since t c ⊎ P c
   pub now : (c : Files) → new.leaves c → P c
 
 -- some image of a disk has this content
-abbrev pub Stood : Disked → List ℕ → Type 0
-Stood d x = (c : Files) × d.leaves c × (content c ≡ x)
+abbrev pub CanLeave : DiskState → List ℕ → Type 0
+CanLeave d x = (c : Files) × d.leaves c × (content c ≡ x)
 
 -- an image has a content of before, or this one
-abbrev pub IsOldOr : Disked → List ℕ → Files → Type 0
-IsOldOr d x c = Stood d (content c) ⊎ (content c ≡ x)
+abbrev pub IsOldOr : DiskState → List ℕ → Files → Type 0
+IsOldOr d x c = CanLeave d (content c) ⊎ (content c ≡ x)
 
-abbrev pub Has : List ℕ → Files → Type 0
-Has x c = content c ≡ x
+abbrev pub HasContent : List ℕ → Files → Type 0
+HasContent x c = content c ≡ x
 
-abbrev pub HasEither : List ℕ → List ℕ → Files → Type 0
-HasEither x y c = (content c ≡ x) ⊎ (content c ≡ y)
+abbrev pub HasEitherContent : List ℕ → List ℕ → Files → Type 0
+HasEitherContent x y c = (content c ≡ x) ⊎ (content c ≡ y)
 
 -- a crash leaves this content
-abbrev pub Settled : Disked → List ℕ → Type 0
+abbrev pub Settled : DiskState → List ℕ → Type 0
 Settled d x = (c : Files) → d.leaves c → content c ≡ x
 
 -- a store stands at the closed gate, and all of it is on the disk
-abbrev pub IsReady : Disked → (log place : ℕ) → Type 0
+abbrev pub IsReady : DiskState → (log place : ℕ) → Type 0
 IsReady d log place = (f : Files) → d.seen ≡ Some f → IsShut log place f × Only f d.leaves
 
 -- a record is written and its gate is closed, and all of it is on the disk
-abbrev pub IsStaged : Disked → (log place : ℕ) → (bytes x : List ℕ) → Type 0
+abbrev pub IsStaged : DiskState → (log place : ℕ) → (bytes x : List ℕ) → Type 0
 IsStaged d log place bytes x = (f : Files) → d.seen ≡ Some f → Staged log place bytes x f × Only f d.leaves
 
 -- calls that wrote nothing, one after another
-pub record Looked (old new : Disked) : Type 0 where
+pub record Looked (old new : DiskState) : Type 0 where
   pub moments : Leaves old.leaves old new
   pub seen : new.seen ≡ old.seen
 
 -- at every moment of a call the content of each image is one of before, or what the call makes of the content that a read gave
-abbrev pub AtEachMoment : Disked → Disked → (List ℕ → List ℕ) → Type 0
+abbrev pub AtEachMoment : DiskState → DiskState → (List ℕ → List ℕ) → Type 0
 AtEachMoment old new made = (f : Files) → old.seen ≡ Some f → Leaves (IsOldOr old (made (content f))) old new
 
 -- a crash leaves what a read gives
-abbrev pub IsSettled : Disked → Type 0
+abbrev pub IsSettled : DiskState → Type 0
 IsSettled d = (f : Files) → d.seen ≡ Some f → Settled d (content f)
 
 -- a store whose end is known stands ready at it
-abbrev pub IsStored : Disked → Option LogPlace → Type 0
+abbrev pub IsStored : DiskState → Option LogPlace → Type 0
 IsStored d None = Unit {0}
 IsStored d (Some end) = IsReady d end.log end.place × (end.log ≤ 2) × (end.place ≤ 2 ^ 62)
 
@@ -62,7 +62,7 @@ IsEitherLog f c = (content c ≡ log_content f.two) ⊎ (content c ≡ log_conte
 
 -- What a call does that makes of a content the one that is given. At every moment each image has the content of some image of before,
 -- or that one; after a fault what a read gives has the content of before, or that one; after an Ok a crash leaves nothing but that one.
-pub record Changes {E : Type 0} (made : List ℕ → List ℕ) (old new : Disked) (result : Result (Unit {0}) E) : Type 0 where
+pub record Changes {E : Type 0} (made : List ℕ → List ℕ) (old new : DiskState) (result : Result (Unit {0}) E) : Type 0 where
   pub any_moment : AtEachMoment old new made
   pub either : (f g : Files) → old.seen ≡ Some f → new.seen ≡ Some g → (content g ≡ content f) ⊎ (content g ≡ made (content f))
   pub done : OnOk result ((f g : Files) → old.seen ≡ Some f → new.seen ≡ Some g → content g ≡ made (content f))

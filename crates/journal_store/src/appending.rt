@@ -5,7 +5,7 @@ ghost use Rattle.journal_disk.specs.Files.{Files, file};
 ghost use Rattle.journal_disk.specs.Images.{IsSynced, IsToldAlike, Looks};
 ghost use Rattle.journal_store.specs.Content.{content};
 ghost use Rattle.journal_store.specs.Ends.{Found};
-ghost use Rattle.journal_store.specs.Kept.{Has, HasEither, IsOldOr, IsReady, IsStaged, Leaves, Settled, Stood};
+ghost use Rattle.journal_store.specs.Kept.{HasContent, HasEitherContent, IsOldOr, IsReady, IsStaged, Leaves, Settled, CanLeave};
 
 use crate::reading::{LogPlace, look};
 use journal_disk::Disk;
@@ -18,7 +18,7 @@ fn shut_gate<D: Disk>(disk: &mut D, end: LogPlace) -> Result<(), Failed>
     requires found { (f : Files) → (D.state disk.old).seen ≡ Some f → Found f end.log end.place false }
     ensures ready { OnOk result (IsReady (D.state disk.new) end.log end.place) }
     ensures any_moment { (f : Files) → (D.state disk.old).seen ≡ Some f →
-        Leaves (Has (content f)) (D.state disk.old) (D.state disk.new) }
+        Leaves (HasContent (content f)) (D.state disk.old) (D.state disk.new) }
     ensures told { IsToldAlike (D.state disk.old).seen (D.state disk.new).seen }
     ensures cause { HasCause (D.faults disk.old) (D.faults disk.new) result }
 {
@@ -32,7 +32,7 @@ pub fn open<D: Disk>(disk: &mut D) -> Result<LogPlace, Failed>
     ensures log { IfOk result (λ end. end.log ≤ 2) }
     ensures place { IfOk result (λ end. end.place ≤ 2 ^ 62) }
     ensures any_moment { (f : Files) → (D.state disk.old).seen ≡ Some f →
-        Leaves (λ c. Stood (D.state disk.old) (content c)) (D.state disk.old) (D.state disk.new) }
+        Leaves (λ c. CanLeave (D.state disk.old) (content c)) (D.state disk.old) (D.state disk.new) }
     ensures same { (f g : Files) → (D.state disk.old).seen ≡ Some f → (D.state disk.new).seen ≡ Some g
         → content g ≡ content f }
     ensures told { IsToldAlike (D.state disk.old).seen (D.state disk.new).seen }
@@ -56,7 +56,7 @@ fn stage<D: Disk>(disk: &mut D, end: LogPlace, bytes: &[u8]) -> Result<(), Faile
         IsStaged (D.state disk.new) end.log end.place bytes.now (content f)) }
     ensures bound { OnOk result (end.place + 9 + length bytes.now ≤ 2 ^ 62) }
     ensures any_moment { (f : Files) → (D.state disk.old).seen ≡ Some f →
-        Leaves (Has (content f)) (D.state disk.old) (D.state disk.new) }
+        Leaves (HasContent (content f)) (D.state disk.old) (D.state disk.new) }
     ensures told { IsToldAlike (D.state disk.old).seen (D.state disk.new).seen }
     ensures cause { HasCause (D.faults disk.old) (D.faults disk.new) result }
 {
@@ -78,7 +78,7 @@ pub fn append<D: Disk>(disk: &mut D, end: LogPlace, bytes: &[u8]) -> Result<LogP
     ensures added { OnOk result ((f g : Files) → (D.state disk.old).seen ≡ Some f
         → (D.state disk.new).seen ≡ Some g → content g ≡ content f ++ bytes.now) }
     ensures any_moment { (f : Files) → (D.state disk.old).seen ≡ Some f →
-        Leaves (HasEither (content f) (content f ++ bytes.now)) (D.state disk.old) (D.state disk.new) }
+        Leaves (HasEitherContent (content f) (content f ++ bytes.now)) (D.state disk.old) (D.state disk.new) }
     ensures told { IsToldAlike (D.state disk.old).seen (D.state disk.new).seen }
     ensures cause { HasCause (D.faults disk.old) (D.faults disk.new) result }
 {

@@ -6,7 +6,7 @@ ghost use Rattle.outside.specs.Written.{Writes};
 ghost use Rattle.record_journal.specs.Keepers.{Cuts, IsUntold, Opens, has_path};
 ghost use Rattle.journal_store.specs.Compacting.{IsOnly, Replaces};
 ghost use Rattle.journal_store.specs.Content.{content_of};
-ghost use Rattle.journal_store.specs.Kept.{AtEachMoment, Changes, IsSettled, Stood, opened};
+ghost use Rattle.journal_store.specs.Kept.{AtEachMoment, Changes, IsSettled, CanLeave, opened};
 
 use crate::store::JournalStore;
 use journal_disk::Disk;
@@ -94,7 +94,7 @@ impl<D: Disk> Keeper for JournalStore<D> {
 }
 
 impl<D: Disk> Compactor for JournalStore<D> {
-    ghost leaves = { λ s x. Stood (D.state s) x };
+    ghost leaves = { λ s x. CanLeave (D.state s) x };
 
     /// A crash that stops it leaves a content of before, or these bytes.
     fn replace(&mut self, bytes: &[u8]) -> Result<(), Failed>
@@ -103,7 +103,7 @@ impl<D: Disk> Compactor for JournalStore<D> {
         ensures untold { IsUntold (content_of (D.state self.old).seen)
             (content_of (D.state self.new).seen) }
         ensures only { OnOk result (IsOnly (content_of (D.state self.new).seen)
-            (Stood (D.state self.new))) }
+            (CanLeave (D.state self.new))) }
         ensures cause { HasCause (D.faults self.old) (D.faults self.new) result }
         ensures changes { Changes (λ x. bytes.now) (D.state self.old) (D.state self.new) result }
     {

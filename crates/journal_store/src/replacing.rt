@@ -5,7 +5,7 @@ ghost use Rattle.journal_disk.specs.Files.{Files, file, with_file};
 ghost use Rattle.journal_disk.specs.Images.{HasWritten, IsSynced, IsToldAlike, IsWithin};
 ghost use Rattle.journal_store.specs.Content.{content, is_open, log_content};
 ghost use Rattle.journal_store.specs.Copies.{IsSealed, IsUnread, WritesOnly};
-ghost use Rattle.journal_store.specs.Kept.{HasEither, IsEitherLog, IsOldOr, IsReady, Leaves};
+ghost use Rattle.journal_store.specs.Kept.{HasEitherContent, IsEitherLog, IsOldOr, IsReady, Leaves};
 
 use crate::copying::copy_front;
 use crate::reading::{HEAD, LogPlace};
@@ -94,7 +94,7 @@ pub fn cut_to<D: Disk>(disk: &mut D, end: LogPlace, most: u64) -> Result<LogPlac
     ensures made { OnOk result ((f g : Files) → (D.state disk.old).seen ≡ Some f
         → (D.state disk.new).seen ≡ Some g → content g ≡ take most (content f)) }
     ensures any_moment { (f : Files) → (D.state disk.old).seen ≡ Some f →
-        Leaves (HasEither (content f) (take most (content f))) (D.state disk.old) (D.state disk.new) }
+        Leaves (HasEitherContent (content f) (take most (content f))) (D.state disk.old) (D.state disk.new) }
     ensures told { IsToldAlike (D.state disk.old).seen (D.state disk.new).seen }
     ensures cause { HasCause (D.faults disk.old) (D.faults disk.new) result }
 {
@@ -115,7 +115,7 @@ pub fn replace_by<D: Disk>(disk: &mut D, end: LogPlace, bytes: &[u8]) -> Result<
     ensures made { OnOk result ((f g : Files) → (D.state disk.old).seen ≡ Some f
         → (D.state disk.new).seen ≡ Some g → content g ≡ bytes.now) }
     ensures any_moment { (f : Files) → (D.state disk.old).seen ≡ Some f →
-        Leaves (HasEither (content f) bytes.now) (D.state disk.old) (D.state disk.new) }
+        Leaves (HasEitherContent (content f) bytes.now) (D.state disk.old) (D.state disk.new) }
     ensures told { IsToldAlike (D.state disk.old).seen (D.state disk.new).seen }
     ensures cause { HasCause (D.faults disk.old) (D.faults disk.new) result }
 {

@@ -4,7 +4,7 @@ ghost use Rattle.journal_disk.specs.Files.{Files};
 ghost use Rattle.journal_disk.specs.Images.{IsToldAlike, has_path};
 ghost use Rattle.journal_store.specs.Compacting.{HasKeepCause};
 ghost use Rattle.journal_store.specs.Content.{content};
-ghost use Rattle.journal_store.specs.Kept.{AtEachMoment, Changes, IsReady, IsSettled, IsStored, Leaves, Stood, opened};
+ghost use Rattle.journal_store.specs.Kept.{AtEachMoment, Changes, IsReady, IsSettled, IsStored, Leaves, CanLeave, opened};
 
 use crate::appending::{append, open};
 use crate::gathering::read_content;
@@ -43,7 +43,7 @@ fn end_of<D: Disk>(disk: &mut D, end: Option<LogPlace>) -> Result<LogPlace, Fail
     ensures log { IfOk result (λ end. end.log ≤ 2) }
     ensures place { IfOk result (λ end. end.place ≤ 2 ^ 62) }
     ensures any_moment { (f : Files) → (D.state disk.old).seen ≡ Some f →
-        Leaves (λ c. Stood (D.state disk.old) (content c)) (D.state disk.old) (D.state disk.new) }
+        Leaves (λ c. CanLeave (D.state disk.old) (content c)) (D.state disk.old) (D.state disk.new) }
     ensures same { (f g : Files) → (D.state disk.old).seen ≡ Some f → (D.state disk.new).seen ≡ Some g
         → content g ≡ content f }
     ensures told { IsToldAlike (D.state disk.old).seen (D.state disk.new).seen }

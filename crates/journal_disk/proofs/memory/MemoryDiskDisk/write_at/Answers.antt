@@ -1,4 +1,4 @@
-use Rattle.std.proofs.Common.{arith, length}
+use Rattle.std.proofs.Common.{arith}
 use Rattle.journal_disk.proofs.Telling.{not_written, wrote}
 use Rattle.journal_disk.proofs.memory.MemoryDiskDisk.write_at.Goals as goal
 
