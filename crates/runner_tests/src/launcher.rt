@@ -126,7 +126,7 @@ fn started(launched: Launched<HeldSpawner<'_>>) -> usize {
 /// Whether the start is told code 0, and its service START_PENDING and then RUNNING.
 fn is_told(told: Option<(u32, [u64; 2])>) -> bool {
     match told {
-        Some((code, [pending, running])) => code == 0 && pending == 2 && running == 4,
+        Some((code, states)) => code == 0 && states[0] == 2 && states[1] == 4,
         None => false,
     }
 }

@@ -1,5 +1,7 @@
 //! Bodies, made of words by the formats alone: nothing of the program is used. What makes one
 //! returns `None` at a word that is no item, and where there is no memory.
+ghost use Rattle.std.specs.Prelude.{◌<◌, IfSome};
+
 use crate::names::{NAMED, named};
 use std::alloc::Global;
 
@@ -72,7 +74,9 @@ fn put_names(bytes: &mut Vec<u8>, names: &str) -> Option<()> {
 }
 
 /// The value of a hexadecimal digit.
-fn digit(letter: u8) -> Option<u8> {
+fn digit(letter: u8) -> Option<u8>
+    ensures { IfSome result (λ value. value < 16) }
+{
     match letter {
         b'0'..=b'9' => Some(letter - b'0'),
         b'a'..=b'f' => Some(letter - b'a' + 10),
