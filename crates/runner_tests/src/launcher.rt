@@ -40,6 +40,14 @@ fn begin_a<R: Wait>(rt: &R, alloc: Global, book: &TestBook, caller: &mut Pass) -
     }
 }
 
+/// The code that a start is told, and the states of its service at its launch and at its report.
+#[derive(Clone, Copy)]
+struct StartTold {
+    code: u32,
+    pending: u64,
+    running: u64,
+}
+
 /// Starts `A`, and asks for its state while its child holds its line and while it holds its end.
 /// Tells the code and the states.
 fn visit<R: Wait>(
@@ -48,7 +56,7 @@ fn visit<R: Wait>(
     book: &TestBook,
     caller: &mut Pass,
     events: &Events,
-) -> Option<(u32, [u64; 2])>
+) -> Option<StartTold>
     requires book { IsOf book.now caller.old }
     requires caller { caller.old.caller ≢ 0 }
     ensures { IsOf book.now caller.new }
@@ -61,7 +69,11 @@ fn visit<R: Wait>(
     events.wait(Event::Read);
     let running = state(rt, book, caller, 2);
     events.set(Event::Over);
-    Some((code, [pending?, running?]))
+    Some(StartTold {
+        code,
+        pending: pending?,
+        running: running?,
+    })
 }
 
 /// The same, and the end is asked for.
@@ -71,7 +83,7 @@ fn visit_last<R: Wait>(
     book: &TestBook,
     mut caller: Pass,
     events: &Events,
-) -> Option<(u32, [u64; 2])>
+) -> Option<StartTold>
     requires book { IsOf book.now caller }
     requires caller { caller.caller ≢ 0 }
 {
@@ -84,7 +96,7 @@ fn visit_last<R: Wait>(
 /// What a visit was told, and how many programs were started beside it.
 #[derive(Clone, Copy)]
 struct Beside {
-    told: Option<(u32, [u64; 2])>,
+    told: Option<StartTold>,
     started: usize,
 }
 
@@ -109,7 +121,7 @@ fn serve<R: Threads + Wait + Sync>(
         || -> usize
             requires { IsSync R.row × IsOf book.now runner × (runner.caller ≡ 0) }
         { started(launch_all(rt, alloc, book, runner, spawner, &clock, &quit)) },
-        || -> Option<(u32, [u64; 2])>
+        || -> Option<StartTold>
             requires { IsOf book.now caller × (caller.caller ≢ 0) }
         { visit_last(rt, alloc, book, caller, events) },
     );
@@ -124,9 +136,9 @@ fn started(launched: Launched<HeldSpawner<'_>>) -> usize {
 }
 
 /// Whether the start is told code 0, and its service START_PENDING and then RUNNING.
-fn is_told(told: Option<(u32, [u64; 2])>) -> bool {
+fn is_told(told: Option<StartTold>) -> bool {
     match told {
-        Some((code, states)) => code == 0 && states[0] == 2 && states[1] == 4,
+        Some(told) => told.code == 0 && told.pending == 2 && told.running == 4,
         None => false,
     }
 }
