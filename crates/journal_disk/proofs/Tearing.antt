@@ -19,15 +19,18 @@ no_longer tear bytes =
     let longer = min tear.longer (length bytes - kept) in
     omega (arith, length-append (take kept bytes) (replicate longer tear.byte), length-take kept bytes, length-replicate longer tear.byte)
 
-torn_or_none : (n at size : ℕ) (part : List ℕ) (image : Files) → length part ≤ size → (b : Bool) → nat_lt (length (file image n)) at ≡ b → TornFile n at size image (cond b image (written n at part image))
+torn_or_none : (n at size : ℕ) (part : List ℕ) (image : Files) → length part ≤ size → (b : Bool) → nat_lt (length (file image n)) at ≡ b
+    → TornFile n at size image (cond b image (written n at part image))
 torn_or_none n at size part image short true past = torn_none n at size image
 torn_or_none n at size part image short false within =
     let le : at ≤ length (file image n) = grind (arith, nat_tests) in
     torn_piece n at size part image le short
 
-left_one : (tear : Tear) (first : Files) (call : Call) (past : List Call) (image : Files) → leaves first past image → leaves first (call ∷ past) (image_after tear call (now_of first past) image)
+left_one : (tear : Tear) (first : Files) (call : Call) (past : List Call) (image : Files) → leaves first past image
+    → leaves first (call ∷ past) (image_after tear call (now_of first past) image)
 left_one tear first (Wrote n at bytes fate) past image h =
-    inr (image, h, torn_or_none n at (length bytes) (torn_by tear bytes) image (no_longer tear bytes) (nat_lt (length (file image n)) at) refl)
+    inr
+    (image, h, torn_or_none n at (length bytes) (torn_by tear bytes) image (no_longer tear bytes) (nat_lt (length (file image n)) at) refl)
 left_one tear first (Synced Succeeds) past image h = refl
 left_one tear first (Synced (Fails done)) past image h = h
 left_one tear first (Opened false Succeeds) past image h = refl
@@ -38,24 +41,31 @@ left_one tear first (Read n at size fate) past image h = h
 
 pub image_left : (tears : List Tear) (first : Files) (past : List Call) → leaves first past (image_of tears first past)
 image_left tears first [] = refl
-image_left tears first (call ∷ past) = left_one (slice_index_or tears (open_writes past) lost) first call past (image_of tears first past) (image_left tears first past)
+image_left tears first (call ∷ past) =
+    left_one (slice_index_or tears (open_writes past) lost) first call past (image_of tears first past) (image_left tears first past)
 
 -- ## A call more
 
-pub one_more : (calls : List TakenCall) (i : ℕ) (call : TakenCall) → i < length calls → call ≡ get_or calls i call → past_of (take (i + 1) calls) ≡ call_of call ∷ past_of (take i calls)
+pub one_more : (calls : List TakenCall) (i : ℕ) (call : TakenCall) → i < length calls → call ≡ get_or calls i call
+    → past_of (take (i + 1) calls) ≡ call_of call ∷ past_of (take i calls)
 one_more calls i call within is =
     ap past_of (take_more calls i call within ∙ ap (λ (x : TakenCall). take i calls ++ x ∷ []) (sym is)) ∙ past_more [] (take i calls) call
 
-pub image_more : (tears : List Tear) (tear : Tear) (first : Files) (p q : List Call) (call : Call) (held image new : Files) → tear ≡ slice_index_or tears (open_writes p) lost → held ≡ now_of first p → image ≡ image_of tears first p → new ≡ image_after tear call held image → q ≡ call ∷ p → new ≡ image_of tears first q
+pub image_more : (tears : List Tear) (tear : Tear) (first : Files) (p q : List Call) (call : Call) (held image new : Files)
+    → tear ≡ slice_index_or tears (open_writes p) lost → held ≡ now_of first p → image ≡ image_of tears first p
+    → new ≡ image_after tear call held image → q ≡ call ∷ p → new ≡ image_of tears first q
 image_more tears tear first p q call held image new tear_is held_is image_is made more =
     made ∙ (λ i. image_after (tear_is i) call (held_is i) (image_is i)) ∙ ap (λ (l : List Call). image_of tears first l) (sym more)
 
-pub held_more : (first : Files) (p q : List Call) (call : Call) (held new : Files) → held ≡ now_of first p → new ≡ now_after call held → q ≡ call ∷ p → new ≡ now_of first q
+pub held_more : (first : Files) (p q : List Call) (call : Call) (held new : Files) → held ≡ now_of first p → new ≡ now_after call held
+    → q ≡ call ∷ p → new ≡ now_of first q
 held_more first p q call held new held_is made more =
     made ∙ ap (λ (f : Files). now_after call f) held_is ∙ ap (λ (l : List Call). now_of first l) (sym more)
 
-pub open_more : (p q : List Call) (call : Call) (old new : ℕ) → old ≡ open_writes p → new ≡ open_after call old → q ≡ call ∷ p → new ≡ open_writes q
-open_more p q call old new old_is made more = made ∙ ap (λ (n : ℕ). open_after call n) old_is ∙ ap (λ (l : List Call). open_writes l) (sym more)
+pub open_more : (p q : List Call) (call : Call) (old new : ℕ) → old ≡ open_writes p → new ≡ open_after call old → q ≡ call ∷ p
+    → new ≡ open_writes q
+open_more p q call old new old_is made more =
+    made ∙ ap (λ (n : ℕ). open_after call n) old_is ∙ ap (λ (l : List Call). open_writes l) (sym more)
 
 pub open_bound : (call : Call) (n : ℕ) → open_after call n ≤ n + 1
 open_bound (Wrote file at bytes fate) n = omega arith
@@ -72,7 +82,8 @@ open_bound (Read file at size fate) n = omega arith
 newer : (past : List Call) (calls : List TakenCall) → past_onto past calls ≡ past_of calls ++ past
 newer past [] = refl
 newer past (x ∷ calls) =
-    newer (call_of x ∷ past) calls ∙ sym (append_assoc (past_of calls) (call_of x ∷ []) past) ∙ ap (λ (l : List Call). l ++ past) (sym (newer (call_of x ∷ []) calls))
+    newer (call_of x ∷ past) calls ∙ sym (append_assoc (past_of calls) (call_of x ∷ []) past)
+    ∙ ap (λ (l : List Call). l ++ past) (sym (newer (call_of x ∷ []) calls))
 
 both : (past : List Call) (old new : List TakenCall) → past_onto past (old ++ new) ≡ past_onto (past_onto past old) new
 both past [] new = refl
@@ -89,7 +100,9 @@ pub at_moment : (calls : List TakenCall) (k : ℕ) → k ≤ length calls → pa
 at_moment calls k within =
     let old = take k calls in
     let new = drop k calls in
-    let split : past_of calls ≡ past_of new ++ past_of old = ap past_of (sym (take-append-drop k calls)) ∙ both [] old new ∙ newer (past_of old) new in
+    let split : past_of calls ≡ past_of new ++ past_of old =
+    ap past_of (sym (take-append-drop k calls)) ∙ both [] old new ∙ newer (past_of old) new in
     let long : length (past_of calls) - k ≡ length (past_of new) =
     omega (arith, past_length calls, past_length old, length-take k calls, ap length split, length-append (past_of new) (past_of old)) in
-    ap (λ (n : ℕ). drop n (past_of calls)) long ∙ ap (λ (l : List Call). drop (length (past_of new)) l) split ∙ drop_at (past_of new) (past_of old) (length (past_of new)) refl
+    ap (λ (n : ℕ). drop n (past_of calls)) long ∙ ap (λ (l : List Call). drop (length (past_of new)) l) split
+    ∙ drop_at (past_of new) (past_of old) (length (past_of new)) refl

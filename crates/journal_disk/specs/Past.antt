@@ -32,7 +32,8 @@ now_of first (call ∷ past) = now_after call (now_of first past)
 
 -- What a crash may leave after a call: of a write any bytes in its range, and in any case what a read gives.
 abbrev pub left_after : Call → Files → (Files → Type 0) → Files → Type 0
-left_after (Wrote n at bytes fate) now left c = (c ≡ written n at (reached fate bytes) now) ⊎ ((d : Files) × left d × TornFile n at (length bytes) d c)
+left_after (Wrote n at bytes fate) now left c =
+    (c ≡ written n at (reached fate bytes) now) ⊎ ((d : Files) × left d × TornFile n at (length bytes) d c)
 left_after (Synced Succeeds) now left c = c ≡ now
 left_after (Opened false Succeeds) now left c = c ≡ no_files
 left_after call now left c = left c

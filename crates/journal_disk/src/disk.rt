@@ -16,7 +16,8 @@ pub trait Disk: Drop {
 
     ghost is_disk: { (d : Self) → IsDisk (state d) };
 
-    /// Goes on with the files under a path. Without a path it has empty files from then on, in memory.
+    /// Goes on with the files under a path. Without a path it has empty files from then on, in
+    /// memory.
     fn open_at(&mut self, path: Option<&str>) -> Result<(), Failed>
         ensures opens { Opens (has_path path.entry) (state self.old) (state self.new) result }
         ensures cause { HasCause (faults self.old) (faults self.new) result };
@@ -37,8 +38,8 @@ pub trait Disk: Drop {
         ensures looks { Looks (state self.old) (state self.new) }
         ensures cause { HasCause (faults self.old) (faults self.new) result };
 
-    /// Writes over what a file has from a place on, and past its end. Until a sync a crash may leave
-    /// any bytes there. A write whose end passes 2^62 fails.
+    /// Writes over what a file has from a place on, and past its end. Until a sync a crash may
+    /// leave any bytes there. A write whose end passes 2^62 fails.
     fn write_at(&mut self, file: u8, place: u64, from: &[u8]) -> Result<(), Failed>
         requires file { file ≤ 2 }
         requires within { IsWithin file place (state self.old).seen }

@@ -40,8 +40,8 @@ enum Place {
 }
 
 /// The files `FILE.s`, `FILE.1` and `FILE.2`, or three files in memory if no path is opened. It
-/// tells nothing of them. It holds them alone, by an exclusive lock on each that ends with it: files
-/// that another process or disk holds can't be opened.
+/// tells nothing of them. It holds them alone, by an exclusive lock on each that ends with it:
+/// files that another process or disk holds can't be opened.
 #[derive(Drop)]
 pub struct FileDisk<R: Files<File = File> + Drop> {
     files: R,

@@ -70,7 +70,8 @@ impl DiskFiles {
         Ok(())
     }
 
-    /// Writes over the bytes of a file and past their end; a place past their end counts as the end.
+    /// Writes over the bytes of a file and past their end; a place past their end counts as the
+    /// end.
     pub fn write(&mut self, which: u8, place: u64, from: &[u8]) -> Result<(), AllocError>
         ensures ok { OnOk result (self.new ≡ written which place from.now self.old) }
         ensures err { OnErr result (self.new ≡ self.old) }

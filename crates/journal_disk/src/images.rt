@@ -8,8 +8,8 @@ use crate::calls::{DiskCall, DiskFate, TakenCall, reached};
 use crate::files::DiskFiles;
 use std::alloc::{AllocError, Global};
 
-/// How a crash tears a write that no sync follows: its first `kept` bytes are new, the next `longer`
-/// ones are `byte`, and the rest is as it was.
+/// How a crash tears a write that no sync follows: its first `kept` bytes are new, the next
+/// `longer` ones are `byte`, and the rest is as it was.
 #[derive(Clone, Copy, PartialEq, Eq)]
 pub struct Tear {
     pub kept: u64,

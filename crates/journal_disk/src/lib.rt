@@ -1,4 +1,5 @@
-//! The three files of a journal as its store sees them: what a read gives, and what a crash may leave.
+//! The three files of a journal as its store sees them: what a read gives, and what a crash may
+//! leave.
 #![tactic(auto)]
 
 mod calls;

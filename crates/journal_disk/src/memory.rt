@@ -81,8 +81,8 @@ impl MemoryDisk {
     }
 
     /// A disk at rest that holds what a crash may have left after the first `moment` calls. The
-    /// writes that no sync had followed by then are torn by `tears`, in their order; those without a
-    /// tear are lost.
+    /// writes that no sync had followed by then are torn by `tears`, in their order; those without
+    /// a tear are lost.
     pub fn offer(
         &self,
         alloc: Global,
@@ -261,7 +261,8 @@ impl Disk for MemoryDisk {
     }
 
     fn read_at(&mut self, which: u8, place: u64, into: &mut [u8]) -> Result<(), Failed>
-        requires { place + length into.old ≤ length (file (now_of self.old.first self.old.past) which) }
+        requires { place + length into.old
+            ≤ length (file (now_of self.old.first self.old.past) which) }
         ensures bytes { IfOk result (λ _. into.new ≡ take (length into.new)
             (drop place (file (now_of self.old.first self.old.past) which))) }
         ensures looks { Looks (disk_state self.old.first self.old.past)

@@ -24,12 +24,14 @@ untold None None alike = tt
 untold None (Some g) alike = absurd alike
 untold (Some f) p alike = tt
 
-pub keeps : (o p : Option Files) → IsToldAlike o p → ((f g : Files) → o ≡ Some f → p ≡ Some g → content g ≡ content f) → Keeps (content_of o) (content_of p)
+pub keeps : (o p : Option Files) → IsToldAlike o p → ((f g : Files) → o ≡ Some f → p ≡ Some g → content g ≡ content f)
+    → Keeps (content_of o) (content_of p)
 keeps None p alike same = tt
 keeps (Some f) None alike same = absurd alike
 keeps (Some f) (Some g) alike same = same f g refl refl
 
-pub writes : {E : Type 0} (o p : Option Files) (bytes : List ℕ) (r : Result (Unit {0}) E) → IsToldAlike o p → Either o p (λ x. x ++ bytes) r → Done o p (λ x. x ++ bytes) r → Writes (content_of o) (content_of p) r bytes
+pub writes : {E : Type 0} (o p : Option Files) (bytes : List ℕ) (r : Result (Unit {0}) E) → IsToldAlike o p
+    → Either o p (λ x. x ++ bytes) r → Done o p (λ x. x ++ bytes) r → Writes (content_of o) (content_of p) r bytes
 writes None None bytes (Ok d) alike either done = tt
 writes None None bytes (Err d) alike either done = record { front = []; begins = (bytes, refl); held = tt }
 writes None (Some g) bytes r alike either done = absurd alike
@@ -39,19 +41,22 @@ writes (Some f) (Some g) bytes (Err d) alike either done =
     ⊎_elim (λ e. record { front = []; begins = (bytes, refl); held = e ∙ sym (append-nil (content f)) })
     (λ e. record { front = bytes; begins = ([], sym (append-nil bytes)); held = e }) (either f g refl refl)
 
-pub cuts : {E : Type 0} (o p : Option Files) (length : ℕ) (r : Result (Unit {0}) E) → IsToldAlike o p → Either o p (take length) r → Done o p (take length) r → Cuts length (content_of o) (content_of p) r
+pub cuts : {E : Type 0} (o p : Option Files) (length : ℕ) (r : Result (Unit {0}) E) → IsToldAlike o p → Either o p (take length) r
+    → Done o p (take length) r → Cuts length (content_of o) (content_of p) r
 cuts None p length r alike either done = tt
 cuts (Some f) None length r alike either done = absurd alike
 cuts (Some f) (Some g) length (Ok d) alike either done = done f g refl refl
 cuts (Some f) (Some g) length (Err d) alike either done = either f g refl refl
 
-pub replaces : {E : Type 0} (o p : Option Files) (bytes : List ℕ) (r : Result (Unit {0}) E) → IsToldAlike o p → Either o p (λ x. bytes) r → Done o p (λ x. bytes) r → Replaces bytes (content_of o) (content_of p) r
+pub replaces : {E : Type 0} (o p : Option Files) (bytes : List ℕ) (r : Result (Unit {0}) E) → IsToldAlike o p → Either o p (λ x. bytes) r
+    → Done o p (λ x. bytes) r → Replaces bytes (content_of o) (content_of p) r
 replaces None p bytes r alike either done = tt
 replaces (Some f) None bytes r alike either done = absurd alike
 replaces (Some f) (Some g) bytes (Ok d) alike either done = done f g refl refl
 replaces (Some f) (Some g) bytes (Err d) alike either done = either f g refl refl
 
-pub opens : {E : Type 0} (path : Bool) (o p : Option Files) (r : Result (Unit {0}) E) → IsToldAlike o p → Done o p (opened path) r → OnErr r ((f g : Files) → o ≡ Some f → p ≡ Some g → content g ≡ content f) → Opens path (content_of o) (content_of p) r
+pub opens : {E : Type 0} (path : Bool) (o p : Option Files) (r : Result (Unit {0}) E) → IsToldAlike o p → Done o p (opened path) r
+    → OnErr r ((f g : Files) → o ≡ Some f → p ≡ Some g → content g ≡ content f) → Opens path (content_of o) (content_of p) r
 opens false None None (Ok d) alike done same = refl
 opens false None (Some g) (Ok d) alike done same = absurd alike
 opens false (Some f) None (Ok d) alike done same = absurd alike

@@ -21,15 +21,18 @@ started d P here = record { later = omega arith; between = λ t c le left. inl l
 pub goes_on : (a b c : DiskState) (P : Files → Type 0) → Leaves P a b → Elapses b c → ((f : Files) → c.leaves f → P f) → Leaves P a c
 goes_on a b c P so_far time here = record {
   later = omega (arith, so_far.later, time.later);
-  between = λ t f le left. ⊎_elim (so_far.between t f le) (λ now. inr (here f now)) (time.nothing_else t f (omega (arith, le, so_far.later)) left);
+  between =
+      λ t f le left. ⊎_elim (so_far.between t f le) (λ now. inr (here f now)) (time.nothing_else t f (omega (arith, le, so_far.later)) left);
   now = here;
 }
 
 -- another run more
-pub joins : (a b c : DiskState) (P Q R : Files → Type 0) → Leaves P a b → Leaves Q b c → ((f : Files) → P f → R f) → ((f : Files) → Q f → R f) → Leaves R a c
+pub joins : (a b c : DiskState) (P Q R : Files → Type 0) → Leaves P a b → Leaves Q b c → ((f : Files) → P f → R f)
+    → ((f : Files) → Q f → R f) → Leaves R a c
 joins a b c P Q R first second p q = record {
   later = omega (arith, first.later, second.later);
-  between = λ t f le left. ⊎_elim (λ was. ⊎_elim inl (λ h. inr (p f h)) (first.between t f le was)) (λ h. inr (q f h)) (second.between t f (omega (arith, le, first.later)) left);
+  between =
+      λ t f le left. ⊎_elim (λ was. ⊎_elim inl (λ h. inr (p f h)) (first.between t f le was)) (λ h. inr (q f h)) (second.between t f (omega (arith, le, first.later)) left);
   now = λ f now. q f (second.now f now);
 }
 
@@ -56,10 +59,12 @@ weaker a b P Q so_far h = record {
 }
 
 -- a write more, and what it tears has P
-pub wrote : {E : Type 0} (a b c : DiskState) (P Q : Files → Type 0) (n at : ℕ) (bytes : List ℕ) (r : Result (Unit {0}) E) → Leaves P a b → Writes n at bytes b c r → ((f : Files) → P f → Q f)
+pub wrote : {E : Type 0} (a b c : DiskState) (P Q : Files → Type 0) (n at : ℕ) (bytes : List ℕ) (r : Result (Unit {0}) E) → Leaves P a b
+    → Writes n at bytes b c r → ((f : Files) → P f → Q f)
     → ((d f : Files) → P d → TornFile n at (length bytes) d f → Q f) → Leaves Q a c
 wrote a b c P Q n at bytes r so_far call same torn =
-    goes_on a b c Q (weaker a b P Q so_far same) call.time (λ f now. let from = call.leaves f now in torn from.0 f (so_far.now from.0 from.1) from.2)
+    goes_on a b c Q (weaker a b P Q so_far same) call.time
+    (λ f now. let from = call.leaves f now in torn from.0 f (so_far.now from.0 from.1) from.2)
 
 -- a call more that writes nothing
 pub stayed : (a b c : DiskState) (P : Files → Type 0) → Leaves P a b → Looks b c → Leaves P a c
@@ -83,7 +88,8 @@ was_told None None g h e = absurd cc
 was_told None (Some f) g h e = absurd h
 was_told (Some f) b g h e = (f, refl)
 
-pub now_seen : (n at : ℕ) (bytes : List ℕ) (a b : Option Files) (f : Files) → HasWritten n at bytes a b → a ≡ Some f → b ≡ Some (written n at bytes f)
+pub now_seen : (n at : ℕ) (bytes : List ℕ) (a b : Option Files) (f : Files) → HasWritten n at bytes a b → a ≡ Some f
+    → b ≡ Some (written n at bytes f)
 now_seen n at bytes a b f h e = subst (λ o. HasWritten n at bytes o b) e h
 
 pub same_file : (o : Option Files) (f g : Files) → o ≡ Some f → o ≡ Some g → f ≡ g

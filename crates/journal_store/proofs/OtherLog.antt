@@ -54,25 +54,31 @@ put_two at k x y old size within =
     let rest = drop at old in
     let last = drop (length y) (drop (length x) rest) in
     let front_is : length front ≡ at = length-take-le at old within in
-    let one : put at x old ≡ (front ++ x) ++ drop (length x) rest = put_split at x old within ∙ sym (append_assoc front x (drop (length x) rest)) in
+    let one : put at x old ≡ (front ++ x) ++ drop (length x) rest =
+    put_split at x old within ∙ sym (append_assoc front x (drop (length x) rest)) in
     let long : length (front ++ x) ≡ at + k = omega (arith, length-append front x, front_is, size) in
-    let two : put (at + k) y (put at x old) ≡ (front ++ x) ++ (y ++ last) = ap (put (at + k) y) one ∙ put_front (front ++ x) (drop (length x) rest) y (at + k) long in
-    let more : last ≡ drop (length (x ++ y)) rest = drop-drop (length y) (length x) rest ∙ ap (λ (n : ℕ). drop n rest) (sym (length-append x y)) in
-    two ∙ append_assoc front x (y ++ last) ∙ ap (λ (l : List ℕ). front ++ l) (sym (append_assoc x y last)) ∙ ap (λ (l : List ℕ). front ++ ((x ++ y) ++ l)) more ∙ sym (put_split at (x ++ y) old within)
+    let two : put (at + k) y (put at x old) ≡ (front ++ x) ++ (y ++ last) =
+    ap (put (at + k) y) one ∙ put_front (front ++ x) (drop (length x) rest) y (at + k) long in
+    let more : last ≡ drop (length (x ++ y)) rest =
+    drop-drop (length y) (length x) rest ∙ ap (λ (n : ℕ). drop n rest) (sym (length-append x y)) in
+    two ∙ append_assoc front x (y ++ last) ∙ ap (λ (l : List ℕ). front ++ l) (sym (append_assoc x y last))
+    ∙ ap (λ (l : List ℕ). front ++ ((x ++ y) ++ l)) more ∙ sym (put_split at (x ++ y) old within)
 
 pub twice : (n at k : ℕ) (x y : List ℕ) (f : Files) → written n k y (written n at x f) ≡ with_file f n (put k y (put at x (file f n)))
 twice n at k x y f =
     with_with f n (put at x (file f n)) (put k y (file (written n at x f) n))
     ∙ ap (λ (l : List ℕ). with_file f n (put k y l)) (file_with f n (put at x (file f n)))
 
-pub written_two : (n at k : ℕ) (x y : List ℕ) (f : Files) → length x ≡ k → at ≤ length (file f n) → written n (at + k) y (written n at x f) ≡ written n at (x ++ y) f
+pub written_two : (n at k : ℕ) (x y : List ℕ) (f : Files) → length x ≡ k → at ≤ length (file f n)
+    → written n (at + k) y (written n at x f) ≡ written n at (x ++ y) f
 written_two n at k x y f size within = twice n at (at + k) x y f ∙ ap (with_file f n) (put_two at k x y (file f n) size within)
 
 written_none : (n at : ℕ) (f : Files) → written n at [] f ≡ f
 written_none n at f =
     let zero_more : at + 0 ≡ at = omega arith in
     let nothing : put at [] (file f n) ≡ file f n =
-    append_assoc (take at (file f n)) [] (drop (at + 0) (file f n)) ∙ ap (λ (k : ℕ). take at (file f n) ++ drop k (file f n)) zero_more ∙ take-append-drop at (file f n) in
+    append_assoc (take at (file f n)) [] (drop (at + 0) (file f n)) ∙ ap (λ (k : ℕ). take at (file f n) ++ drop k (file f n)) zero_more
+    ∙ take-append-drop at (file f n) in
     ap (with_file f n) nothing ∙ with_same f n
 
 -- ## What a read gives
@@ -85,7 +91,8 @@ pub put_more : (a b c : DiskState) (n at k : ℕ) (x y z : Files → List ℕ) �
     → ((f : Files) → a.seen ≡ Some f → z f ≡ x f ++ y (written n at (x f) f)) → HasPut n at z a c
 put_more a b c n at k x y z first second size within joined f is =
     second (written n at (x f) f) (first f is)
-    ∙ ap (λ (g : Files). Some g) (written_two n at k (x f) (y (written n at (x f) f)) f (size f is) (within f is) ∙ ap (λ (l : List ℕ). written n at l f) (sym (joined f is)))
+    ∙ ap (λ (g : Files). Some g)
+    (written_two n at k (x f) (y (written n at (x f) f)) f (size f is) (within f is) ∙ ap (λ (l : List ℕ). written n at l f) (sym (joined f is)))
 
 pub put_once : (a b : DiskState) (n at : ℕ) (x : List ℕ) → HasWritten n at x a.seen b.seen → HasPut n at (λ f. x) a b
 put_once a b n at x h f is = now_seen n at x a.seen b.seen f h is
@@ -109,15 +116,18 @@ only_looks n a b call = stayed a a b (ButFor n a) (only_none n a) call
 pub only_looked : (n : ℕ) (a b : DiskState) → Looked a b → WritesOnly n a b
 only_looked n a b call = weaker a b a.leaves (ButFor n a) call.moments (λ c now. (c, now, file c n, sym (with_same c n)))
 
-pub only_writes : {E : Type 0} (n at : ℕ) (bytes : List ℕ) (a b : DiskState) (r : Result (Unit {0}) E) → Writes n at bytes a b r → WritesOnly n a b
+pub only_writes : {E : Type 0} (n at : ℕ) (bytes : List ℕ) (a b : DiskState) (r : Result (Unit {0}) E) → Writes n at bytes a b r
+    → WritesOnly n a b
 only_writes n at bytes a b r call =
-    goes_on a a b (ButFor n a) (only_none n a) call.time (λ c now. let from = call.leaves c now in (from.0, from.1, from.2.bytes, from.2.is))
+    goes_on a a b (ButFor n a) (only_none n a) call.time
+    (λ c now. let from = call.leaves c now in (from.0, from.1, from.2.bytes, from.2.is))
 
 -- ## Fronts
 
 -- of some bytes and others the first so many: those of the first, and of the others what is left
 pub take_joined : (most : ℕ) (x y : List ℕ) → take most (x ++ y) ≡ take most x ++ take (most - length x) y
-take_joined most [] y = let e : most - 0 ≡ most = omega arith in ap (λ (n : ℕ). take n y) (sym e) ∙ ap (λ (l : List ℕ). l ++ take (most - 0) y) (nothing most)
+take_joined most [] y =
+    let e : most - 0 ≡ most = omega arith in ap (λ (n : ℕ). take n y) (sym e) ∙ ap (λ (l : List ℕ). l ++ take (most - 0) y) (nothing most)
   where
     nothing : (n : ℕ) → [] ≡ take {A = ℕ} n []
     nothing zero = refl
@@ -136,42 +146,51 @@ take_least k n l = elim (cases_lt n k) [
 ]
 
 -- the first so many of what was there and a record more
-pub take_more_of : (most n done : ℕ) (x l : List ℕ) → done ≡ length (take most x) → take most (x ++ take n l) ≡ take most x ++ take (min n (most - done)) l
+pub take_more_of : (most n done : ℕ) (x l : List ℕ) → done ≡ length (take most x)
+    → take most (x ++ take n l) ≡ take most x ++ take (min n (most - done)) l
 take_more_of most n done x l e =
     let left : most - length x ≡ most - done = omega (arith, length-take most x) in
-    take_joined most x (take n l) ∙ ap (λ (k : ℕ). take most x ++ take k (take n l)) left ∙ ap (λ (m : List ℕ). take most x ++ m) (take_least (most - done) n l)
+    take_joined most x (take n l) ∙ ap (λ (k : ℕ). take most x ++ take k (take n l)) left
+    ∙ ap (λ (m : List ℕ). take most x ++ m) (take_least (most - done) n l)
 
 -- ## Copying
 
-pub log_stays : (a b : DiskState) (m n at : ℕ) (x : Files → List ℕ) → m ≤ 2 → n ≤ 2 → (m ≡ n → ⊥) → HasPut n at x a b → (f g : Files) → a.seen ≡ Some f → b.seen ≡ Some g → file g m ≡ file f m
+pub log_stays : (a b : DiskState) (m n at : ℕ) (x : Files → List ℕ) → m ≤ 2 → n ≤ 2 → (m ≡ n → ⊥) → HasPut n at x a b → (f g : Files)
+    → a.seen ≡ Some f → b.seen ≡ Some g → file g m ≡ file f m
 log_stays a b m n at x m2 n2 other h f g is now =
     ap (λ (e : Files). file e m) (same_file b.seen g _ now (h f is)) ∙ apart f m n (put at (x f) (file f n)) m2 n2 other
 
-pub within_apart : (a b : DiskState) (m n at end : ℕ) (x : Files → List ℕ) → m ≤ 2 → n ≤ 2 → (m ≡ n → ⊥) → IsToldAlike a.seen b.seen → HasPut n at x a b → IsWithin m end a.seen → IsWithin m end b.seen
+pub within_apart : (a b : DiskState) (m n at end : ℕ) (x : Files → List ℕ) → m ≤ 2 → n ≤ 2 → (m ≡ n → ⊥) → IsToldAlike a.seen b.seen
+    → HasPut n at x a b → IsWithin m end a.seen → IsWithin m end b.seen
 within_apart a b m n at end x m2 n2 other alike h within = if_told (λ g. end ≤ length (file g m)) b.seen (λ g now.
     let was = was_told a.seen b.seen g alike now in
     let long : end ≤ length (file was.0 m) = told (λ f. end ≤ length (file f m)) a.seen was.0 was.1 within in
     let same : length (file g m) ≡ length (file was.0 m) = ap length (log_stays a b m n at x m2 n2 other h was.0 g was.1 now) in
     omega (arith, long, same))
 
-pub within_put : (a b : DiskState) (n at k : ℕ) (x : Files → List ℕ) → IsToldAlike a.seen b.seen → HasPut n at x a b → IsWithin n at a.seen → ((f : Files) → a.seen ≡ Some f → length (x f) ≡ k) → IsWithin n (at + k) b.seen
+pub within_put : (a b : DiskState) (n at k : ℕ) (x : Files → List ℕ) → IsToldAlike a.seen b.seen → HasPut n at x a b
+    → IsWithin n at a.seen → ((f : Files) → a.seen ≡ Some f → length (x f) ≡ k) → IsWithin n (at + k) b.seen
 within_put a b n at k x alike h within size = if_told (λ g. at + k ≤ length (file g n)) b.seen (λ g now.
     let was = was_told a.seen b.seen g alike now in
     let from : at ≤ length (file was.0 n) = told (λ f. at ≤ length (file f n)) a.seen was.0 was.1 within in
     let long : at + length (x was.0) ≤ length (put at (x was.0) (file was.0 n)) = put_long at (x was.0) (file was.0 n) from in
-    let same : length (file g n) ≡ length (put at (x was.0) (file was.0 n)) = ap length (ap (λ (e : Files). file e n) (same_file b.seen g _ now (h was.0 was.1)) ∙ file_with was.0 n (put at (x was.0) (file was.0 n))) in
+    let same : length (file g n) ≡ length (put at (x was.0) (file was.0 n)) =
+    ap length (ap (λ (e : Files). file e n) (same_file b.seen g _ now (h was.0 was.1)) ∙ file_with was.0 n (put at (x was.0) (file was.0 n))) in
     omega (arith, long, same, size was.0 was.1))
 
 -- so many bytes from a place on
-pub range_size : (a : DiskState) (m place count done : ℕ) → IsWithin m (place + count) a.seen → done ≤ count → (f : Files) → a.seen ≡ Some f → length (take done (drop place (file f m))) ≡ done
+pub range_size : (a : DiskState) (m place count done : ℕ) → IsWithin m (place + count) a.seen → done ≤ count → (f : Files)
+    → a.seen ≡ Some f → length (take done (drop place (file f m))) ≡ done
 range_size a m place count done within le f is =
     let long : place + count ≤ length (file f m) = told (λ f. place + count ≤ length (file f m)) a.seen f is within in
     length-take-le done (drop place (file f m)) (omega (arith, long, length-drop place (file f m)))
 
-pub copied_more : (a b c : DiskState) (m n place at count done next : ℕ) → m ≤ 2 → n ≤ 2 → (m ≡ n → ⊥) → IsWithin m (place + count) a.seen → IsWithin n at a.seen → done ≤ count
+pub copied_more : (a b c : DiskState) (m n place at count done next : ℕ) → m ≤ 2 → n ≤ 2 → (m ≡ n → ⊥) → IsWithin m (place + count) a.seen
+    → IsWithin n at a.seen → done ≤ count
     → HasPut n at (λ f. take done (drop place (file f m))) a b → HasPut n (at + done) (λ f. take next (drop (place + done) (file f m))) b c → HasPut n at (λ f. take (done + next) (drop place (file f m))) a c
 copied_more a b c m n place at count done next m2 n2 other source target le first second =
-    put_more a b c n at done (λ f. take done (drop place (file f m))) (λ f. take next (drop (place + done) (file f m))) (λ f. take (done + next) (drop place (file f m))) first second
+    put_more a b c n at done (λ f. take done (drop place (file f m))) (λ f. take next (drop (place + done) (file f m)))
+    (λ f. take (done + next) (drop place (file f m))) first second
     (range_size a m place count done source le)
     (λ f is. told (λ f. at ≤ length (file f n)) a.seen f is target)
     (λ f is.
@@ -198,9 +217,12 @@ copied_none log to most f d is = record {
   done_is = ap length (front_none most);
 }
 
-module _ (log to most place done : ℕ) (f : Files) (now : Option Files) (c : Copied log to most place done f now) (log2 : log ≤ 2) (to2 : to ≤ 2) (other : log ≡ to → ⊥) where
+module _ (log to most place done : ℕ) (f : Files) (now : Option Files) (c : Copied log to most place done f now) (log2 : log ≤ 2)
+    (to2 : to ≤ 2) (other : log ≡ to → ⊥) where
   pub log_now : (g : Files) → now ≡ Some g → file g log ≡ file f log
-  log_now g at = ap (λ (e : Files). file e log) (same_file now g _ at c.seen) ∙ apart f log to (put 9 (take most c.fronts.x) (file f to)) log2 to2 other
+  log_now g at =
+      ap (λ (e : Files). file e log) (same_file now g _ at c.seen)
+      ∙ apart f log to (put 9 (take most c.fronts.x) (file f to)) log2 to2 other
 
   here_is : (found : Option ℕ) → IfSome now (λ g. IsRecord (drop place (file g log)) found) → IsRecord (drop place (file f log)) found
   here_is found is =
@@ -211,10 +233,12 @@ module _ (log to most place done : ℕ) (f : Files) (now : Option Files) (c : Co
   to_long g at within =
       let x = take most c.fronts.x in
       let long : 9 + length x ≤ length (put 9 x (file f to)) = put_long 9 x (file f to) within in
-      let same : length (file g to) ≡ length (put 9 x (file f to)) = ap length (ap (λ (e : Files). file e to) (same_file now g _ at c.seen) ∙ file_with f to (put 9 x (file f to))) in
+      let same : length (file g to) ≡ length (put 9 x (file f to)) =
+      ap length (ap (λ (e : Files). file e to) (same_file now g _ at c.seen) ∙ file_with f to (put 9 x (file f to))) in
       omega (arith, long, same, c.done_is)
 
-  pub front_on : (b d : DiskState) (found count : ℕ) → count ≡ min found (most - done) → b.seen ≡ now → 9 ≤ length (file f to) → IfSome now (λ g. IsRecord (drop place (file g log)) (Some found))
+  pub front_on : (b d : DiskState) (found count : ℕ) → count ≡ min found (most - done) → b.seen ≡ now → 9 ≤ length (file f to)
+      → IfSome now (λ g. IsRecord (drop place (file g log)) (Some found))
       → HasPut to (9 + done) (λ g. take count (drop (place + 9) (file g log))) b d → Copied log to most (place + (9 + found)) (done + count) f d.seen
   front_on b d found count count_is same within record_is put_on =
       let is = here_is (Some found) record_is in
@@ -229,29 +253,38 @@ module _ (log to most place done : ℕ) (f : Files) (now : Option Files) (c : Co
         fronts = more.0;
         seen = put_on (written to 9 x f) (same ∙ c.seen)
             ∙ ap (λ (e : List ℕ). Some (written to (9 + done) (take count (drop (place + 9) e)) (written to 9 x f))) log_is
-            ∙ ap (λ (e : Files). Some e) (written_two to 9 done x (take count l) f (sym c.done_is) within ∙ ap (λ (e : List ℕ). written to 9 e f) (sym front));
+            ∙ ap (λ (e : Files). Some e)
+            (written_two to 9 done x (take count l) f (sym c.done_is) within ∙ ap (λ (e : List ℕ). written to 9 e f) (sym front));
         done_is =
             let size : length (take most more.0.x) ≡ length (x ++ take count l) = ap length front in
-            let body : length (take count l) ≡ count = length-take-le count l (omega (arith, count_is, long, length-drop place (file f log), length-drop (place + 9) (file f log))) in
+            let body : length (take count l) ≡ count =
+            length-take-le count l (omega (arith, count_is, long, length-drop place (file f log), length-drop (place + 9) (file f log))) in
             omega (arith, size, length-append x (take count l), body, c.done_is);
       }
 
-  pub front_all : IfSome now (λ g. IsRecord (drop place (file g log)) None) → now ≡ Some (written to 9 (take most (log_content (file f log))) f)
-  front_all none = c.seen ∙ ap (λ (l : List ℕ). Some (written to 9 (take most l) f)) (sym (fronts_content (file f log) place c.fronts (here_is None none)))
+  pub front_all : IfSome now (λ g. IsRecord (drop place (file g log)) None)
+      → now ≡ Some (written to 9 (take most (log_content (file f log))) f)
+  front_all none =
+      c.seen
+      ∙ ap (λ (l : List ℕ). Some (written to 9 (take most l) f)) (sym (fronts_content (file f log) place c.fronts (here_is None none)))
 
   pub front_count : IfSome now (λ g. IsRecord (drop place (file g log)) None) → done ≡ length (take most (log_content (file f log)))
-  front_count none = c.done_is ∙ ap (λ (l : List ℕ). length (take most l)) (sym (fronts_content (file f log) place c.fronts (here_is None none)))
+  front_count none =
+      c.done_is ∙ ap (λ (l : List ℕ). length (take most l)) (sym (fronts_content (file f log) place c.fronts (here_is None none)))
 
 -- ## What the copying asks of the disk
 
-module _ (a b : DiskState) (log to most place done : ℕ) (copied : (f : Files) → a.seen ≡ Some f → Copied log to most place done f b.seen) (alike : IsToldAlike a.seen b.seen) (log2 : log ≤ 2) (to2 : to ≤ 2) (other : log ≡ to → ⊥) where
+module _ (a b : DiskState) (log to most place done : ℕ) (copied : (f : Files) → a.seen ≡ Some f → Copied log to most place done f b.seen)
+    (alike : IsToldAlike a.seen b.seen) (log2 : log ≤ 2) (to2 : to ≤ 2) (other : log ≡ to → ⊥) where
   pub size_on : (size : ℕ) → HasSize log size a.seen → HasSize log size b.seen
   size_on size is_size = if_told (λ g. size ≡ length (file g log)) b.seen (λ g at.
       let was = was_told a.seen b.seen g alike at in
-      told (λ f. size ≡ length (file f log)) a.seen was.0 was.1 is_size ∙ ap length (sym (log_now log to most place done was.0 b.seen (copied was.0 was.1) log2 to2 other g at)))
+      told (λ f. size ≡ length (file f log)) a.seen was.0 was.1 is_size
+      ∙ ap length (sym (log_now log to most place done was.0 b.seen (copied was.0 was.1) log2 to2 other g at)))
 
   pub target_on : (d : DiskState) → d.seen ≡ b.seen → IsWithin to 9 a.seen → IsWithin to (9 + done) d.seen
   target_on d same within = if_told (λ g. 9 + done ≤ length (file g to)) d.seen (λ g at.
       let now = sym same ∙ at in
       let was = was_told a.seen b.seen g alike now in
-      to_long log to most place done was.0 b.seen (copied was.0 was.1) log2 to2 other g now (told (λ f. 9 ≤ length (file f to)) a.seen was.0 was.1 within))
+      to_long log to most place done was.0 b.seen (copied was.0 was.1) log2 to2 other g now
+      (told (λ f. 9 ≤ length (file f to)) a.seen was.0 was.1 within))

@@ -8,7 +8,8 @@ use Rattle.journal_store.proofs.Moments.{alike_more, goes_on, joins, started, st
 
 -- ## After the files were opened again
 
-module _ (a b : DiskState) (alike : IsToldAlike a.seen b.seen) (moments : (f : Files) → a.seen ≡ Some f → Leaves (λ c. CanLeave a (content c)) a b)
+module _ (a b : DiskState) (alike : IsToldAlike a.seen b.seen)
+    (moments : (f : Files) → a.seen ≡ Some f → Leaves (λ c. CanLeave a (content c)) a b)
     (same : (f g : Files) → a.seen ≡ Some f → b.seen ≡ Some g → content g ≡ content f) (made : List ℕ → List ℕ) where
   pub not_opened : {E : Type 0} (d : E) → Changes made a b (Err d)
   not_opened d = record {
@@ -33,13 +34,21 @@ module _ (a b : DiskState) (alike : IsToldAlike a.seen b.seen) (moments : (f : F
         let mid = still_told a.seen b.seen f alike is in
         let eq = same f mid.0 is mid.1 in
         let stood : CanLeave a (content mid.0) = (moments f is).now mid.0 (told b.leaves b.seen mid.0 mid.1 disk.seen) in
-        joins a b c (λ c. CanLeave a (content c)) (HasEitherContent (content mid.0) (made (content mid.0))) (IsOldOr a (made (content f))) (moments f is) (step mid.0 mid.1) (λ e p. inl p)
+        joins a b c (λ c. CanLeave a (content c)) (HasEitherContent (content mid.0) (made (content mid.0))) (IsOldOr a (made (content f)))
+        (moments f is) (step mid.0 mid.1) (λ e p. inl p)
         (λ e p. ⊎_elim (λ (h : content e ≡ content mid.0). inl (stood.0, stood.1, stood.2 ∙ sym h)) (λ (h : content e ≡ made (content mid.0)). inr (h ∙ ap made eq)) p)
 
     pub not_changed : {E : Type 0} (d : E) → Changes made a c (Err d)
-    not_changed d = record { any_moment = at_each; either = either_now; done = tt; settled = tt; told = alike_more a.seen b.seen c.seen alike alike_now }
+    not_changed d = record {
+      any_moment = at_each;
+      either = either_now;
+      done = tt;
+      settled = tt;
+      told = alike_more a.seen b.seen c.seen alike alike_now;
+    }
 
-    pub changed : {E : Type 0} → ((g h : Files) → b.seen ≡ Some g → c.seen ≡ Some h → content h ≡ made (content g)) → IsSettled c → Changes {E = E} made a c (Ok tt)
+    pub changed : {E : Type 0} → ((g h : Files) → b.seen ≡ Some g → c.seen ≡ Some h → content h ≡ made (content g)) → IsSettled c
+        → Changes {E = E} made a c (Ok tt)
     changed done settled = record {
       any_moment = at_each;
       either = either_now;
@@ -67,12 +76,16 @@ module _ {E : Type 0} (path : Bool) (a b : DiskState) (r : Result (Unit {0}) E) 
   left : (f c : Files) → b.leaves c → IsOldOr a (opened path (content f)) c
   left f c now =
       ⊎_elim (λ (was : a.leaves c). inl (c, was, refl))
-      (λ (h : (path ≡ false) × (c ≡ no_files)). inr (ap content h.1 ∙ no_content ∙ sym (opened_none path (content f) h.0))) (opens.leaves c now)
+      (λ (h : (path ≡ false) × (c ≡ no_files)). inr (ap content h.1 ∙ no_content ∙ sym (opened_none path (content f) h.0)))
+      (opens.leaves c now)
 
   pub opening_moments : AtEachMoment a b (opened path)
-  opening_moments f is = goes_on a a b (IsOldOr a (opened path (content f))) (started a (IsOldOr a (opened path (content f))) (λ c now. inl (c, now, refl))) opens.time (left f)
+  opening_moments f is =
+      goes_on a a b (IsOldOr a (opened path (content f))) (started a (IsOldOr a (opened path (content f))) (λ c now. inl (c, now, refl)))
+      opens.time (left f)
 
-pub not_open_same : {E : Type 0} (path : Bool) (a b : DiskState) (d : E) → Opens path a b (Err d) → (f g : Files) → a.seen ≡ Some f → b.seen ≡ Some g → content g ≡ content f
+pub not_open_same : {E : Type 0} (path : Bool) (a b : DiskState) (d : E) → Opens path a b (Err d) → (f g : Files) → a.seen ≡ Some f
+    → b.seen ≡ Some g → content g ≡ content f
 not_open_same path a b d opens f g is at = same_content a.seen f g is (sym (opens.same (inr (d, refl))) ∙ at)
 
 pub not_open : {E : Type 0} (path : Bool) (a b : DiskState) (d : E) → Opens path a b (Err d) → Changes (opened path) a b (Err d)
@@ -89,7 +102,8 @@ emptied o None g h e = absurd cc
 emptied o (Some x) g h e = let same : x ≡ g = cc in sym same ∙ h
 
 -- without a path
-pub none_opened : {E : Type 0} (path : Bool) (a b : DiskState) (r : Result (Unit {0}) E) → r ≡ Ok tt → path ≡ false → Opens path a b r → Changes (opened path) a b r
+pub none_opened : {E : Type 0} (path : Bool) (a b : DiskState) (r : Result (Unit {0}) E) → r ≡ Ok tt → path ≡ false → Opens path a b r
+    → Changes (opened path) a b r
 none_opened path a b (Err d) ok none opens = absurd cc
 none_opened path a b (Ok d) ok none opens = record {
   any_moment = opening_moments path a b (Ok d) opens;
@@ -102,7 +116,8 @@ none_opened path a b (Ok d) ok none opens = record {
     now : (f g : Files) → b.seen ≡ Some g → content g ≡ opened path (content f)
     now f g at = ap content (emptied a.seen b.seen g (opens.emptied none) at) ∙ no_content ∙ sym (opened_none path (content f) none)
 
-module _ {E : Type 0} (path : Bool) (a b c : DiskState) (opens : Opens {E = E} path a b (Ok tt)) (disk : IsDisk b) (disk_now : IsDisk c) (alike : IsToldAlike b.seen c.seen)
+module _ {E : Type 0} (path : Bool) (a b c : DiskState) (opens : Opens {E = E} path a b (Ok tt)) (disk : IsDisk b) (disk_now : IsDisk c)
+    (alike : IsToldAlike b.seen c.seen)
     (moments : (g : Files) → b.seen ≡ Some g → Leaves (λ c. CanLeave b (content c)) b c)
     (same : (g h : Files) → b.seen ≡ Some g → c.seen ≡ Some h → content h ≡ content g) where
   -- what a read gives once the files are open
@@ -119,9 +134,11 @@ module _ {E : Type 0} (path : Bool) (a b c : DiskState) (opens : Opens {E = E} p
   opening_each : AtEachMoment a c (opened path)
   opening_each f is =
       let mid = still_told a.seen b.seen f opens.told is in
-      joins a b c (IsOldOr a (opened path (content f))) (λ e. CanLeave b (content e)) (IsOldOr a (opened path (content f))) (opening_moments path a b (Ok tt) opens f is) (moments mid.0 mid.1) (λ e p. p)
+      joins a b c (IsOldOr a (opened path (content f))) (λ e. CanLeave b (content e)) (IsOldOr a (opened path (content f)))
+      (opening_moments path a b (Ok tt) opens f is) (moments mid.0 mid.1) (λ e p. p)
       (λ e p.
-      ⊎_elim (λ (h : CanLeave a (content p.0)). inl (h.0, h.1, h.2 ∙ p.2)) (λ (h : content p.0 ≡ opened path (content f)). inr (sym p.2 ∙ h)) (left path a b (Ok tt) opens f p.0 p.1))
+      ⊎_elim (λ (h : CanLeave a (content p.0)). inl (h.0, h.1, h.2 ∙ p.2))
+      (λ (h : content p.0 ≡ opened path (content f)). inr (sym p.2 ∙ h)) (left path a b (Ok tt) opens f p.0 p.1))
 
   open_now : (f h : Files) → a.seen ≡ Some f → c.seen ≡ Some h → content h ≡ opened path (content f)
   open_now f h is at =
@@ -129,10 +146,22 @@ module _ {E : Type 0} (path : Bool) (a b c : DiskState) (opens : Opens {E = E} p
       same mid.0 h mid.1 at ∙ open_content f mid.0 is mid.1
 
   pub not_found : (d : E) → Changes (opened path) a c (Err d)
-  not_found d = record { any_moment = opening_each; either = λ f h is at. inr (open_now f h is at); done = tt; settled = tt; told = alike_more a.seen b.seen c.seen opens.told alike }
+  not_found d = record {
+    any_moment = opening_each;
+    either = λ f h is at. inr (open_now f h is at);
+    done = tt;
+    settled = tt;
+    told = alike_more a.seen b.seen c.seen opens.told alike;
+  }
 
   pub not_found_same : path ≡ true → (f h : Files) → a.seen ≡ Some f → c.seen ≡ Some h → content h ≡ content f
   not_found_same some f h is at = open_now f h is at ∙ opened_path path (content f) some
 
   pub is_open_now : IsSettled c → Changes {E = E} (opened path) a c (Ok tt)
-  is_open_now settled = record { any_moment = opening_each; either = λ f h is at. inr (open_now f h is at); done = open_now; settled = settled; told = alike_more a.seen b.seen c.seen opens.told alike }
+  is_open_now settled = record {
+    any_moment = opening_each;
+    either = λ f h is at. inr (open_now f h is at);
+    done = open_now;
+    settled = settled;
+    told = alike_more a.seen b.seen c.seen opens.told alike;
+  }

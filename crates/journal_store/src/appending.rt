@@ -15,7 +15,8 @@ use outside::Failed;
 fn shut_gate<D: Disk>(disk: &mut D, end: LogPlace) -> Result<(), Failed>
     requires log { end.log ≤ 2 }
     requires synced { IsSynced (D.state disk.old) }
-    requires found { (f : Files) → (D.state disk.old).seen ≡ Some f → Found f end.log end.place false }
+    requires found { (f : Files) → (D.state disk.old).seen ≡ Some f
+        → Found f end.log end.place false }
     ensures ready { OnOk result (IsReady (D.state disk.new) end.log end.place) }
     ensures any_moment { (f : Files) → (D.state disk.old).seen ≡ Some f →
         Leaves (HasContent (content f)) (D.state disk.old) (D.state disk.new) }
@@ -32,9 +33,10 @@ pub fn open<D: Disk>(disk: &mut D) -> Result<LogPlace, Failed>
     ensures log { IfOk result (λ end. end.log ≤ 2) }
     ensures place { IfOk result (λ end. end.place ≤ 2 ^ 62) }
     ensures any_moment { (f : Files) → (D.state disk.old).seen ≡ Some f →
-        Leaves (λ c. CanLeave (D.state disk.old) (content c)) (D.state disk.old) (D.state disk.new) }
-    ensures same { (f g : Files) → (D.state disk.old).seen ≡ Some f → (D.state disk.new).seen ≡ Some g
-        → content g ≡ content f }
+        Leaves (λ c. CanLeave (D.state disk.old) (content c))
+        (D.state disk.old) (D.state disk.new) }
+    ensures same { (f g : Files) → (D.state disk.old).seen ≡ Some f
+        → (D.state disk.new).seen ≡ Some g → content g ≡ content f }
     ensures told { IsToldAlike (D.state disk.old).seen (D.state disk.new).seen }
     ensures cause { HasCause (D.faults disk.old) (D.faults disk.new) result }
 {
@@ -78,7 +80,8 @@ pub fn append<D: Disk>(disk: &mut D, end: LogPlace, bytes: &[u8]) -> Result<LogP
     ensures added { OnOk result ((f g : Files) → (D.state disk.old).seen ≡ Some f
         → (D.state disk.new).seen ≡ Some g → content g ≡ content f ++ bytes.now) }
     ensures any_moment { (f : Files) → (D.state disk.old).seen ≡ Some f →
-        Leaves (HasEitherContent (content f) (content f ++ bytes.now)) (D.state disk.old) (D.state disk.new) }
+        Leaves (HasEitherContent (content f) (content f ++ bytes.now))
+        (D.state disk.old) (D.state disk.new) }
     ensures told { IsToldAlike (D.state disk.old).seen (D.state disk.new).seen }
     ensures cause { HasCause (D.faults disk.old) (D.faults disk.new) result }
 {

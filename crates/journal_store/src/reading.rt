@@ -68,8 +68,8 @@ fn length_at<D: Disk>(disk: &mut D, which: u8, place: u64) -> Result<u64, Failed
 /// How many bytes the record of a gate and a length has, if `left` bytes stand from its gate on.
 fn record_of(gate: u8, bytes: u64, left: u64) -> Option<u64>
     requires { 9 < left }
-    ensures record { (rest : List ℕ) → left ≡ length rest + 1 → from_le_bytes w64 (take 8 rest) ≡ bytes
-        → IsRecord (gate ∷ rest) result }
+    ensures record { (rest : List ℕ) → left ≡ length rest + 1
+        → from_le_bytes w64 (take 8 rest) ≡ bytes → IsRecord (gate ∷ rest) result }
     ensures within { IfSome result (λ n. 9 + n < left) }
 {
     if gate == 0 || left - HEAD <= bytes {

@@ -94,7 +94,8 @@ pub fn cut_to<D: Disk>(disk: &mut D, end: LogPlace, most: u64) -> Result<LogPlac
     ensures made { OnOk result ((f g : Files) → (D.state disk.old).seen ≡ Some f
         → (D.state disk.new).seen ≡ Some g → content g ≡ take most (content f)) }
     ensures any_moment { (f : Files) → (D.state disk.old).seen ≡ Some f →
-        Leaves (HasEitherContent (content f) (take most (content f))) (D.state disk.old) (D.state disk.new) }
+        Leaves (HasEitherContent (content f) (take most (content f)))
+        (D.state disk.old) (D.state disk.new) }
     ensures told { IsToldAlike (D.state disk.old).seen (D.state disk.new).seen }
     ensures cause { HasCause (D.faults disk.old) (D.faults disk.new) result }
 {

@@ -43,9 +43,10 @@ fn end_of<D: Disk>(disk: &mut D, end: Option<LogPlace>) -> Result<LogPlace, Fail
     ensures log { IfOk result (λ end. end.log ≤ 2) }
     ensures place { IfOk result (λ end. end.place ≤ 2 ^ 62) }
     ensures any_moment { (f : Files) → (D.state disk.old).seen ≡ Some f →
-        Leaves (λ c. CanLeave (D.state disk.old) (content c)) (D.state disk.old) (D.state disk.new) }
-    ensures same { (f g : Files) → (D.state disk.old).seen ≡ Some f → (D.state disk.new).seen ≡ Some g
-        → content g ≡ content f }
+        Leaves (λ c. CanLeave (D.state disk.old) (content c))
+        (D.state disk.old) (D.state disk.new) }
+    ensures same { (f g : Files) → (D.state disk.old).seen ≡ Some f
+        → (D.state disk.new).seen ≡ Some g → content g ≡ content f }
     ensures told { IsToldAlike (D.state disk.old).seen (D.state disk.new).seen }
     ensures cause { HasCause (D.faults disk.old) (D.faults disk.new) result }
 {
@@ -76,8 +77,8 @@ impl<D: Disk> JournalStore<D> {
 }
 
 impl<D: Disk> JournalStore<D> {
-    /// Opens what a crash may have left under a path. Without a path the files are empty, and the next
-    /// call opens them.
+    /// Opens what a crash may have left under a path. Without a path the files are empty, and the
+    /// next call opens them.
     pub(crate) fn open_path(&mut self, path: Option<&str>) -> Result<(), Failed>
         ensures changes { Changes (opened (has_path path.entry))
             (D.state self.old) (D.state self.new) result }
@@ -97,7 +98,8 @@ impl<D: Disk> JournalStore<D> {
 
     /// Appends bytes.
     pub(crate) fn add(&mut self, bytes: &[u8]) -> Result<(), Failed>
-        ensures changes { Changes (λ x. x ++ bytes.now) (D.state self.old) (D.state self.new) result }
+        ensures changes { Changes (λ x. x ++ bytes.now)
+            (D.state self.old) (D.state self.new) result }
         ensures cause { HasCause (D.faults self.old) (D.faults self.new) result }
     {
         let end = end_of(&mut self.disk, self.end.take())?;

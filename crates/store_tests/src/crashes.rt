@@ -40,8 +40,8 @@ const RUN: [Step; 23] = [
     Step::Append(b"7"),
 ];
 
-/// What a tear leaves after the bytes that it keeps: a byte, and how often. Nothing, zeros to the end
-/// of the write, one byte that is another open gate, and such bytes to the end.
+/// What a tear leaves after the bytes that it keeps: a byte, and how often. Nothing, zeros to the
+/// end of the write, one byte that is another open gate, and such bytes to the end.
 const BYTES: [(u8, u64); 4] = [(0, 0), (0, 64), (9, 1), (9, 64)];
 
 /// No write of the run has so many bytes, and so many lengths of what a tear keeps are tried.
@@ -67,8 +67,8 @@ const WHOLE: Tear = Tear {
     longer: 0,
 };
 
-/// The tears of the open writes in a trial: one tear for all, or for one write, while the others are
-/// whole or lost.
+/// The tears of the open writes in a trial: one tear for all, or for one write, while the others
+/// are whole or lost.
 fn tears_of(trial: u64) -> [Tear; OPEN] {
     let (byte, longer) = BYTES[(trial / LENGTHS % 4) as usize];
     let tear = Tear {
@@ -167,7 +167,8 @@ fn images_open_since(
     true
 }
 
-/// How many trials the images get of each moment of a call that answered Ok, and of one that failed.
+/// How many trials the images get of each moment of a call that answered Ok, and of one that
+/// failed.
 #[derive(Clone, Copy)]
 struct Trials {
     ok: u64,
@@ -225,8 +226,8 @@ fn runs(
     Ok(true)
 }
 
-/// The run on a disk whose call `at` fails, if it is given. Returns how many calls the disk took, or
-/// nothing if an image opened to a content that it may not.
+/// The run on a disk whose call `at` fails, if it is given. Returns how many calls the disk took,
+/// or nothing if an image opened to a content that it may not.
 fn calls_of(
     alloc: Global,
     at: Option<usize>,

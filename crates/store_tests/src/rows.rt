@@ -5,8 +5,8 @@ use record_journal::Keeper;
 use std::alloc::Global;
 use std::test::*;
 
-/// The first log after two appends, of `ab` and of `cd`: each record is an open gate, its length and
-/// its bytes, and a closed gate ends the log.
+/// The first log after two appends, of `ab` and of `cd`: each record is an open gate, its length
+/// and its bytes, and a closed gate ends the log.
 pub const LOG: [u8; 23] = [
     1, 2, 0, 0, 0, 0, 0, 0, 0, 0x61, 0x62, 1, 2, 0, 0, 0, 0, 0, 0, 0, 0x63, 0x64, 0,
 ];

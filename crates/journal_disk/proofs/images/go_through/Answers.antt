@@ -17,7 +17,9 @@ loop-taken-preserved c =
     let tear = c.tear_of-tear.ensures ∙ ap (λ n. slice_index_or c.args.tears.now n lost) inv.opened in
     let bound = open_bound call c.loop-taken.writes in
     record {
-      image = image_more c.args.tears.now c.tear_of-tear.result c.args.held.now p q call c.loop-taken.held c.loop-taken.image c.go_on.new.image tear inv.held inv.image c.in_ok-go_on.ensures.image more;
+      image =
+          image_more c.args.tears.now c.tear_of-tear.result c.args.held.now p q call c.loop-taken.held c.loop-taken.image
+          c.go_on.new.image tear inv.held inv.image c.in_ok-go_on.ensures.image more;
       held = held_more c.args.held.now p q call c.loop-taken.held c.go_on.new.held inv.held c.in_ok-go_on.ensures.held more;
       opened = open_more p q call c.loop-taken.writes c.open_after-writes.result inv.opened c.open_after-writes.ensures more;
       bound = grind (arith, bound);

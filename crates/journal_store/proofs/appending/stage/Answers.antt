@@ -4,14 +4,20 @@ use Rattle.journal_store.proofs.Steps.{following, guards, keeps, staged, within_
 use Rattle.journal_store.proofs.appending.stage.Goals as goal
 
 pub write_at-requires-clause-within : goal.write_at-requires-clause-within
-write_at-requires-clause-within g c = within_one c.args.end.log c.args.end.place c.args.bytes.now (g.D.Disk.state c.args.disk.now) c.requires.ready
+write_at-requires-clause-within g c =
+    within_one c.args.end.log c.args.end.place c.args.bytes.now (g.D.Disk.state c.args.disk.now) c.requires.ready
 
 pub write_at-requires-2-clause-within : goal.write_at-requires-2-clause-within
-write_at-requires-2-clause-within g c = within_two c.args.end.log c.args.end.place c.args.bytes.now (g.D.Disk.state c.args.disk.now) (g.D.Disk.state c.write_at.new.self) c.requires.ready c.write_at.ensures.writes.told (rw c.to_le_bytes.ensures at c.in_ok-write_at.ensures.writes.ok)
+write_at-requires-2-clause-within g c =
+    within_two c.args.end.log c.args.end.place c.args.bytes.now (g.D.Disk.state c.args.disk.now) (g.D.Disk.state c.write_at.new.self)
+    c.requires.ready c.write_at.ensures.writes.told (rw c.to_le_bytes.ensures at c.in_ok-write_at.ensures.writes.ok)
 
 pub write_at-requires-3-clause-within : goal.write_at-requires-3-clause-within
-write_at-requires-3-clause-within g c = within_three c.args.end.log c.args.end.place c.args.bytes.now (g.D.Disk.state c.args.disk.now) (g.D.Disk.state c.write_at.new.self) (g.D.Disk.state c.write_at-2.new.self)
-    c.requires.ready c.write_at.ensures.writes.told c.write_at-2.ensures.writes.told (rw c.to_le_bytes.ensures at c.in_ok-write_at.ensures.writes.ok) c.in_ok-write_at-2.ensures.writes.ok
+write_at-requires-3-clause-within g c =
+    within_three c.args.end.log c.args.end.place c.args.bytes.now (g.D.Disk.state c.args.disk.now) (g.D.Disk.state c.write_at.new.self)
+    (g.D.Disk.state c.write_at-2.new.self)
+    c.requires.ready c.write_at.ensures.writes.told c.write_at-2.ensures.writes.told
+    (rw c.to_le_bytes.ensures at c.in_ok-write_at.ensures.writes.ok) c.in_ok-write_at-2.ensures.writes.ok
 
 pub returns-in_err-write_at-clause-any_moment : goal.returns-in_err-write_at-clause-any_moment
 returns-in_err-write_at-clause-any_moment g c = λ f is.
@@ -36,7 +42,10 @@ returns-in_err-write_at-2-clause-any_moment g c = λ f is.
 pub returns-in_err-write_at-3-clause-any_moment : goal.returns-in_err-write_at-3-clause-any_moment
 returns-in_err-write_at-3-clause-any_moment g c = λ f is.
     let log = c.args.end.log in let place = c.args.end.place in let bytes = c.args.bytes.now in
-    let a = g.D.Disk.state c.args.disk.now in let b = g.D.Disk.state c.write_at.new.self in let b2 = g.D.Disk.state c.write_at-2.new.self in let b3 = g.D.Disk.state c.write_at-3.new.self in
+    let a = g.D.Disk.state c.args.disk.now in
+    let b = g.D.Disk.state c.write_at.new.self in
+    let b2 = g.D.Disk.state c.write_at-2.new.self in
+    let b3 = g.D.Disk.state c.write_at-3.new.self in
     let s = c.requires.ready f is in
     let l1 : length s.0.front < place + 1 = omega (arith, s.0.place_is) in
     let l2 : length s.0.front < place + 9 = omega (arith, s.0.place_is) in
@@ -49,7 +58,10 @@ returns-in_err-write_at-3-clause-any_moment g c = λ f is.
 pub returns-clause-any_moment : goal.returns-clause-any_moment
 returns-clause-any_moment g c = λ f is.
     let log = c.args.end.log in let place = c.args.end.place in let bytes = c.args.bytes.now in
-    let a = g.D.Disk.state c.args.disk.now in let b = g.D.Disk.state c.write_at.new.self in let b2 = g.D.Disk.state c.write_at-2.new.self in let b3 = g.D.Disk.state c.write_at-3.new.self in
+    let a = g.D.Disk.state c.args.disk.now in
+    let b = g.D.Disk.state c.write_at.new.self in
+    let b2 = g.D.Disk.state c.write_at-2.new.self in
+    let b3 = g.D.Disk.state c.write_at-3.new.self in
     let d = g.D.Disk.state c.sync.new.self in
     let s = c.requires.ready f is in
     let l1 : length s.0.front < place + 1 = omega (arith, s.0.place_is) in
@@ -62,5 +74,7 @@ returns-clause-any_moment g c = λ f is.
 
 pub returns-clause-staged : goal.returns-clause-staged
 returns-clause-staged g c =
-    on_ok _ _ c.sync.result (λ synced. staged c.args.end.log c.args.end.place c.args.bytes.now (g.D.Disk.state c.args.disk.now) (g.D.Disk.state c.write_at.new.self) (g.D.Disk.state c.write_at-2.new.self) (g.D.Disk.state c.write_at-3.new.self) (g.D.Disk.state c.sync.new.self)
-    c.requires.ready (rw c.to_le_bytes.ensures at c.in_ok-write_at.ensures.writes.ok) c.in_ok-write_at-2.ensures.writes.ok c.in_ok-write_at-3.ensures.writes.ok c.sync.ensures.syncs.looks.seen synced) c.sync.ensures.syncs.ok
+    on_ok _ _ c.sync.result
+    (λ synced. staged c.args.end.log c.args.end.place c.args.bytes.now (g.D.Disk.state c.args.disk.now) (g.D.Disk.state c.write_at.new.self) (g.D.Disk.state c.write_at-2.new.self) (g.D.Disk.state c.write_at-3.new.self) (g.D.Disk.state c.sync.new.self)
+    c.requires.ready (rw c.to_le_bytes.ensures at c.in_ok-write_at.ensures.writes.ok) c.in_ok-write_at-2.ensures.writes.ok
+    c.in_ok-write_at-3.ensures.writes.ok c.sync.ensures.syncs.looks.seen synced) c.sync.ensures.syncs.ok

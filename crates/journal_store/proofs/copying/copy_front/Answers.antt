@@ -21,18 +21,23 @@ loop-found-init g c =
 pub record_at-requires-clause-size : goal.record_at-requires-clause-size
 record_at-requires-clause-size g c =
     let inv = c.loop-found.invariant in
-    size_on (g.D.Disk.state c.args.disk.now) (g.D.Disk.state c.loop-found.disk) c.args.log c.args.to c.args.most c.loop-found.place c.loop-found.done inv.copied inv.told c.requires.logs.0 c.requires.logs.1 c.requires.logs.2
+    size_on (g.D.Disk.state c.args.disk.now) (g.D.Disk.state c.loop-found.disk) c.args.log c.args.to c.args.most c.loop-found.place
+    c.loop-found.done inv.copied inv.told c.requires.logs.0 c.requires.logs.1 c.requires.logs.2
     c.args.size c.requires.size
 
 pub copy_bytes-requires-clause-target : goal.copy_bytes-requires-clause-target
 copy_bytes-requires-clause-target g c =
     let inv = c.loop-found.invariant in
-    target_on (g.D.Disk.state c.args.disk.now) (g.D.Disk.state c.loop-found.disk) c.args.log c.args.to c.args.most c.loop-found.place c.loop-found.done inv.copied inv.told c.requires.logs.0 c.requires.logs.1 c.requires.logs.2
+    target_on (g.D.Disk.state c.args.disk.now) (g.D.Disk.state c.loop-found.disk) c.args.log c.args.to c.args.most c.loop-found.place
+    c.loop-found.done inv.copied inv.told c.requires.logs.0 c.requires.logs.1 c.requires.logs.2
     (g.D.Disk.state c.record_at.new.disk) c.record_at.ensures.looks.seen c.requires.target
 
 pub loop-found-preserved : goal.loop-found-preserved
 loop-found-preserved g c =
-    let a = g.D.Disk.state c.args.disk.now in let b = g.D.Disk.state c.loop-found.disk in let d = g.D.Disk.state c.record_at.new.disk in let e = g.D.Disk.state c.copy_bytes.new.disk in
+    let a = g.D.Disk.state c.args.disk.now in
+    let b = g.D.Disk.state c.loop-found.disk in
+    let d = g.D.Disk.state c.record_at.new.disk in
+    let e = g.D.Disk.state c.copy_bytes.new.disk in
     let inv = c.loop-found.invariant in
     let log = c.args.log in let to = c.args.to in let place = c.loop-found.place in
     let same = c.record_at.ensures.looks.seen in
@@ -40,7 +45,8 @@ loop-found-preserved g c =
     let alike_on = alike_more a.seen b.seen d.seen inv.told (alike b.seen d.seen same) in
     record {
       copied = λ f is.
-          front_on log to c.args.most place c.loop-found.done f b.seen (inv.copied f is) c.requires.logs.0 c.requires.logs.1 c.requires.logs.2 d e c.in-Some.found c.min-count.result (grind arith) same
+          front_on log to c.args.most place c.loop-found.done f b.seen (inv.copied f is) c.requires.logs.0 c.requires.logs.1
+          c.requires.logs.2 d e c.in-Some.found c.min-count.result (grind arith) same
           (told (λ f. 9 ≤ length (file f to)) a.seen f is c.requires.target) here c.in_ok-copy_bytes.ensures.put;
       only = only_more to a d e (only_more to a b d inv.only (only_looked to b d c.record_at.ensures.looks)) c.copy_bytes.ensures.only;
       within = grind arith;
@@ -54,12 +60,17 @@ pub returns-clause-put : goal.returns-clause-put
 returns-clause-put g c = λ f is.
     let b = g.D.Disk.state c.loop-found.disk in
     let inv = c.loop-found.invariant in
-    let none = subst (λ o. IfSome b.seen (λ f. IsRecord (drop c.loop-found.place (file f c.args.log)) o)) c.in_default.is c.in_ok-found.ensures.record in
-    c.record_at.ensures.looks.seen ∙ front_all c.args.log c.args.to c.args.most c.loop-found.place c.loop-found.done f b.seen (inv.copied f is) c.requires.logs.0 c.requires.logs.1 c.requires.logs.2 none
+    let none =
+    subst (λ o. IfSome b.seen (λ f. IsRecord (drop c.loop-found.place (file f c.args.log)) o)) c.in_default.is c.in_ok-found.ensures.record in
+    c.record_at.ensures.looks.seen
+    ∙ front_all c.args.log c.args.to c.args.most c.loop-found.place c.loop-found.done f b.seen (inv.copied f is) c.requires.logs.0
+    c.requires.logs.1 c.requires.logs.2 none
 
 pub returns-clause-count : goal.returns-clause-count
 returns-clause-count g c = λ f is.
     let b = g.D.Disk.state c.loop-found.disk in
     let inv = c.loop-found.invariant in
-    let none = subst (λ o. IfSome b.seen (λ f. IsRecord (drop c.loop-found.place (file f c.args.log)) o)) c.in_default.is c.in_ok-found.ensures.record in
-    front_count c.args.log c.args.to c.args.most c.loop-found.place c.loop-found.done f b.seen (inv.copied f is) c.requires.logs.0 c.requires.logs.1 c.requires.logs.2 none
+    let none =
+    subst (λ o. IfSome b.seen (λ f. IsRecord (drop c.loop-found.place (file f c.args.log)) o)) c.in_default.is c.in_ok-found.ensures.record in
+    front_count c.args.log c.args.to c.args.most c.loop-found.place c.loop-found.done f b.seen (inv.copied f is) c.requires.logs.0
+    c.requires.logs.1 c.requires.logs.2 none

@@ -9,7 +9,8 @@ pub loop-length-preserved : goal.loop-length-preserved
 loop-length-preserved g c = record {
   fronts = if_told _ _ (λ f is.
       let so_far = told (λ f. Fronts (file f c.args.which) c.loop-length.place) _ f is c.loop-length.invariant.fronts in
-      let found = told (λ f. IsRecord (drop c.loop-length.place (file f c.args.which)) c.in_ok-length.field-0) _ f (c.loop-length.invariant.looks.seen ∙ is) c.in_ok-length.ensures.record in
+      let found =
+      told (λ f. IsRecord (drop c.loop-length.place (file f c.args.which)) c.in_ok-length.field-0) _ f (c.loop-length.invariant.looks.seen ∙ is) c.in_ok-length.ensures.record in
       (fronts_more (file f c.args.which) c.loop-length.place c.in-Some.length so_far (subst (λ o. IsRecord (drop c.loop-length.place (file f c.args.which)) o) c.in-Some.is found)).0);
   within = grind arith;
   looks = looked_again _ _ _ c.loop-length.invariant.looks c.record_at.ensures.looks;
@@ -20,5 +21,7 @@ pub returns-clause-end : goal.returns-clause-end
 returns-clause-end g c =
     if_told _ _ (λ f is.
     let so_far = told (λ f. Fronts (file f c.args.which) c.loop-length.place) _ f is c.loop-length.invariant.fronts in
-    let found = told (λ f. IsRecord (drop c.loop-length.place (file f c.args.which)) c.in_ok-length.field-0) _ f (c.loop-length.invariant.looks.seen ∙ is) c.in_ok-length.ensures.record in
-    fronts_end (file f c.args.which) c.loop-length.place so_far (subst (λ o. IsRecord (drop c.loop-length.place (file f c.args.which)) o) c.in_default.is found))
+    let found =
+    told (λ f. IsRecord (drop c.loop-length.place (file f c.args.which)) c.in_ok-length.field-0) _ f (c.loop-length.invariant.looks.seen ∙ is) c.in_ok-length.ensures.record in
+    fronts_end (file f c.args.which) c.loop-length.place so_far
+    (subst (λ o. IsRecord (drop c.loop-length.place (file f c.args.which)) o) c.in_default.is found))

@@ -10,7 +10,8 @@ use Rattle.journal_disk.proofs.memory.MemoryDisk.offer.Goals as goal
 pub slice_bounds-replay-end : goal.slice_bounds-replay-end
 slice_bounds-replay-end c =
     let within = rw (← c.self.view_is) at c.requires in
-    let le : c.args.moment ≤ length c.deref.result.now = rw c.deref.ensures.value (omega (arith, within, past_length c.self.inside.calls.items)) in
+    let le : c.args.moment ≤ length c.deref.result.now =
+    rw c.deref.ensures.value (omega (arith, within, past_length c.self.inside.calls.items)) in
     sym (length-take-le c.args.moment c.deref.result.now le)
 
 pub returns-in-Ok-clause-chosen : goal.returns-in-Ok-clause-chosen

@@ -10,8 +10,10 @@ returns-in-Err-clause-writes c = not_written _ _ _ _ _ _ _ _ (grind arith) (grin
 
 pub returns-in-Succeeds-clause-writes : goal.returns-in-Succeeds-clause-writes
 returns-in-Succeeds-clause-writes c =
-    wrote c.args.self.now.first c.put_down.new.self.first c.args.self.now.past c.put_down.new.self.past _ _ _ c.take_fate-fate.result _ (grind arith) (grind arith) c.requires (grind arith)
+    wrote c.args.self.now.first c.put_down.new.self.first c.args.self.now.past c.put_down.new.self.past _ _ _ c.take_fate-fate.result _
+    (grind arith) (grind arith) c.requires (grind arith)
 
 pub returns-in-Fails-clause-writes : goal.returns-in-Fails-clause-writes
 returns-in-Fails-clause-writes c =
-    wrote c.args.self.now.first c.fail-in-Fails.new.self.first c.args.self.now.past c.fail-in-Fails.new.self.past _ _ _ c.take_fate-fate.result _ (grind arith) (grind arith) c.requires tt
+    wrote c.args.self.now.first c.fail-in-Fails.new.self.first c.args.self.now.past c.fail-in-Fails.new.self.past _ _ _
+    c.take_fate-fate.result _ (grind arith) (grind arith) c.requires tt

@@ -10,7 +10,8 @@ pub returns-clause-bytes : goal.returns-clause-bytes
 returns-clause-bytes g c =
     let a = g.D.Disk.state c.args.self.now in let b = g.D.Disk.state c.open_path.new.self in
     let changes = c.open_path.ensures.changes in
-    subst (λ p. Opens p (content_of a.seen) (content_of b.seen) c.open_path.result) (sym (same_path c.args.path)) (opens (has_path c.args.path) a.seen b.seen c.open_path.result changes.told changes.done c.open_path.ensures.same)
+    subst (λ p. Opens p (content_of a.seen) (content_of b.seen) c.open_path.result) (sym (same_path c.args.path))
+    (opens (has_path c.args.path) a.seen b.seen c.open_path.result changes.told changes.done c.open_path.ensures.same)
 
 pub returns-clause-changes : goal.returns-clause-changes
 returns-clause-changes g c =

@@ -10,11 +10,13 @@ returns-in_err-end-clause-changes g c =
     let b = g.D.Disk.state c.open_at.new.self in let d = g.D.Disk.state c.open.new.disk in
     let opens = subst (λ e. Opens (has_path c.args.path) (g.D.Disk.state e) b (Ok tt)) c.self.view_is c.in_ok-open_at.ensures.opens in
     let p = err_from_is_err_and c.from_residual-in_err-end.result c.from_residual-in_err-end.ensures.1 in
-    rw p.1 (not_found (has_path c.args.path) (g.D.Disk.state c.args.self.now) b d opens (g.D.Disk.is_disk c.open_at.new.self) (g.D.Disk.is_disk c.open.new.disk) c.open.ensures.told c.open.ensures.any_moment c.open.ensures.same p.0)
+    rw p.1
+    (not_found (has_path c.args.path) (g.D.Disk.state c.args.self.now) b d opens (g.D.Disk.is_disk c.open_at.new.self) (g.D.Disk.is_disk c.open.new.disk) c.open.ensures.told c.open.ensures.any_moment c.open.ensures.same p.0)
 
 pub returns-clause-changes : goal.returns-clause-changes
 returns-clause-changes g c =
     let b = g.D.Disk.state c.open_at.new.self in let d = g.D.Disk.state c.open.new.disk in
     let opens = subst (λ e. Opens (has_path c.args.path) (g.D.Disk.state e) b (Ok tt)) c.self.view_is c.in_ok-open_at.ensures.opens in
-    is_open_now (has_path c.args.path) (g.D.Disk.state c.args.self.now) b d opens (g.D.Disk.is_disk c.open_at.new.self) (g.D.Disk.is_disk c.open.new.disk) c.open.ensures.told c.open.ensures.any_moment c.open.ensures.same
+    is_open_now (has_path c.args.path) (g.D.Disk.state c.args.self.now) b d opens (g.D.Disk.is_disk c.open_at.new.self)
+    (g.D.Disk.is_disk c.open.new.disk) c.open.ensures.told c.open.ensures.any_moment c.open.ensures.same
     (settled d _ _ c.in_ok-end.ensures.ready)
