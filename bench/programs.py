@@ -77,11 +77,15 @@ class Caller:
         head = self.stream.read(16)
         return self.stream.read(struct.unpack_from("<H", head, 8)[0] - 16)
 
-    def ask(self, opnum, body, code=0):
+    def told(self, opnum, body):
+        """The body of the reply to a call."""
         self.call += 1
         head = struct.pack("<BBBBIHHIIHH", 5, 0, 0, 3, 16, 24 + len(body), 0, self.call, len(body), 0, opnum)
         self.connection.sendall(head + body)
-        told = self.pdu()[8:]
+        return self.pdu()[8:]
+
+    def ask(self, opnum, body, code=0):
+        told = self.told(opnum, body)
         if told[-4:] != struct.pack("<I", code):
             sys.exit(f"call {opnum} was answered {told.hex()}")
         return told
