@@ -5,3 +5,10 @@ pub mod Refused
 pub mod Begun
 pub mod Passed
 pub mod Steps
+pub mod Dependents
+pub mod Listings
+pub mod Levels
+pub mod Counted
+pub mod Needed
+pub mod Returned
+pub mod Uuids

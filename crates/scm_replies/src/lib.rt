@@ -2,6 +2,9 @@
 #![tactic(auto)]
 
 ghost use Rattle.scm_replies.specs.Replies.{LawOfReplies};
+ghost use Rattle.scm_replies.specs.Sizes.{AreSmall, HaveUuids, LawOfNeededSizes};
+ghost use Rattle.scm_runs.specs.Histories.{EachEntry};
+ghost use Rattle.scm_rules.specs.Histories.{Legal};
 ghost use Rattle.scm_rules.specs.Opening.{IsOpening};
 ghost use Rattle.scm_rules.specs.Runs.{EachStep, IsLegal};
 
@@ -17,4 +20,17 @@ pub fn law_of_replies(limits: &Limits, steps: &Items<(u64, Step)>, opening: &Fla
     requires begins { IsOpening limits.now opening.now }
     requires legal { IsLegal limits.now opening.now steps.now }
     ensures { EachStep (LawOfReplies limits.now) limits.now opening.now steps.now }
+{}
+
+/// The law of needed sizes: within the limits, each size that a reply to a call returns is the size
+/// of what the call asks for, in bytes or in units of a name, and the resume index of an enumeration
+/// is the number of the last service returned: none reaches the greatest number of 32 bits, at which
+/// it would be cut off. What an enumeration leaves is returned up to 262,144 bytes, the range of
+/// `pcbBytesNeeded` (MS-SCMR); up to 246 services never take more, whatever their names.
+pub fn law_of_needed_sizes(limits: &Limits, steps: &Items<(u64, Step)>, opening: &Flat)
+    requires begins { IsOpening limits.now opening.now }
+    requires legal { Legal limits.now opening.now steps.now }
+    requires small { AreSmall limits.now }
+    requires uuids { HaveUuids opening.now steps.now }
+    ensures { EachEntry LawOfNeededSizes limits.now opening.now steps.now }
 {}

@@ -1,0 +1,142 @@
+-- Within the limits 32 bits hold every size that is needed, so it is returned as it is.
+use Rattle.std.proofs.Common.{ℕ, ◌≡◌, ◌<◌, ◌≤◌, ◌^◌, ◌-◌, List, [], ◌∷◌, Option, None, Some, length, refl, arith}
+use Rattle.std.specs.Prelude.{All, IfSome, min}
+use Rattle.std.proofs.lemmas.List.Elements.{All-weaker}
+use Rattle.scm_text.specs.Fold.{same_text}
+use Rattle.scm_model.specs.declared.flat.Flat.{Flat}
+use Rattle.scm_model.specs.declared.flat.Limits.{Limits}
+use Rattle.scm_model.specs.declared.flat.LockRow.{LockRow}
+use Rattle.scm_model.specs.declared.flat.Principal.{Principal}
+use Rattle.scm_model.specs.declared.flat.Principal.TheVariants.{Admin, User}
+use Rattle.scm_model.specs.declared.flat.Service.{Service}
+use Rattle.scm_model.specs.declared.calls.Request.{Request}
+use Rattle.scm_model.specs.declared.calls.Request.TheVariants as request
+use Rattle.scm_model.specs.Rows.{displayed, held_service, named}
+use Rattle.service_listing.specs.Layout.{listing_size}
+use Rattle.service_record.specs.Checks.{check_new}
+use Rattle.scm_rules.specs.EnumDependents.{dependents_by}
+use Rattle.scm_rules.specs.Locks.{lock_size, owner_of, principal_name}
+use Rattle.scm_rules.specs.OtherName.{display_by_name, display_in, name_by_display, name_in, units_of}
+use Rattle.scm_rules.specs.QueryConfig.{shown_by, shown_in, size_in}
+use Rattle.scm_rules.specs.QueryConfig2.{level_in}
+use Rattle.scm_runs.specs.Sizes.{IsToldWhole}
+use Rattle.scm_runs.proofs.Sizes.{all_short, told_whole}
+use Rattle.scm_replies.specs.Sizes.{AreSmall, HasUuids, config_size, left, name_units, needed_size}
+use Rattle.scm_replies.proofs.Counted.{IsFew}
+use Rattle.scm_replies.proofs.Levels.{HasShortLevels, level_fits, levels_short}
+use Rattle.scm_replies.proofs.Listings.{IsLow, IsShort, dependents_least, found_some, held_some}
+
+-- few services, with short texts and low numbers
+pub record IsWithinLimits (f : Flat) : Type 0 where
+  pub few : length f.services ≤ 512
+  pub short : All IsShort f.services
+  pub whole : All IsToldWhole f.services
+  pub levels : All (λ (row : Service). HasShortLevels row.config) f.services
+  pub low : All IsLow f.services
+  pub uuids : All HasUuids f.services
+
+pub within_limits : (l : Limits) → AreSmall l → (f : Flat) → IsFew l f → f.next.service ≤ 2 ^ 32 → All HasUuids f.services
+    → IsWithinLimits f
+within_limits l small f is next uuids =
+    let services = is.sound.services in
+    record {
+      few = (let few = is.few in let most = small.services in omega (arith, few, most));
+      short = all_short f is.sound;
+      whole = told_whole f is.sound;
+      levels = All-weaker (λ (row : Service). check_new row.config None ≡ 0) (λ (row : Service). HasShortLevels row.config)
+          (λ row e. levels_short row.config e) f.services services.configs;
+      low = All-weaker (λ (row : Service). row.number < f.next.service) IsLow (λ row less. omega (arith, less, next)) f.services
+          services.numbered.below;
+      uuids = uuids;
+    }
+
+-- ## The sizes fit
+
+config_fits : (found : Option Service) → IfSome found IsShort → config_size found < 2 ^ 32
+config_fits None short = omega arith
+config_fits (Some row) short =
+    let path = short.path in
+    let group = short.group in
+    let needs = short.needs in
+    let display = short.display in
+    omega (arith, path, group, needs, display)
+
+level_least : (level : ℕ) (found : Option Service) → IfSome found (λ row. HasShortLevels row.config) → IfSome found HasUuids
+    → length (level_in level found) < 2 ^ 32
+level_least level None short uuids = omega arith
+level_least level (Some row) short uuids = omega (arith, level_fits level row.config short uuids)
+
+principal_fits : (principal : Principal) → lock_size (principal_name principal) < 2 ^ 32
+principal_fits Admin = omega arith
+principal_fits User = omega arith
+
+lock_fits : (f : Flat) (held : Option LockRow) → lock_size (owner_of f held) < 2 ^ 32
+lock_fits f None = omega arith
+lock_fits f (Some row) = principal_fits _
+
+display_fits : (found : Option Service) → IfSome found IsShort → name_units (display_in found) < 2 ^ 32
+display_fits None short = omega arith
+display_fits (Some row) short = (let display = short.display in omega (arith, display))
+
+name_fits : (found : Option Service) → IfSome found IsShort → name_units (name_in found) < 2 ^ 32
+name_fits None short = omega arith
+name_fits (Some row) short = (let name = short.name in omega (arith, name))
+
+enumeration_fits : (n : ℕ) → min 262144 n < 2 ^ 32
+enumeration_fits n = omega arith
+
+pub dependents_fit : (f : Flat) (caller handle states : ℕ) → IsWithinLimits f → listing_size (dependents_by f caller handle states) < 2 ^ 32
+dependents_fit f caller handle states within =
+    let few = within.few in
+    omega (arith, dependents_least f caller handle states within.short, few)
+
+pub fits : (f : Flat) (caller : ℕ) (asked : Request) → IsWithinLimits f → needed_size f caller asked < 2 ^ 32
+fits f caller (request.EnumDependents handle states size) within = dependents_fit f caller handle states within
+fits f caller (request.EnumServices handle kinds states size resume) within =
+    enumeration_fits (listing_size (left f kinds states size resume))
+fits f caller (request.QueryConfig handle size) within =
+    config_fits (held_service f caller handle) (held_some IsShort f caller handle within.short)
+fits f caller (request.QueryLock handle size) within = lock_fits f f.lock
+fits f caller (request.DisplayName handle name size) within =
+    display_fits (named f name) (found_some IsShort (λ (row : Service). same_text row.config.name name) f.services within.short)
+fits f caller (request.KeyName handle display size) within =
+    name_fits (displayed f display) (found_some IsShort (λ (row : Service). same_text row.config.display display) f.services within.short)
+fits f caller (request.QueryConfig2 handle level size) within =
+    level_least level (held_service f caller handle)
+    (held_some (λ (row : Service). HasShortLevels row.config) f caller handle within.levels)
+    (held_some HasUuids f caller handle within.uuids)
+fits f caller (request.QueryStatusEx handle level size) within = omega arith
+fits f caller asked within = omega arith
+
+-- ## So they are returned whole
+
+-- a number that 32 bits hold isn't cut off
+pub held_whole : (n : ℕ) → n < 2 ^ 32 → min (2 ^ 32 - 1) n ≡ n
+held_whole n low = omega (arith, low)
+
+config_whole : (found : Option Service) → IfSome found IsToldWhole → size_in (shown_in found) ≡ config_size found
+config_whole None whole = refl
+config_whole (Some row) whole = whole.config
+
+display_whole : (found : Option Service) → IfSome found IsToldWhole → units_of (display_in found) ≡ name_units (display_in found)
+display_whole None whole = refl
+display_whole (Some row) whole = whole.display
+
+name_whole : (found : Option Service) → IfSome found IsToldWhole → units_of (name_in found) ≡ name_units (name_in found)
+name_whole None whole = refl
+name_whole (Some row) whole = whole.name
+
+pub config_returned : (f : Flat) (caller handle : ℕ) → IsWithinLimits f
+    → size_in (shown_by f caller handle) ≡ config_size (held_service f caller handle)
+config_returned f caller handle within = config_whole (held_service f caller handle) (held_some IsToldWhole f caller handle within.whole)
+
+pub display_returned : (f : Flat) (name : List ℕ) → IsWithinLimits f
+    → units_of (display_by_name f name) ≡ name_units (display_by_name f name)
+display_returned f name within =
+    display_whole (named f name) (found_some IsToldWhole (λ (row : Service). same_text row.config.name name) f.services within.whole)
+
+pub name_returned : (f : Flat) (display : List ℕ) → IsWithinLimits f
+    → units_of (name_by_display f display) ≡ name_units (name_by_display f display)
+name_returned f display within =
+    name_whole (displayed f display)
+    (found_some IsToldWhole (λ (row : Service). same_text row.config.display display) f.services within.whole)
