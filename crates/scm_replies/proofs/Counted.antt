@@ -1,5 +1,5 @@
 -- How many services stand, and how many numbers of services were given.
-use Rattle.std.proofs.Common.{ℕ, ◌≡◌, ◌≤◌, ◌<◌, ◌+◌, ◌==◌, ◌||◌, Bool, true, false, not, cond, IsTrue, List, [], ◌∷◌, ◌++◌, length, length-append, ap, refl, subst, sym, arith}
+use Rattle.std.proofs.Common.{ℕ, ◌≡◌, ◌≤◌, ◌<◌, ◌+◌, not, IsTrue, List, [], ◌∷◌, length, length-append, ap, refl, arith}
 use Rattle.std.specs.Prelude.{nat_le}
 use Rattle.std.proofs.lemmas.Bool.{leb-false, or_parts}
 use Rattle.std.proofs.lemmas.List.{length-map}
@@ -20,7 +20,7 @@ use Rattle.scm_model.specs.Rows.{held_by, held_service}
 use Rattle.scm_rules.specs.Create.{create_refusals, create_verdict}
 use Rattle.scm_rules.specs.Failures.{failed_by}
 use Rattle.scm_rules.specs.Launches.{current_of}
-use Rattle.scm_rules.specs.Opening.{IsOpening, services_from}
+use Rattle.scm_rules.specs.Opening.{IsOpening}
 use Rattle.scm_rules.specs.Runs.{run_state}
 use Rattle.scm_rules.specs.Steps.{at_moment, effect_of, may, step_of}
 use Rattle.scm_rules.specs.Verdicts.{call_of, done_of, told_refused, verdict}

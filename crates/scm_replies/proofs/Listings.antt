@@ -9,7 +9,7 @@ use Rattle.scm_model.specs.declared.flat.Opened.{Opened}
 use Rattle.scm_model.specs.declared.flat.Service.{Service}
 use Rattle.scm_model.specs.Rows.{held_service, opened, service_of}
 use Rattle.service_listing.specs.Layout.{listing_size, size_of}
-use Rattle.service_listing.specs.Pages.{left_of, page_in}
+use Rattle.service_listing.specs.Pages.{page_in}
 use Rattle.scm_rules.specs.EnumDependents.{dependents_by, is_in_states, listed_for, services_of, stop_order}
 use Rattle.scm_rules.specs.EnumServices.{last_number}
 use Rattle.scm_runs.proofs.Lists.{found_has}

@@ -1,5 +1,5 @@
 -- Within the limits 32 bits hold every size that is needed, so it is returned as it is.
-use Rattle.std.proofs.Common.{ℕ, ◌≡◌, ◌<◌, ◌≤◌, ◌^◌, ◌-◌, List, [], ◌∷◌, Option, None, Some, length, refl, arith}
+use Rattle.std.proofs.Common.{ℕ, ◌≡◌, ◌<◌, ◌≤◌, ◌^◌, ◌-◌, List, Option, None, Some, length, refl, arith}
 use Rattle.std.specs.Prelude.{All, IfSome, min}
 use Rattle.std.proofs.lemmas.List.Elements.{All-weaker}
 use Rattle.scm_text.specs.Fold.{same_text}
