@@ -92,7 +92,8 @@ created_few l f caller new append e =
     let p = all_pass (create_refusals l f caller new append)
     (refl, (refl, (refl, (refl, (refl, (refl, (refl, (refl, (refl, (refl, (refl, tt))))))))))) e in
     let quota = p.1.1.1.1.1.1.1.1.1.0 in
-    leb-false l.services (length f.services) (or_parts (nat_le l.services (length f.services)) (nat_le l.handles (held_by f caller)) quota).0
+    leb-false l.services (length f.services)
+    (or_parts (nat_le l.services (length f.services)) (nat_le l.handles (held_by f caller)) quota).0
 
 -- as many services as may be
 abbrev pub AreFew : Limits → Flat → Type 0

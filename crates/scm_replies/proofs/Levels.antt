@@ -1,4 +1,4 @@
--- No level of a configuration that is accepted has more bytes than may be asked for.
+-- No level of a configuration that is accepted is longer than its actions with their command.
 use Rattle.std.proofs.Common.{ℕ, ◌≡◌, ◌≤◌, ◌==◌, ◌||◌, Bool, true, false, cond, List, [], ◌∷◌, Option, None, Some, length, refl, arith, ltb-false}
 use Rattle.std.specs.Prelude.{nat_lt, unwrap_or}
 use Rattle.std.specs.List.{AllByRecursion, list_any}
@@ -47,9 +47,9 @@ some_text_least : (text : List ℕ) → length text ≤ 2048 → some_text_size 
 some_text_least text short =
     elim (length text == 0) as (λ b. cond b 0 (text_size text) ≤ 4098) [ true ↦ omega arith | false ↦ omega (arith, short) ]
 
--- at most as many bytes as the size of a query may be
+-- at most 20 bytes, 64 actions of 8 bytes, and a command of 2,048 units with its zero
 abbrev Fits : Option (List ℕ) → Type 0
-Fits level = length (unwrap_or level []) ≤ 8192
+Fits level = length (unwrap_or level []) ≤ 4630
 
 either : (b : Bool) (one other : Option (List ℕ)) → Fits one → Fits other → Fits (cond b one other)
 either true one other fits rest = fits
@@ -72,7 +72,7 @@ triggers_fit : (config : Config) → HasShortLevels config → AllByRecursion Ha
 triggers_fit config short uuids = (let triggers = short.triggers in omega (arith, levels_sized.triggers config.triggers uuids, triggers))
 
 pub level_fits : (level : ℕ) (config : Config) → HasShortLevels config → AllByRecursion HasUuid config.triggers
-    → length (unwrap_or (level_bytes level config) []) ≤ 8192
+    → length (unwrap_or (level_bytes level config) []) ≤ 4630
 level_fits level config short uuids =
     either (level == 1) _ _ (description_fits config short)
     (either (level == 2) _ _ (failure_fits config short)

@@ -21,7 +21,7 @@ use Rattle.scm_rules.specs.QueryConfig.{shown_by, shown_in, size_in}
 use Rattle.scm_rules.specs.QueryConfig2.{level_in}
 use Rattle.scm_runs.specs.Sizes.{IsToldWhole}
 use Rattle.scm_runs.proofs.Sizes.{all_short, told_whole}
-use Rattle.scm_replies.specs.Sizes.{AreSmall, HasUuids, config_size, left, name_units, needed_size}
+use Rattle.scm_replies.specs.Sizes.{AreSmall, HasUuids, config_size, greatest_size, left, name_units, needed_size}
 use Rattle.scm_replies.proofs.Counted.{IsFew}
 use Rattle.scm_replies.proofs.Levels.{HasShortLevels, level_fits, levels_short}
 use Rattle.scm_replies.proofs.Listings.{IsLow, IsShort, dependents_least, found_some, held_some}
@@ -50,11 +50,11 @@ within_limits l small f is next uuids =
       uuids = uuids;
     }
 
--- ## The sizes fit
+-- ## How great the sizes are
 
-config_fits : (found : Option Service) → IfSome found IsShort → config_size found < 2 ^ 32
-config_fits None short = omega arith
-config_fits (Some row) short =
+config_least : (found : Option Service) → IfSome found IsShort → config_size found ≤ 269380
+config_least None short = omega arith
+config_least (Some row) short =
     let path = short.path in
     let group = short.group in
     let needs = short.needs in
@@ -62,51 +62,69 @@ config_fits (Some row) short =
     omega (arith, path, group, needs, display)
 
 level_least : (level : ℕ) (found : Option Service) → IfSome found (λ row. HasShortLevels row.config) → IfSome found HasUuids
-    → length (level_in level found) < 2 ^ 32
+    → length (level_in level found) ≤ 4630
 level_least level None short uuids = omega arith
-level_least level (Some row) short uuids = omega (arith, level_fits level row.config short uuids)
+level_least level (Some row) short uuids = level_fits level row.config short uuids
 
-principal_fits : (principal : Principal) → lock_size (principal_name principal) < 2 ^ 32
-principal_fits Admin = omega arith
-principal_fits User = omega arith
+principal_least : (principal : Principal) → lock_size (principal_name principal) ≤ 24
+principal_least Admin = omega arith
+principal_least User = omega arith
 
-lock_fits : (f : Flat) (held : Option LockRow) → lock_size (owner_of f held) < 2 ^ 32
-lock_fits f None = omega arith
-lock_fits f (Some row) = principal_fits _
+lock_least : (f : Flat) (held : Option LockRow) → lock_size (owner_of f held) ≤ 24
+lock_least f None = omega arith
+lock_least f (Some row) = principal_least _
 
-display_fits : (found : Option Service) → IfSome found IsShort → name_units (display_in found) < 2 ^ 32
-display_fits None short = omega arith
-display_fits (Some row) short = (let display = short.display in omega (arith, display))
+display_least : (found : Option Service) → IfSome found IsShort → name_units (display_in found) ≤ 256
+display_least None short = omega arith
+display_least (Some row) short = short.display
 
-name_fits : (found : Option Service) → IfSome found IsShort → name_units (name_in found) < 2 ^ 32
-name_fits None short = omega arith
-name_fits (Some row) short = (let name = short.name in omega (arith, name))
+name_least : (found : Option Service) → IfSome found IsShort → name_units (name_in found) ≤ 256
+name_least None short = omega arith
+name_least (Some row) short = short.name
 
-enumeration_fits : (n : ℕ) → min 262144 n < 2 ^ 32
-enumeration_fits n = omega arith
+enumeration_least : (n : ℕ) → min 262144 n ≤ 262144
+enumeration_least n = omega arith
 
-pub dependents_fit : (f : Flat) (caller handle states : ℕ) → IsWithinLimits f → listing_size (dependents_by f caller handle states) < 2 ^ 32
-dependents_fit f caller handle states within =
+few_dependents_least : (f : Flat) (caller handle states : ℕ) → IsWithinLimits f
+    → listing_size (dependents_by f caller handle states) ≤ 544768
+few_dependents_least f caller handle states within =
     let few = within.few in
     omega (arith, dependents_least f caller handle states within.short, few)
 
-pub fits : (f : Flat) (caller : ℕ) (asked : Request) → IsWithinLimits f → needed_size f caller asked < 2 ^ 32
-fits f caller (request.EnumDependents handle states size) within = dependents_fit f caller handle states within
-fits f caller (request.EnumServices handle kinds states size resume) within =
-    enumeration_fits (listing_size (left f kinds states size resume))
-fits f caller (request.QueryConfig handle size) within =
-    config_fits (held_service f caller handle) (held_some IsShort f caller handle within.short)
-fits f caller (request.QueryLock handle size) within = lock_fits f f.lock
-fits f caller (request.DisplayName handle name size) within =
-    display_fits (named f name) (found_some IsShort (λ (row : Service). same_text row.config.name name) f.services within.short)
-fits f caller (request.KeyName handle display size) within =
-    name_fits (displayed f display) (found_some IsShort (λ (row : Service). same_text row.config.display display) f.services within.short)
-fits f caller (request.QueryConfig2 handle level size) within =
+pub greatest : (f : Flat) (caller : ℕ) (asked : Request) → IsWithinLimits f → needed_size f caller asked ≤ greatest_size asked
+greatest f caller (request.EnumDependents handle states size) within = few_dependents_least f caller handle states within
+greatest f caller (request.EnumServices handle kinds states size resume) within =
+    enumeration_least (listing_size (left f kinds states size resume))
+greatest f caller (request.QueryConfig handle size) within =
+    config_least (held_service f caller handle) (held_some IsShort f caller handle within.short)
+greatest f caller (request.QueryLock handle size) within = lock_least f f.lock
+greatest f caller (request.DisplayName handle name size) within =
+    display_least (named f name) (found_some IsShort (λ (row : Service). same_text row.config.name name) f.services within.short)
+greatest f caller (request.KeyName handle display size) within =
+    name_least (displayed f display) (found_some IsShort (λ (row : Service). same_text row.config.display display) f.services within.short)
+greatest f caller (request.QueryConfig2 handle level size) within =
     level_least level (held_service f caller handle)
     (held_some (λ (row : Service). HasShortLevels row.config) f caller handle within.levels)
     (held_some HasUuids f caller handle within.uuids)
-fits f caller (request.QueryStatusEx handle level size) within = omega arith
-fits f caller asked within = omega arith
+greatest f caller (request.QueryStatusEx handle level size) within = omega arith
+greatest f caller asked within = omega arith
+
+pub fits : (asked : Request) → greatest_size asked < 2 ^ 32
+fits (request.EnumDependents handle states size) = omega arith
+fits (request.EnumServices handle kinds states size resume) = enumeration_held 262144 (omega arith)
+  where
+    enumeration_held : (n : ℕ) → n ≤ 262144 → n < 2 ^ 32
+    enumeration_held n most = omega (arith, most)
+fits (request.QueryConfig handle size) = omega arith
+fits (request.QueryLock handle size) = omega arith
+fits (request.DisplayName handle name size) = omega arith
+fits (request.KeyName handle display size) = omega arith
+fits (request.QueryConfig2 handle level size) = omega arith
+fits (request.QueryStatusEx handle level size) = omega arith
+fits asked = omega arith
+
+pub held : (f : Flat) (caller : ℕ) (asked : Request) → IsWithinLimits f → needed_size f caller asked < 2 ^ 32
+held f caller asked within = omega (arith, greatest f caller asked within, fits asked)
 
 -- ## So they are returned whole
 

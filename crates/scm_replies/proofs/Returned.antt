@@ -41,7 +41,7 @@ use Rattle.scm_replies.specs.Replies.{reply_code}
 use Rattle.scm_replies.specs.Sizes.{AnswerReturnsSizes, AreSmall, HasUuids, LawOfNeededSizes, ReturnsSizes, StepReturnsSizes, config_size, name_units, needed_size, reply_resume, reply_size, resume_index, returns_size}
 use Rattle.scm_replies.proofs.Counted.{IsFew, next_begun, next_run}
 use Rattle.scm_replies.proofs.Listings.{IsLow, all_paged, listing_least, resume_whole}
-use Rattle.scm_replies.proofs.Needed.{IsWithinLimits, config_returned, dependents_fit, display_returned, fits, held_whole, name_returned, within_limits}
+use Rattle.scm_replies.proofs.Needed.{IsWithinLimits, config_returned, display_returned, fits, greatest, held, held_whole, name_returned, within_limits}
 
 abbrev ReturnsSize : Flat → ℕ → Request → Reply → Type 0
 ReturnsSize f caller asked told = reply_size told ≡ cond (returns_size asked (reply_code told)) (needed_size f caller asked) 0
@@ -87,7 +87,7 @@ size_refused : (f : Flat) (caller : ℕ) (asked : Request) (code : ℕ) → IsWi
     → ReturnsSize f caller asked (told_refused f caller asked code)
 size_refused f caller (request.EnumDependents handle states size) code within some =
     let rows = dependents_by f caller handle states in
-    ap (λ n. cond (code == 234) n 0) (held_whole (listing_size rows) (dependents_fit f caller handle states within))
+    ap (λ n. cond (code == 234) n 0) (held_whole (listing_size rows) (held f caller (request.EnumDependents handle states size) within))
 size_refused f caller (request.EnumServices handle kinds states size resume) code within some =
     page_size f caller handle kinds states size resume code
 size_refused f caller (request.QueryConfig handle size) code within some =
@@ -101,7 +101,7 @@ size_refused f caller (request.KeyName handle display size) code within some =
     refused_size code (units_of (name_by_display f display)) (name_units (name_by_display f display)) some (name_returned f display within)
 size_refused f caller (request.QueryConfig2 handle level size) code within some =
     let bytes = level_by f caller handle level in
-    ap (λ n. cond (code == 122) n 0) (held_whole (length bytes) (fits f caller (request.QueryConfig2 handle level size) within))
+    ap (λ n. cond (code == 122) n 0) (held_whole (length bytes) (held f caller (request.QueryConfig2 handle level size) within))
 size_refused f caller (request.QueryStatusEx handle level size) code within some = refl
 size_refused f caller asked code within some = no_size (code == 0 || code == 122)
 
@@ -145,7 +145,8 @@ returns_sizes : (f : Flat) (caller : ℕ) (asked : Request) (told : Reply) → I
     → ReturnsIndex f asked told → ReturnsSizes f caller asked told
 returns_sizes f caller asked told within size resume = record {
   size = size;
-  fits = fits f caller asked within;
+  greatest = greatest f caller asked within;
+  fits = fits asked;
   resume = resume;
   numbers = within.low;
   ranges = λ few. omega (arith, listing_least f.services within.short, few);
@@ -187,7 +188,7 @@ moved f moment is =
 returned_then : (f : Flat) (moment caller : ℕ) (asked : Request) (told : Reply) → ReturnsSizes (with_moment f moment) caller asked told
     → ReturnsSizes f caller asked told
 returned_then f moment caller asked told is =
-    record { size = is.size; fits = is.fits; resume = is.resume; numbers = is.numbers; ranges = is.ranges }
+    record { size = is.size; greatest = is.greatest; fits = is.fits; resume = is.resume; numbers = is.numbers; ranges = is.ranges }
 
 of_asked : (l : Limits) (f : Flat) (moment caller : ℕ) (asked : Request) (append : Kept) → IsWithinLimits f
     → AnswerReturnsSizes f caller asked (step_of l f moment (Call caller asked append)).answer

@@ -1,5 +1,5 @@
 -- The sizes that replies return, and what they are the sizes of.
-use Rattle.std.specs.Prelude.{ℕ, Bool, ◌≡◌, ◌<◌, ◌≤◌, ◌^◌, ◌==◌, ◌||◌, All, IfSome, List, [], ◌∷◌, Option, None, Some, length, min, option_map, if◌then◌else◌}
+use Rattle.std.specs.Prelude.{ℕ, Bool, ◌≡◌, ◌<◌, ◌≤◌, ◌^◌, ◌+◌, ◌*◌, ◌==◌, ◌||◌, All, IfSome, List, [], ◌∷◌, Option, None, Some, length, min, option_map, if◌then◌else◌}
 use Rattle.std.specs.List.{AllByRecursion}
 use Rattle.scm_model.specs.declared.codes.TheConstants.{ERROR_INSUFFICIENT_BUFFER, ERROR_MORE_DATA, MAX_ENUM_SIZE}
 use Rattle.scm_model.specs.declared.flat.Flat.{Flat}
@@ -83,6 +83,20 @@ needed_size f caller (request.QueryConfig2 handle level size) = length (level_by
 needed_size f caller (request.QueryStatusEx handle level size) = 36
 needed_size f caller asked = 0
 
+-- the greatest size of what each call may ask for. Of 512 services: a record of 36 bytes and two names of 256 units, each with a zero. Of a
+-- configuration: a path, a group, 512 needs, each a name after + and before /, the account and a display name. Of its levels: the actions
+-- after a failure, with their command
+abbrev pub greatest_size : Request → ℕ
+greatest_size (request.EnumDependents handle states size) = 512 * (36 + 2 * 257 + 2 * 257)
+greatest_size (request.EnumServices handle kinds states size resume) = MAX_ENUM_SIZE
+greatest_size (request.QueryConfig handle size) = 36 + 2 * 2049 + 2 * 257 + 2 * (512 * 258 + 1) + 2 * 12 + 2 * 257
+greatest_size (request.QueryLock handle size) = 12 + 2 * 6
+greatest_size (request.DisplayName handle name size) = 256
+greatest_size (request.KeyName handle display size) = 256
+greatest_size (request.QueryConfig2 handle level size) = 20 + 8 * 64 + 2 * 2049
+greatest_size (request.QueryStatusEx handle level size) = 36
+greatest_size asked = 0
+
 -- the number of the last of some services, or another if there is none
 abbrev pub number_of_last : ℕ → List Service → ℕ
 number_of_last none [] = none
@@ -130,7 +144,8 @@ pub record HaveUuids (f : Flat) (es : List Entry) : Type 0 where
 -- cut off. What an enumeration leaves of 246 services is in the range of its parameter.
 pub record ReturnsSizes (f : Flat) (caller : ℕ) (asked : Request) (told : Reply) : Type 0 where
   pub size : reply_size told ≡ (if returns_size asked (reply_code told) then needed_size f caller asked else 0)
-  pub fits : needed_size f caller asked < 2 ^ 32
+  pub greatest : needed_size f caller asked ≤ greatest_size asked
+  pub fits : greatest_size asked < 2 ^ 32
   pub resume : reply_resume told ≡ resume_index f asked (reply_code told)
   pub numbers : All (λ (row : Service). row.number < 2 ^ 32) f.services
   pub ranges : length f.services ≤ 246 → listing_size f.services ≤ MAX_ENUM_SIZE

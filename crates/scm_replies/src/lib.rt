@@ -24,9 +24,9 @@ pub fn law_of_replies(limits: &Limits, steps: &Items<(u64, Step)>, opening: &Fla
 
 /// The law of needed sizes: within the limits, each size that a reply to a call returns is the size
 /// of what the call asks for, in bytes or in units of a name, and the resume index of an enumeration
-/// is the number of the last service returned: none reaches the greatest number of 32 bits, at which
-/// it would be cut off. What an enumeration leaves is returned up to 262,144 bytes, the range of
-/// `pcbBytesNeeded` (MS-SCMR); up to 246 services never take more, whatever their names.
+/// is the number of the last service returned. 32 bits hold them all, so none is cut off; how great
+/// the size of each call may be is told, too. What an enumeration leaves is returned up to 262,144
+/// bytes, the range of `pcbBytesNeeded` (MS-SCMR): 512 services may leave 544,768, 246 never more.
 pub fn law_of_needed_sizes(limits: &Limits, steps: &Items<(u64, Step)>, opening: &Flat)
     requires begins { IsOpening limits.now opening.now }
     requires legal { Legal limits.now opening.now steps.now }
