@@ -43,11 +43,14 @@ opened configs begins = begins.under places (omega arith)
 abbrev pub HasOtherName : Config → Config → Type 0
 HasOtherName a b = same_text a.name b.name ≡ false
 
-abbrev HasOtherDisplay : Config → Config → Type 0
+abbrev pub HasOtherDisplay : Config → Config → Type 0
 HasOtherDisplay a b = same_text a.display b.display ≡ false
 
 pub names_apart : (configs : List Config) → CanBegin configs → AllPairs HasOtherName configs
 names_apart configs begins = (opened configs begins).names
+
+pub displays_apart : (configs : List Config) → CanBegin configs → AllPairs HasOtherDisplay configs
+displays_apart configs begins = (opened configs begins).displays
 
 or_none : (a b : Bool) → (a || b) ≡ false → (a ≡ false) × (b ≡ false)
 or_none true b h = absurd cc

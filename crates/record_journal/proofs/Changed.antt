@@ -1,5 +1,5 @@
 -- A journal with a changed byte is read with all its bytes, or not at all.
-use Rattle.std.proofs.Common.{ℕ, zero, suc, ◌≡◌, ◌∙◌, ◌<◌, ◌≤◌, ◌-◌, ◌+◌, not, true, false, cond, List, [], ◌∷◌, ◌++◌, Option, None, Some, Ok, Err, take, drop, set, length, append_assoc, refl, sym, ap, subst, arith, nat_lt, le-ltb, eqb, ⊎_elim}
+use Rattle.std.proofs.Common.{ℕ, zero, suc, ◌≡◌, ◌∙◌, ◌<◌, ◌≤◌, ◌-◌, not, true, false, cond, List, [], ◌∷◌, ◌++◌, Option, None, Some, Ok, Err, take, drop, set, length, append_assoc, refl, sym, ap, subst, arith, nat_lt, le-ltb, eqb, ⊎_elim}
 use Rattle.std.specs.Prelude.{Result, is_ok, option_and_then, option_map}
 use Rattle.std.specs.Int.{w32, from_le_bytes}
 use Rattle.std.specs.List.{flat_map, starts_with}

@@ -7,6 +7,7 @@ pub mod Readers
 pub mod Parts
 pub mod Changed
 pub mod Begins
+pub mod ByName
 pub mod Told
 pub mod Turns
 pub mod Back

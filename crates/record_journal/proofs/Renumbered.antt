@@ -2,7 +2,7 @@
 use Rattle.std.proofs.Common.{ℕ, suc, ◌≡◌, ◌∙◌, ◌<◌, ◌≤◌, ◌+◌, ◌==◌, ◌||◌, Bool, true, false, cond, List, [], ◌∷◌, None, Some, filter, find, map, refl, sym, ap, subst, arith, eqb, eqb-true, eq-eqb, ne_eqb}
 use Rattle.std.specs.Prelude.{All, AllPairs}
 use Rattle.std.specs.List.{AllZip}
-use Rattle.std.proofs.lemmas.List.Elements.{All-cons, All-head, All-nil, All-tail, All-weaker}
+use Rattle.std.proofs.lemmas.List.Elements.{All-cons, All-from_recursion, All-head, All-nil, All-tail, All-weaker}
 use Rattle.std.proofs.lemmas.List.Folds.{list_any-append}
 use Rattle.std.proofs.lemmas.List.Kept.{AllPairs-cons, AllPairs-filter}
 use Rattle.scm_model.specs.declared.flat.Config.{Config}
@@ -11,12 +11,18 @@ use Rattle.scm_model.specs.declared.flat.NeedRow.{NeedRow}
 use Rattle.scm_model.specs.declared.flat.Service.{Service}
 use Rattle.scm_model.specs.Changes.{new_service}
 use Rattle.scm_model.specs.Needs.{has, is_met, met_by, met_by_all, row_needs, needs_of, numbers_of}
+use Rattle.scm_model.specs.Order.{is_cyclic}
 use Rattle.scm_model.specs.Walks.{IsWalk, Needs}
+use Rattle.dependency_index.proofs.Cycles.{acyclic_ends, cyclic_is, ends_acyclic}
 use Rattle.dependency_index.proofs.Lists.{or_right}
+use Rattle.record_table.specs.Recorded.{number_of}
+use Rattle.row_slab.specs.Rowed.{AreRisingBy}
 use Rattle.scm_rules.specs.Create.{new_status}
 use Rattle.scm_rules.specs.Needs.{need_row, need_rows}
 use Rattle.scm_rules.specs.Opening.{services_from}
 use Rattle.scm_rules.proofs.Needed.{HasNoCycle, fewer}
+use Rattle.record_journal.specs.Entries.{needs_in}
+use Rattle.record_journal.specs.Services.{configs_of}
 
 -- ## Another number for each
 
@@ -163,3 +169,40 @@ fewer_configs p configs free =
     renumbered (services_from 1 (filter p configs)) kept (filter_alike p 1 1 configs) (rising_from 1 (filter p configs))
     (AllPairs-filter (λ (a b : Service). a.number < b.number) (λ (row : Service). p row.config) (services_from 1 configs) (rising_from 1 configs))
     (fewer (λ (row : Service). p row.config) (services_from 1 configs) (rising_from 1 configs) free)
+
+-- ## Services and their configurations
+
+other_way : (ys xs : List Service) → AreAlike ys xs → AreAlike xs ys
+other_way [] [] alike = tt
+other_way [] (x ∷ xs) alike = absurd alike
+other_way (y ∷ ys) [] alike = absurd alike
+other_way (y ∷ ys) (x ∷ xs) alike = (sym alike.0, other_way ys xs alike.1)
+
+alike_from : (first : ℕ) (rows : List Service) → AreAlike (services_from first (configs_of rows)) rows
+alike_from first [] = tt
+alike_from first (row ∷ rows) = (refl, alike_from (first + 1) rows)
+
+rising_pairs : (rows : List Service) → AreRisingBy number_of rows → AllPairs (λ (a b : Service). a.number < b.number) rows
+rising_pairs [] rising = λ i j d lt within. absurd (omega (arith, within))
+rising_pairs (row ∷ rows) rising =
+    AllPairs-cons (λ (a b : Service). a.number < b.number) row rows
+    (All-from_recursion (λ (other : Service). row.number < other.number) rows rising.0) (rising_pairs rows rising.1)
+
+-- services have a cycle no more than their configurations, which are numbered from 1
+pub free_rows : (rows : List Service) → AreRisingBy number_of rows → HasNoCycle (services_from 1 (configs_of rows)) → HasNoCycle rows
+free_rows rows rising =
+    renumbered rows (services_from 1 (configs_of rows)) (other_way (services_from 1 (configs_of rows)) rows (alike_from 1 rows))
+    (rising_pairs rows rising) (rising_from 1 (configs_of rows))
+
+-- nor less
+free_configs : (rows : List Service) → AreRisingBy number_of rows → HasNoCycle rows → HasNoCycle (services_from 1 (configs_of rows))
+free_configs rows rising =
+    renumbered (services_from 1 (configs_of rows)) rows (alike_from 1 rows) (rising_from 1 (configs_of rows)) (rising_pairs rows rising)
+
+pub same_cycles : (rows : List Service) → AreRisingBy number_of rows → is_cyclic (need_rows rows) ≡ is_cyclic (needs_in (configs_of rows))
+same_cycles rows rising =
+    elim (is_cyclic (needs_in (configs_of rows))) as (λ b. is_cyclic (needs_in (configs_of rows)) ≡ b → is_cyclic (need_rows rows) ≡ b) [
+      | true ↦ λ e. cyclic_is (need_rows rows)
+          (λ free. absurd (let none = acyclic_ends (needs_in (configs_of rows)) (free_configs rows rising free) in cc))
+      | false ↦ λ e. acyclic_ends (need_rows rows) (free_rows rows rising (ends_acyclic (needs_in (configs_of rows)) e))
+    ] refl

@@ -1,144 +1,104 @@
--- The needs of configurations, which are numbered in order.
-use Rattle.std.proofs.Common.{ℕ, zero, suc, ◌≡◌, ◌∙◌, ◌<◌, ◌≤◌, ◌+◌, ◌-◌, ◌==◌, true, false, Option, find, List, [], ◌∷◌, ◌++◌, None, Some, get_or, length, map, set, refl, sym, ap, subst, arith, eqb, eq-eqb, ne_eqb}
-use Rattle.std.specs.Prelude.{option_map, slice_get}
-use Rattle.std.proofs.lemmas.List.{append-nil}
-use Rattle.scm_model.specs.declared.flat.Config.{Config}
+-- Services as the rows of their needs.
+use Rattle.std.proofs.Common.{Bor, ℕ, ◌≡◌, ◌∙◌, ◌<◌, ◌==◌, ◌||◌, true, false, cond, List, [], ◌∷◌, None, Some, is_some, filter, find, map, length, refl, sym, ap, eqb, eqb-true, eq-eqb, ne_eqb}
+use Rattle.std.specs.Prelude.{Bool, Option, option_and_then, option_copied, option_map, slice_get}
+use Rattle.std.specs.List.{AllByRecursion}
+use Rattle.std.proofs.lemmas.List.{length-map}
+use Rattle.std.proofs.lemmas.Option.{slice_get-map}
+use Rattle.scm_model.specs.declared.flat.Need.{Need}
+use Rattle.scm_model.specs.declared.flat.Need.TheVariants as kinds
 use Rattle.scm_model.specs.declared.flat.NeedRow.{NeedRow}
-use Rattle.scm_model.specs.Needs.{has, instead, numbers_of, row_needs, with_row}
-use Rattle.dependency_index.proofs.Lists.{or_right}
-use Rattle.dependency_index.proofs.Once.{push_is}
-use Rattle.scm_rules.specs.Needs.{need_row_of, need_rows}
-use Rattle.scm_rules.specs.Opening.{services_from}
-use Rattle.record_journal.specs.Entries.{needs_in}
+use Rattle.scm_model.specs.declared.flat.Service.{Service}
+use Rattle.scm_model.specs.Needs.{has, is_met, numbers_of, row_needs}
+use Rattle.dependency_index.specs.Met.{IsListOf}
+use Rattle.dependency_index.specs.Needs.{number_if_met}
+use Rattle.row_slab.specs.Rowed.{AreRisingBy}
+use Rattle.record_table.specs.Recorded.{has_number, is_member, is_named, number_of, numbers_with}
+use Rattle.scm_rules.specs.Needs.{need_row, need_rows}
 
-row_from : (first : ℕ) (configs : List Config) (i : ℕ) (config : Config) → i < length configs → config ≡ get_or configs i config
-    → slice_get (need_rows (services_from first configs)) i ≡ Some (need_row_of (first + i) config)
-row_from first [] i config within is = absurd (omega (arith, within))
-row_from first (c ∷ configs) zero config within is = ap (λ (x : Config). Some (need_row_of first x)) (sym is) ∙ ap (λ n. Some (need_row_of n config)) (omega arith)
-row_from first (c ∷ configs) (suc i) config within is =
-    row_from (first + 1) configs i config (omega (arith, within)) is ∙ ap (λ n. Some (need_row_of n config)) (omega arith)
+pub size_is : (rows : List Service) → length (need_rows rows) ≡ length rows
+size_is rows = length-map rows need_row
 
-size_from : (first : ℕ) (configs : List Config) → length (need_rows (services_from first configs)) ≡ length configs
-size_from first [] = refl
-size_from first (c ∷ configs) = ap suc (size_from (first + 1) configs)
+-- ## The row at a place
 
--- the row at a place is that of the configuration there
-pub row_at : (configs : List Config) (i : ℕ) (config : Config) → i < length configs → config ≡ get_or configs i config → slice_get (needs_in configs) i ≡ Some (need_row_of (i + 1) config)
-row_at configs i config within is = row_from 1 configs i config within is ∙ ap (λ n. Some (need_row_of n config)) (omega arith)
+row_at : (rows : List Service) (i : ℕ) (o : Option Service) → o ≡ slice_get rows i → slice_get (need_rows rows) i ≡ option_map need_row o
+row_at rows i o is = slice_get-map need_row rows i ∙ ap (option_map need_row) (sym is)
 
-past_from : (first : ℕ) (configs : List Config) (i : ℕ) → length configs ≤ i → slice_get (need_rows (services_from first configs)) i ≡ None
-past_from first [] i past = refl
-past_from first (c ∷ configs) zero past = absurd (omega (arith, past))
-past_from first (c ∷ configs) (suc i) past = past_from (first + 1) configs i (omega (arith, past))
+pub number_there : (rows : List Service) (i : ℕ) (o : Option Service) → o ≡ slice_get rows i
+    → option_map number_of o ≡ option_map (λ (row : NeedRow). row.number) (slice_get (need_rows rows) i)
+number_there rows i None is = sym (ap (option_map (λ (row : NeedRow). row.number)) (row_at rows i None is))
+number_there rows i (Some row) is = sym (ap (option_map (λ (r : NeedRow). r.number)) (row_at rows i (Some row) is))
 
--- behind them there is none
-pub row_past : (configs : List Config) (i : ℕ) → length configs ≤ i → slice_get (needs_in configs) i ≡ None
-row_past = past_from 1
+pub met_there : (need : Need) (rows : List Service) (i : ℕ) (row : Service) → Some row ≡ slice_get rows i
+    → number_if_met need (need_row row) ≡ option_and_then (number_if_met need) (slice_get (need_rows rows) i)
+met_there need rows i row is = sym (ap (option_and_then (number_if_met need)) (row_at rows i (Some row) is))
 
-pub size_is : (configs : List Config) → length (needs_in configs) ≡ length configs
-size_is configs = size_from 1 configs
-
-number_from : (first i : ℕ) (configs : List Config) → i < length configs → option_map (λ (row : NeedRow). row.number) (slice_get (need_rows (services_from first configs)) i) ≡ Some (first + i)
-number_from first i [] lt = absurd (omega (arith, lt))
-number_from first zero (c ∷ configs) lt = ap (λ n. Some n) (omega arith)
-number_from first (suc i) (c ∷ configs) lt = number_from (first + 1) i configs (omega (arith, lt)) ∙ ap (λ n. Some n) (omega arith)
-
-pub number_is : (configs : List Config) (i : ℕ) → i < length configs → Some (i + 1) ≡ option_map (λ (row : NeedRow). row.number) (slice_get (needs_in configs) i)
-number_is configs i lt = sym (number_from 1 i configs lt ∙ ap (λ n. Some n) (omega arith))
-
--- ## One configuration more, or another
-
-abbrev rows_from : ℕ → List Config → List NeedRow
-rows_from first configs = need_rows (services_from first configs)
-
-fresh_from : (first n : ℕ) (configs : List Config) → first + length configs ≤ n → has (numbers_of (rows_from first configs)) n ≡ false
-fresh_from first n [] le = refl
-fresh_from first n (c ∷ configs) le = rw (ne_eqb n first (λ e. absurd (omega (arith, e, le)))) (fresh_from (first + 1) n configs (omega (arith, le)))
-
-last_from : (first : ℕ) (configs : List Config) (config : Config) → rows_from first (configs ++ config ∷ []) ≡ rows_from first configs ++ need_row_of (first + length configs) config ∷ []
-last_from first [] config = ap (λ n. need_row_of n config ∷ []) (omega arith)
-last_from first (c ∷ configs) config =
-    ap (λ (rows : List NeedRow). need_row_of first c ∷ rows) (last_from (first + 1) configs config)
-    ∙ ap (λ n. need_row_of first c ∷ rows_from (first + 1) configs ++ need_row_of n config ∷ []) (omega arith)
-
-pub put_last : (configs : List Config) (config : Config) → with_row (needs_in configs) (need_row_of (length configs + 1) config) ≡ needs_in (configs ++ config ∷ [])
-put_last configs config =
-    sym (push_is (needs_in configs) (need_row_of (length configs + 1) config) (fresh_from 1 (length configs + 1) configs (omega arith)))
-    ∙ ap (λ n. needs_in configs ++ need_row_of n config ∷ []) (omega arith)
-    ∙ sym (last_from 1 configs config)
-
-listed_from : (first i : ℕ) (configs : List Config) → i < length configs → has (numbers_of (rows_from first configs)) (first + i) ≡ true
-listed_from first i [] lt = absurd (omega (arith, lt))
-listed_from first zero (c ∷ configs) lt = rw (eq-eqb (first + 0) first (omega arith)) refl
-listed_from first (suc i) (c ∷ configs) lt =
-    or_right (eqb (first + suc i) first) (has (numbers_of (rows_from (first + 1) configs)) (first + suc i))
-    (subst (λ n. has (numbers_of (rows_from (first + 1) configs)) n ≡ true) (omega arith) (listed_from (first + 1) i configs (omega (arith, lt))))
-
-other_from : (first n : ℕ) (config : Config) (configs : List Config) → n < first → map (instead (need_row_of n config)) (rows_from first configs) ≡ rows_from first configs
-other_from first n config [] lt = refl
-other_from first n config (c ∷ configs) lt =
-    rw (ne_eqb first n (λ e. absurd (omega (arith, e, lt)))) (ap (λ (rows : List NeedRow). need_row_of first c ∷ rows) (other_from (first + 1) n config configs (omega (arith, lt))))
-
-set_from : (first i : ℕ) (config : Config) (configs : List Config) → i < length configs → map (instead (need_row_of (first + i) config)) (rows_from first configs) ≡ rows_from first (set configs i config)
-set_from first i config [] lt = absurd (omega (arith, lt))
-set_from first zero config (c ∷ configs) lt =
-    rw (eq-eqb first (first + 0) (omega arith))
-    (ap (λ n. need_row_of n config ∷ map (instead (need_row_of (first + 0) config)) (rows_from (first + 1) configs)) (omega arith)
-    ∙ ap (λ (rows : List NeedRow). need_row_of first config ∷ rows) (other_from (first + 1) (first + 0) config configs (omega arith)))
-set_from first (suc i) config (c ∷ configs) lt =
-    rw (ne_eqb first (first + suc i) (λ e. absurd (omega (arith, e))))
-    (ap (λ (rows : List NeedRow). need_row_of first c ∷ rows)
-    (ap (λ n. map (instead (need_row_of n config)) (rows_from (first + 1) configs)) (omega arith) ∙ set_from (first + 1) i config configs (omega (arith, lt))))
-
-pub put_at : (configs : List Config) (i : ℕ) (config : Config) → i < length configs → with_row (needs_in configs) (need_row_of (i + 1) config) ≡ needs_in (set configs i config)
-put_at configs i config lt =
-    let number : i + 1 ≡ 1 + i = omega arith in
-    rw (number, listed_from 1 i configs lt) (append-nil (map (instead (need_row_of (1 + i) config)) (needs_in configs)) ∙ set_from 1 i config configs lt)
+pub met_nowhere : (need : Need) (rows : List Service) (i : ℕ) → None ≡ slice_get rows i
+    → None ≡ option_and_then (number_if_met need) (slice_get (need_rows rows) i)
+met_nowhere need rows i is = sym (ap (option_and_then (number_if_met need)) (row_at rows i None is))
 
 -- ## The row with a number
 
-below_from : (first n : ℕ) (configs : List Config) → n < first → has (numbers_of (rows_from first configs)) n ≡ false
-below_from first n [] lt = refl
-below_from first n (c ∷ configs) lt = rw (ne_eqb n first (λ e. absurd (omega (arith, e, lt)))) (below_from (first + 1) n configs (omega (arith, lt)))
+listed_is : (rows : List Service) (n : ℕ) → is_some (find (has_number n) rows) ≡ has (numbers_of (need_rows rows)) n
+listed_is [] n = refl
+listed_is (row ∷ rows) n =
+    elim (row.number == n) as (λ b. (row.number == n) ≡ b
+    → is_some (cond b (Some row) (find (has_number n) rows)) ≡ (eqb n row.number || has (numbers_of (need_rows rows)) n)) [
+      | true ↦ λ e. rw (eq-eqb n row.number (sym (eqb-true row.number n e))) refl
+      | false ↦ λ e. rw (ne_eqb n row.number (λ q. absurd (let f = eq-eqb row.number n (sym q) in cc))) (listed_is rows n)
+    ] refl
 
-pub zero_unlisted : (configs : List Config) (n : ℕ) → n ≡ 0 → false ≡ has (numbers_of (needs_in configs)) n
-zero_unlisted configs n e = sym (below_from 1 n configs (omega (arith, e)))
+pub listed_told : (o : Option (Bor Service)) (rows : List Service) (n : ℕ) → option_copied o ≡ find (has_number n) rows
+    → is_some o ≡ has (numbers_of (need_rows rows)) n
+listed_told None rows n is = ap is_some is ∙ listed_is rows n
+listed_told (Some row) rows n is = ap is_some is ∙ listed_is rows n
 
-pub above_unlisted : (configs : List Config) (n : ℕ) → length configs < n → false ≡ has (numbers_of (needs_in configs)) n
-above_unlisted configs n lt = sym (fresh_from 1 n configs (omega (arith, lt)))
+found_is : (rows : List Service) (n : ℕ) → find (λ (row : NeedRow). row.number == n) (need_rows rows)
+    ≡ option_map need_row (find (has_number n) rows)
+found_is [] n = refl
+found_is (row ∷ rows) n =
+    elim (row.number == n) as (λ b. cond b (Some (need_row row)) (find (λ (r : NeedRow). r.number == n) (need_rows rows))
+    ≡ option_map need_row (cond b (Some row) (find (has_number n) rows)))
+    [ true ↦ refl | false ↦ found_is rows n ]
 
-pub within_listed : (configs : List Config) (n : ℕ) → (n ≡ 0 → ⊥) → (length configs < n → ⊥) → true ≡ has (numbers_of (needs_in configs)) n
-within_listed configs n some few =
-    let at : 1 + (n - 1) ≡ n = omega (arith, some, few) in
-    sym (subst (λ m. has (numbers_of (needs_in configs)) m ≡ true) at (listed_from 1 (n - 1) configs (omega (arith, some, few))))
+pub needs_there : (rows : List Service) (n : ℕ) (row : Service) → Some row ≡ find (has_number n) rows
+    → row.config.needs ≡ row_needs (find (λ (r : NeedRow). r.number == n) (need_rows rows))
+needs_there rows n row is = sym (ap row_needs (found_is rows n ∙ ap (option_map need_row) (sym is)))
 
-abbrev found_from : ℕ → ℕ → List Config → Option NeedRow
-found_from first n configs = find (λ (row : NeedRow). row.number == n) (rows_from first configs)
+pub needs_nowhere : (rows : List Service) (n : ℕ) → None ≡ find (has_number n) rows
+    → [] ≡ row_needs (find (λ (r : NeedRow). r.number == n) (need_rows rows))
+needs_nowhere rows n is = sym (ap row_needs (found_is rows n ∙ ap (option_map need_row) (sym is)))
 
-not_found_below : (first n : ℕ) (configs : List Config) → n < first → found_from first n configs ≡ None
-not_found_below first n [] lt = refl
-not_found_below first n (c ∷ configs) lt = rw (ne_eqb first n (λ e. absurd (omega (arith, e, lt)))) (not_found_below (first + 1) n configs (omega (arith, lt)))
+-- ## What a need leads to
 
-not_found_above : (first n : ℕ) (configs : List Config) → first + length configs ≤ n → found_from first n configs ≡ None
-not_found_above first n [] le = refl
-not_found_above first n (c ∷ configs) le = rw (ne_eqb first n (λ e. absurd (omega (arith, e, le)))) (not_found_above (first + 1) n configs (omega (arith, le)))
+numbers_are : (p : Service → Bool) (q : NeedRow → Bool) → ((row : Service) → q (need_row row) ≡ p row) → (rows : List Service)
+    → numbers_with p rows ≡ numbers_of (filter q (need_rows rows))
+numbers_are p q same [] = refl
+numbers_are p q same (row ∷ rows) =
+    rw (same row) (elim (p row) as (λ b. map number_of (cond b (row ∷ filter p rows) (filter p rows))
+    ≡ numbers_of (cond b (need_row row ∷ filter q (need_rows rows)) (filter q (need_rows rows)))) [
+      | true ↦ ap (λ (numbers : List ℕ). row.number ∷ numbers) (numbers_are p q same rows)
+      | false ↦ numbers_are p q same rows
+    ])
 
-found_at : (first i : ℕ) (configs : List Config) (config : Config) → i < length configs → config ≡ get_or configs i config → found_from first (first + i) configs ≡ Some (need_row_of (first + i) config)
-found_at first i [] config lt is = absurd (omega (arith, lt))
-found_at first zero (c ∷ configs) config lt is =
-    rw (eq-eqb first (first + 0) (omega arith)) (ap (λ (x : Config). Some (need_row_of first x)) (sym is) ∙ ap (λ n. Some (need_row_of n config)) (omega arith))
-found_at first (suc i) (c ∷ configs) config lt is =
-    let at : first + suc i ≡ first + 1 + i = omega arith in
-    rw (ne_eqb first (first + suc i) (λ e. absurd (omega (arith, e))))
-    (subst (λ n. found_from (first + 1) n configs ≡ Some (need_row_of n config)) (sym at) (found_at (first + 1) i configs config (omega (arith, lt)) is))
+rising_rows : (rows : List Service) → AreRisingBy number_of rows → AreRisingBy (λ (row : NeedRow). row.number) (need_rows rows)
+rising_rows [] rising = tt
+rising_rows (row ∷ rows) rising = (by rows rising.0, rising_rows rows rising.1)
+  where
+    by : (rs : List Service) → AllByRecursion (λ (other : Service). row.number < other.number) rs
+        → AllByRecursion (λ (other : NeedRow). row.number < other.number) (need_rows rs)
+    by [] all = tt
+    by (r ∷ rs) all = (all.0, by rs all.1)
 
-pub zero_needs : (configs : List Config) (n : ℕ) → n ≡ 0 → [] ≡ row_needs (found_from 1 n configs)
-zero_needs configs n e = sym (ap row_needs (not_found_below 1 n configs (omega (arith, e))))
+pub named_are : (rows : List Service) (name numbers : List ℕ) → AreRisingBy number_of rows → numbers ≡ numbers_with (is_named name) rows
+    → IsListOf (need_rows rows) (kinds.Service name) numbers
+named_are rows name numbers rising is = record {
+  all = is ∙ numbers_are (is_named name) (is_met (kinds.Service name)) (λ (row : Service). refl) rows;
+  rising = rising_rows rows rising;
+}
 
-pub above_needs : (configs : List Config) (n : ℕ) → length configs < n → [] ≡ row_needs (found_from 1 n configs)
-above_needs configs n lt = sym (ap row_needs (not_found_above 1 n configs (omega (arith, lt))))
-
-pub needs_there : (configs : List Config) (n : ℕ) (config : Config) → (n ≡ 0 → ⊥) → (length configs < n → ⊥) → config ≡ get_or configs (n - 1) config → config.needs ≡ row_needs (found_from 1 n configs)
-needs_there configs n config some few is =
-    let at : 1 + (n - 1) ≡ n = omega (arith, some, few) in
-    sym (ap row_needs (subst (λ m. found_from 1 m configs ≡ Some (need_row_of m config)) at (found_at 1 (n - 1) configs config (omega (arith, some, few)) is)))
+pub members_are : (rows : List Service) (group numbers : List ℕ) → AreRisingBy number_of rows
+    → numbers ≡ numbers_with (is_member group) rows → IsListOf (need_rows rows) (kinds.Group group) numbers
+members_are rows group numbers rising is = record {
+  all = is ∙ numbers_are (is_member group) (is_met (kinds.Group group)) (λ (row : Service). refl) rows;
+  rising = rising_rows rows rising;
+}

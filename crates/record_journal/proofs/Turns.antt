@@ -1,10 +1,12 @@
 -- Reading a journal, an entry at a time.
-use Rattle.std.proofs.Common.{ℕ, suc, ◌≡◌, ◌∙◌, ◌<◌, ◌≤◌, ◌-◌, ◌+◌, Bool, true, false, cond, List, [], Option, None, Some, Ok, Err, length, refl, sym, ap, arith, Bor}
-use Rattle.std.specs.Prelude.{Result, option_and_then}
+use Rattle.std.proofs.Common.{ℕ, suc, ◌≡◌, ◌∙◌, ◌<◌, ◌≤◌, ◌-◌, ◌+◌, Bool, true, false, cond, List, [], Option, None, Some, Ok, Err, length, refl, sym, ap, subst, arith, Bor}
+use Rattle.std.specs.Prelude.{IfOk, Result, option_and_then}
 use Rattle.scm_model.specs.declared.flat.Config.{Config}
 use Rattle.scm_model.specs.declared.steps.Change.{Change}
 use Rattle.record_journal.specs.Entries.{Entries, Goes, IsDone, Whole, all_from, can_replay, change_in, entries, entries_from, first_of, followed, gone, is_unfinished, last_of, read_journal, replay_of, replayable, whole_entry, with_change}
+use Rattle.record_journal.specs.Opening.{CanBegin, Reads}
 use Rattle.record_journal.specs.Replay.{after_change}
+use Rattle.record_journal.specs.declared.opening.JournalFault.{JournalFault}
 use Rattle.record_journal.specs.declared.replaying.Next.{Next}
 use Rattle.record_journal.specs.declared.replaying.Next.TheVariants as nexts
 use Rattle.record_journal.specs.declared.replaying.Replay.{Replay}
@@ -57,8 +59,8 @@ looked size count i old new bytes next lt goes =
     let k : count - i ≡ suc (count - (i + 1)) = omega (arith, lt) in
     ap (λ n. replay_of size old (entries_from n old bytes)) k ∙ goes size (entries_from (count - (i + 1)))
 
-pub starts : (size : ℕ) (bytes : List ℕ) → Left size (length bytes) 0 [] bytes ≡ replay_of size [] (all_from [] bytes)
-starts size bytes = ap (λ n. replay_of size [] (entries_from n [] bytes)) (omega arith)
+pub starts : (size : ℕ) (configs : List Config) (bytes : List ℕ) → Left size (length bytes) 0 configs bytes ≡ replay_of size configs (all_from configs bytes)
+starts size configs bytes = ap (λ n. replay_of size configs (entries_from n configs bytes)) (omega arith)
 
 pub goes_behind : (size count i : ℕ) (old new : List Config) (bytes : List ℕ) (next : Next) (rest : Bor (List ℕ)) (all : Result Replay ℕ) → next ≡ nexts.Rest rest → i < count → Goes old bytes new next
     → Left size count i old bytes ≡ all → Left size count (i + 1) new rest.now ≡ all
@@ -80,6 +82,14 @@ unfolding entries_from
 none_left size count i configs bytes all le so_far =
     let k : count - i ≡ 0 = omega (arith, le) in
     sym so_far ∙ ap (λ n. replay_of size configs (entries_from n configs bytes)) k
+
+-- what is read of the configurations that are taken out at the end
+pub same_reads : (result : Result Replay JournalFault) (all read : Result Replay ℕ) → all ≡ read → Reads result read → Reads result all
+same_reads result all read is reads = subst (Reads result) (sym is) reads
+
+pub same_begins : (result : Result Replay JournalFault) (replay : Replay) → Reads result (Ok replay) → CanBegin replay.configs → IfOk result (λ (r : Replay). CanBegin r.configs)
+same_begins (Ok read) replay is begins = let same : replay ≡ read = cc in subst (λ (r : Replay). CanBegin r.configs) same begins
+same_begins (Err fault) replay is begins = tt
 
 -- ## What is kept
 

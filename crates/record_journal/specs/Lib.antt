@@ -3,6 +3,7 @@ pub mod Keepers
 pub mod InMemory
 pub mod Bearing
 pub mod Replay
+pub mod Services
 pub mod Entries
 pub mod Opening
 pub mod ReadBack

@@ -66,7 +66,7 @@ fn folder_of(path: &str) -> &str {
     }
 }
 
-/// Opens a file, which is made where there is none, and locks it. Sees to it that its folder has it.
+/// Opens and locks a file, which is made if there is none, and sees to it that its folder has it.
 fn open_file<R: Files<File = File>>(files: &R, path: &str) -> io::Result<File> {
     let file = OpenOptions::new()
         .read(true)

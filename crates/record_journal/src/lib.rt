@@ -1,6 +1,7 @@
 //! The journal of the configurations: what keeps its bytes, and what appends to it.
 #![tactic(auto)]
 
+mod configs;
 mod entry;
 mod file;
 mod journal;

@@ -1,95 +1,100 @@
-//! Configurations as the rows of their needs.
+//! The services of a table as the rows of their needs.
 ghost use Rattle.std.specs.Prelude.{◌≡◌, ◌<◌, ◌+◌, ◌^◌, ◌==◌, []};
-ghost use Rattle.std.specs.Prelude.{find, option_map, option_and_then, slice_get, IfOk, OnOk};
+ghost use Rattle.std.specs.Prelude.{find, option_map, option_and_then, slice_get};
+ghost use Rattle.std.specs.Prelude.{IfOk, IfSome, OnOk};
+ghost use Rattle.dependency_index.specs.Met.{IsListOf};
 ghost use Rattle.dependency_index.specs.Needs.{number_if_met, new_need_row};
-ghost use Rattle.scm_model.specs.Needs.{has, row_needs, numbers_of, with_row};
+ghost use Rattle.scm_model.specs.Needs.{has, needs_of, numbers_of, row_needs, with_row};
 ghost use Rattle.scm_model.specs.Order.{is_cyclic};
-ghost use Rattle.scm_model.specs.Needs.{needs_of};
 ghost use Rattle.scm_model.specs.Walks.{IsAcyclic};
-ghost use Rattle.scm_rules.specs.Needs.{need_row_of};
-ghost use Rattle.record_journal.specs.Entries.{needs_in};
+ghost use Rattle.scm_rules.specs.Needs.{need_row_of, need_rows};
 
 use dependency_index::{NeedRows, NewRow, closes_cycle, meets};
+use record_table::RecordTable;
 use scm_model::{Config, Need};
 use scm_text::{Buffer, OutOfMemory};
 
-/// Configurations, numbered from 1.
+/// The services of a table as rows of needs. What a need leads to is found by name and by group.
 #[derive(Clone, Copy)]
-pub struct Numbered<'a> {
-    pub configs: &'a [Config],
+struct Numbered<'a> {
+    table: &'a RecordTable,
 }
 
-#[tactic(auto, using(crate::proofs::Rows::number_is, crate::proofs::Rows::row_past))]
-fn number_at(configs: &[Config], place: usize) -> Option<u64>
-    ensures { result ≡ option_map (λ row. row.number) (slice_get (needs_in configs.now) place) }
+fn number_at(table: &RecordTable, place: usize) -> Option<u64>
+    ensures { result ≡ option_map (λ row. row.number)
+        (slice_get (need_rows table.now.services) place) }
 {
-    if place < configs.len() {
-        Some(place as u64 + 1)
-    } else {
-        None
-    }
+    let row = table.at(place)?;
+    Some(row.number)
 }
 
-#[tactic(auto, using(crate::proofs::Rows::row_at, crate::proofs::Rows::row_past))]
-fn met_at(configs: &[Config], need: &Need, place: usize) -> Option<u64>
+fn met_at(table: &RecordTable, need: &Need, place: usize) -> Option<u64>
     ensures { result ≡ option_and_then (number_if_met need.now)
-        (slice_get (needs_in configs.now) place) }
+        (slice_get (need_rows table.now.services) place) }
 {
-    if place < configs.len() && meets(need, &configs[place].name, &configs[place].group) {
-        return Some(place as u64 + 1);
+    let row = table.at(place)?;
+    if meets(need, &row.config.name, &row.config.group) {
+        return Some(row.number);
     }
     None
 }
 
-#[tactic(auto, using(crate::proofs::Rows::zero_unlisted, crate::proofs::Rows::above_unlisted, crate::proofs::Rows::within_listed))]
-fn is_listed(configs: &[Config], number: u64) -> bool
-    ensures { result ≡ has (numbers_of (needs_in configs.now)) number }
+fn is_listed(table: &RecordTable, number: u64) -> bool
+    ensures { result ≡ has (numbers_of (need_rows table.now.services)) number }
 {
-    if number == 0 {
-        return false;
-    }
-    if (configs.len() as u64) < number {
-        return false;
-    }
-    true
+    table.get(number).is_some()
 }
 
-#[tactic(auto, using(crate::proofs::Rows::needs_there))]
-fn needs_at(configs: &[Config], number: u64) -> &[Need]
+fn needs_at(table: &RecordTable, number: u64) -> &[Need]
     ensures { result.now ≡ row_needs
-        (find (λ row. row.number == number) (needs_in configs.now)) }
+        (find (λ row. row.number == number) (need_rows table.now.services)) }
 {
-    if number == 0 {
-        return &[];
+    match table.get(number) {
+        Some(row) => row.config.needs.as_slice(),
+        None => &[],
     }
-    if (configs.len() as u64) < number {
-        return &[];
+}
+
+/// What a need leads to, where there are services.
+fn met<'a>(table: &'a RecordTable, need: &Need) -> Option<&'a [u64]>
+    ensures { IfSome result (λ numbers.
+        IsListOf (need_rows table.now.services) need.now numbers.now) }
+{
+    if table.len() == 0 {
+        return None;
     }
-    configs[number as usize - 1].needs.as_slice()
+    match need {
+        Need::Service(name) => Some(table.named(name)),
+        Need::Group(group) => Some(table.members(group)),
+    }
 }
 
 impl<'a> NeedRows for Numbered<'a> {
-    ghost rows = { λ numbered. needs_in numbered.configs.now };
+    ghost rows = { λ numbered. need_rows numbered.table.now.services };
 
     #[tactic(auto, using(crate::proofs::Rows::size_is))]
     fn size(&self) -> usize {
-        self.configs.len()
+        self.table.len()
     }
 
     fn number_at(&self, place: usize) -> Option<u64> {
-        number_at(self.configs, place)
+        number_at(self.table, place)
     }
 
     fn met_at(&self, need: &Need, place: usize) -> Option<u64> {
-        met_at(self.configs, need, place)
+        met_at(self.table, need, place)
     }
 
     fn is_listed(&self, number: u64) -> bool {
-        is_listed(self.configs, number)
+        is_listed(self.table, number)
     }
 
     fn needs_at(&self, number: u64) -> &[Need] {
-        needs_at(self.configs, number)
+        needs_at(self.table, number)
+    }
+
+    fn met(&self, need: &Need) -> Option<&[u64]> {
+        met(self.table, need)
     }
 }
 
@@ -115,18 +120,19 @@ fn reserve_search(searched: &mut Buffer<u64>, services: usize) -> Result<(), Out
 }
 
 #[tactic(auto, using(crate::proofs::Rows::size_is))]
-/// Whether needs that have no cycle get one with this configuration, in place of the one with its
-/// number or as the last. The list is used as room.
+/// Whether needs that have no cycle get one with this configuration, in place of the one of the
+/// service with the number or as the last. Only what it needs is searched. The list is used as
+/// room.
 pub fn closes(
-    configs: &[Config],
+    table: &RecordTable,
     number: u64,
     config: &Config,
     searched: &mut Buffer<u64>,
 ) -> Result<bool, OutOfMemory>
-    requires acyclic { IsAcyclic (needs_of (needs_in configs.now)) }
+    requires acyclic { IsAcyclic (needs_of (need_rows table.now.services)) }
     ensures { IfOk result (λ cyclic. cyclic ≡ is_cyclic
-        (with_row (needs_in configs.now) (need_row_of number config.now))) }
+        (with_row (need_rows table.now.services) (need_row_of number config.now))) }
 {
-    reserve_search(searched, configs.len())?;
-    Ok(closes_cycle(&Numbered { configs }, row_of(number, config), searched))
+    reserve_search(searched, table.len())?;
+    Ok(closes_cycle(&Numbered { table }, row_of(number, config), searched))
 }

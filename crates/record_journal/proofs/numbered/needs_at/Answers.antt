@@ -1,8 +1,9 @@
-use Rattle.record_journal.proofs.Rows.{above_needs, zero_needs}
+use Rattle.std.proofs.Common.{◌∙◌}
+use Rattle.record_journal.proofs.Rows.{needs_nowhere, needs_there}
 use Rattle.record_journal.proofs.numbered.needs_at.Goals as goal
 
-pub returns-then-number-eq0 : goal.returns-then-number-eq0
-returns-then-number-eq0 c = zero_needs c.args.configs.now c.args.number c.if-number-eq0.true
+pub returns-in-Some : goal.returns-in-Some
+returns-in-Some c = c.as_slice.ensures ∙ needs_there c.args.table.now.services c.args.number c.in-Some.row.now c.in-Some.ensures
 
-pub returns-then-configs-number : goal.returns-then-configs-number
-returns-then-configs-number c = above_needs c.args.configs.now c.args.number c.if-configs-number.true
+pub returns-in-None : goal.returns-in-None
+returns-in-None c = needs_nowhere c.args.table.now.services c.args.number c.in-None.ensures

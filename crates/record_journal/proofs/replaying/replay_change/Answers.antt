@@ -4,4 +4,6 @@ use Rattle.record_journal.proofs.Begins.{begins_with}
 use Rattle.record_journal.proofs.replaying.replay_change.Goals as goal
 
 pub returns-then-branch-clause-begins : goal.returns-then-branch-clause-begins
-returns-then-branch-clause-begins c = λ _. subst CanBegin (sym c.in_ok-do_change.ensures) (begins_with c.args.configs.now.items c.args.change c.requires (let a = c.in_ok-can_replay.ensures in let b = c.if-branch.true in let d = c.as_slice.ensures.value in cc))
+returns-then-branch-clause-begins c =
+    λ _. subst CanBegin (sym c.in_ok-apply.ensures)
+    (begins_with c.args.configs.now c.args.change c.requires (let a = c.in_ok-can_replay.ensures in let b = c.if-branch.true in cc))

@@ -1,36 +1,5 @@
-use Rattle.std.proofs.Common.{◌∙◌, Ok, Err, ap, refl, sym}
 use Rattle.record_journal.proofs.Begins.{begins_empty}
-use Rattle.record_journal.proofs.Turns.{damaged_here, ends_here, goes_behind, none_left, starts}
 use Rattle.record_journal.proofs.replaying.replay_entries.Goals as goal
 
-pub loop-init : goal.loop-init
-loop-init c = rw c.new-configs.ensures.items (record { begins = begins_empty; left = starts c.args.size c.args.entries.now })
-
-pub returns-in-Ok-Unfinished-clause-reads : goal.returns-in-Ok-Unfinished-clause-reads
-returns-in-Ok-Unfinished-clause-reads c =
-    ends_here c.args.size _ c.loop.counter c.loop.configs.items c.replay_entry.new.configs.items c.loop.rest.now c.in-Ok-Unfinished.field-0 _ c.in-Ok-Unfinished.field-0-is c.loop-test.true c.in-Ok-Unfinished.ensures.goes
-    c.loop.invariant.left
-    ∙ ap (λ r. Ok r) (sym c.replay_with.ensures)
-
-pub returns-in-Ok-Unfinished-clause-begins : goal.returns-in-Ok-Unfinished-clause-begins
-returns-in-Ok-Unfinished-clause-begins c = rw c.replay_with.ensures (c.in-Ok-Unfinished.ensures.begins refl)
-
-pub returns-in-Ok-Damaged-clause-reads : goal.returns-in-Ok-Damaged-clause-reads
-returns-in-Ok-Damaged-clause-reads c =
-    damaged_here c.args.size _ c.loop.counter c.loop.configs.items c.replay_entry.new.configs.items c.loop.rest.now c.in-Ok-Damaged.field-0 _ c.in-Ok-Damaged.field-0-is c.loop-test.true c.in-Ok-Damaged.ensures.goes c.loop.invariant.left
-    ∙ ap (λ n. Err n) (sym c.place_in.ensures)
-
-pub loop-preserved : goal.loop-preserved
-loop-preserved c = record {
-  begins = c.in-Ok-Rest.ensures.begins refl;
-  left = goes_behind c.args.size _ c.loop.counter c.loop.configs.items c.replay_entry.new.configs.items c.loop.rest.now c.in-Ok-Rest.field-0 c.in-Ok-Rest.after _ c.in-Ok-Rest.field-0-is c.loop-test.true c.in-Ok-Rest.ensures.goes
-      c.loop.invariant.left;
-}
-
-pub returns-clause-reads : goal.returns-clause-reads
-returns-clause-reads c =
-    none_left c.args.size _ c.loop.counter c.loop.configs.items c.loop.rest.now _ c.loop-test.false c.loop.invariant.left
-    ∙ ap (λ r. Ok r) (sym c.replay_with-2.ensures)
-
-pub returns-clause-begins : goal.returns-clause-begins
-returns-clause-begins c = rw c.replay_with-2.ensures c.loop.invariant.begins
+pub replay_over-replay-requires : goal.replay_over-replay-requires
+replay_over-replay-requires c = rw c.in-Ok.ensures begins_empty
