@@ -46,8 +46,8 @@ const ROWS: [Row; 3] = [
     (&[7, 0, 0, 0, 0], None, 79),
 ];
 
-/// Appends to a file, which no other keeper can open meanwhile, and says whether another keeper then
-/// finds what it should.
+/// Appends to a file, which no other keeper can open meanwhile, and says whether another then finds
+/// what it should.
 fn is_found<R: Files<File = File> + Drop>(
     alloc: Global,
     mut keeper: FileKeeper<R>,

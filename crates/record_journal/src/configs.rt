@@ -1,7 +1,7 @@
 //! The configurations of a journal while its changes are replayed.
-ghost use Rattle.std.specs.Prelude.{◌≡◌, ◌<◌, ◌-◌, ◌++◌, ◌∷◌, [], not, filter, map, length};
+ghost use Rattle.std.specs.Prelude.{◌≡◌, ◌<◌, ◌-◌, ◌++◌, ◌∷◌, [], not, filter, find, length, map};
 ghost use Rattle.std.specs.Prelude.{is_some, option_copied, option_to_list};
-ghost use Rattle.std.specs.Prelude.{IfNone, IfOk, OnOk};
+ghost use Rattle.std.specs.Prelude.{IfNone, IfOk, OnErr, OnOk};
 ghost use Rattle.std.specs.List.{AllByRecursion, list_any};
 ghost use Rattle.scm_text.specs.Fold.{same_text};
 ghost use Rattle.scm_model.specs.Changes.{new_service};
@@ -14,7 +14,6 @@ ghost use Rattle.record_journal.specs.Entries.{can_replay, has_name, is_fit, sho
 ghost use Rattle.record_journal.specs.Opening.{CanBegin};
 ghost use Rattle.record_journal.specs.Replay.{after_change, replaced_by};
 ghost use Rattle.record_journal.specs.Services.{configs_of};
-ghost use Rattle.std.specs.Prelude.{find};
 
 use crate::numbered::closes;
 use record_table::RecordTable;
@@ -52,12 +51,13 @@ fn count(table: &RecordTable) -> usize
     table.len()
 }
 
-/// The number of the service with a name, where there are services.
+/// The number of the service with a name.
 fn number_of(table: &RecordTable, name: &WText) -> Option<u64>
     ensures number { result ≡ first_with (is_named name.now) table.now.services }
     ensures some { is_some result ≡ list_any (has_name name.now) (configs_of table.now.services) }
     ensures rising { AreRisingBy number_of table.now.services }
 {
+    // A table says with its length that its numbers rise.
     if table.len() == 0 {
         return None;
     }
@@ -191,6 +191,7 @@ fn never_run(number: u64, config: Config) -> Service
 /// Makes room for a service with this configuration, and gives it a number.
 fn reserve_number(table: &mut RecordTable, config: &Config) -> Result<u64, OutOfMemory>
     ensures ok { OnOk result (table.new ≡ reserved table.old config.now) }
+    ensures err { OnErr result (table.new ≡ table.old) }
     ensures above { IfOk result (λ number.
         AllByRecursion (λ row. row.number < number) table.old.services) }
 {
@@ -200,8 +201,9 @@ fn reserve_number(table: &mut RecordTable, config: &Config) -> Result<u64, OutOf
 }
 
 fn create(table: &mut RecordTable, config: Config) -> Result<(), OutOfMemory>
-    ensures { OnOk result (configs_of table.new.services ≡
+    ensures ok { OnOk result (configs_of table.new.services ≡
         configs_of table.old.services ++ config ∷ []) }
+    ensures err { OnErr result (table.new ≡ table.old) }
 {
     match reserve_number(table, &config) {
         Ok(number) => {
@@ -218,8 +220,9 @@ fn create(table: &mut RecordTable, config: Config) -> Result<(), OutOfMemory>
 /// Puts a configuration in place of the one with its name.
 fn replace(table: &mut RecordTable, config: Config) -> Result<(), OutOfMemory>
     requires { CanBegin (configs_of table.old.services) }
-    ensures { OnOk result (configs_of table.new.services ≡
+    ensures ok { OnOk result (configs_of table.new.services ≡
         map (replaced_by config) (configs_of table.old.services)) }
+    ensures err { OnErr result (table.new ≡ table.old) }
 {
     let Some(number) = number_of(table, &config.name) else {
         drop(config);
@@ -249,8 +252,9 @@ fn remove(table: &mut RecordTable, name: &WText)
 
 fn apply(table: &mut RecordTable, change: Change) -> Result<(), OutOfMemory>
     requires { CanBegin (configs_of table.old.services) }
-    ensures { OnOk result (configs_of table.new.services ≡
+    ensures ok { OnOk result (configs_of table.new.services ≡
         after_change (configs_of table.old.services) change) }
+    ensures err { OnErr result (table.new ≡ table.old) }
 {
     match change {
         Change::Created(config) => create(table, config),
@@ -268,7 +272,7 @@ fn config_of(row: Service) -> Config
     row.config
 }
 
-/// Takes the first configuration out.
+/// Takes the first configuration out, if there is one.
 fn take_first(table: &mut RecordTable) -> Option<Config>
     ensures rest { option_to_list result ++ configs_of table.new.services ≡
         configs_of table.old.services }
@@ -335,7 +339,8 @@ impl Configs {
     /// Does a change.
     pub fn apply(&mut self, change: Change) -> Result<(), OutOfMemory>
         requires { CanBegin self.old }
-        ensures { OnOk result (self.new ≡ after_change self.old change) }
+        ensures ok { OnOk result (self.new ≡ after_change self.old change) }
+        ensures err { OnErr result (self.new ≡ self.old) }
     {
         apply(&mut self.table, change)
     }

@@ -55,11 +55,12 @@ fn needs_at(table: &RecordTable, number: u64) -> &[Need]
     }
 }
 
-/// What a need leads to, where there are services.
+/// The numbers of the services that a need leads to, where there are services.
 fn met<'a>(table: &'a RecordTable, need: &Need) -> Option<&'a [u64]>
     ensures { IfSome result (λ numbers.
         IsListOf (need_rows table.now.services) need.now numbers.now) }
 {
+    // A table says with its length that its numbers rise.
     if table.len() == 0 {
         return None;
     }

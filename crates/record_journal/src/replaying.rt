@@ -2,8 +2,7 @@
 ghost use Rattle.std.specs.Prelude.{◌≡◌, ◌-◌, [], length, option_and_then, if◌then◌else◌};
 ghost use Rattle.std.specs.Prelude.{IfOk, IsOk, Ok};
 ghost use Rattle.record_journal.specs.Entries.{Goes, IsDone, all_from, change_in};
-ghost use Rattle.record_journal.specs.Entries.{is_unfinished, read_journal, replay_of};
-ghost use Rattle.record_journal.specs.Entries.{replayable};
+ghost use Rattle.record_journal.specs.Entries.{is_unfinished, read_journal, replay_of, replayable};
 ghost use Rattle.record_journal.specs.declared.replaying.Next.TheVariants as nexts;
 ghost use Rattle.record_journal.specs.Opening.{CanBegin, Reads};
 
@@ -65,7 +64,7 @@ fn replay_body(
 /// How reading goes on.
 #[derive(Clone, Copy)]
 enum Next<'a> {
-    /// An entry was replayed, and this stands behind it.
+    /// An entry was replayed, and this stands after it.
     Rest(&'a [u8]),
     /// Nothing is left, or a part of an entry.
     Unfinished,

@@ -5,5 +5,5 @@ use Rattle.record_journal.proofs.replaying.replay_change.Goals as goal
 
 pub returns-then-branch-clause-begins : goal.returns-then-branch-clause-begins
 returns-then-branch-clause-begins c =
-    λ _. subst CanBegin (sym c.in_ok-apply.ensures)
+    λ _. subst CanBegin (sym c.in_ok-apply.ensures.ok)
     (begins_with c.args.configs.now c.args.change c.requires (let a = c.in_ok-can_replay.ensures in let b = c.if-branch.true in cc))
