@@ -1,8 +1,9 @@
 -- What holds of the calls of every codec.
-use Rattle.std.proofs.Common.{◌≡◌, ℕ, List, map, Option, Some, Result, Ok, Err, refl, subst, ◌∙◌}
+use Rattle.std.proofs.Common.{◌≡◌, ℕ, List, map, Option, Some, Result, Ok, Err, refl, sym, ap, subst, ◌∙◌}
 use Rattle.std.specs.Prelude.{IfOk}
 use Rattle.ndr_body.specs.declared.fault.BodyFault.{BodyFault}
-use Rattle.ndr_body.specs.Reading.{Gives}
+use Rattle.ndr_body.specs.declared.fault.BodyFault.TheVariants.{Short, BadString, BadCount, Trailing, OutOfMemory}
+use Rattle.ndr_body.specs.Reading.{◌>>=◌, Fails, Gives}
 use Rattle.ndr_body.proofs.Spelled.{IsBytes, bind_ok, ok_is}
 use Rattle.scm_shapes.specs.declared.item.Item.{Item}
 use Rattle.scm_shapes.specs.declared.item.Value.{Value}
@@ -52,3 +53,23 @@ module _ {Kind R : Type 0} (shape_of : Kind → List Item) (from : Kind → List
       → IfOk result (λ r. Spells shape_of kind_of values_of kind body r) → IfOk result P
   calls_ranged P kind body (Ok r) law h = law r h.named (rw h.named (spelled_held kind body r h))
   calls_ranged P kind body (Err e) law h = tt
+
+-- ## What is read by way of a part of the values
+
+module _ {A B : Type 0} (part_of : List Value → A) (make : A → B) (from : List Value → B) where
+  same_fault : (e : BodyFault) (read : Result (List Value) BodyFault) → Fails e (read >>= λ vs. Ok (part_of vs)) → Fails e (read >>= λ vs. Ok (from vs))
+  same_fault (Short place) (Err e) h = cc
+  same_fault (BadString place) (Err e) h = cc
+  same_fault (BadCount place) (Err e) h = cc
+  same_fault (Trailing place) (Err e) h = cc
+  same_fault OutOfMemory read h = tt
+  same_fault (Short place) (Ok vs) h = absurd cc
+  same_fault (BadString place) (Ok vs) h = absurd cc
+  same_fault (BadCount place) (Ok vs) h = absurd cc
+  same_fault (Trailing place) (Ok vs) h = absurd cc
+
+  -- where what is made of the part is what is made of the values
+  pub made_of_part : (read : Result (List Value) BodyFault) (result : Result A BodyFault) → ((vs : List Value) → make (part_of vs) ≡ from vs) → Gives (λ x. x) result (read >>= λ vs. Ok (part_of vs)) → Gives make result (read >>= λ vs. Ok (from vs))
+  made_of_part (Ok vs) (Ok x) law h = ap (λ (made : B). Ok made) (sym (law vs) ∙ ap make (ok_is (part_of vs) x h))
+  made_of_part (Err e) (Ok x) law h = absurd cc
+  made_of_part read (Err e) law h = same_fault e read h

@@ -14,3 +14,5 @@ pub mod Exact
 pub mod Back
 pub mod Calls
 pub mod Carried
+pub mod ReadAtOnce
+pub mod WrittenAtOnce

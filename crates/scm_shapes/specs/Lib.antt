@@ -12,3 +12,4 @@ pub mod Written
 pub mod Laws
 pub mod Widths
 pub mod Calls
+pub mod HandleBodies

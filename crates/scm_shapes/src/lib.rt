@@ -2,9 +2,11 @@
 #![tactic(auto)]
 
 mod apart;
+mod handle_body;
 mod item;
 mod levels;
 mod levels_written;
+mod numbers;
 mod places;
 mod reading;
 mod records;
@@ -13,7 +15,9 @@ mod words;
 mod writing;
 
 pub use apart::Apart;
+pub use handle_body::{HandleBody, is_handle_body, read_handle_body};
 pub use item::{Item, Piece, Value};
+pub use numbers::{write_handle, write_numbers};
 pub use reading::{read_body, read_body_into};
 pub use values::Values;
 pub use writing::write_pieces;

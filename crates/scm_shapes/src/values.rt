@@ -1,6 +1,8 @@
 ghost use Rattle.std.specs.Prelude.{◌≡◌, ◌++◌, ◌∷◌, ◌<◌, ◌≤◌, [], length, IfOk, IsOk, MatchOption, OnOk, OnErr, option_to_list};
 ghost use Rattle.scm_shapes.specs.Shapes.{rest, first_handle, first_number, first_text, first_some_text, first_some_number, first_some_bytes, first_size, first_bytes, first_words, first_lock, first_shown, first_info, leaves_open, leave_open};
+ghost use Rattle.scm_shapes.specs.HandleBodies.{handle_body_of};
 
+use crate::handle_body::HandleBody;
 use crate::item::Value;
 use scm_model::{Info, Shown};
 use scm_text::{Items, OutOfMemory, WText};
@@ -143,6 +145,17 @@ impl Values {
         let number = first_number(self.queue.as_slice());
         self.skip();
         number
+    }
+
+    /// A handle and two numbers.
+    pub fn handle_body(&mut self) -> HandleBody
+        ensures { result ≡ handle_body_of self.old }
+    {
+        HandleBody {
+            handle: self.handle(),
+            first: self.number(),
+            second: self.number(),
+        }
     }
 
     pub fn text(&mut self, alloc: Global) -> WText
