@@ -20,4 +20,4 @@ pub use raises::{
     write_raise_reply,
 };
 pub use replies::{asked_size, longest, put_reply, reply_of, reply_shape};
-pub use requests::{put_request, request_of, request_shape};
+pub use requests::{put_request, request_of, request_of_handle_body, request_shape};

@@ -9,7 +9,7 @@ ghost use Rattle.scm_calls.specs.Replies.{reply_shape, reply_from, reply_values,
 use crate::kinds::ReplyKind;
 use crate::requests::status_of;
 use scm_model::{ProcessStatus, Reply, Request, Status};
-use scm_shapes::{Item, Piece, Values, write_pieces};
+use scm_shapes::{Item, Piece, Values, write_handle, write_numbers, write_pieces};
 use scm_text::{Buffer, OutOfMemory, WText};
 use std::alloc::Global;
 
@@ -181,16 +181,16 @@ fn put_state(
 ) -> Result<Buffer<u8>, (OutOfMemory, Buffer<u8>)>
     ensures { IsWritten (status_values status.now ++ value.Number code ∷ []) out result }
 {
-    write_pieces(
+    write_numbers(
         &[
-            Piece::Number(status.kind),
-            Piece::Number(status.state),
-            Piece::Number(status.accepted),
-            Piece::Number(status.win32),
-            Piece::Number(status.specific),
-            Piece::Number(status.checkpoint),
-            Piece::Number(status.hint),
-            Piece::Number(code),
+            status.kind,
+            status.state,
+            status.accepted,
+            status.win32,
+            status.specific,
+            status.checkpoint,
+            status.hint,
+            code,
         ],
         out,
     )
@@ -290,10 +290,8 @@ pub fn put_reply(reply: &Reply, out: Buffer<u8>) -> Result<Buffer<u8>, (OutOfMem
     ensures { IsWritten (reply_values reply.now) out result }
 {
     match reply {
-        Reply::Code(code) => write_pieces(&[Piece::Number(*code)], out),
-        Reply::Handle { handle, code } => {
-            write_pieces(&[Piece::Handle(*handle), Piece::Number(*code)], out)
-        }
+        Reply::Code(code) => write_numbers(&[*code], out),
+        Reply::Handle { handle, code } => write_handle(*handle, &[*code], out),
         Reply::State { status, code } => put_state(status, *code, out),
         Reply::Made { tag, handle, code } => {
             let (tag, handle) = (Piece::SomeNumber(*tag), Piece::Handle(*handle));

@@ -1,6 +1,7 @@
-ghost use Rattle.std.specs.Prelude.{◌≡◌, ◌++◌, ◌∷◌, []};
+ghost use Rattle.std.specs.Prelude.{◌≡◌, ◌++◌, ◌∷◌, [], IsTrue};
 ghost use Rattle.scm_shapes.specs.declared.item.Value.TheVariants as value;
 ghost use Rattle.scm_shapes.specs.Shapes.{after, first_handle, first_number, first_some_text};
+ghost use Rattle.scm_shapes.specs.HandleBodies.{handle_body_values, is_handle_body};
 ghost use Rattle.scm_shapes.specs.Written.{IsWritten};
 ghost use Rattle.scm_model.specs.declared.calls.Request.TheVariants as request;
 ghost use Rattle.scm_calls.specs.declared.calls.Call.TheVariants as call;
@@ -9,7 +10,7 @@ ghost use Rattle.scm_calls.specs.Requests.{plain_from, plain_shape, plain_values
 use crate::calls::Call;
 use scm_model::codes::MAX_LOCK_STATUS_SIZE;
 use scm_model::{Request, Status};
-use scm_shapes::{Item, Piece, Values, write_pieces};
+use scm_shapes::{HandleBody, Item, Piece, Values, write_handle, write_pieces};
 use scm_text::{Buffer, OutOfMemory, WText};
 use std::alloc::Global;
 
@@ -98,40 +99,49 @@ fn key_name(alloc: Global, values: &mut Values) -> Request
     }
 }
 
+/// What is asked by a body that is a handle and at most two numbers.
+#[inline(always)]
+pub fn request_of_handle_body(call: Call, body: HandleBody) -> Request
+    requires { IsTrue (is_handle_body (plain_shape call)) }
+    ensures { result ≡ plain_from call (handle_body_values body) }
+{
+    let HandleBody { handle, first, .. } = body;
+    match call {
+        Call::Close => Request::Close { handle },
+        Call::Control => Request::Control {
+            handle,
+            control: first,
+        },
+        Call::Delete => Request::Delete { handle },
+        Call::Lock => Request::Lock { handle },
+        Call::QueryStatus => Request::QueryStatus { handle },
+        Call::Unlock => Request::Unlock { handle },
+        Call::QueryLock => Request::QueryLock {
+            handle,
+            size: first,
+        },
+        _ => unreachable!(),
+    }
+}
+
 /// What is asked by the values of a body.
 pub fn request_of(alloc: Global, call: Call, values: &mut Values) -> Request
     ensures { result ≡ plain_from call values.old }
 {
     match call {
-        Call::Close => Request::Close {
-            handle: values.handle(),
-        },
-        Call::Control => Request::Control {
-            handle: values.handle(),
-            control: values.number(),
-        },
-        Call::Delete => Request::Delete {
-            handle: values.handle(),
-        },
-        Call::Lock => Request::Lock {
-            handle: values.handle(),
-        },
-        Call::QueryStatus => Request::QueryStatus {
-            handle: values.handle(),
-        },
+        Call::Close
+        | Call::Control
+        | Call::Delete
+        | Call::Lock
+        | Call::QueryStatus
+        | Call::Unlock
+        | Call::QueryLock => request_of_handle_body(call, values.handle_body()),
         Call::SetStatus => Request::SetStatus {
             handle: values.handle(),
             status: status_of(values),
         },
-        Call::Unlock => Request::Unlock {
-            handle: values.handle(),
-        },
         Call::OpenManager => open_manager(values),
         Call::OpenService => open_service(alloc, values),
-        Call::QueryLock => Request::QueryLock {
-            handle: values.handle(),
-            size: values.number(),
-        },
         Call::Start => Request::Start {
             handle: values.handle(),
             words: values.words(),
@@ -149,16 +159,16 @@ fn put_status(
 ) -> Result<Buffer<u8>, (OutOfMemory, Buffer<u8>)>
     ensures { IsWritten (value.Handle handle ∷ status_values status.now) out result }
 {
-    write_pieces(
+    write_handle(
+        handle,
         &[
-            Piece::Handle(handle),
-            Piece::Number(status.kind),
-            Piece::Number(status.state),
-            Piece::Number(status.accepted),
-            Piece::Number(status.win32),
-            Piece::Number(status.specific),
-            Piece::Number(status.checkpoint),
-            Piece::Number(status.hint),
+            status.kind,
+            status.state,
+            status.accepted,
+            status.win32,
+            status.specific,
+            status.checkpoint,
+            status.hint,
         ],
         out,
     )
@@ -196,7 +206,7 @@ pub fn put_request(
         | Request::Delete { handle }
         | Request::Lock { handle }
         | Request::QueryStatus { handle }
-        | Request::Unlock { handle } => write_pieces(&[Piece::Handle(*handle)], out),
+        | Request::Unlock { handle } => write_handle(*handle, &[], out),
         Request::Control {
             handle,
             control: number,
@@ -204,7 +214,7 @@ pub fn put_request(
         | Request::QueryLock {
             handle,
             size: number,
-        } => write_pieces(&[Piece::Handle(*handle), Piece::Number(*number)], out),
+        } => write_handle(*handle, &[*number], out),
         Request::SetStatus { handle, status } => put_status(*handle, status, out),
         Request::OpenManager { database, access } => {
             let (database, access) = (Piece::SomeText(database), Piece::Number(*access));

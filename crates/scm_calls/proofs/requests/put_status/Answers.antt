@@ -1,4 +1,4 @@
 use Rattle.scm_calls.proofs.requests.put_status.Goals as goal
 
 pub returns : goal.returns
-returns c = c.write_pieces.ensures.written
+returns c = c.write_handle.ensures
