@@ -1,11 +1,12 @@
-ghost use Rattle.std.specs.Prelude.{◌≡◌};
+ghost use Rattle.std.specs.Prelude.{◌≡◌, IsTrue};
+ghost use Rattle.scm_shapes.specs.HandleBodies.{handle_body_values, is_handle_body};
 ghost use Rattle.scm_shapes.specs.Written.{IsWritten};
 ghost use Rattle.scm_calls_cfg.specs.Requests.{change_from, change_values, config_from, config_shape, config_values, new_from, new_values};
 
 use crate::calls::Call;
 use scm_model::codes::MAX_CONFIG_SIZE;
 use scm_model::{ChangeService, NewService, Request};
-use scm_shapes::{Item, Piece, Values, write_pieces};
+use scm_shapes::{HandleBody, Item, Piece, Values, write_handle, write_pieces};
 use scm_text::{Buffer, OutOfMemory};
 use std::alloc::Global;
 
@@ -95,6 +96,31 @@ fn new_of(alloc: Global, values: &mut Values) -> NewService
     }
 }
 
+/// What is asked by a body that is a handle and at most two numbers.
+#[inline(always)]
+pub fn request_of_handle_body(call: Call, body: HandleBody) -> Request
+    requires { IsTrue (is_handle_body (config_shape call)) }
+    ensures { result ≡ config_from call (handle_body_values body) }
+{
+    let HandleBody {
+        handle,
+        first,
+        second,
+    } = body;
+    match call {
+        Call::QueryConfig => Request::QueryConfig {
+            handle,
+            size: first,
+        },
+        Call::QueryConfig2 => Request::QueryConfig2 {
+            handle,
+            level: first,
+            size: second,
+        },
+        _ => unreachable!(),
+    }
+}
+
 /// What is asked by the values of a body.
 pub fn request_of(alloc: Global, call: Call, values: &mut Values) -> Request
     ensures { result ≡ config_from call values.old }
@@ -102,19 +128,14 @@ pub fn request_of(alloc: Global, call: Call, values: &mut Values) -> Request
     match call {
         Call::Change => Request::Change(change_of(values)),
         Call::Create => Request::Create(new_of(alloc, values)),
-        Call::QueryConfig => Request::QueryConfig {
-            handle: values.handle(),
-            size: values.number(),
-        },
         Call::Change2 => Request::Change2 {
             handle: values.handle(),
             info: values.info(),
         },
-        Call::QueryConfig2 => Request::QueryConfig2 {
-            handle: values.handle(),
-            level: values.number(),
-            size: values.number(),
-        },
+        Call::QueryConfig | Call::QueryConfig2 => request_of_handle_body(
+            call,
+            values.handle_body(),
+        ),
     }
 }
 
@@ -178,9 +199,7 @@ pub fn put_request(
     match request {
         Request::Change(change) => put_change(change, out),
         Request::Create(new) => put_new(new, out),
-        Request::QueryConfig { handle, size } => {
-            write_pieces(&[Piece::Handle(*handle), Piece::Number(*size)], out)
-        }
+        Request::QueryConfig { handle, size } => write_handle(*handle, &[*size], out),
         Request::Change2 { handle, info } => {
             write_pieces(&[Piece::Handle(*handle), Piece::Info(info)], out)
         }
@@ -188,10 +207,7 @@ pub fn put_request(
             handle,
             level,
             size,
-        } => {
-            let (handle, level) = (Piece::Handle(*handle), Piece::Number(*level));
-            write_pieces(&[handle, level, Piece::Number(*size)], out)
-        }
+        } => write_handle(*handle, &[*level, *size], out),
         _ => write_pieces(&[], out),
     }
 }
