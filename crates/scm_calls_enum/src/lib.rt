@@ -8,4 +8,4 @@ mod calls;
 mod requests;
 
 pub use calls::{Call, call_at, call_of, reply_kind};
-pub use requests::{put_request, request_of, request_shape};
+pub use requests::{put_request, request_of, request_of_handle_body, request_shape};

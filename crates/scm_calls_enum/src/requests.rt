@@ -1,11 +1,12 @@
-ghost use Rattle.std.specs.Prelude.{◌≡◌};
+ghost use Rattle.std.specs.Prelude.{◌≡◌, IsTrue};
+ghost use Rattle.scm_shapes.specs.HandleBodies.{handle_body_values, is_handle_body};
 ghost use Rattle.scm_shapes.specs.Written.{IsWritten};
 ghost use Rattle.scm_calls_enum.specs.Requests.{enum_from, enum_shape, enum_values};
 
 use crate::calls::Call;
 use scm_model::Request;
 use scm_model::codes::{MAX_CONFIG_SIZE, MAX_ENUM_SIZE};
-use scm_shapes::{Item, Piece, Values, write_pieces};
+use scm_shapes::{HandleBody, Item, Piece, Values, write_handle, write_pieces};
 use scm_text::{Buffer, OutOfMemory};
 
 /// The kinds of items in the body of a request.
@@ -27,16 +28,43 @@ pub fn request_shape(call: Call) -> &'static [Item]
     }
 }
 
+/// What is asked by a body that is a handle and at most two numbers.
+#[inline(always)]
+pub fn request_of_handle_body(call: Call, body: HandleBody) -> Request
+    requires { IsTrue (is_handle_body (enum_shape call)) }
+    ensures { result ≡ enum_from call (handle_body_values body) }
+{
+    let HandleBody {
+        handle,
+        first,
+        second,
+    } = body;
+    match call {
+        Call::EnumDependents => Request::EnumDependents {
+            handle,
+            states: first,
+            size: second,
+        },
+        Call::QueryStatusEx => Request::QueryStatusEx {
+            handle,
+            level: first,
+            size: second,
+        },
+        Call::Notify => Request::Notify {
+            handle,
+            mask: first,
+        },
+        Call::GetNotify => Request::GetNotify { handle },
+        Call::CloseNotify => Request::CloseNotify { handle },
+        Call::EnumServices => unreachable!(),
+    }
+}
+
 /// What is asked by the values of a body.
 pub fn request_of(call: Call, values: &mut Values) -> Request
     ensures { result ≡ enum_from call values.old }
 {
     match call {
-        Call::EnumDependents => Request::EnumDependents {
-            handle: values.handle(),
-            states: values.number(),
-            size: values.number(),
-        },
         Call::EnumServices => Request::EnumServices {
             handle: values.handle(),
             kinds: values.number(),
@@ -44,21 +72,11 @@ pub fn request_of(call: Call, values: &mut Values) -> Request
             size: values.number(),
             resume: values.some_number(),
         },
-        Call::QueryStatusEx => Request::QueryStatusEx {
-            handle: values.handle(),
-            level: values.number(),
-            size: values.number(),
-        },
-        Call::Notify => Request::Notify {
-            handle: values.handle(),
-            mask: values.number(),
-        },
-        Call::GetNotify => Request::GetNotify {
-            handle: values.handle(),
-        },
-        Call::CloseNotify => Request::CloseNotify {
-            handle: values.handle(),
-        },
+        Call::EnumDependents
+        | Call::QueryStatusEx
+        | Call::Notify
+        | Call::GetNotify
+        | Call::CloseNotify => request_of_handle_body(call, values.handle_body()),
     }
 }
 
@@ -80,10 +98,7 @@ pub fn put_request(
             handle,
             level: number,
             size,
-        } => {
-            let (handle, number) = (Piece::Handle(*handle), Piece::Number(*number));
-            write_pieces(&[handle, number, Piece::Number(*size)], out)
-        }
+        } => write_handle(*handle, &[*number, *size], out),
         Request::EnumServices {
             handle,
             kinds,
@@ -98,11 +113,9 @@ pub fn put_request(
                 out,
             )
         }
-        Request::Notify { handle, mask } => {
-            write_pieces(&[Piece::Handle(*handle), Piece::Number(*mask)], out)
-        }
+        Request::Notify { handle, mask } => write_handle(*handle, &[*mask], out),
         Request::GetNotify { handle } | Request::CloseNotify { handle } => {
-            write_pieces(&[Piece::Handle(*handle)], out)
+            write_handle(*handle, &[], out)
         }
         _ => write_pieces(&[], out),
     }
