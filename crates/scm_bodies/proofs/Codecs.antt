@@ -11,6 +11,7 @@ use Rattle.scm_model.specs.declared.calls.Reply.TheVariants as reply
 use Rattle.scm_model.specs.Ranges.{are_few, in_range}
 use Rattle.scm_shapes.specs.declared.item.Value.{Value}
 use Rattle.scm_shapes.specs.Shapes.{fitted}
+use Rattle.scm_shapes.specs.HandleBodies.{is_handle_body, handle_body_of, handle_body_values}
 use Rattle.scm_shapes.specs.Laws.{AreSent, CanHoldAll, IsCarried, as_read}
 use Rattle.ndr_body.specs.Laws.{IsSent}
 use Rattle.scm_shapes.specs.Calls.{Codec, shape_in, made_in}
@@ -89,6 +90,33 @@ content (Some x) h = (x, refl)
 
 pub of_a_call : (r : Request) → (c : Call) × (call_of r ≡ Some c)
 of_a_call r = content (call_of r) (is_of_a_call r)
+
+-- ## A handle and numbers
+
+plain_by_handle : (c : PlainCall) (vs : List Value) → IsTrue (is_handle_body (plain_shape c)) → plain_from c (handle_body_values (handle_body_of vs)) ≡ plain_from c vs
+plain_by_handle plain.SetStatus vs h = absurd cc
+plain_by_handle plain.OpenManager vs h = absurd cc
+plain_by_handle plain.OpenService vs h = absurd cc
+plain_by_handle plain.Start vs h = absurd cc
+plain_by_handle plain.DisplayName vs h = absurd cc
+plain_by_handle plain.KeyName vs h = absurd cc
+plain_by_handle _ vs h = refl
+
+config_by_handle : (c : ConfigCall) (vs : List Value) → IsTrue (is_handle_body (config_shape c)) → config_from c (handle_body_values (handle_body_of vs)) ≡ config_from c vs
+config_by_handle config.Change vs h = absurd cc
+config_by_handle config.Create vs h = absurd cc
+config_by_handle config.Change2 vs h = absurd cc
+config_by_handle _ vs h = refl
+
+enum_by_handle : (c : EnumCall) (vs : List Value) → IsTrue (is_handle_body (enum_shape c)) → enum_from c (handle_body_values (handle_body_of vs)) ≡ enum_from c vs
+enum_by_handle enum.EnumServices vs h = absurd cc
+enum_by_handle _ vs h = refl
+
+-- a body of a handle and at most two numbers asks what these ask
+pub asked_by_handle : (c : Call) (vs : List Value) → IsTrue (is_handle_body (shape_of c)) → asked_by c (handle_body_values (handle_body_of vs)) ≡ asked_by c vs
+asked_by_handle (call.Plain c) vs h = plain_by_handle c vs h
+asked_by_handle (call.Config c) vs h = config_by_handle c vs h
+asked_by_handle (call.Enum c) vs h = enum_by_handle c vs h
 
 -- ## Replies
 

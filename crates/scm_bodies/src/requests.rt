@@ -1,5 +1,6 @@
 ghost use Rattle.std.specs.Prelude.{◌≡◌, ℕ, List, IsTrue, Ok, IfOk};
 ghost use Rattle.ndr_body.specs.Reading.{FindsMemory, Gives};
+ghost use Rattle.scm_shapes.specs.HandleBodies.{handle_body_values, is_handle_body};
 ghost use Rattle.scm_shapes.specs.Plain.{ArePlain};
 ghost use Rattle.scm_shapes.specs.Written.{IsWritten};
 ghost use Rattle.scm_model.specs.declared.calls.Request.{Request as ARequest};
@@ -10,7 +11,7 @@ ghost use Rattle.scm_bodies.specs.Requests.{shape_of, asked_by, values_of, reque
 use crate::call::{Call, call_of};
 use ndr_body::BodyFault;
 use scm_model::Request;
-use scm_shapes::{Item, Values, read_body_into};
+use scm_shapes::{HandleBody, Item, Values, is_handle_body, read_body_into, read_handle_body};
 use scm_text::{Buffer, Items, OutOfMemory};
 use std::alloc::Global;
 
@@ -34,9 +35,29 @@ fn asked_by(alloc: Global, call: Call, values: &mut Values) -> Request
     }
 }
 
-/// The result of `read_request`, by values that serve body after body: none are made for each body,
-/// nor let go behind it. What lies in them before and behind plays no part.
-pub fn read_request_by(
+fn asked_by_handle_body(call: Call, body: HandleBody) -> Request
+    requires { IsTrue (is_handle_body (shape_of call)) }
+    ensures { result ≡ asked_by call (handle_body_values body) }
+{
+    match call {
+        Call::Plain(call) => scm_calls::request_of_handle_body(call, body),
+        Call::Config(call) => scm_calls_cfg::request_of_handle_body(call, body),
+        Call::Enum(call) => scm_calls_enum::request_of_handle_body(call, body),
+    }
+}
+
+/// What a body asks that is a handle and at most two numbers.
+fn read_as_handle_body(call: Call, body: &[u8]) -> Result<Request, BodyFault>
+    requires { IsTrue (is_handle_body (shape_of call)) }
+    ensures exact { Gives (λ r. r) result (request_at call body.now) }
+    ensures memory { FindsMemory result }
+{
+    let held = read_handle_body(shape_of(call), body)?;
+    Ok(asked_by_handle_body(call, held))
+}
+
+/// What a body asks, by way of values: what lies in them before plays no part.
+fn read_by_values(
     alloc: Global,
     call: Call,
     body: &[u8],
@@ -50,12 +71,42 @@ pub fn read_request_by(
     Ok(asked_by(alloc, call, values))
 }
 
-fn read(alloc: Global, call: Call, body: &[u8]) -> Result<Request, BodyFault>
+/// The result of `read_request`, by values that serve body after body: none are made for each body,
+/// nor let go behind it. What lies in them before and behind plays no part.
+pub fn read_request_by(
+    alloc: Global,
+    call: Call,
+    body: &[u8],
+    values: &mut Values,
+) -> Result<Request, BodyFault>
+    ensures exact { Gives (λ r. r) result (request_at call body.now) }
+    ensures memory { ArePlain (shape_of call) → FindsMemory result }
+{
+    if is_handle_body(shape_of(call)) {
+        read_as_handle_body(call, body)
+    } else {
+        read_by_values(alloc, call, body, values)
+    }
+}
+
+/// What a body asks, by way of values that are made for it.
+fn read_anew(alloc: Global, call: Call, body: &[u8]) -> Result<Request, BodyFault>
     ensures exact { Gives (λ r. r) result (request_at call body.now) }
     ensures memory { ArePlain (shape_of call) → FindsMemory result }
 {
     let mut values = Values::new(alloc);
-    read_request_by(alloc, call, body, &mut values)
+    read_by_values(alloc, call, body, &mut values)
+}
+
+fn read(alloc: Global, call: Call, body: &[u8]) -> Result<Request, BodyFault>
+    ensures exact { Gives (λ r. r) result (request_at call body.now) }
+    ensures memory { ArePlain (shape_of call) → FindsMemory result }
+{
+    if is_handle_body(shape_of(call)) {
+        read_as_handle_body(call, body)
+    } else {
+        read_anew(alloc, call, body)
+    }
 }
 
 /// What the body of a request asks.
