@@ -21,3 +21,5 @@ mod InHand
 mod StartsMade
 mod RaisesMade
 mod ReportsMade
+mod Stirring
+mod Unstirred

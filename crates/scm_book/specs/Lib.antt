@@ -11,3 +11,4 @@ pub mod Starts
 pub mod Processes
 pub mod Looks
 pub mod Reporting
+pub mod Ringing

@@ -2,7 +2,7 @@
 use std::sync::atomic::{AtomicBool, AtomicU64, Ordering};
 use std::sync::{Condvar, Mutex, Wait};
 
-/// Counts the entries that somebody waits for, and carries the wish to end. Nothing is claimed of
+/// Counts entries that somebody waits for, and carries the wish to end. Nothing is claimed of
 /// wake-ups.
 #[derive(Drop)]
 pub struct Bell {
@@ -27,7 +27,7 @@ impl Bell {
         }
     }
 
-    /// The count. The next entry after this call is counted: a ring clears the asking before it
+    /// The count. The next ring after this call is counted: a ring clears the asking before it
     /// counts, and one that did so between the two lines is asked again.
     pub fn count(&self) -> u64 {
         for _ in 0..u64::MAX {
@@ -60,8 +60,8 @@ impl Bell {
         self.count()
     }
 
-    /// An entry was made. It costs a load where nobody asked, and the lock is taken only where
-    /// somebody sleeps.
+    /// An entry was made that this bell counts. It costs a load where nobody asked, and the lock is
+    /// taken only where somebody sleeps.
     #[inline(always)]
     pub(crate) fn ring<R: Wait>(&self, rt: &R) {
         if !self.is_asked.load(Ordering::SeqCst) {

@@ -15,6 +15,7 @@ ghost use Rattle.scm_book.specs.Turns.{AlwaysMay, CallEnds};
 
 use crate::answers::{CallEnd, EndLook, JoinFault, NotJoined, StartEnd};
 use crate::bell::Bell;
+use crate::bells::Bells;
 use crate::calling::{call_end, start_end};
 use crate::doubled::Doubled;
 use crate::ending::end_look;
@@ -85,7 +86,7 @@ impl<K: Keeper> Book<K> {
                 };
                 let shared = Shared {
                     turn,
-                    bell: Bell::new(),
+                    bells: Bells::new(),
                     alloc,
                 };
                 let book = Book { shared };
@@ -95,9 +96,21 @@ impl<K: Keeper> Book<K> {
         }
     }
 
-    /// Counts the entries that somebody waits for.
+    /// Counts the entries that may decide a plan, or by which a launch may be wanted. Calls that
+    /// only read or open a handle aren't among them.
     pub fn bell(&self) -> &Bell {
-        &self.shared.bell
+        &self.shared.bells.common
+    }
+
+    /// Counts the entries that may send a process a control, take one of its controls, or end it.
+    /// It counts such entries of a few other processes too.
+    pub fn child_bell(&self, process: u64) -> &Bell {
+        self.shared.bells.child(process)
+    }
+
+    /// Shuts all bells, which is the wish to end.
+    pub fn shut<R: Wait>(&self, rt: &R) {
+        self.shared.bells.shut(rt);
     }
 
     /// Ends the book, and hands out the whole history.
@@ -109,7 +122,7 @@ impl<K: Keeper> Book<K> {
         let Book { shared } = self;
         let Shared {
             turn,
-            bell: _,
+            bells: _,
             alloc: _,
         } = shared;
         let Held {

@@ -11,6 +11,7 @@ use crate::answers::{CallEnd, StartEnd};
 use crate::doubled::Doubled;
 use crate::fault::MakeFault;
 use crate::held::Held;
+use crate::ringing::ring_of;
 use crate::shared::Shared;
 use atomic_table::Badge;
 use book_rule::{TurnSeat, View};
@@ -60,10 +61,11 @@ impl<K: Keeper> Shared<K> {
         ensures waits { Waits self.now.turn seat.new }
         ensures same { result ≡ Ok None → call.new ≡ call.old }
     {
+        let ring = ring_of(&call.step);
         match held.make_doubled(moment, call) {
             Ok(told) => {
                 self.turn.commit(rt, seat, held);
-                self.bell.ring(rt);
+                self.bells.ring(rt, ring);
                 Ok(Some(told))
             }
             Err(MakeFault::Full) => {

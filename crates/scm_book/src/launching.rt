@@ -95,7 +95,7 @@ impl<K: Keeper> Shared<K> {
             return None;
         };
         self.turn.commit(rt, seat, held);
-        self.bell.ring(rt);
+        self.bells.ring(rt, Owed::LaunchTaken.ring());
         Some(taken)
     }
 

@@ -8,6 +8,7 @@
 mod answers;
 mod beginning;
 mod bell;
+mod bells;
 mod book;
 mod calling;
 mod doubled;
@@ -21,6 +22,7 @@ mod owed;
 mod pass;
 mod processes;
 mod reporting;
+mod ringing;
 mod shared;
 mod turning;
 

@@ -3,7 +3,7 @@ ghost use Rattle.std.specs.Prelude.{◌≡◌};
 ghost use Rattle.book_rule.specs.Seats.{Waits};
 ghost use Rattle.scm_book.specs.Turns.{IsSeated, known, of_badge};
 
-use crate::bell::Bell;
+use crate::bells::Bells;
 use crate::held::Held;
 use atomic_table::Badge;
 use book_rule::{Turn, TurnSeat, View};
@@ -11,11 +11,11 @@ use record_journal::Keeper;
 use std::alloc::Global;
 use std::mem;
 
-/// What all who make steps share: the turn, and the bell that tells of each step.
+/// What all who make steps share: the turn, and the bells that tell of steps.
 #[derive(Drop)]
 pub struct Shared<K: Keeper> {
     pub turn: Turn<Held<K>>,
-    pub bell: Bell,
+    pub bells: Bells,
     pub alloc: Global,
 }
 

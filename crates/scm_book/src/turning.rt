@@ -10,6 +10,7 @@ use crate::doubled::Doubled;
 use crate::fault::{MakeFault, StepFault};
 use crate::held::Held;
 use crate::owed::Owed;
+use crate::ringing::ring_of;
 use crate::shared::Shared;
 use atomic_table::Badge;
 use book_rule::{TurnSeat, View};
@@ -34,7 +35,7 @@ impl<K: Keeper> Shared<K> {
     {
         let told = held.add(moment, owed);
         self.turn.commit(rt, seat, held);
-        self.bell.ring(rt);
+        self.bells.ring(rt, owed.ring());
         told
     }
 
@@ -74,10 +75,11 @@ impl<K: Keeper> Shared<K> {
         ensures why { IfErr result (MakeCause self.now.turn.opening seat.old.me.0.seen step.old.step) }
         ensures waits { Waits self.now.turn seat.new }
     {
+        let ring = ring_of(&step.step);
         match held.make_doubled(moment, step) {
             Ok(told) => {
                 self.turn.commit(rt, seat, held);
-                self.bell.ring(rt);
+                self.bells.ring(rt, ring);
                 Ok(told)
             }
             Err(fault) => {

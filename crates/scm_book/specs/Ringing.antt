@@ -1,0 +1,97 @@
+-- Which bells a step rings, and that it leaves what is waited for at the others as it is.
+use Rattle.std.specs.Prelude.{ℕ, ◌≡◌, ◌<◌, ◌==◌, Bool, true, false, not, List, Option, option_map}
+use Rattle.scm_model.specs.declared.flat.Flat.{Flat}
+use Rattle.scm_model.specs.declared.flat.Limits.{Limits}
+use Rattle.scm_model.specs.declared.flat.Process.{Process}
+use Rattle.scm_model.specs.declared.calls.Request.{Request}
+use Rattle.scm_model.specs.declared.calls.Request.TheVariants as request
+use Rattle.scm_model.specs.declared.steps.Kept.{Kept}
+use Rattle.scm_model.specs.declared.steps.Step.{Step}
+use Rattle.scm_model.specs.declared.steps.Step.TheVariants.{Joined, Call, LaunchFailed, Ended, ControlTaken, Tick, Raised, NoMemory}
+use Rattle.scm_model.specs.Entries.{Entry, with_kept}
+use Rattle.scm_rules.specs.Histories.{state}
+use Rattle.scm_rules.specs.Launches.{process_of}
+use Rattle.scm_rules.specs.Steps.{step_of}
+use Rattle.book_rule.specs.declared.view.Opening.{Opening}
+use Rattle.scm_book.specs.declared.ringing.Children.{Children}
+use Rattle.scm_book.specs.declared.ringing.Children.TheVariants as children
+use Rattle.scm_book.specs.declared.ringing.Ring.{Ring}
+use Rattle.scm_book.specs.Holds.{Runs}
+
+-- the state that a step leaves, settled and purged, whatever became of its change
+abbrev pub after : Limits → Flat → ℕ → Step → Kept → Flat
+after l f moment step append = (step_of l f moment (with_kept step append)).flat
+
+-- ## The common bell
+
+-- calls that only read, that open a handle, or that look for a notification
+abbrev pub is_quiet : Request → Bool
+is_quiet (request.QueryStatus handle) = true
+is_quiet (request.EnumDependents handle states size) = true
+is_quiet (request.EnumServices handle kinds states size resume) = true
+is_quiet (request.OpenManager database access) = true
+is_quiet (request.OpenService handle name access) = true
+is_quiet (request.QueryConfig handle size) = true
+is_quiet (request.QueryLock handle size) = true
+is_quiet (request.DisplayName handle name size) = true
+is_quiet (request.KeyName handle name size) = true
+is_quiet (request.QueryConfig2 handle level size) = true
+is_quiet (request.QueryStatusEx handle level size) = true
+is_quiet (request.GetNotify handle) = true
+is_quiet asked = false
+
+-- all other calls ring it, and so does each step but that a caller joins and that there was no memory for a call
+abbrev pub rings_common : Step → Bool
+rings_common (Joined principal) = false
+rings_common (Call caller asked append) = not (is_quiet asked)
+rings_common (NoMemory caller) = false
+rings_common step = true
+
+-- what is waited for is as it was: the plans, the wanted launches, and the processes with their controls
+pub record IsAwaitedSo (before now : Flat) : Type 0 where
+  pub plans : now.plans ≡ before.plans
+  pub wanted : now.wanted ≡ before.wanted
+  pub processes : now.processes ≡ before.processes
+
+-- behind each legal history the step leaves it so
+abbrev pub StirsNobody : Step → Type 0
+StirsNobody step =
+    (o : Opening) (log : List Entry) (moment : ℕ) (append : Kept) → Runs o log
+    → IsAwaitedSo (state o.limits o.first log) (after o.limits (state o.limits o.first log) moment step append)
+
+-- ## The bells of processes
+
+-- of calls only a control rings them
+abbrev pub controls_rung : Request → Children
+controls_rung (request.Control handle control) = children.All
+controls_rung asked = children.Nobody
+
+-- the processes whose bells a step rings
+abbrev pub children_rung : Step → Children
+children_rung (Call caller asked append) = controls_rung asked
+children_rung (LaunchFailed process code) = children.One process
+children_rung (Ended process) = children.One process
+children_rung (ControlTaken process) = children.One process
+children_rung Tick = children.All
+children_rung (Raised caller subtype) = children.All
+children_rung step = children.Nobody
+
+abbrev pub is_rung : Children → ℕ → Bool
+is_rung children.Nobody process = false
+is_rung (children.One one) process = process == one
+is_rung children.All process = true
+
+-- the controls that wait for a process, if it is listed
+abbrev pub controls_listed : Flat → ℕ → Option (List ℕ)
+controls_listed f process = option_map (λ (row : Process). row.controls) (process_of f process)
+
+-- a process that isn't rung, of those whose numbers were given, is listed after the step if it was, with the controls that it had
+abbrev pub StirsNoOther : Step → Children → Type 0
+StirsNoOther step rung =
+    (l : Limits) (f : Flat) (moment : ℕ) (append : Kept) (process : ℕ) → process < f.next.process → is_rung rung process ≡ false
+    → controls_listed (after l f moment step append) process ≡ controls_listed f process
+
+-- ## Both
+
+abbrev pub ring_of : Step → Ring
+ring_of step = record { common = rings_common step; children = children_rung step }

@@ -1,0 +1,116 @@
+// Which bells a step rings.
+ghost use Rattle.std.specs.Prelude.{◌≡◌, false};
+ghost use Rattle.scm_book.specs.Ringing.{StirsNoOther, StirsNobody, children_rung, controls_rung};
+ghost use Rattle.scm_book.specs.Ringing.{is_quiet, ring_of, rings_common};
+ghost use Rattle.scm_book.specs.Steps.{owed_step};
+
+use crate::owed::Owed;
+use scm_model::{Request, Step};
+
+/// The processes whose bells a step rings.
+#[derive(Clone, Copy)]
+pub enum Children {
+    Nobody,
+    One(u64),
+    All,
+}
+
+/// The bells that a step rings.
+#[derive(Clone, Copy)]
+pub struct Ring {
+    /// Whether it rings the common bell.
+    pub common: bool,
+    pub children: Children,
+}
+
+/// Whether a call only reads, opens a handle, or looks for a notification.
+fn is_quiet(request: &Request) -> bool
+    ensures { result ≡ is_quiet request.now }
+{
+    match request {
+        Request::QueryStatus { .. }
+        | Request::EnumDependents { .. }
+        | Request::EnumServices { .. }
+        | Request::OpenManager { .. }
+        | Request::OpenService { .. }
+        | Request::QueryConfig { .. }
+        | Request::QueryLock { .. }
+        | Request::DisplayName { .. }
+        | Request::KeyName { .. }
+        | Request::QueryConfig2 { .. }
+        | Request::QueryStatusEx { .. }
+        | Request::GetNotify { .. } => true,
+        _ => false,
+    }
+}
+
+/// Whether a step rings the common bell. A step that doesn't decides no plan, and no launch is
+/// wanted by it that wasn't before.
+#[tactic(auto, using(crate::proofs::Stirring::stirs_nobody))]
+pub fn rings_common(step: &Step) -> bool
+    ensures rings { result ≡ rings_common step.now }
+    ensures quiet { result ≡ false → StirsNobody step.now }
+{
+    match step {
+        Step::Call { request, .. } => !is_quiet(request),
+        Step::Joined { .. } | Step::NoMemory { .. } => false,
+        _ => true,
+    }
+}
+
+/// The processes whose bells a call rings: of calls only a control does.
+fn controls_rung(request: &Request) -> Children
+    ensures { result ≡ controls_rung request.now }
+{
+    match request {
+        Request::Control { .. } => Children::All,
+        _ => Children::Nobody,
+    }
+}
+
+/// The processes whose bells a step rings. No other process gets a control by it, or ends.
+#[tactic(auto, using(crate::proofs::Unstirred::stirs_no_other))]
+pub fn children_rung(step: &Step) -> Children
+    ensures rung { result ≡ children_rung step.now }
+    ensures others { StirsNoOther step.now result }
+{
+    match step {
+        Step::Call { request, .. } => controls_rung(request),
+        Step::LaunchFailed { process, code: _ }
+        | Step::Ended { process }
+        | Step::ControlTaken { process } => Children::One(*process),
+        Step::Tick | Step::Raised { .. } => Children::All,
+        _ => Children::Nobody,
+    }
+}
+
+/// The bells that a step rings.
+#[inline(always)]
+pub fn ring_of(step: &Step) -> Ring
+    ensures { result ≡ ring_of step.now }
+{
+    Ring {
+        common: rings_common(step),
+        children: children_rung(step),
+    }
+}
+
+impl Owed {
+    /// The bells that the step rings.
+    #[inline(always)]
+    pub fn ring(self) -> Ring
+        ensures { result ≡ ring_of (owed_step self) }
+    {
+        let children = match self {
+            Owed::LaunchFailed { process, code: _ } | Owed::Ended { process } => {
+                Children::One(process)
+            }
+            Owed::EndStart { .. } | Owed::LaunchTaken | Owed::Launched { .. } | Owed::Gone { .. } =>
+                Children::Nobody,
+        };
+        Ring {
+            common: true,
+            children,
+        }
+    }
+}
