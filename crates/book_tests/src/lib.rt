@@ -12,6 +12,8 @@ mod raising;
 #[cfg(test)]
 mod replays;
 #[cfg(test)]
+mod ringing;
+#[cfg(test)]
 mod rows;
 #[cfg(test)]
 mod starts;

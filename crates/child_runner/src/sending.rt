@@ -49,8 +49,8 @@ fn send_line<F: Feed>(alloc: Global, feed: &mut F, code: u32) -> Option<Controls
     }
 }
 
-/// Takes the control that waits first and writes its line; where none waits it waits for the next
-/// entry of the book. It tells what ended the sending there, if something did.
+/// Takes the control that waits first and writes its line; if none waits it sleeps until the
+/// process's bell rings. It returns what ended the sending there, if something did.
 fn send_next<R: Wait, K: Keeper, F: Feed, C: Clock, Q: Quit>(
     rt: &R,
     alloc: Global,
@@ -71,11 +71,12 @@ fn send_next<R: Wait, K: Keeper, F: Feed, C: Clock, Q: Quit>(
     if quit.asked() {
         return Some(ControlsSent::Shut);
     }
-    let seen = book.bell().count();
+    let bell = book.child_bell(process);
+    let seen = bell.count();
     match book.take_control(rt, pass, clock.now(), process) {
         ControlLook::Control(code) => send_line(alloc, feed, code),
         ControlLook::Empty => {
-            book.bell().wait(rt, seen);
+            bell.wait(rt, seen);
             None
         }
         ControlLook::Over => Some(ControlsSent::Over),
@@ -86,7 +87,7 @@ fn send_next<R: Wait, K: Keeper, F: Feed, C: Clock, Q: Quit>(
 
 /// Takes the controls of a process one after another, as they come, and writes the line of each to
 /// its feed, until the process isn't listed, `quit` asks for the end or a fault comes. Between two
-/// looks that find no control it waits on the book's bell.
+/// looks that find no control it waits on the process's bell.
 pub fn write_controls<R: Wait, K: Keeper, F: Feed, C: Clock, Q: Quit>(
     rt: &R,
     alloc: Global,

@@ -150,7 +150,7 @@ pub fn stops_once<R: Wait>(
     requires path { 2048 ≤ room.old.path.room }
 {
     // A look that finds no control waits no longer.
-    book.bell().shut(rt);
+    book.shut(rt);
     let stopped = stops(rt, alloc, book, caller, runner, room, spawner);
     let asked = BellQuit::new(book.bell());
     let shut = sends(rt, alloc, book, caller, 1, &asked) == ControlsSent::Shut;

@@ -89,7 +89,7 @@ fn visit_last<R: Wait>(
 {
     let told = visit(rt, alloc, book, &mut caller, events);
     drop(caller);
-    book.bell().shut(rt);
+    book.shut(rt);
     told
 }
 
@@ -190,7 +190,7 @@ fn start_in_vain<R: Wait>(rt: &R, alloc: Global, book: &TestBook, mut caller: Pa
         None => None,
     };
     drop(caller);
-    book.bell().shut(rt);
+    book.shut(rt);
     code
 }
 

@@ -276,8 +276,8 @@ fn look<R: Wait, K: Keeper, P: Spawner, C: Clock>(
     launch_next(rt, alloc, book, by, room, spawner, clock)
 }
 
-/// Makes room for a line. Where there is no memory it tries again with the book's next entry,
-/// until `quit` asks for the end.
+/// Makes room for a line. If there is no memory it tries again when the book's bell rings, which
+/// entries do that may decide a plan or want a launch, until `quit` asks for the end.
 fn make_room<R: Wait, K: Keeper, Q: Quit>(
     rt: &R,
     alloc: Global,

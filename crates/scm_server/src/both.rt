@@ -73,7 +73,7 @@ fn both_of<R: Wait, K: Keeper, N: Listener, C: Clock>(
 }
 
 /// Serves two listeners to their ends at the same time, each in a thread where one can be started,
-/// and then shuts the book's bell. The callers of the first join as administrators, those of the
+/// and then shuts the book's bells. The callers of the first join as administrators, those of the
 /// second as users. A listener that fails doesn't end the other.
 pub fn serve_both<R, K, N, I, O, P, C>(
     rt: &R,
@@ -147,6 +147,6 @@ where
                 EndsFor result.end (tell user) (tell result.listener) }
         { serve_port(rt, alloc, book, pass, user, Principal::User, clock) },
     );
-    book.bell().shut(rt);
+    book.shut(rt);
     both_of(rt, book, first, second, clock)
 }

@@ -1,0 +1,228 @@
+// Which bells ring as calls are made, and as a process is launched, sent a control and ends.
+ghost use Rattle.std.specs.Prelude.{◌≢◌, IfSome};
+ghost use Rattle.scm_model.specs.declared.flat.Phase.TheVariants as phases;
+ghost use Rattle.scm_book.specs.Passes.{HoldsProcess, IsOf};
+
+use crate::rows::{Row, come, told};
+use crate::starts::{launch, report};
+use book_calls::{Asked, begin_start, guest, limits, new_book};
+use record_journal::MemoryKeeper;
+use scm_book::{Book, ControlLook, EndedEnd, Opened, Pass, ReportEnd};
+use scm_model::codes::{SERVICE_CONTROL_STOP, SERVICE_RUNNING, SERVICE_STOPPED};
+use std::alloc::Global;
+use std::sync::Wait;
+use std::test::Fail;
+
+/// The counts of the common bell, and of the bells of processes 1 and 2.
+#[derive(Clone, Copy)]
+struct Counts {
+    common: u64,
+    first: u64,
+    second: u64,
+}
+
+fn counts(book: &Book<MemoryKeeper>) -> Counts {
+    Counts {
+        common: book.bell().count(),
+        first: book.child_bell(1).count(),
+        second: book.child_bell(2).count(),
+    }
+}
+
+/// Which of the three bells ring.
+#[derive(Clone, Copy, PartialEq, Eq)]
+enum Rung {
+    Nothing,
+    Common,
+    CommonAndFirst,
+    All,
+}
+
+/// Which of them have rung since they were counted.
+fn rung_since(book: &Book<MemoryKeeper>, before: Counts) -> Option<Rung> {
+    let now = counts(book);
+    let common = now.common != before.common;
+    let first = now.first != before.first;
+    let second = now.second != before.second;
+    match (common, first, second) {
+        (false, false, false) => Some(Rung::Nothing),
+        (true, false, false) => Some(Rung::Common),
+        (true, true, false) => Some(Rung::CommonAndFirst),
+        (true, true, true) => Some(Rung::All),
+        _ => None,
+    }
+}
+
+/// Whether each call comes to what is beside it, and rings so.
+fn ring<R: Wait>(
+    rt: &R,
+    alloc: Global,
+    book: &Book<MemoryKeeper>,
+    pass: &mut Pass,
+    rows: &[(Row, Rung)],
+) -> bool
+    requires book { IsOf book.now pass.old }
+    requires caller { pass.old.caller ≢ 0 }
+    ensures book { IsOf book.now pass.new }
+    ensures caller { pass.new.caller ≢ 0 }
+{
+    for (row, rung) in rows {
+        let before = counts(book);
+        if !come(rt, alloc, book, pass, &[*row]) || rung_since(book, before) != Some(*rung) {
+            return false;
+        }
+    }
+    true
+}
+
+/// A service is made and looked at.
+fn made() -> [(Row, Rung); 4] {
+    let (manager, name) = (1, 0x41);
+    let stopped = u64::from(SERVICE_STOPPED);
+    [
+        (told(Asked::OpensManager, 0, 1), Rung::Nothing),
+        (told(Asked::Creates { manager, name }, 0, 2), Rung::Common),
+        (told(Asked::Opens { manager, name }, 0, 3), Rung::Nothing),
+        (told(Asked::Queries { handle: 2 }, 0, stopped), Rung::Nothing),
+    ]
+}
+
+/// It is looked at, and stopped.
+fn stopped() -> [(Row, Rung); 2] {
+    let running = u64::from(SERVICE_RUNNING);
+    [
+        (told(Asked::Queries { handle: 2 }, 0, running), Rung::Nothing),
+        (told(Asked::Stops { handle: 2 }, 0, running), Rung::All),
+    ]
+}
+
+/// Whether the start of a service rings so. Its process, if all do.
+fn starts<R: Wait>(
+    rt: &R,
+    alloc: Global,
+    book: &Book<MemoryKeeper>,
+    pass: &mut Pass,
+    other: &mut Pass,
+) -> Option<u64>
+    requires book { IsOf book.now pass.old }
+    requires caller { pass.old.caller ≢ 0 }
+    requires other { IsOf book.now other.old }
+    ensures book { IsOf book.now pass.new }
+    ensures caller { pass.new.caller ≢ 0 }
+    ensures other { IsOf book.now other.new }
+    ensures process { IfSome result (λ process. HoldsProcess book.now.opening other.new process phases.Launched) }
+{
+    let before = counts(book);
+    let is_begun = begin_start(rt, alloc, book, pass, 2).is_some();
+    let begun = rung_since(book, before);
+    let before = counts(book);
+    let process = launch(rt, alloc, book, other)?;
+    let launched = rung_since(book, before);
+    if is_begun && begun == Some(Rung::Common) && launched == Some(Rung::Common) {
+        Some(process)
+    } else {
+        None
+    }
+}
+
+/// Whether a process that was sent a control takes it and ends, and rings so.
+fn ends<R: Wait>(
+    rt: &R,
+    book: &Book<MemoryKeeper>,
+    other: &mut Pass,
+    process: u64,
+) -> bool
+    requires book { IsOf book.now other.old }
+    requires process { HoldsProcess book.now.opening other.old process phases.Launched }
+    ensures book { IsOf book.now other.new }
+{
+    let before = counts(book);
+    let control = book.take_control(rt, other, 0, process);
+    let taken = rung_since(book, before);
+    let before = counts(book);
+    let end = book.ended(rt, other, 0, process);
+    let ended = rung_since(book, before);
+    control == ControlLook::Control(SERVICE_CONTROL_STOP)
+        && taken == Some(Rung::CommonAndFirst)
+        && end == EndedEnd::Taken
+        && ended == Some(Rung::CommonAndFirst)
+}
+
+/// Whether a process reports, is sent a control, takes it and ends, and rings so.
+fn obeys<R: Wait>(
+    rt: &R,
+    alloc: Global,
+    book: &Book<MemoryKeeper>,
+    pass: &mut Pass,
+    other: &mut Pass,
+    process: u64,
+) -> bool
+    requires book { IsOf book.now pass.old }
+    requires caller { pass.old.caller ≢ 0 }
+    requires other { IsOf book.now other.old }
+    requires process { HoldsProcess book.now.opening other.old process phases.Launched }
+    ensures { IsOf book.now other.new }
+{
+    let before = counts(book);
+    let runs = [(SERVICE_RUNNING, ReportEnd::Taken)];
+    let is_running = report(rt, book, other, process, &runs);
+    let reported = rung_since(book, before);
+    is_running
+        && reported == Some(Rung::Common)
+        && ring(rt, alloc, book, pass, &stopped())
+        && ends(rt, book, other, process)
+}
+
+/// Whether all that a caller does rings so.
+fn rings<R: Wait>(
+    rt: &R,
+    alloc: Global,
+    book: &Book<MemoryKeeper>,
+    pass: &mut Pass,
+    root: &mut Pass,
+) -> bool
+    requires book { IsOf book.now pass.old }
+    requires caller { pass.old.caller ≢ 0 }
+    requires root { IsOf book.now root.old }
+    ensures { IsOf book.now root.new }
+{
+    let is_made = ring(rt, alloc, book, pass, &made());
+    match starts(rt, alloc, book, pass, root) {
+        Some(process) => is_made && obeys(rt, alloc, book, pass, root, process),
+        None => false,
+    }
+}
+
+/// The same of a new caller.
+fn guest_rings<R: Wait>(rt: &R, alloc: Global, book: &Book<MemoryKeeper>, root: &mut Pass) -> bool
+    requires { IsOf book.now root.old }
+    ensures { IsOf book.now root.new }
+{
+    match guest(rt, book, root, 0) {
+        Ok(mut pass) => {
+            let are_right = rings(rt, alloc, book, &mut pass, root);
+            drop(pass);
+            are_right
+        }
+        Err(_) => false,
+    }
+}
+
+/// The same in a new book.
+fn new_rings<R: Wait>(rt: &R, alloc: Global) -> bool {
+    match new_book(alloc, limits(4_194_304), Vec::new(alloc)) {
+        Some(Opened { book, mut pass }) => {
+            let are_right = guest_rings(rt, alloc, &book, &mut pass);
+            drop(pass);
+            drop(book);
+            are_right
+        }
+        None => false,
+    }
+}
+
+#[test]
+fn bells_ring_for_what_is_waited_for(rt: HostRuntime) -> Result<(), Fail> {
+    assert!(rt; new_rings(&rt, rt.alloc()));
+    Ok(())
+}
