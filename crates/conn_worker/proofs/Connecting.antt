@@ -1,5 +1,5 @@
 -- From a desk to its pass, and the going behind the last request.
-use Rattle.std.proofs.Common.{◌≡◌, ◌≢◌, ◌∙◌, ℕ, Bool, List, [], ◌∷◌, ◌++◌, Option, inl, inr, refl, sym, ap, subst, append-nil}
+use Rattle.std.proofs.Common.{◌≡◌, ◌≢◌, ◌∙◌, ℕ, Bool, List, [], ◌∷◌, ◌++◌, map, Option, inl, inr, refl, sym, ap, subst, append-nil}
 use Rattle.scm_model.specs.declared.calls.Reply.{Reply}
 use Rattle.scm_model.specs.declared.steps.Answer.TheVariants as answers
 use Rattle.scm_model.specs.declared.steps.Step.TheVariants.{Gone}
@@ -7,6 +7,7 @@ use Rattle.scm_history.specs.Owned.{Made as Told, made_of}
 use Rattle.rpc_session.specs.declared.state.Incoming.{Incoming}
 use Rattle.book_rule.specs.declared.view.Opening.{Opening}
 use Rattle.book_rule.specs.Seats.{Identity}
+use Rattle.book_rule.proofs.Prefixes.{prefix_trans}
 use Rattle.scm_book.specs.Calls.{Goes}
 use Rattle.scm_book.specs.Passes.{IsOf, Known, Learnt, Made}
 use Rattle.conn_desk.specs.declared.asked.Asked.{Asked}
@@ -17,8 +18,9 @@ use Rattle.conn_desk.specs.Connection.{Reached}
 use Rattle.conn_desk.specs.Desks.{Chain, IsLeft}
 use Rattle.conn_desk.specs.Serves.{Leaves, Serves}
 use Rattle.conn_worker.specs.Connecting.{Connects, HasNoRoomFor}
-use Rattle.conn_worker.specs.Serving.{IsServed}
-use Rattle.conn_worker.proofs.Owning.{DidAll, Makes, adds_made, adds_then, makes_learnt, makes_none, makes_then, of_chain}
+use Rattle.conn_worker.specs.Owning.{Adds, unowed_places}
+use Rattle.conn_worker.specs.Serving.{IsServed, step_for}
+use Rattle.conn_worker.proofs.Owning.{DidAll, Makes, adds_made, adds_then, found_behind, makes_learnt, makes_none, makes_then, of_chain}
 
 -- a desk that has a pass, a book and a clock
 module _ {D Ck : Type 0} (silent : Bool) (pass : D → Known) (book : D → Identity) (clock : D → Ck) (tells_at : Ck → ℕ → Type 0) where
@@ -82,7 +84,7 @@ module _ {D Ck : Type 0} (silent : Bool) (pass : D → Known) (book : D → Iden
     )
     reached_on how d read left_now done heard written is reached = reached
 
-makes_left : (tells : ℕ → Type 0) (o : Opening) (how : Served) (k k' : Known) → Leaves (Learnt o) how k k' → Makes tells o k [] k'
+makes_left : (tells : ℕ → Type 0) (o : Opening) (how : Served) (k k' : Known) → Leaves (Learnt o) how k k' → Makes tells o k [] [] k'
 makes_left tells o served.Full k k' leaves = makes_learnt tells o k k' leaves
 makes_left tells o served.OutOfMemory k k' (inl same) = makes_none tells o k k' same
 makes_left tells o served.OutOfMemory k k' (inr learnt) = makes_learnt tells o k k' learnt
@@ -107,10 +109,13 @@ module _ {D Ck : Type 0} (silent : Bool) (pass : D → Known) (book : D → Iden
       let chain = chain_on silent pass book clock tells_at (book d) (clock d) d serves.last (asked serves.done) serves.heard (refl, refl) serves.chain in
       let leaves = leaves_on silent pass book clock tells_at (book d) (clock d) how serves.last e chain.0 serves.leaves in
       let did : DidAll tells o silent k (pass serves.last) (asked serves.done) serves.heard = of_chain tells o silent k (pass serves.last) (asked serves.done) serves.heard chain.1 in
-      let stood : Makes tells o k (did.entries ++ []) (pass e) = makes_then tells o k (pass serves.last) (pass e) did.entries [] did.makes (makes_left tells o how (pass serves.last) (pass e) leaves.1) in
-      let all : Makes tells o k did.entries (pass e) = subst (λ (es : List Told). Makes tells o k es (pass e)) (append-nil did.entries) stood in
+      let left : Makes tells o (pass serves.last) [] [] (pass e) = makes_left tells o how (pass serves.last) (pass e) leaves.1 in
+      let stood : Makes tells o k (did.entries ++ []) (did.places ++ []) (pass e) = makes_then tells o k (pass serves.last) (pass e) did.entries [] did.places [] did.makes left in
+      let all : Makes tells o k did.entries did.places (pass e) = subst (λ (ps : List ℕ). Makes tells o k did.entries ps (pass e)) (append-nil did.places)
+      (subst (λ (es : List Told). Makes tells o k es (did.places ++ []) (pass e)) (append-nil did.entries) stood) in
       let gone : Made o (pass e) moment (Gone k.caller) answers.Done k' =
-      subst (λ (c : ℕ). Made o (pass e) moment (Gone c) answers.Done k') all.caller (goes.caller (λ none. some (sym all.caller ∙ none))) in record {
+      subst (λ (c : ℕ). Made o (pass e) moment (Gone c) answers.Done k') all.caller (goes.caller (λ none. some (sym all.caller ∙ none))) in
+      let going : Adds o (pass e) (made_of (moment, Gone k.caller) answers.Done ∷ []) k' = adds_made o (pass e) k' moment (Gone k.caller) answers.Done gone in record {
         read = serves.read;
         done = serves.done;
         heard = serves.heard;
@@ -129,5 +134,9 @@ module _ {D Ck : Type 0} (silent : Bool) (pass : D → Known) (book : D → Iden
         entries = did.entries;
         requests = did.of;
         all_told = all.told;
-        adds = adds_then o k (pass e) k' did.entries (made_of (moment, Gone k.caller) answers.Done ∷ []) all.adds (adds_made o (pass e) k' moment (Gone k.caller) answers.Done gone);
+        adds = adds_then o k (pass e) k' did.entries (made_of (moment, Gone k.caller) answers.Done ∷ []) all.adds going;
+        places = did.places;
+        own = all.own;
+        found = found_behind o (pass serves.last).seen k'.seen (unowed_places did.places did.entries) (map (step_for k.caller) (asked serves.done))
+            (prefix_trans (pass serves.last).seen (pass e).seen k'.seen left.adds.longer going.longer) did.found;
       }

@@ -1,5 +1,5 @@
 -- A whole connection over the book, with its caller's going.
-use Rattle.std.specs.Prelude.{◌^◌, ℕ, Bool, ◌≡◌, ◌≤◌, ◌++◌, false, List, [], ◌∷◌, length, Option}
+use Rattle.std.specs.Prelude.{◌^◌, ℕ, Bool, ◌≡◌, ◌≤◌, ◌++◌, false, List, [], ◌∷◌, length, map, Option}
 use Rattle.std.specs.Io.KnownBytes.{Appends, Consumes}
 use Rattle.scm_model.specs.declared.calls.Reply.{Reply}
 use Rattle.scm_model.specs.declared.steps.Answer.TheVariants as answers
@@ -14,7 +14,7 @@ use Rattle.conn_desk.specs.Bodies.{asked}
 use Rattle.conn_desk.specs.Connection.{Reached}
 use Rattle.conn_desk.specs.Desks.{Chain}
 use Rattle.conn_desk.specs.Serves.{Leaves}
-use Rattle.conn_worker.specs.Owning.{Adds, AreOfAll, AreTold}
+use Rattle.conn_worker.specs.Owning.{Adds, AreOfAll, AreTold, FoundRoom, unowed_places}
 use Rattle.conn_worker.specs.Serving.{IsServed, step_for}
 
 -- the limits have no room for a request behind what the pass has seen
@@ -45,3 +45,7 @@ pub record Connects (silent : Bool) (tells : ℕ → Type 0) (o : Opening) (k k'
   pub requests : AreOfAll silent k.caller (asked done) heard entries
   pub all_told : AreTold tells entries
   pub adds : Adds o k (entries ++ made_of (moment, Gone k.caller) answers.Done ∷ []) k'
+  -- each request found room in the state of its place
+  pub places : List ℕ
+  pub own : stood.own ≡ k.own ++ places
+  pub found : FoundRoom o k'.seen (unowed_places places entries) (map (step_for k.caller) (asked done))

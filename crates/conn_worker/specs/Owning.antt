@@ -1,5 +1,6 @@
 -- A pass's own entries, and those that became of its requests.
-use Rattle.std.specs.Prelude.{ℕ, Bool, ◌≡◌, ◌⊎◌, ◌++◌, All, true, false, List, [], ◌∷◌, length, map, Option, None, Some}
+use Rattle.std.specs.Prelude.{ℕ, Bool, ◌≡◌, ◌⊎◌, ◌++◌, All, true, false, List, [], ◌∷◌, length, map, Option, None, Some, if◌then◌else◌}
+use Rattle.std.specs.List.{AllZip}
 use mathlib.Core.List.{IsPrefix}
 use Rattle.scm_model.specs.declared.codes.TheConstants.{ERROR_SERVICE_NO_THREAD}
 use Rattle.scm_model.specs.declared.calls.Reply.{Reply}
@@ -8,12 +9,14 @@ use Rattle.scm_model.specs.declared.calls.Request.{Request}
 use Rattle.scm_model.specs.declared.steps.Answer.{Answer}
 use Rattle.scm_model.specs.declared.steps.Answer.TheVariants as answers
 use Rattle.scm_model.specs.declared.steps.Kept.{Kept}
+use Rattle.scm_model.specs.declared.steps.Step.{Step}
 use Rattle.scm_model.specs.declared.steps.Step.TheVariants.{Call, EndStart, LaunchFailed, LaunchTaken, NoMemory, Raised}
 use Rattle.scm_model.specs.Entries.{Entry}
 use Rattle.scm_rules.specs.Histories.{answer}
+use Rattle.scm_rules.specs.Room.{is_owed}
 use Rattle.scm_history.specs.Owned.{Made as Told, made_of}
 use Rattle.book_rule.specs.declared.view.Opening.{Opening}
-use Rattle.scm_book.specs.Passes.{IsSame, Known}
+use Rattle.scm_book.specs.Passes.{IsSame, Known, room_behind}
 use Rattle.conn_desk.specs.declared.asked.Asked.{Asked}
 use Rattle.conn_desk.specs.declared.asked.Asked.TheVariants as asks
 
@@ -44,6 +47,28 @@ pub record Adds (o : Opening) (k : Known) (entries : List Told) (k' : Known) : T
   pub own : (before : List Told) → Owns o k before → Owns o k' (before ++ entries)
   pub alone : k.alone ≡ true → k'.seen ≡ k.seen ++ map (λ (one : Told). one.entry) entries
   pub same : IsSame k k'
+
+-- ## Room
+
+-- the limits had room for a step in the state before this place
+pub record HadRoom (o : Opening) (log : List Entry) (place : ℕ) (step : Step) : Type 0 where
+  pub front : List Entry
+  pub within : IsPrefix front log
+  pub at : place ≡ length front
+  pub room : room_behind o front step ≡ true
+
+-- they had room for each of these steps in the state before its place
+abbrev pub FoundRoom : Opening → List Entry → List ℕ → List Step → Type 0
+FoundRoom o log places steps = AllZip (HadRoom o log) places steps
+
+-- the places of those entries that aren't owed: each is what became of a request, or a joining
+abbrev pub unowed_places : List ℕ → List Told → List ℕ
+unowed_places [] entries = []
+unowed_places (place ∷ places) [] = []
+unowed_places (place ∷ places) (one ∷ entries) =
+    if is_owed one.entry.1 then unowed_places places entries else place ∷ unowed_places places entries
+
+-- ## Moments
 
 -- at moments that the clock tells
 abbrev pub AreTold : (ℕ → Type 0) → List Told → Type 0
