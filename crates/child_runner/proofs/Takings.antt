@@ -13,7 +13,7 @@ use Rattle.scm_rules.specs.Steps.{step_of}
 use Rattle.scm_runs.proofs.Histories.{told}
 use Rattle.book_rule.specs.declared.view.Opening.{Opening}
 use Rattle.book_rule.proofs.Prefixes.{prefix_self, prefix_snoc, prefix_trans}
-use Rattle.scm_book.specs.Passes.{FindsNoMemory, FindsNoRoom, KeepsAll, Known, Learnt, Made, MadeSo, may_behind}
+use Rattle.scm_book.specs.Passes.{FindsNoMemory, FindsNoRoom, KeepsAll, Known, Learnt, Made, MadeSo, may_behind, room_behind}
 use Rattle.scm_book.specs.Reporting.{waiting_behind}
 use Rattle.child_link.specs.Lines.{control_text}
 use Rattle.child_runner.specs.declared.sending.ControlsSent.{ControlsSent}
@@ -81,7 +81,7 @@ module _ (tells : ℕ → Type 0) (o : Opening) (process : ℕ) where
       let whole : log ++ more ≡ took.front ++ e ∷ (took.rest ++ more) = ap (λ (es : List Entry). es ++ more) took.is ∙ append_assoc took.front (e ∷ took.rest) more in
       let first : answer l f log place ≡ Some (step_of l (state l f took.front) e.0 e.1).answer = (λ i. answer l f (took.is i) (took.at i)) ∙ told l f took.front e took.rest in
       let then : answer l f (log ++ more) place ≡ Some (step_of l (state l f took.front) e.0 e.1).answer = (λ i. answer l f (whole i) (took.at i)) ∙ told l f took.front e (took.rest ++ more) in
-      record { front = took.front; moment = took.moment; rest = took.rest ++ more; is = whole; at = took.at; told = took.told; answered = then ∙ (sym first ∙ took.answered) }
+      record { front = took.front; moment = took.moment; rest = took.rest ++ more; is = whole; at = took.at; told = took.told; answered = then ∙ (sym first ∙ took.answered); room = took.room }
 
   all_still : (log more : List Entry) (places codes : List ℕ) → AllZip (TookAt tells o process log) places codes → AllZip (TookAt tells o process (log ++ more)) places codes
   all_still log more [] [] all = tt
@@ -120,13 +120,14 @@ module _ (tells : ℕ → Type 0) (o : Opening) (process : ℕ) where
     same = learnt.same;
   }
 
-  made_takes : (k k' : Known) (moment code : ℕ) → tells moment → Made o k moment (ControlTaken process) (answers.Control code) k' → Takes tells o process k (code ∷ []) k'
-  made_takes k k' moment code told made = record {
+  made_takes : (k k' : Known) (moment code : ℕ) → tells moment → (made : Made o k moment (ControlTaken process) (answers.Control code) k') → room_behind o made.before (ControlTaken process) ≡ true
+      → Takes tells o process k (code ∷ []) k'
+  made_takes k k' moment code told made room = record {
     longer = subst (IsPrefix k.seen) (sym made.seen) (prefix_snoc k.seen made.before (moment, ControlTaken process) made.longer);
     legal = λ legal. made.legal;
     places = length made.before ∷ [];
     own = made.own;
-    took = (record { front = made.before; moment = moment; rest = []; is = made.seen; at = refl; told = told; answered = made.answer }, tt);
+    took = (record { front = made.before; moment = moment; rest = []; is = made.seen; at = refl; told = told; answered = made.answer; room = room }, tt);
     names = made.names ∙ append-nil k.names;
     caller = made.caller;
     claims = λ claims. made.claims;
@@ -138,7 +139,7 @@ module _ (tells : ℕ → Type 0) (o : Opening) (process : ℕ) where
   }
 
   pub takes_one : (k k' : Known) (moment code : ℕ) → tells moment → MadeSo o k moment (ControlTaken process) (answers.Control code) k' → Takes tells o process k (code ∷ []) k'
-  takes_one k k' moment code told so = made_takes k k' moment code told so.made
+  takes_one k k' moment code told so = made_takes k k' moment code told so.made so.room
 
   takes_then : (k m k' : Known) (codes more : List ℕ) → Takes tells o process k codes m → Takes tells o process m more k' → Takes tells o process k (codes ++ more) k'
   takes_then k m k' codes more first then = record {

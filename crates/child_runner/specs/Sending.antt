@@ -65,7 +65,7 @@ abbrev pub IsBehindOwn : Known → Type 0
 IsBehindOwn k = (place : ℕ) → Has place k.own → place < length k.seen
 
 module _ (tells : ℕ → Type 0) (o : Opening) (process : ℕ) where
-  -- the entry at a place of a history took this control for the process, at a moment of the clock
+  -- the entry at a place of a history took this control for the process, at a moment of the clock, and found room for that in the state before it
   pub record TookAt (log : List Entry) (place code : ℕ) : Type 0 where
     pub front : List Entry
     pub moment : ℕ
@@ -74,6 +74,7 @@ module _ (tells : ℕ → Type 0) (o : Opening) (process : ℕ) where
     pub at : place ≡ length front
     pub told : tells moment
     pub answered : answer o.limits o.first log place ≡ Some (answers.Control code)
+    pub room : room_behind o front (ControlTaken process) ≡ true
 
   -- the pass took these controls, one after another, and has no other own entry more; where it is alone nobody made any
   pub record Takes (k : Known) (codes : List ℕ) (k' : Known) : Type 0 where
