@@ -1,5 +1,5 @@
 -- A handle and numbers that are read at once are the values of their body.
-use Rattle.std.proofs.Common.{◌≡◌, ℕ, Bool, true, false, List, [], ◌∷◌, drop, Result, Ok, Err, refl, ◌∙◌}
+use Rattle.std.proofs.Common.{◌≡◌, ℕ, Bool, true, false, List, [], ◌∷◌, drop, Result, Ok, Err, refl}
 use Rattle.std.specs.Prelude.{IsTrue, ◌&&◌}
 use Rattle.ndr_body.specs.declared.fault.BodyFault.{BodyFault}
 use Rattle.ndr_body.specs.Reading.{◌>>=◌, handle_at, finished}
@@ -15,7 +15,7 @@ use Rattle.scm_shapes.specs.HandleBodies.{is_number, is_handle_body, handle_body
 
 -- ## The two orders of reading, over any way to read the items
 
--- the numbers behind a handle, and the end
+-- the numbers after a handle, and the end
 abbrev at_once : List ℕ → (ℕ → Result (ℕ × ℕ) BodyFault) → (ℕ → Result (ℕ × ℕ) BodyFault) → Result (ℕ × ℕ) BodyFault → Result HandleBody BodyFault
 at_once body first_at second_at handle = handle >>= λ h. first_at h.1 >>= λ a. second_at a.1 >>= λ b. finished body b.1 >>= λ ended. Ok (record { handle = h.0; first = a.0; second = b.0 })
 
@@ -23,7 +23,7 @@ at_once body first_at second_at handle = handle >>= λ h. first_at h.1 >>= λ a.
 abbrev with_first : Value → Result (List Value × ℕ) BodyFault → Result (List Value × ℕ) BodyFault
 with_first first read = read >>= λ others. Ok (first ∷ others.0, others.1)
 
--- a number, and the values behind it
+-- a number, and the values after it
 abbrev number_and : Result (ℕ × ℕ) BodyFault → (ℕ → Result (List Value × ℕ) BodyFault) → Result (List Value × ℕ) BodyFault
 number_and number more = made value.Number number >>= λ first. with_first first.0 (more first.1)
 
@@ -31,7 +31,7 @@ number_and number more = made value.Number number >>= λ first. with_first first
 abbrev whole : List ℕ → Result (List Value × ℕ) BodyFault → Result HandleBody BodyFault
 whole body read = (read >>= λ values. closed_at values.0 body values.1 >>= λ closed. Ok values.0) >>= λ vs. Ok (handle_body_of vs)
 
--- a handle, the values behind it, and the end
+-- a handle, the values after it, and the end
 abbrev by_values : List ℕ → (ℕ → Result (List Value × ℕ) BodyFault) → Result (ℕ × ℕ) BodyFault → Result HandleBody BodyFault
 by_values body more handle = whole body (made value.Handle handle >>= λ first. with_first first.0 (more first.1))
 
@@ -52,31 +52,31 @@ unfolding closed_at
 none body (Ok h) = ended (value.Handle h.0 ∷ []) (finished body h.1)
 none body (Err e) = refl
 
-one_behind : (body : List ℕ) (h : ℕ) (first : Result (ℕ × ℕ) BodyFault)
+one_after : (body : List ℕ) (h : ℕ) (first : Result (ℕ × ℕ) BodyFault)
     → (first >>= λ a. finished body a.1 >>= λ ended. Ok (record { handle = h; first = a.0; second = 0 })) ≡ whole body (with_first (value.Handle h) (number_and first nothing))
 unfolding closed_at
-one_behind body h (Ok a) = ended (value.Handle h ∷ value.Number a.0 ∷ []) (finished body a.1)
-one_behind body h (Err e) = refl
+one_after body h (Ok a) = ended (value.Handle h ∷ value.Number a.0 ∷ []) (finished body a.1)
+one_after body h (Err e) = refl
 
 one : (body : List ℕ) (first_at : ℕ → Result (ℕ × ℕ) BodyFault) (handle : Result (ℕ × ℕ) BodyFault) → at_once body first_at zero_at handle ≡ by_values body (λ p. number_and (first_at p) nothing) handle
-one body first_at (Ok h) = one_behind body h.0 (first_at h.1)
+one body first_at (Ok h) = one_after body h.0 (first_at h.1)
 one body first_at (Err e) = refl
 
-second_behind : (body : List ℕ) (h a : ℕ) (second : Result (ℕ × ℕ) BodyFault)
+second_after : (body : List ℕ) (h a : ℕ) (second : Result (ℕ × ℕ) BodyFault)
     → (second >>= λ b. finished body b.1 >>= λ ended. Ok (record { handle = h; first = a; second = b.0 })) ≡ whole body (with_first (value.Handle h) (with_first (value.Number a) (number_and second nothing)))
 unfolding closed_at
-second_behind body h a (Ok b) = ended (value.Handle h ∷ value.Number a ∷ value.Number b.0 ∷ []) (finished body b.1)
-second_behind body h a (Err e) = refl
+second_after body h a (Ok b) = ended (value.Handle h ∷ value.Number a ∷ value.Number b.0 ∷ []) (finished body b.1)
+second_after body h a (Err e) = refl
 
-both_behind : (body : List ℕ) (h : ℕ) (second_at : ℕ → Result (ℕ × ℕ) BodyFault) (first : Result (ℕ × ℕ) BodyFault)
+both_after : (body : List ℕ) (h : ℕ) (second_at : ℕ → Result (ℕ × ℕ) BodyFault) (first : Result (ℕ × ℕ) BodyFault)
     → (first >>= λ a. second_at a.1 >>= λ b. finished body b.1 >>= λ ended. Ok (record { handle = h; first = a.0; second = b.0 }))
     ≡ whole body (with_first (value.Handle h) (number_and first (λ p. number_and (second_at p) nothing)))
-both_behind body h second_at (Ok a) = second_behind body h a.0 (second_at a.1)
-both_behind body h second_at (Err e) = refl
+both_after body h second_at (Ok a) = second_after body h a.0 (second_at a.1)
+both_after body h second_at (Err e) = refl
 
 both : (body : List ℕ) (first_at second_at : ℕ → Result (ℕ × ℕ) BodyFault) (handle : Result (ℕ × ℕ) BodyFault)
     → at_once body first_at second_at handle ≡ by_values body (λ p. number_and (first_at p) (λ q. number_and (second_at q) nothing)) handle
-both body first_at second_at (Ok h) = both_behind body h.0 second_at (first_at h.1)
+both body first_at second_at (Ok h) = both_after body h.0 second_at (first_at h.1)
 both body first_at second_at (Err e) = refl
 
 -- ## Shapes

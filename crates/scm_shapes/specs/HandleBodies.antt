@@ -35,7 +35,7 @@ next_number_at [] body place = Ok (0, place)
 next_number_at (item.NumberTo most ∷ items) body place = within_at most body place
 next_number_at (kind ∷ items) body place = number_at body place
 
--- a handle and the numbers behind it, or the first fault
+-- a handle and the numbers after it, or the first fault
 unfoldable pub handle_body_at : List Item → List ℕ → Result HandleBody BodyFault
 handle_body_at numbers body = do
   handle ← handle_at body 0

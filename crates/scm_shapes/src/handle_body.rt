@@ -7,8 +7,8 @@ use crate::item::Item;
 use crate::places::read_within;
 use ndr_body::{BodyFault, NdrReader};
 
-/// What a body holds that is a handle and at most two numbers. A number that the body doesn't have
-/// is 0.
+/// What a body holds that is a context handle and at most two numbers of 32 bits (NDR of C706). A
+/// number that the body doesn't have is 0.
 #[derive(Clone, Copy)]
 pub struct HandleBody {
     pub handle: u64,
@@ -35,17 +35,18 @@ pub fn is_handle_body(shape: &[Item]) -> bool
     }
 }
 
-/// The items behind the first.
-fn behind(items: &[Item]) -> &[Item]
+/// The items after the first.
+fn rest(items: &[Item]) -> &[Item]
     ensures { result.now ≡ drop 1 items.now }
 {
     match items {
-        [_, rest @ ..] => rest,
+        [_, others @ ..] => others,
         [] => items,
     }
 }
 
 /// The number that some items begin with, or 0 where there are none.
+#[inline(always)]
 #[tactic(auto, unfolding(crate::specs::HandleBodies::next_number_at))]
 fn read_next(reader: &mut NdrReader, items: &[Item]) -> Result<u32, BodyFault>
     ensures value { Gives (λ v. (v, reader.new.place)) result (next_number_at items.now reader.old.body reader.old.place) }
@@ -59,7 +60,7 @@ fn read_next(reader: &mut NdrReader, items: &[Item]) -> Result<u32, BodyFault>
     }
 }
 
-/// Reads a handle, and the numbers behind it.
+/// Reads a handle and the numbers after it.
 #[tactic(auto, unfolding(crate::specs::HandleBodies::handle_body_at))]
 fn read(numbers: &[Item], body: &[u8]) -> Result<HandleBody, BodyFault>
     ensures exact { Gives (λ held. held) result (handle_body_at numbers.now body.now) }
@@ -68,7 +69,7 @@ fn read(numbers: &[Item], body: &[u8]) -> Result<HandleBody, BodyFault>
     let mut reader = NdrReader::new(body);
     let handle = reader.handle()?;
     let first = read_next(&mut reader, numbers)?;
-    let second = read_next(&mut reader, behind(numbers))?;
+    let second = read_next(&mut reader, rest(numbers))?;
     reader.finish()?;
     Ok(HandleBody {
         handle,
@@ -77,7 +78,8 @@ fn read(numbers: &[Item], body: &[u8]) -> Result<HandleBody, BodyFault>
     })
 }
 
-/// Reads a body of a handle and at most two numbers, without a queue of values.
+/// Reads a body of a handle and at most two numbers, without a queue of values. A fault is the first
+/// one of the body, at its place.
 pub fn read_handle_body(shape: &[Item], body: &[u8]) -> Result<HandleBody, BodyFault>
     requires { IsTrue (is_handle_body shape.now) }
     // What is read is what the values of the body are, and which fault it is else.
@@ -85,5 +87,5 @@ pub fn read_handle_body(shape: &[Item], body: &[u8]) -> Result<HandleBody, BodyF
     // No memory is taken for it.
     ensures memory { FindsMemory result }
 {
-    read(behind(shape), body)
+    read(rest(shape), body)
 }

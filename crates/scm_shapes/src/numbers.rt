@@ -29,8 +29,8 @@ fn append_handle(out: &mut Buffer<u8>, handle: u64)
     out.extend(&[0, 0, 0, 0, 0, 0, 0, 0]);
 }
 
-/// Writes a body of numbers alone behind what the buffer holds. Without memory the buffer is given
-/// back as it was.
+/// Writes a body of numbers of 32 bits alone after what the buffer holds. When memory runs out the
+/// buffer is given back as it was.
 #[tactic(auto, using(crate::proofs::WrittenAtOnce::numbers_at_once, crate::proofs::WrittenAtOnce::length_numbers))]
 pub fn write_numbers(
     numbers: &[u32],
@@ -48,8 +48,8 @@ pub fn write_numbers(
     }
 }
 
-/// Writes a body of a handle and numbers behind what the buffer holds. Without memory the buffer is
-/// given back as it was.
+/// Writes a body of a context handle and numbers of 32 bits after what the buffer holds. When memory
+/// runs out the buffer is given back as it was.
 #[tactic(auto, using(crate::proofs::WrittenAtOnce::handle_at_once, crate::proofs::WrittenAtOnce::length_handle))]
 pub fn write_handle(
     handle: u64,
