@@ -35,6 +35,7 @@ heard on a b line control reads is goes told =
     let same : handed_on line ≡ handed_on (reads.0 ++ 10 ∷ []) = ap handed_on reads.3 ∙ kept_control reads.0 in
     heard_so on a reads.0 b (record {
       line = reads.1;
+      few = reads.4;
       read = reads.2;
       goes = sym (goes ∙ ap goes_on (is ∙ same));
       told = subst (λ c. Appends a.held b.held (answer_to c)) (is ∙ same) told;

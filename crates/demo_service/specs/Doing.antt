@@ -1,5 +1,5 @@
 -- What the program does of its words.
-use Rattle.std.specs.Prelude.{ℕ, ◌≡◌, ◌==◌, ◌||◌, ◌⊎◌, not, Bool, true, false, codes, is_none, List, [], ◌∷◌, ◌++◌, All, Option, None, Some, Result, Ok, Err, nat_eq, bit_or, if◌then◌else◌}
+use Rattle.std.specs.Prelude.{ℕ, ◌≡◌, ◌<◌, ◌^◌, ◌==◌, ◌||◌, ◌⊎◌, not, Bool, true, false, codes, is_none, List, [], ◌∷◌, ◌++◌, length, All, Option, None, Some, Result, Ok, Err, nat_eq, bit_or, if◌then◌else◌}
 use Rattle.std.specs.Cmp.Lexicographic.{pointwise}
 use Rattle.std.specs.Io.KnownBytes.{Appends, Consumes, IsAtEnd}
 use Rattle.std.specs.List.{FoldsTo, list_any}
@@ -74,9 +74,14 @@ answer_to (Some code) = if code == SERVICE_CONTROL_PAUSE then report_of SERVICE_
 abbrev pub IsWholeLine : List ℕ → Type 0
 IsWholeLine front = All (λ b. (b == 10) ≡ false) front
 
+-- A line has fewer bytes than this before its feed, and the program waits through fewer lines than this.
+abbrev pub IsBelowMost : {A : Type 0} → List A → Type 0
+IsBelowMost xs = length xs < 2 ^ 40
+
 -- the line of these bytes and a line feed was read and answered, and lets the program wait on or not
 pub record Hears (on : Bool) (a : Point) (front : List ℕ) (b : Point) : Type 0 where
   pub line : IsWholeLine front
+  pub few : IsBelowMost front
   pub read : Consumes a.left b.left (front ++ 10 ∷ [])
   pub goes : goes_on (handed_on (front ++ 10 ∷ [])) ≡ on
   pub told : Appends a.held b.held (answer_to (handed_on (front ++ 10 ∷ [])))
@@ -85,6 +90,7 @@ pub record Hears (on : Bool) (a : Point) (front : List ℕ) (b : Point) : Type 0
 pub record Ends (a b : Point) : Type 0 where
   pub rest : List ℕ
   pub line : IsWholeLine rest
+  pub few : IsBelowMost rest
   pub read : Consumes a.left b.left rest
   pub end : IsAtEnd b.left
   pub told : b.held ≡ a.held
@@ -103,7 +109,26 @@ pub record Waits (a b : Point) : Type 0 where
   pub fronts : List (List ℕ)
   pub last : Point
   pub hears : FoldsTo (Hears true) a fronts last
+  pub few : IsBelowMost fronts
   pub stops : Stops last b
+
+-- so many bytes were read as a line may not have, and no feed was among them
+pub record WearsLine (left left' : Option (List ℕ)) : Type 0 where
+  pub front : List ℕ
+  pub line : IsWholeLine front
+  pub most : length front ≡ 2 ^ 40
+  pub read : Consumes left left' front
+
+-- after these lines: they are too many, or the next one is too long
+abbrev pub IsWorn : (fronts : List (List ℕ)) → Point → Point → Type 0
+IsWorn fronts a b = ((length fronts ≡ 2 ^ 40) × (b ≡ a)) ⊎ (IsBelowMost fronts × WearsLine a.left b.left × (b.held ≡ a.held))
+
+-- lines were heard that let the program wait on, up to the greatest number of them or to a line that is too long
+pub record WearsOut (a b : Point) : Type 0 where
+  pub fronts : List (List ℕ)
+  pub last : Point
+  pub hears : FoldsTo (Hears true) a fronts last
+  pub worn : IsWorn fronts last b
 
 abbrev pub DoesWord : Point → Option Word → Point → Type 0
 DoesWord a None b = ⊥
@@ -114,12 +139,26 @@ DoesWord a (Some Wait) b = Waits a b
 abbrev pub Does : Point → List ℕ → Point → Type 0
 Does a text b = DoesWord a (word_at text) b
 
+-- the text is the word that waits, and the program wore out at it
+abbrev pub WearsAt : Point → List ℕ → Point → Type 0
+WearsAt a text b = (word_at text ≡ Some Wait) × WearsOut a b
+
+-- the texts before one were done, and the program wore out at that one
+pub record WearsIn (a : Point) (texts : List (List ℕ)) (b : Point) : Type 0 where
+  pub front : List (List ℕ)
+  pub text : List ℕ
+  pub rest : List (List ℕ)
+  pub are : texts ≡ front ++ text ∷ rest
+  pub mid : Point
+  pub does : FoldsTo Does a front mid
+  pub wears : WearsAt mid text b
+
 -- ## Lines
 
 -- the bytes of a line up to its feed were read, and these of them are kept; or the input ended before a feed came
 abbrev pub ReadsLine : Option (List ℕ) → Option (List ℕ) → (line : List ℕ) → Bool → Type 0
-ReadsLine left left' line true = (front : List ℕ) × IsWholeLine front × Consumes left left' (front ++ 10 ∷ []) × (line ≡ kept_line front)
-ReadsLine left left' line false = (rest : List ℕ) × IsWholeLine rest × Consumes left left' rest × IsAtEnd left'
+ReadsLine left left' line true = (front : List ℕ) × IsWholeLine front × Consumes left left' (front ++ 10 ∷ []) × (line ≡ kept_line front) × IsBelowMost front
+ReadsLine left left' line false = (rest : List ℕ) × IsWholeLine rest × Consumes left left' rest × IsAtEnd left' × IsBelowMost rest
 
 -- a byte of a line was read, or its feed; or the input was at its end
 abbrev pub ReadsByte : Option (List ℕ) → Option (List ℕ) → (line line' : List ℕ) → Came → Type 0
@@ -129,11 +168,15 @@ ReadsByte left left' line line' End = Consumes left left' [] × IsAtEnd left'
 
 -- ## Faults
 
--- a fault of the output comes only where its count of faults rose
+-- A fault of the output or the input comes only where its count of faults rose. `WearsLine` and `WearsOut` say when the program wears out.
 abbrev pub IsOfOutput : (output output_now : ℕ) → DemoFault → Type 0
 IsOfOutput output output_now faults.Write = Rose output output_now
 IsOfOutput output output_now faults.OutOfMemory = Unit {0}
 IsOfOutput output output_now _ = ⊥
+
+abbrev pub IsOfByte : (input input_now : ℕ) → DemoFault → Type 0
+IsOfByte input input_now faults.Read = Rose input input_now
+IsOfByte input input_now _ = ⊥
 
 abbrev pub IsOfInput : (input input_now : ℕ) → DemoFault → Type 0
 IsOfInput input input_now faults.Read = Rose input input_now

@@ -1,7 +1,8 @@
 ghost use Rattle.std.specs.Prelude.{◌≡◌, ◌≤◌, true, Err, IfErr, OnOk, Some};
 ghost use Rattle.std.specs.List.{FoldsTo, list_any};
-ghost use Rattle.demo_service.specs.Doing.{Does, DoesWord, IsCaused, IsCausedAt, IsCausedIn, is_unknown, point};
+ghost use Rattle.demo_service.specs.Doing.{Does, DoesWord, IsCaused, IsCausedAt, IsCausedIn, WearsAt, WearsIn, WearsOut, is_unknown, point};
 ghost use Rattle.demo_service.specs.declared.fault.DemoFault.TheVariants as faults;
+ghost use Rattle.demo_service.specs.declared.word.Word.TheVariants as words;
 
 use super::fault::DemoFault;
 use super::reporting::report;
@@ -20,6 +21,9 @@ fn do_word<I: Source, O: Sink>(
 ) -> Result<(), DemoFault>
     ensures does { OnOk result (DoesWord (point (I.left input.old) (O.held output.old)) (Some word)
         (point (I.left input.new) (O.held output.new))) }
+    ensures worn { result ≡ Err faults.Worn → (word ≡ words.Wait)
+        × WearsOut (point (I.left input.old) (O.held output.old))
+        (point (I.left input.new) (O.held output.new)) }
     ensures cause { IfErr result (IsCaused (I.faults input.old) (I.faults input.new)
         (O.faults output.old) (O.faults output.new)) }
     ensures input { I.faults input.old ≤ I.faults input.new }
@@ -40,6 +44,9 @@ fn do_text<I: Source, O: Sink>(
 ) -> Result<(), DemoFault>
     ensures does { OnOk result (Does (point (I.left input.old) (O.held output.old)) text.now
         (point (I.left input.new) (O.held output.new))) }
+    ensures worn { result ≡ Err faults.Worn → WearsAt
+        (point (I.left input.old) (O.held output.old)) text.now
+        (point (I.left input.new) (O.held output.new)) }
     ensures cause { IfErr result (IsCausedAt text.now (I.faults input.old) (I.faults input.new)
         (O.faults output.old) (O.faults output.new)) }
     ensures input { I.faults input.old ≤ I.faults input.new }
@@ -61,6 +68,9 @@ pub fn demo<I: Source, O: Sink>(
 ) -> Result<(), DemoFault>
     ensures does { OnOk result (FoldsTo Does (point (I.left input.old) (O.held output.old)) texts.now
         (point (I.left input.new) (O.held output.new))) }
+    ensures worn { result ≡ Err faults.Worn → WearsIn
+        (point (I.left input.old) (O.held output.old)) texts.now
+        (point (I.left input.new) (O.held output.new)) }
     ensures cause { IfErr result (IsCausedIn texts.now (I.faults input.old) (I.faults input.new)
         (O.faults output.old) (O.faults output.new)) }
     ensures unknown { list_any is_unknown texts.now ≡ true → result ≡ Err faults.Words }

@@ -1,6 +1,7 @@
-ghost use Rattle.std.specs.Prelude.{◌≡◌, ◌≤◌, [], IfErr, IfOk, OnOk, length};
+ghost use Rattle.std.specs.Prelude.{◌≡◌, ◌≤◌, [], Err, IfErr, IfOk, OnOk, length};
 ghost use Rattle.std.specs.Io.KnownBytes.{Appends};
-ghost use Rattle.demo_service.specs.Doing.{HearsOne, IsCaused, IsOfInput, IsOfOutput, ReadsByte, ReadsLine, Waits, answer_to, goes_on, point};
+ghost use Rattle.demo_service.specs.Doing.{HearsOne, IsCaused, IsOfByte, IsOfInput, IsOfOutput, ReadsByte, ReadsLine, Waits, WearsLine, WearsOut, answer_to, goes_on, point};
+ghost use Rattle.demo_service.specs.declared.fault.DemoFault.TheVariants as faults;
 
 use super::fault::DemoFault;
 use super::reporting::report;
@@ -30,7 +31,7 @@ pub enum Came {
 fn read_byte<I: Source>(line: &mut LineCutter, input: &mut I) -> Result<Came, DemoFault>
     requires { length line.old ≤ 4096 }
     ensures read { IfOk result (ReadsByte (I.left input.old) (I.left input.new) line.old line.new) }
-    ensures cause { IfErr result (IsOfInput (I.faults input.old) (I.faults input.new)) }
+    ensures cause { IfErr result (IsOfByte (I.faults input.old) (I.faults input.new)) }
     ensures input { I.faults input.old ≤ I.faults input.new }
 {
     let mut byte = [0u8; 1];
@@ -51,6 +52,7 @@ fn read_byte<I: Source>(line: &mut LineCutter, input: &mut I) -> Result<Came, De
 fn read_line<I: Source>(line: &mut LineCutter, input: &mut I) -> Result<bool, DemoFault>
     requires { line.old ≡ [] }
     ensures read { IfOk result (ReadsLine (I.left input.old) (I.left input.new) line.new) }
+    ensures worn { result ≡ Err faults.Worn → WearsLine (I.left input.old) (I.left input.new) }
     ensures cause { IfErr result (IsOfInput (I.faults input.old) (I.faults input.new)) }
     ensures input { I.faults input.old ≤ I.faults input.new }
 {
@@ -95,6 +97,8 @@ fn answer_next<I: Source, O: Sink>(
 ) -> Result<bool, DemoFault>
     ensures hears { IfOk result (λ on. HearsOne (point (I.left input.old) (O.held output.old))
         on (point (I.left input.new) (O.held output.new))) }
+    ensures worn { result ≡ Err faults.Worn → WearsLine (I.left input.old) (I.left input.new)
+        × (O.held output.new ≡ O.held output.old) }
     ensures cause { IfErr result (IsCaused (I.faults input.old) (I.faults input.new)
         (O.faults output.old) (O.faults output.new)) }
     ensures input { I.faults input.old ≤ I.faults input.new }
@@ -115,6 +119,8 @@ pub fn wait<I: Source, O: Sink>(
 ) -> Result<(), DemoFault>
     ensures waits { OnOk result (Waits (point (I.left input.old) (O.held output.old))
         (point (I.left input.new) (O.held output.new))) }
+    ensures worn { result ≡ Err faults.Worn → WearsOut (point (I.left input.old) (O.held output.old))
+        (point (I.left input.new) (O.held output.new)) }
     ensures cause { IfErr result (IsCaused (I.faults input.old) (I.faults input.new)
         (O.faults output.old) (O.faults output.new)) }
     ensures input { I.faults input.old ≤ I.faults input.new }

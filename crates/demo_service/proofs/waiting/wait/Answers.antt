@@ -1,4 +1,5 @@
 use Rattle.std.proofs.Common.{Bool, arith, subst, true, ◌++◌, ◌∷◌, []}
+use Rattle.std.proofs.lemmas.List.{length-append}
 use Rattle.demo_service.specs.Doing.{Hears, HearsOne, Point, point}
 use Rattle.demo_service.proofs.Folds.{folds_more}
 use Rattle.demo_service.proofs.waiting.wait.Goals as goal
@@ -12,6 +13,7 @@ loop-preserved g c =
     let now = subst (λ (on : Bool). HearsOne m on b) c.in-Ok-true.field-0-test c.in-Ok-true.ensures.hears in
     record {
       fronts = before.fronts ++ now.0 ∷ [];
+      count = omega (arith, before.count, length-append before.fronts (now.0 ∷ []));
       hears = folds_more (Hears true) a before.fronts m now.0 b before.hears now.1;
       input = omega (arith, before.input, c.in-Ok-true.ensures.input);
       output = omega (arith, before.output, c.in-Ok-true.ensures.output);

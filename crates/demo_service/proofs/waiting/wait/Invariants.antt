@@ -1,4 +1,4 @@
-use Rattle.std.proofs.Common.{◌≤◌, true, ℕ, List}
+use Rattle.std.proofs.Common.{◌≡◌, ◌≤◌, true, ℕ, List, length}
 use Rattle.std.specs.List.{FoldsTo}
 use Rattle.demo_service.specs.Doing.{Hears, point}
 use Rattle.demo_service.proofs.waiting.wait.Given as goal
@@ -7,6 +7,7 @@ use Rattle.demo_service.proofs.waiting.wait.Given as goal
 abbrev pub invariant-loop : goal.invariant-loop
 invariant-loop g l = record {
   fronts : List (List ℕ);
+  count : length fronts ≡ l.counter;
   hears : FoldsTo (Hears true) (point (g.I.Source.left l.fn.input) (g.O.Sink.held l.fn.output)) fronts (point (g.I.Source.left l.input) (g.O.Sink.held l.output));
   input : g.I.Source.faults l.fn.input ≤ g.I.Source.faults l.input;
   output : g.O.Sink.faults l.fn.output ≤ g.O.Sink.faults l.output;
