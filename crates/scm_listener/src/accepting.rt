@@ -9,6 +9,7 @@ use sc_dial::CountedSource;
 use std::alloc::Global;
 use std::io::{self, ErrorKind};
 use std::net::{Ipv4Addr, Net, TcpListener, TcpStream};
+use std::os::fd::OwnedFd;
 use std::sync::Arc;
 use std::thread::{self, Threads};
 use std::time::{Clock, Duration};
@@ -30,6 +31,9 @@ const ENOBUFS: u32 = 105;
 
 /// How long it waits before it tries again, in milliseconds.
 const PAUSE: u64 = 20;
+
+/// How long one try waits for a connection, in milliseconds.
+const PATIENCE: u64 = 250;
 
 /// The thread of a connection, and one for a connection that comes at another port meanwhile.
 const CONNECTION_THREADS: u32 = 2;
@@ -88,12 +92,10 @@ pub struct Ends {
 
 /// What one try to accept a connection results in.
 #[derive(Drop)]
-enum Tried {
+pub enum Tried {
     Came(Ends),
-    /// The connection was closed unread.
-    Refused,
-    /// No connection can be accepted now.
-    NotNow,
+    /// None came for a while, or it was closed unread.
+    Nobody,
     /// The port is lost.
     Lost,
 }
@@ -119,9 +121,49 @@ fn is_passing(fault: &io::Error) -> bool
     }
 }
 
-/// The ends of a connection, which sends each write at once.
+/// Whether an accept waited as long as it may. Linux's accept(2) fails with EAGAIN then.
+fn is_timeout(fault: &io::Error) -> bool {
+    fault.kind() == ErrorKind::WouldBlock
+}
+
+/// What an accept that failed results in. After a failure that passes, other than that none came,
+/// there is a pause.
+fn after<R: Clock>(net: &R, fault: &io::Error) -> Tried {
+    if is_timeout(fault) {
+        return Tried::Nobody;
+    }
+    if is_passing(fault) {
+        thread::sleep(net, Duration::from_millis(PAUSE));
+        return Tried::Nobody;
+    }
+    Tried::Lost
+}
+
+/// A listener each of whose accepts waits for a while at most: SO_RCVTIMEO in socket(7).
+fn with_timeout(listener: TcpListener) -> io::Result<TcpListener> {
+    let socket = TcpStream::from(OwnedFd::from(listener));
+    match socket.set_read_timeout(Some(Duration::from_millis(PATIENCE))) {
+        Ok(()) => Ok(TcpListener::from(OwnedFd::from(socket))),
+        Err(fault) => {
+            drop(socket);
+            Err(fault)
+        }
+    }
+}
+
+/// Listens on a port of the loopback.
+fn bind<R>(net: &R, port: u16) -> io::Result<TcpListener>
+where
+    R: Net<Listener = TcpListener, Stream = TcpStream>,
+{
+    with_timeout(TcpListener::bind(net, (Ipv4Addr::LOCALHOST, port))?)
+}
+
+/// The ends of a connection, which sends each write at once and waits for bytes without an end:
+/// Linux gives it the listener's timeout.
 fn ends_of(stream: TcpStream, seat: &Seat) -> io::Result<Ends> {
     stream.set_nodelay(true)?;
+    stream.set_read_timeout(None)?;
     let twin = stream.try_clone()?;
     let seat = Arc::try_clone(seat)?;
     Ok(Ends { stream, twin, seat })
@@ -137,7 +179,7 @@ impl Open {
             return Err(io::Error::from(ErrorKind::WouldBlock));
         }
         let seat = Arc::new(alloc, ())?;
-        match TcpListener::bind(net, (Ipv4Addr::LOCALHOST, port)) {
+        match bind(net, port) {
             Ok(listener) => Ok(Open {
                 alloc,
                 listener,
@@ -177,8 +219,8 @@ impl Open {
         false
     }
 
-    /// Tries once to accept a connection.
-    fn try_next<R>(&self, net: &R, most: Option<usize>) -> Tried
+    /// Tries once to accept a connection. A failure that passes is followed by a pause.
+    pub fn try_next<R>(&self, net: &R, most: Option<usize>) -> Tried
     where
         R: Threads + Clock,
     {
@@ -186,20 +228,14 @@ impl Open {
             Ok((stream, _)) => {
                 if !self.has_room(net, most) {
                     drop(stream);
-                    return Tried::Refused;
+                    return Tried::Nobody;
                 }
                 match ends_of(stream, &self.seat) {
                     Ok(ends) => Tried::Came(ends),
-                    Err(_) => Tried::Refused,
+                    Err(_) => Tried::Nobody,
                 }
             }
-            Err(fault) => {
-                if is_passing(&fault) {
-                    Tried::NotNow
-                } else {
-                    Tried::Lost
-                }
-            }
+            Err(fault) => after(net, &fault),
         }
     }
 
@@ -211,8 +247,7 @@ impl Open {
         for _ in 0..u64::MAX {
             match self.try_next(net, most) {
                 Tried::Came(ends) => return Some(ends),
-                Tried::Refused => {}
-                Tried::NotNow => thread::sleep(net, Duration::from_millis(PAUSE)),
+                Tried::Nobody => {}
                 Tried::Lost => return None,
             }
         }

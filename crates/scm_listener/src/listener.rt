@@ -50,6 +50,16 @@ pub trait Listener {
         ensures noted { noted self.new ≡ noted self.old }
         ensures cause { HasCause (faults self.old) (faults self.new) result };
 
+    /// Waits until the next connection comes, but not for long. Returns whether an `accept` is to
+    /// follow: then one came, or none comes any more. An `accept` may follow in any case, and waits
+    /// as long as it has to.
+    fn wait_briefly(&mut self) -> bool
+        ensures left { left self.new ≡ left self.old }
+        ensures accepted { accepted self.new ≡ accepted self.old }
+        ensures noted { noted self.new ≡ noted self.old }
+        ensures listened { listened self.new ≡ listened self.old }
+        ensures faults { faults self.new ≡ faults self.old };
+
     /// Hands out the next connection, once it comes, with the room for noting it.
     fn accept(&mut self) -> Accepted<Self::In, Self::Out>
         ensures new { IfConn result (λ input output. IsNew (accepted self.old)

@@ -1,4 +1,4 @@
-ghost use Rattle.std.specs.Prelude.{◌≡◌, ◌≢◌, ◌≤◌, ◌+◌, ℕ, List, [], Some, is_err, length};
+ghost use Rattle.std.specs.Prelude.{◌≡◌, ◌≢◌, ◌≤◌, ◌+◌, ℕ, List, [], Some, is_err, length, true};
 ghost use Rattle.std.specs.Io.KnownBytes.{ReadConsumes};
 ghost use Rattle.outside.specs.Causes.{HasCause, Rose};
 ghost use Rattle.outside.specs.Fates.{IsTold, one_more};
@@ -189,6 +189,13 @@ impl Listener for MemoryListener {
             Ok(()) => Ok(()),
             Err(_) => Err(fail(&mut self.faults)),
         }
+    }
+
+    fn wait_briefly(&mut self) -> bool
+        ensures same { self.new ≡ self.old }
+        ensures ready { result ≡ true }
+    {
+        true
     }
 
     fn accept(&mut self) -> Accepted<MemoryIn, MemorySink>

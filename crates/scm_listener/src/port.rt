@@ -2,12 +2,13 @@ ghost use Rattle.std.specs.Prelude.{◌≡◌, ◌+◌, None};
 ghost use Rattle.scm_listener.specs.Connections.{past_of};
 
 use crate::accepted::{Accepted, Numbered};
-use crate::accepting::{Ends, Open, PortSource};
+use crate::accepting::{Ends, Open, PortSource, Tried};
 use crate::listener::Listener;
 use crate::memory::fail;
 use outside::{Failed, Sink, Source, WriteSink};
 use sc_dial::CountedSink;
 use std::alloc::Global;
+use std::mem::replace;
 use std::net::{Net, SocketAddr, TcpListener, TcpStream};
 use std::thread::Threads;
 use std::time::Clock;
@@ -35,6 +36,8 @@ pub struct PortListener<R: Net<Listener = TcpListener, Stream = TcpStream>> {
     /// How many of its connections may be open at a time, if there is such a bound.
     most: Option<usize>,
     open: Option<Open>,
+    /// The connection that came ahead of its accept.
+    ahead: Option<Ends>,
     /// How many more connections it takes.
     room: u64,
     accepted: u64,
@@ -55,6 +58,7 @@ where
             alloc,
             most,
             open: None,
+            ahead: None,
             room: 0,
             accepted: 0,
             faults: 0,
@@ -70,14 +74,31 @@ where
     }
 }
 
-/// The next connection of a listener that listens.
-fn next_of<R>(open: &Option<Open>, net: &R, most: Option<usize>) -> Option<Ends>
+/// The next connection of a listener that listens: the one that came ahead, if one did.
+fn next_of<R>(
+    ahead: &mut Option<Ends>,
+    open: &Option<Open>,
+    net: &R,
+    most: Option<usize>,
+) -> Option<Ends>
+where
+    R: Threads + Clock,
+{
+    match (ahead.take(), open) {
+        (Some(ends), _) => Some(ends),
+        (None, Some(open)) => open.next(net, most),
+        (None, None) => None,
+    }
+}
+
+/// Tries once to accept a connection, of a listener that listens.
+fn try_of<R>(open: &Option<Open>, net: &R, most: Option<usize>) -> Tried
 where
     R: Threads + Clock,
 {
     match open {
-        Some(open) => open.next(net, most),
-        None => None,
+        Some(open) => open.try_next(net, most),
+        None => Tried::Lost,
     }
 }
 
@@ -106,6 +127,7 @@ where
     fn listen(&mut self, port: u16, take: Option<u64>) -> Result<(), Failed> {
         match Open::new(&self.net, self.alloc, port) {
             Ok(open) => {
+                drop(self.ahead.take());
                 self.open = Some(open);
                 self.room = take.unwrap_or(u64::MAX);
                 Ok(())
@@ -114,9 +136,28 @@ where
         }
     }
 
+    fn wait_briefly(&mut self) -> bool {
+        if self.room == 0 || self.ahead.is_some() {
+            return true;
+        }
+        match try_of(&self.open, &self.net, self.most) {
+            Tried::Came(ends) => {
+                drop(replace(&mut self.ahead, Some(ends)));
+                true
+            }
+            Tried::Nobody => false,
+            Tried::Lost => true,
+        }
+    }
+
     fn accept(&mut self) -> Accepted<Self::In, Self::Out> {
         match (self.room.checked_sub(1), self.accepted.checked_add(1)) {
-            (Some(room), Some(accepted)) => match next_of(&self.open, &self.net, self.most) {
+            (Some(room), Some(accepted)) => match next_of(
+                &mut self.ahead,
+                &self.open,
+                &self.net,
+                self.most,
+            ) {
                 Some(Ends { stream, twin, seat }) => {
                     let number = self.accepted;
                     self.room = room;
