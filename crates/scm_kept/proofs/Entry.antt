@@ -19,7 +19,7 @@ placed_ok : {A : Type 0} (size : ℕ) (r : Result A ℕ) (x : A) → placed size
 placed_ok size (Ok y) x e = cc
 placed_ok size (Err left) x e = absurd cc
 
-config_back : (config : Config) → IsConfig config → whole_of (spelling config) ≡ Ok (held config)
+pub config_back : (config : Config) → IsConfig config → whole_of (spelling config) ≡ Ok (held config)
 config_back config fits = placed_ok (length (spelling config)) (whole_of (spelling config)) (held config) (record_again config fits)
 
 whole_name : Item (List ℕ) → Result (List ℕ) ℕ

@@ -14,10 +14,10 @@ use Rattle.scm_kept.proofs.Rows.{config_of, stays}
 
 -- ## Names
 
-same_itself : (x : List ℕ) → same_text x x ≡ true
+pub same_itself : (x : List ℕ) → same_text x x ≡ true
 same_itself = (lists_equiv (on_equiv fold_unit nat_eq_equiv)).refl
 
-same_swap : (x y : List ℕ) → same_text x y ≡ same_text y x
+pub same_swap : (x y : List ℕ) → same_text x y ≡ same_text y x
 same_swap = (lists_equiv (on_equiv fold_unit nat_eq_equiv)).symm
 
 abbrev AreOther : Service → Service → Type 0
@@ -78,7 +78,7 @@ marked_unmarked number name (row ∷ rows) each =
 
 -- ## Another configuration
 
-mark_kept : (number : ℕ) (config : Config) (row : Service) → (configured_if number config row).marked ≡ row.marked
+pub mark_kept : (number : ℕ) (config : Config) (row : Service) → (configured_if number config row).marked ≡ row.marked
 mark_kept number config row = elim (row.number == number) as (λ b. (cond b (replaced config row) row).marked ≡ row.marked) [ true ↦ refl | false ↦ refl ]
 
 config_is : (number : ℕ) (config : Config) (row : Service) → (configured_if number config row).config ≡ cond (row.number == number) config row.config

@@ -7,3 +7,12 @@ pub mod Entry
 pub mod ReadOn
 pub mod ReadCut
 pub mod Opened
+pub mod Given
+pub mod Accepted
+pub mod Held
+pub mod Fine
+pub mod UnitsKept
+pub mod Places
+pub mod Again
+pub mod ReadHeld
+pub mod Reopened

@@ -34,7 +34,7 @@ use Rattle.std.proofs.lemmas.Bool.{and_parts}
 -- ## Behind an effect
 
 -- settling, the answer of a start and the purge leave the unmarked configurations
-of_effect : (l : Limits) (f : Flat) (moment : ℕ) (step : Step) → Sound f → IsTrue (may l f moment step)
+pub of_effect : (l : Limits) (f : Flat) (moment : ℕ) (step : Step) → Sound f → IsTrue (may l f moment step)
     → unmarked (step_of l f moment step).flat.services ≡ unmarked (effect_of l (at_moment f moment step) step).flat.services
 of_effect l f moment step s ok =
     let done = effect_of l (at_moment f moment step) step in
@@ -68,7 +68,7 @@ all_bare f step told (old ∷ olds) (new ∷ news) unmarks unchanged each =
     (one_bare f step told old new (unmarks old.number) (unchanged old.number) each.0, all_bare f step told olds news unmarks unchanged each.1)
 
 -- it adds, marks and configures none
-unchanged_by : (l : Limits) (f : Flat) (e : Entry) → Sound f → IsTrue (may l f e.0 e.1) → created f e.1 (step_of l f e.0 e.1).answer ≡ [] → ((number : ℕ) → marks f e.1 (step_of l f e.0 e.1).answer number ≡ false)
+pub unchanged_by : (l : Limits) (f : Flat) (e : Entry) → Sound f → IsTrue (may l f e.0 e.1) → created f e.1 (step_of l f e.0 e.1).answer ≡ [] → ((number : ℕ) → marks f e.1 (step_of l f e.0 e.1).answer number ≡ false)
     → ((number : ℕ) → configures f e.1 (step_of l f e.0 e.1).answer number ≡ false) → unmarked (step_of l f e.0 e.1).flat.services ≡ unmarked f.services
 unchanged_by l f e s ok none unmarks unchanged =
     let law = gives_leaving l f e s ok in
@@ -105,7 +105,7 @@ of_call l f moment caller (request.Change2 handle level) append s ok =
 of_call l f moment caller asked append s ok =
     quiet l f moment (Call caller asked append) (none_kept l f caller asked append refl) (unchanged_by l f (moment, Call caller asked append) s ok refl (λ number. refl) (λ number. refl))
 
-of_step : (l : Limits) (f : Flat) (moment : ℕ) (step : Step) → Sound f → IsTrue (may l f moment step) → KeptBy f.services (kept_change l f step) (step_of l f moment step).flat.services
+pub of_step : (l : Limits) (f : Flat) (moment : ℕ) (step : Step) → Sound f → IsTrue (may l f moment step) → KeptBy f.services (kept_change l f step) (step_of l f moment step).flat.services
 of_step l f moment (Call caller asked append) s ok = of_call l f moment caller asked append s ok
 of_step l f moment step s ok = quiet l f moment step refl (unchanged_by l f (moment, step) s ok refl (λ number. refl) (λ number. refl))
 

@@ -1,2 +1,4 @@
 pub mod Replayed
 pub mod Read
+pub mod Fitting
+pub mod Reopened

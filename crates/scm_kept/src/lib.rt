@@ -1,15 +1,19 @@
 //! What the kept changes of a history come to.
 #![tactic(auto)]
 
-ghost use Rattle.std.specs.Prelude.{◌≡◌, List, ℕ};
+ghost use Rattle.std.specs.Prelude.{◌≡◌, ◌≤◌, IsTrue, List, ℕ};
 ghost use Rattle.scm_kept.specs.Read.{IsReadAgain, IsReadCut, IsReadOn};
+ghost use Rattle.scm_kept.specs.Reopened.{IsMadeOf, IsReopened, IsReopenedCut, KeepsReplayable};
 ghost use Rattle.scm_kept.specs.Replayed.{UnmarkedAreKept, unmarked};
+ghost use Rattle.scm_kept.specs.Fitting.{AllFit, FitsStep};
 ghost use Rattle.scm_model.specs.declared.flat.Config.{Config};
 ghost use Rattle.scm_model.specs.declared.flat.Limits.{Limits};
 ghost use Rattle.scm_model.specs.declared.steps.Change.{Change};
+ghost use Rattle.scm_model.specs.declared.steps.Step.{Step};
 ghost use Rattle.record_journal.specs.declared.replaying.Replay.{Replay};
-ghost use Rattle.scm_rules.specs.Histories.{Legal};
+ghost use Rattle.scm_rules.specs.Histories.{Legal, state};
 ghost use Rattle.scm_rules.specs.Opening.{IsOpening, opening};
+ghost use Rattle.scm_rules.specs.Steps.{may};
 
 use scm_model::{Flat, Limits, Step};
 use scm_text::Items;
@@ -40,4 +44,24 @@ pub fn what_was_kept_is_read()
 pub fn openings_have_their_configurations()
     ensures { (l : Limits) (groups : List (List ℕ)) (configs : List Config) (moment : ℕ) →
         unmarked (opening l groups configs moment).services ≡ configs }
+{}
+
+/// A legal history that begins with what a journal is read as, under a limit of 512 services, keeps
+/// changes that can be replayed, each over what those before it result in: appended to that journal
+/// they are read, and what one run kept never opens as damaged. Nor does it where an append of the
+/// next change failed after any of its bytes, or where it ended there.
+pub fn what_a_run_keeps_is_read(limits: &Limits, steps: &Items<(u64, Step)>, opening: &Flat)
+    requires few { limits.now.services ≤ 512 }
+    requires begins { IsOpening limits.now opening.now }
+    requires legal { Legal limits.now opening.now steps.now }
+    requires fits { AllFit steps.now }
+    ensures kept { (bytes : List ℕ) → IsMadeOf bytes opening.now →
+        KeepsReplayable limits.now opening.now steps.now }
+    ensures read { (bytes : List ℕ) → IsMadeOf bytes opening.now →
+        IsReopened bytes limits.now opening.now steps.now }
+    ensures cut { (bytes : List ℕ) → IsMadeOf bytes opening.now →
+        (moment : ℕ) (step : Step) →
+        IsTrue (may limits.now (state limits.now opening.now steps.now) moment step) →
+        FitsStep step → (size : ℕ) →
+        IsReopenedCut bytes limits.now opening.now steps.now step size }
 {}
