@@ -1,7 +1,6 @@
 -- A configuration that is accepted, and whose numbers and units are those of their types, has an entry.
-use Rattle.std.proofs.Common.{ℕ, ◌≡◌, ◌<◌, ◌≤◌, ◌+◌, ◌*◌, ◌^◌, ◌==◌, ◌||◌, ◌&&◌, Bool, true, false, not, eqb-true, ltb-false, List, [], ◌∷◌, ◌++◌, length, None, refl, arith, ap, ◌∙◌}
+use Rattle.std.proofs.Common.{ℕ, ◌≡◌, ◌≤◌, ◌+◌, ◌*◌, ◌==◌, ◌||◌, ◌&&◌, Bool, true, false, not, eqb-true, ltb-false, List, [], ◌∷◌, ◌++◌, length, None, refl, arith, ap, ◌∙◌}
 use Rattle.std.specs.Prelude.{All, nat_le, nat_lt}
-use Rattle.std.specs.Char.Utf16.{has_unpaired_surrogate}
 use Rattle.std.specs.Int.{w16, to_le_bytes}
 use Rattle.std.specs.List.{flat_map, list_any}
 use Rattle.std.proofs.lemmas.Bool.{and_parts, leb-true, not-false, or_parts}
@@ -13,12 +12,12 @@ use Rattle.scm_model.specs.declared.flat.Action.{Action}
 use Rattle.scm_model.specs.declared.flat.Config.{Config}
 use Rattle.scm_model.specs.declared.flat.Need.{Need}
 use Rattle.scm_model.specs.declared.flat.Need.TheVariants as needs
-use Rattle.service_record.specs.Checks.{check_new, has_bad_lists, has_bad_names, has_bad_numbers, has_bad_texts, is_bad_account, is_bad_line, is_bad_name, is_longer, name_of_need}
-use Rattle.service_record.specs.Spelling.{FitsNumber, FitsText, IsAction, IsConfig, IsNeed, IsUnit, action, back, counted_items, flag, front, middle, need_bytes, number, spelling, text}
+use Rattle.service_record.specs.Checks.{check_new, has_bad_lists, has_bad_names, has_bad_numbers, has_bad_texts, is_bad_account, is_bad_line, is_longer, name_of_need}
+use Rattle.service_record.specs.Spelling.{FitsNumber, FitsText, IsConfig, IsNeed, action, back, counted_items, flag, front, middle, need_bytes, number, spelling, text}
 use Rattle.scm_runs.proofs.Calls.{all_pass}
 use Rattle.scm_runs.proofs.Lists.{none_any}
 use Rattle.scm_runs.proofs.Sizes.{are_short}
-use Rattle.scm_kept.specs.Fitting.{HasDelay, IsText}
+use Rattle.scm_kept.specs.Fitting.{IsText}
 use Rattle.scm_kept.proofs.Given.{HasText, HasUnits}
 
 -- ## What is accepted

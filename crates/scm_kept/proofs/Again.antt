@@ -1,6 +1,6 @@
 -- The kept changes of a legal history can be replayed, one after another.
-use Rattle.std.proofs.Common.{ℕ, ◌≡◌, ◌∙◌, ◌≤◌, Bool, true, IsTrue, List, [], ◌∷◌, ◌++◌, Option, None, Some, map, ap, sym, refl, subst}
-use Rattle.std.specs.Prelude.{All, IfSome, is_some}
+use Rattle.std.proofs.Common.{ℕ, ◌≡◌, ◌∙◌, ◌≤◌, true, IsTrue, List, [], ◌∷◌, ◌++◌, Option, None, Some, map, ap, sym, refl, subst}
+use Rattle.std.specs.Prelude.{IfSome, is_some}
 use Rattle.std.specs.List.{AllByRecursion}
 use Rattle.std.proofs.lemmas.Bool.{and_from, and_parts}
 use Rattle.std.proofs.lemmas.List.{map-append}
@@ -8,14 +8,12 @@ use Rattle.std.proofs.lemmas.List.Elements.{All-from_recursion, recursion_from_A
 use Rattle.scm_model.specs.declared.flat.Config.{Config}
 use Rattle.scm_model.specs.declared.flat.Flat.{Flat}
 use Rattle.scm_model.specs.declared.flat.Limits.{Limits}
-use Rattle.scm_model.specs.declared.calls.Request.{Request}
 use Rattle.scm_model.specs.declared.steps.Change.{Change}
-use Rattle.scm_model.specs.declared.steps.Kept.{Kept}
 use Rattle.scm_model.specs.declared.steps.Kept.TheVariants as appended
 use Rattle.scm_model.specs.declared.steps.Step.{Step}
 use Rattle.scm_model.specs.declared.steps.Step.TheVariants.{Call}
 use Rattle.scm_model.specs.Entries.{Entry}
-use Rattle.service_record.specs.Spelling.{IsConfig, held}
+use Rattle.service_record.specs.Spelling.{IsConfig}
 use Rattle.record_journal.specs.Entries.{can_replay}
 use Rattle.record_journal.specs.Format.{HasBody, HasEntry}
 use Rattle.record_journal.specs.ReadBack.{AreReplayable, held_change}
@@ -27,7 +25,7 @@ use Rattle.scm_runs.proofs.Calls.{keeps}
 use Rattle.scm_runs.proofs.Founds.{found_all}
 use Rattle.scm_runs.proofs.Sound.{Sound}
 use Rattle.scm_kept.specs.Replayed.{replayed, unmarked}
-use Rattle.scm_kept.specs.Fitting.{AllFit, FitsRequest, FitsStep}
+use Rattle.scm_kept.specs.Fitting.{AllFit, FitsStep}
 use Rattle.scm_kept.proofs.Accepted.{config_fits, is_small}
 use Rattle.scm_kept.proofs.Alike.{replay_append}
 use Rattle.scm_kept.proofs.Fine.{AreFine, can, checked_unmarked, fine_state}

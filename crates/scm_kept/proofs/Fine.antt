@@ -1,7 +1,7 @@
 -- A change that leaves configurations which a manager can begin with can be replayed.
-use Rattle.std.proofs.Common.{ℕ, zero, suc, ◌≡◌, ◌∙◌, ◌<◌, ◌+◌, ◌&&◌, ◌||◌, ◌==◌, cond, not, Bool, true, false, List, [], ◌∷◌, ◌++◌, None, Some, filter, get_or, length, map, ap, sym, refl, subst, arith}
-use Rattle.std.specs.Prelude.{All, AllPairs, nat_le, nat_lt}
-use Rattle.std.specs.List.{AllByRecursion, AllZip, list_any}
+use Rattle.std.proofs.Common.{ℕ, zero, suc, ◌≡◌, ◌∙◌, ◌<◌, ◌+◌, ◌&&◌, ◌||◌, cond, not, Bool, true, false, List, [], ◌∷◌, ◌++◌, None, Some, filter, get_or, length, map, ap, sym, refl, subst, arith}
+use Rattle.std.specs.Prelude.{All, AllPairs}
+use Rattle.std.specs.List.{AllZip, list_any}
 use Rattle.std.proofs.lemmas.Bool.{and_from, and_left, and_right, eq-eqb, lt-ltb, not_from_false, or_from, or_parts}
 use Rattle.std.proofs.lemmas.List.{get_or-map, length-map}
 use Rattle.std.proofs.lemmas.List.Elements.{All-cons, All-filter, All-head, All-map, All-nil, All-pop, All-tail, All-weaker}

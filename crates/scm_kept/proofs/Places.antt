@@ -1,9 +1,9 @@
 -- A change that a call makes has an entry, and a place among the unmarked configurations.
 use Rattle.std.proofs.Common.{ℕ, ◌≡◌, ◌∙◌, ◌<◌, ◌≤◌, ◌==◌, ◌||◌, Bool, true, false, cond, not, List, [], ◌∷◌, Option, None, Some, eqb-true, filter, find, length, map, sym, refl, subst, ap, arith}
-use Rattle.std.specs.Prelude.{All, IfSome, nat_le, option_and_then, option_map}
+use Rattle.std.specs.Prelude.{IfSome, nat_le, option_and_then, option_map}
 use Rattle.std.specs.List.{AllByRecursion, list_any}
 use Rattle.std.proofs.lemmas.Bool.{leb-false, not-false, or_left, or_parts, or_right}
-use Rattle.std.proofs.lemmas.List.{length-append, length-map}
+use Rattle.std.proofs.lemmas.List.{length-map}
 use Rattle.scm_text.specs.Fold.{same_text}
 use Rattle.scm_model.specs.declared.flat.Config.{Config}
 use Rattle.scm_model.specs.declared.flat.Flat.{Flat}
@@ -19,7 +19,7 @@ use Rattle.scm_model.specs.declared.steps.Change.TheVariants.{Created, Changed, 
 use Rattle.scm_model.specs.declared.steps.Kept.TheVariants as appended
 use Rattle.scm_model.specs.Rows.{held_by, held_service}
 use Rattle.service_record.specs.Checks.{check_new, has_bad_lists, has_bad_names, has_bad_numbers, has_bad_texts, is_bad_account}
-use Rattle.service_record.specs.Spelling.{IsConfig, held}
+use Rattle.service_record.specs.Spelling.{held}
 use Rattle.record_journal.specs.Entries.{has_name}
 use Rattle.record_journal.specs.Format.{HasEntry}
 use Rattle.record_journal.specs.ReadBack.{held_change}

@@ -1,5 +1,5 @@
 -- What one run kept is read by the next.
-use Rattle.std.proofs.Common.{ℕ, ◌≡◌, ◌∙◌, ◌<◌, ◌≤◌, IsTrue, List, [], ◌∷◌, ◌++◌, Option, None, Some, get_or, length, map, take, ap, inl, inr, sym, subst, arith}
+use Rattle.std.proofs.Common.{ℕ, ◌≡◌, ◌∙◌, ◌≤◌, IsTrue, List, [], ◌∷◌, ◌++◌, Some, length, map, take, ap, inl, inr, subst, arith}
 use Rattle.std.specs.Prelude.{IfSome}
 use Rattle.std.specs.List.{AllByRecursion}
 use Rattle.std.proofs.lemmas.Bool.{cases_lt}
@@ -23,7 +23,7 @@ use Rattle.scm_rules.specs.Verdicts.{change_of}
 use Rattle.scm_history.specs.Kept.{kept_changes}
 use Rattle.scm_runs.proofs.Sound.{begun}
 use Rattle.scm_kept.specs.Read.{IsJournalOf, Stays}
-use Rattle.scm_kept.specs.Reopened.{IsMadeOf, IsReopened, IsReopenedCut, KeepsReplayable, kept_configs}
+use Rattle.scm_kept.specs.Reopened.{IsReopened, IsReopenedCut, KeepsReplayable, kept_configs}
 use Rattle.scm_kept.specs.Replayed.{unmarked}
 use Rattle.scm_kept.specs.Fitting.{AreBytes, AllFit, FitsStep}
 use Rattle.scm_kept.proofs.Accepted.{units_of}
@@ -45,6 +45,11 @@ are_bytes bytes each i =
 held_units : (configs : List Config) → AreHeld configs → AllByRecursion HasUnits configs
 held_units [] each = tt
 held_units (config ∷ configs) each = (units_of config each.0.fits, held_units configs each.1)
+
+-- a state was made of what these bytes are read as
+pub record IsMadeOf (journal : List ℕ) (f : Flat) : Type 0 where
+  pub bytes : AreBytes journal
+  pub read : IsJournalOf journal (unmarked f.services)
 
 made_held : (bytes : List ℕ) (f : Flat) → IsMadeOf bytes f → AreHeld (unmarked f.services)
 made_held bytes f made = journal_held bytes (record { configs = unmarked f.services; kept = length bytes }) (are_bytes bytes made.bytes) made.read

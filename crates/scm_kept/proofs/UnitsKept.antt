@@ -1,5 +1,5 @@
 -- The numbers and units of every state's unmarked configurations are those of their types.
-use Rattle.std.proofs.Common.{ℕ, ◌≡◌, ◌∙◌, ◌==◌, ◌||◌, Bool, true, false, cond, not, IsTrue, List, [], ◌∷◌, ◌++◌, None, filter, map, ap, sym, refl, subst}
+use Rattle.std.proofs.Common.{ℕ, ◌≡◌, ◌∙◌, ◌==◌, ◌||◌, true, false, cond, not, IsTrue, List, [], ◌∷◌, ◌++◌, filter, map, ap, sym, refl, subst}
 use Rattle.std.specs.Prelude.{All}
 use Rattle.std.specs.List.{AllByRecursion}
 use Rattle.std.proofs.lemmas.List.{map-append}
@@ -8,9 +8,6 @@ use Rattle.scm_model.specs.declared.flat.Config.{Config}
 use Rattle.scm_model.specs.declared.flat.Flat.{Flat}
 use Rattle.scm_model.specs.declared.flat.Limits.{Limits}
 use Rattle.scm_model.specs.declared.flat.Service.{Service}
-use Rattle.scm_model.specs.declared.calls.ChangeService.{ChangeService}
-use Rattle.scm_model.specs.declared.calls.Info.{Info}
-use Rattle.scm_model.specs.declared.calls.NewService.{NewService}
 use Rattle.scm_model.specs.declared.calls.Request.{Request}
 use Rattle.scm_model.specs.declared.calls.Request.TheVariants as request
 use Rattle.scm_model.specs.declared.steps.Kept.{Kept}
@@ -21,17 +18,17 @@ use Rattle.scm_model.specs.Rows.{held_service}
 use Rattle.scm_model.proofs.Found.{found_keeps}
 use Rattle.scm_rules.specs.Change.{change_done, change_verdict, configured_in, new_config}
 use Rattle.scm_rules.specs.Change2.{change2_done, change2_verdict, level_config}
-use Rattle.scm_rules.specs.Create.{create_done, create_verdict, created_config}
+use Rattle.scm_rules.specs.Create.{create_done, create_verdict}
 use Rattle.scm_rules.specs.Delete.{delete_done, delete_verdict}
-use Rattle.scm_rules.specs.Steps.{at_moment, effect_of, may, step_of}
-use Rattle.scm_rules.specs.Verdicts.{call_of, told_refused}
+use Rattle.scm_rules.specs.Steps.{may, step_of}
+use Rattle.scm_rules.specs.Verdicts.{told_refused}
 use Rattle.scm_rules.proofs.Held.{held_is}
 use Rattle.scm_rules.proofs.Needed.{replaced}
 use Rattle.scm_runs.proofs.Calls.{by_verdict}
 use Rattle.scm_runs.proofs.Lists.{found_only}
 use Rattle.scm_runs.proofs.Sound.{Sound}
 use Rattle.scm_kept.specs.Replayed.{unmarked}
-use Rattle.scm_kept.specs.Fitting.{FitsChange, FitsCreation, FitsLevel, FitsRequest, FitsStep}
+use Rattle.scm_kept.specs.Fitting.{FitsRequest, FitsStep}
 use Rattle.scm_kept.proofs.Found.{mark_kept}
 use Rattle.scm_kept.proofs.Given.{HasUnits, changed_units, created_units, level_units}
 use Rattle.scm_kept.proofs.Rows.{config_of, stays}

@@ -14,12 +14,6 @@ use Rattle.scm_rules.specs.Verdicts.{change_of}
 use Rattle.scm_history.specs.Kept.{kept_changes}
 use Rattle.scm_kept.specs.Read.{IsJournalOf, Stays}
 use Rattle.scm_kept.specs.Replayed.{unmarked}
-use Rattle.scm_kept.specs.Fitting.{AreBytes}
-
--- a state was made of what these bytes are read as
-pub record IsMadeOf (journal : List ℕ) (f : Flat) : Type 0 where
-  pub bytes : AreBytes journal
-  pub read : IsJournalOf journal (unmarked f.services)
 
 -- the kept changes of a history can be replayed, one after another
 abbrev pub KeepsReplayable : Limits → Flat → List Entry → Type 0

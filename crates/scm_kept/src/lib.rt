@@ -2,19 +2,20 @@
 #![tactic(auto)]
 
 ghost use Rattle.std.specs.Prelude.{◌≡◌, ◌≤◌, IsTrue, List, ℕ};
-ghost use Rattle.scm_kept.specs.Read.{IsReadAgain, IsReadCut, IsReadOn};
-ghost use Rattle.scm_kept.specs.Reopened.{IsMadeOf, IsReopened, IsReopenedCut, KeepsReplayable};
+ghost use Rattle.scm_kept.specs.Read.{IsJournalOf, IsReadAgain, IsReadCut, IsReadOn};
+ghost use Rattle.scm_kept.specs.Reopened.{IsReopened, IsReopenedCut, KeepsReplayable};
 ghost use Rattle.scm_kept.specs.Replayed.{UnmarkedAreKept, unmarked};
-ghost use Rattle.scm_kept.specs.Fitting.{AllFit, FitsStep};
 ghost use Rattle.scm_model.specs.declared.flat.Config.{Config};
 ghost use Rattle.scm_model.specs.declared.flat.Limits.{Limits};
 ghost use Rattle.scm_model.specs.declared.steps.Change.{Change};
-ghost use Rattle.scm_model.specs.declared.steps.Step.{Step};
 ghost use Rattle.record_journal.specs.declared.replaying.Replay.{Replay};
 ghost use Rattle.scm_rules.specs.Histories.{Legal, state};
 ghost use Rattle.scm_rules.specs.Opening.{IsOpening, opening};
 ghost use Rattle.scm_rules.specs.Steps.{may};
 
+mod fitting;
+
+use fitting::{bytes_fit, step_fits, steps_fit};
 use scm_model::{Flat, Limits, Step};
 use scm_text::Items;
 
@@ -48,20 +49,26 @@ pub fn openings_have_their_configurations()
 
 /// A legal history that begins with what a journal is read as, under a limit of 512 services, keeps
 /// changes that can be replayed, each over what those before it result in: appended to that journal
-/// they are read, and what one run kept never opens as damaged. Nor does it where an append of the
-/// next change failed after any of its bytes, or where it ended there.
-pub fn what_a_run_keeps_is_read(limits: &Limits, steps: &Items<(u64, Step)>, opening: &Flat)
+/// they are read, so what one run kept never opens as damaged. Nor does it after an append of the
+/// next step's change that ended after any of its bytes.
+pub fn what_a_run_keeps_is_read(
+    limits: &Limits,
+    journal: &[u8],
+    opening: &Flat,
+    steps: &Items<(u64, Step)>,
+    next: &(u64, Step),
+)
     requires few { limits.now.services ≤ 512 }
     requires begins { IsOpening limits.now opening.now }
+    requires read { IsJournalOf journal.now (unmarked opening.now.services) }
     requires legal { Legal limits.now opening.now steps.now }
-    requires fits { AllFit steps.now }
-    ensures kept { (bytes : List ℕ) → IsMadeOf bytes opening.now →
-        KeepsReplayable limits.now opening.now steps.now }
-    ensures read { (bytes : List ℕ) → IsMadeOf bytes opening.now →
-        IsReopened bytes limits.now opening.now steps.now }
-    ensures cut { (bytes : List ℕ) → IsMadeOf bytes opening.now →
-        (moment : ℕ) (step : Step) →
-        IsTrue (may limits.now (state limits.now opening.now steps.now) moment step) →
-        FitsStep step → (size : ℕ) →
-        IsReopenedCut bytes limits.now opening.now steps.now step size }
-{}
+    ensures kept { KeepsReplayable limits.now opening.now steps.now }
+    ensures reopened { IsReopened journal.now limits.now opening.now steps.now }
+    ensures cut { IsTrue (may limits.now (state limits.now opening.now steps.now) next.now.0 next.now.1) →
+        (size : ℕ) →
+        IsReopenedCut journal.now limits.now opening.now steps.now next.now.1 size }
+{
+    bytes_fit(journal);
+    steps_fit(steps.as_slice());
+    step_fits(next);
+}

@@ -1,3 +1,5 @@
+use Rattle.std.proofs.Common.{subst}
+use Rattle.scm_kept.specs.Fitting.{AllFit}
 use Rattle.scm_runs.proofs.Histories.{legal_made}
 use Rattle.scm_kept.proofs.Reopened.{kept_replayable, reopened, reopened_cut}
 use Rattle.scm_kept.proofs.what_a_run_keeps_is_read.Goals as goal
@@ -7,18 +9,24 @@ returns-clause-kept c =
     let l = c.args.limits.now in
     let f = c.args.opening.now in
     let es = c.args.steps.now in
-    kept_replayable l f es c.requires.few c.requires.begins (legal_made l f es c.requires.legal) c.requires.fits
+    let fits = subst AllFit c.as_slice.ensures c.steps_fit.ensures in
+    kept_replayable l f es c.requires.few c.requires.begins (legal_made l f es c.requires.legal) fits c.args.journal.now
+    (record { bytes = c.bytes_fit.ensures; read = c.requires.read })
 
-pub returns-clause-read : goal.returns-clause-read
-returns-clause-read c =
+pub returns-clause-reopened : goal.returns-clause-reopened
+returns-clause-reopened c =
     let l = c.args.limits.now in
     let f = c.args.opening.now in
     let es = c.args.steps.now in
-    reopened l f es c.requires.few c.requires.begins (legal_made l f es c.requires.legal) c.requires.fits
+    let fits = subst AllFit c.as_slice.ensures c.steps_fit.ensures in
+    reopened l f es c.requires.few c.requires.begins (legal_made l f es c.requires.legal) fits c.args.journal.now
+    (record { bytes = c.bytes_fit.ensures; read = c.requires.read })
 
 pub returns-clause-cut : goal.returns-clause-cut
-returns-clause-cut c =
+returns-clause-cut c = λ ok size.
     let l = c.args.limits.now in
     let f = c.args.opening.now in
     let es = c.args.steps.now in
-    reopened_cut l f es c.requires.few c.requires.begins (legal_made l f es c.requires.legal) c.requires.fits
+    let fits = subst AllFit c.as_slice.ensures c.steps_fit.ensures in
+    reopened_cut l f es c.requires.few c.requires.begins (legal_made l f es c.requires.legal) fits c.args.journal.now
+    (record { bytes = c.bytes_fit.ensures; read = c.requires.read }) c.args.next.now.0 c.args.next.now.1 ok c.step_fits.ensures size
