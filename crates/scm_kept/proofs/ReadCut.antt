@@ -1,5 +1,5 @@
 -- What an append that was cut off leaves is read.
-use Rattle.std.proofs.Common.{ℕ, zero, suc, ◌≡◌, ◌≢◌, ◌∙◌, ◌<◌, ◌≤◌, ◌-◌, ◌&&◌, true, cond, List, [], ◌∷◌, ◌++◌, Ok, Err, take, drop, length, length-append, append_assoc, refl, sym, ap, subst, arith, nat_lt, lt-ltb, eqb, ⊎_elim, inl, inr, ◌+◌}
+use Rattle.std.proofs.Common.{ℕ, zero, suc, ◌≡◌, ◌≢◌, ◌∙◌, ◌<◌, ◌≤◌, ◌-◌, ◌&&◌, Bool, true, false, cond, List, [], ◌∷◌, ◌++◌, Ok, Err, take, drop, length, length-append, append_assoc, refl, sym, ap, subst, arith, nat_lt, lt-ltb, eqb, ⊎_elim, inl, inr, ◌+◌}
 use Rattle.std.specs.List.{starts_with}
 use Rattle.std.proofs.Math.Seq.{take-append-add}
 use Rattle.std.proofs.lemmas.Bool.{cases_lt}
@@ -8,6 +8,8 @@ use Rattle.std.proofs.lemmas.List.{append-nil, drop_at, length-take-le, nil_from
 use Rattle.std.proofs.lemmas.Slice.Eq.{starts_is}
 use Rattle.scm_model.specs.declared.flat.Config.{Config}
 use Rattle.scm_model.specs.declared.steps.Change.{Change}
+use Rattle.record_journal.specs.Bearing.{Borne, Tail}
+use Rattle.record_journal.specs.declared.journal.Journal.{Journal}
 use Rattle.record_journal.specs.Entries.{IsPart, all_from, can_replay, entries_from, first_of, last_of, read_journal, replay_of}
 use Rattle.record_journal.specs.Format.{HasEntry, entry_bytes, header, piece}
 use Rattle.record_journal.specs.ReadBack.{held_change}
@@ -15,7 +17,7 @@ use Rattle.record_journal.specs.Replay.{after_change, replayed}
 use Rattle.record_journal.proofs.Back.{read_back}
 use Rattle.record_journal.proofs.Parts.{has_parts}
 use Rattle.scm_kept.proofs.ReadOn.{Stood, all_are, headed_read, later_piece, one_more, turns, turns_are, was_read, with_all}
-use Rattle.scm_kept.specs.Read.{IsJournalOf, IsReadCut, Stays}
+use Rattle.scm_kept.specs.Read.{IsJournalOf, IsLeftReadable, IsReadCut, Rests, Stays}
 
 -- ## Behind a journal that stands
 
@@ -84,14 +86,14 @@ within_header change front more is less =
     ap (take 8) is ∙ ap (λ n. take n (front ++ more)) eight ∙ take-append-add front more (8 - length front)
 
 first_cut : (change : Change) (front more : List ℕ) → HasEntry change → header ++ entry_bytes change ≡ front ++ more → 1 ≤ length more
-    → Stays [] [] change front
+    → Rests [] [] front
 first_cut change front more entry is some =
     ⊎_elim
     (λ (less : length front < 8). record {
       replay = record { configs = []; kept = 0 };
       read = header_cut front (take (8 - length front) more) (within_header change front more is less) less;
       kept = omega arith;
-      either = inl refl;
+      same = refl;
     })
     (λ (long : 8 ≤ length front).
     let p = parted change front more is long in
@@ -99,17 +101,17 @@ first_cut change front more entry is some =
       replay = record { configs = []; kept = 8 };
       read = ap read_journal p.headed ∙ header_more (drop 8 front) (has_parts change entry (drop 8 front) more p.entry some);
       kept = omega arith;
-      either = inl refl;
+      same = refl;
     })
     (cases_lt (length front) 8)
 
 -- ## Any journal
 
-nothing_was : (good : List ℕ) (configs : List Config) (change : Change) (front : List ℕ) → good ≡ [] → configs ≡ []
-    → Stays [] [] change front → Stays good configs change (good ++ front)
-nothing_was good configs change front none empty stays =
-    subst (λ (cs : List Config). Stays good cs change (good ++ front)) (sym empty)
-    (subst (λ (xs : List ℕ). Stays xs [] change (xs ++ front)) (sym none) stays)
+nothing_was : (good : List ℕ) (configs : List Config) (front : List ℕ) → good ≡ [] → configs ≡ []
+    → Rests [] [] front → Rests good configs (good ++ front)
+nothing_was good configs front none empty rests =
+    subst (λ (cs : List Config). Rests good cs (good ++ front)) (sym empty)
+    (subst (λ (xs : List ℕ). Rests xs [] (xs ++ front)) (sym none) rests)
 
 first_piece : (change : Change) → piece 0 change ≡ header ++ entry_bytes change
 unfolding piece
@@ -117,12 +119,12 @@ first_piece change = refl
 
 cut_within : (good : List ℕ) (configs : List Config) (change : Change) (front more : List ℕ) → IsJournalOf good configs → HasEntry change
     → piece (length good) change ≡ front ++ more → 1 ≤ length more
-    → Stays good configs change (good ++ front)
+    → Rests good configs (good ++ front)
 cut_within good configs change front more is entry parts some =
     ⊎_elim
     (λ (p : (length good ≡ 0) × (configs ≡ [])).
     let first : header ++ entry_bytes change ≡ front ++ more = sym (first_piece change) ∙ ap (λ n. piece n change) (sym p.0) ∙ parts in
-    nothing_was good configs change front (nil_from_length good p.0) p.1 (first_cut change front more entry first some))
+    nothing_was good configs front (nil_from_length good p.0) p.1 (first_cut change front more entry first some))
     (λ (s : Stood (take (length good) good) configs).
     let all : Stood good configs = subst (λ (xs : List ℕ). Stood xs configs) (take_all (length good) good (omega arith)) s in
     let long : length good ≢ 0 = (λ q. let h = ap length all.headed in absurd (omega (arith, q, h))) in
@@ -131,7 +133,7 @@ cut_within good configs change front more is entry parts some =
       replay = record { configs = configs; kept = length good };
       read = stood_cut good configs front all (has_parts change entry front more of_entry some);
       kept = omega arith;
-      either = inl refl;
+      same = refl;
     })
     (was_read good (record { configs = configs; kept = length good }) is)
 
@@ -147,14 +149,36 @@ cut_behind good configs change front is entry can whole = record {
   either = inr refl;
 }
 
+it_stays : (good : List ℕ) (configs : List Config) (change : Change) (now : List ℕ) → Rests good configs now → Stays good configs change now
+it_stays good configs change now rests = record { replay = rests.replay; read = rests.read; kept = rests.kept; either = inl rests.same }
+
 cut_at : (good : List ℕ) (configs : List Config) (change : Change) (front more : List ℕ) → IsJournalOf good configs → HasEntry change
     → can_replay configs (held_change change) ≡ true
     → piece (length good) change ≡ front ++ more → Stays good configs change (good ++ front)
 cut_at good configs change front [] is entry can parts = cut_behind good configs change front is entry can (parts ∙ append-nil front)
-cut_at good configs change front (x ∷ more) is entry can parts = cut_within good configs change front (x ∷ more) is entry parts
-    (omega arith)
+cut_at good configs change front (x ∷ more) is entry can parts =
+    it_stays good configs change (good ++ front) (cut_within good configs change front (x ∷ more) is entry parts (omega arith))
 
 pub read_cut : (bytes : List ℕ) (configs : List Config) (change : Change) (size : ℕ) → IsReadCut bytes configs change size
 read_cut bytes configs change size is entry can =
     let all = piece (length bytes) change in
     cut_at bytes configs change (take size all) (drop size all) is entry can (sym (take-append-drop size all))
+
+-- ## What a keeper holds
+
+rests_all : (good : List ℕ) (configs : List Config) → IsJournalOf good configs → Rests good configs good
+rests_all good configs is = record { replay = record { configs = configs; kept = length good }; read = is; kept = omega arith; same = refl }
+
+tail_left : (good : List ℕ) (configs : List Config) (change : Change) (tail more : List ℕ) → IsJournalOf good configs → HasEntry change
+    → piece (length good) change ≡ tail ++ more → IsLeftReadable good configs (good ++ tail)
+tail_left good configs change tail [] is entry parts =
+    inr (record { change = change; entry = entry; whole = ap (λ (xs : List ℕ). good ++ xs) (sym (parts ∙ append-nil tail)) })
+tail_left good configs change tail (x ∷ more) is entry parts = inl (cut_within good configs change tail (x ∷ more) is entry parts (omega arith))
+
+any_left : (good : List ℕ) (configs : List Config) (dirty : Bool) (tail : List ℕ) → IsJournalOf good configs → Tail good dirty tail → IsLeftReadable good configs (good ++ tail)
+any_left good configs false tail is none =
+    inl (subst (Rests good configs) (sym (ap (λ (xs : List ℕ). good ++ xs) none ∙ append-nil good)) (rests_all good configs is))
+any_left good configs true tail is part = tail_left good configs part.0 tail part.2.0 is part.1 part.2.1
+
+pub borne_left : (good : List ℕ) (configs : List Config) (j : Journal) (now : List ℕ) → IsJournalOf good configs → Borne good j now → IsLeftReadable good configs now
+borne_left good configs j now is borne = subst (IsLeftReadable good configs) (sym borne.holds) (any_left good configs j.dirty borne.tail is borne.part)

@@ -11,26 +11,28 @@ use Rattle.scm_model.specs.declared.steps.Change.{Change}
 use Rattle.scm_model.specs.declared.steps.Step.{Step}
 use Rattle.scm_model.specs.Entries.{Entry}
 use Rattle.service_record.proofs.Fields.{IsBytes}
-use Rattle.record_journal.specs.Bearing.{and_changes}
+use Rattle.record_journal.specs.Bearing.{Bears, and_changes}
 use Rattle.record_journal.specs.Format.{piece}
+use Rattle.record_journal.specs.declared.journal.Journal.{Journal}
 use Rattle.record_journal.specs.ReadBack.{AreReplayable, held_change}
 use Rattle.record_journal.specs.Replay.{replayed}
-use Rattle.scm_rules.specs.Histories.{state}
+use Rattle.scm_rules.specs.Histories.{Legal, state}
 use Rattle.scm_rules.specs.Opening.{IsOpening}
-use Rattle.scm_rules.specs.Runs.{IsLegal, run_state}
+use Rattle.scm_rules.specs.Runs.{run_state}
 use Rattle.scm_rules.specs.Steps.{may}
 use Rattle.scm_rules.specs.Verdicts.{change_of}
 use Rattle.scm_history.specs.Kept.{kept_changes}
+use Rattle.scm_runs.proofs.Histories.{legal_made}
 use Rattle.scm_runs.proofs.Sound.{begun}
-use Rattle.scm_kept.specs.Read.{IsJournalOf, Stays}
-use Rattle.scm_kept.specs.Reopened.{IsReopened, IsReopenedCut, KeepsReplayable, kept_configs}
+use Rattle.scm_kept.specs.Read.{IsJournalOf, IsLeftReadable, Stays}
+use Rattle.scm_kept.specs.Reopened.{IsLeftSo, IsReopened, IsReopenedCut, KeepsReplayable, kept_configs}
 use Rattle.scm_kept.specs.Replayed.{unmarked}
 use Rattle.scm_kept.specs.Fitting.{AreBytes, AllFit, FitsStep}
 use Rattle.scm_kept.proofs.Accepted.{units_of}
 use Rattle.scm_kept.proofs.Again.{IsReplayable, if_weaker, next_can, run_can, run_ends}
 use Rattle.scm_kept.proofs.Given.{HasUnits}
 use Rattle.scm_kept.proofs.Places.{held_of}
-use Rattle.scm_kept.proofs.ReadCut.{read_cut}
+use Rattle.scm_kept.proofs.ReadCut.{borne_left, read_cut}
 use Rattle.scm_kept.proofs.ReadOn.{read_on}
 use Rattle.scm_kept.proofs.ReadHeld.{AreHeld, held_already, journal_held}
 use Rattle.scm_kept.proofs.UnitsKept.{HaveUnits}
@@ -60,23 +62,29 @@ made_units bytes f made = held_units (unmarked f.services) (made_held bytes f ma
 made_same : (bytes : List ℕ) (f : Flat) → IsMadeOf bytes f → held_of f ≡ unmarked f.services
 made_same bytes f made = held_already (unmarked f.services) (made_held bytes f made)
 
-pub kept_replayable : (l : Limits) (f : Flat) (es : List Entry) → l.services ≤ 512 → IsOpening l f → IsLegal l f es → AllFit es → (bytes : List ℕ) → IsMadeOf bytes f
+pub kept_replayable : (l : Limits) (f : Flat) (es : List Entry) → l.services ≤ 512 → IsOpening l f → Legal l f es → AllFit es → (bytes : List ℕ) → IsMadeOf bytes f
     → KeepsReplayable l f es
 kept_replayable l f es few begins legal fits bytes made =
     subst (λ (configs : List Config). AreReplayable configs (kept_changes l f es)) (made_same bytes f made)
-    (run_can l f es few (begun l f begins) legal fits (made_units bytes f made))
+    (run_can l f es few (begun l f begins) (legal_made l f es legal) fits (made_units bytes f made))
 
-pub reopened : (l : Limits) (f : Flat) (es : List Entry) → l.services ≤ 512 → IsOpening l f → IsLegal l f es → AllFit es → (bytes : List ℕ) → IsMadeOf bytes f
+pub reopened : (l : Limits) (f : Flat) (es : List Entry) → l.services ≤ 512 → IsOpening l f → Legal l f es → AllFit es → (bytes : List ℕ) → IsMadeOf bytes f
     → IsReopened bytes l f es
 reopened l f es few begins legal fits bytes made =
     read_on bytes (unmarked f.services) (kept_changes l f es) made.read (kept_replayable l f es few begins legal fits bytes made)
 
-pub reopened_cut : (l : Limits) (f : Flat) (es : List Entry) → l.services ≤ 512 → IsOpening l f → IsLegal l f es → AllFit es → (bytes : List ℕ) → IsMadeOf bytes f
+pub left_so : (l : Limits) (f : Flat) (es : List Entry) → l.services ≤ 512 → IsOpening l f → Legal l f es → AllFit es → (bytes : List ℕ) → IsMadeOf bytes f
+    → (j : Journal) (now : List ℕ) → IsLeftSo bytes l f es j now
+left_so l f es few begins legal fits bytes made j now =
+    if_weaker (λ kept. IsJournalOf kept (kept_configs l f es)) (λ kept. Bears (Some kept) j (Some now) → IsLeftReadable kept (kept_configs l f es) now)
+    (and_changes (Some bytes) (kept_changes l f es)) (λ kept is borne. borne_left kept (kept_configs l f es) j now is borne) (reopened l f es few begins legal fits bytes made)
+
+pub reopened_cut : (l : Limits) (f : Flat) (es : List Entry) → l.services ≤ 512 → IsOpening l f → Legal l f es → AllFit es → (bytes : List ℕ) → IsMadeOf bytes f
     → (moment : ℕ) (step : Step) → IsTrue (may l (state l f es) moment step) → FitsStep step → (size : ℕ) → IsReopenedCut bytes l f es step size
 unfolding state
 reopened_cut l f es few begins legal fits bytes made moment step ok asked size =
     let g = run_state l f es in
-    let ends = run_ends l f es few (begun l f begins) legal fits (made_units bytes f made) in
+    let ends = run_ends l f es few (begun l f begins) (legal_made l f es legal) fits (made_units bytes f made) in
     let configs : held_of g ≡ kept_configs l f es = ends.held ∙ ap (λ (cs : List Config). replayed cs (map held_change (kept_changes l f es))) (made_same bytes f made) in
     if_weaker (IsReplayable (held_of g)) (λ (change : Change). IfSome (and_changes (Some bytes) (kept_changes l f es))
     (λ now. Stays now (kept_configs l f es) change (now ++ take size (piece (length now) change)))) (change_of l g step)

@@ -25,6 +25,23 @@ IsReadOn bytes configs changes =
     → IfSome (and_changes (Some bytes) changes)
     (λ now. IsJournalOf now (replayed configs (map held_change changes)))
 
+-- all that was kept is kept, and read as it was
+pub record Rests (bytes : List ℕ) (configs : List Config) (now : List ℕ) : Type 0 where
+  pub replay : Replay
+  pub read : read_journal now ≡ Ok replay
+  pub kept : length bytes ≤ replay.kept
+  pub same : replay.configs ≡ configs
+
+-- the whole entry of a change stands after what was kept
+pub record HasMore (bytes now : List ℕ) : Type 0 where
+  pub change : Change
+  pub entry : HasEntry change
+  pub whole : now ≡ bytes ++ piece (length bytes) change
+
+-- what a keeper holds is read as it was kept, unless all of an entry stands after it whose append failed
+abbrev pub IsLeftReadable : List ℕ → List Config → List ℕ → Type 0
+IsLeftReadable bytes configs now = Rests bytes configs now ⊎ HasMore bytes now
+
 -- all that was kept is kept, and read as it was, or with one change more
 pub record Stays (bytes : List ℕ) (configs : List Config) (change : Change) (now : List ℕ) : Type 0 where
   pub replay : Replay

@@ -1,7 +1,9 @@
 //! Steps and bytes fit their types: a law of histories takes no other than a program can have.
 ghost use Rattle.std.specs.Prelude.{All, IfSome};
 ghost use Rattle.scm_text.specs.Fold.{HasNoZero};
-ghost use Rattle.scm_kept.specs.Fitting.{AllFit, AreBytes, AreBytesIn, FitsChange, FitsCreation, FitsLevel, FitsRequest, FitsStep, HasDelay, IsText, IsTextIn};
+ghost use Rattle.scm_kept.specs.Fitting.{AllFit, AreBytes, AreBytesIn, HasDelay};
+ghost use Rattle.scm_kept.specs.Fitting.{FitsChange, FitsCreation, FitsLevel, FitsRequest};
+ghost use Rattle.scm_kept.specs.Fitting.{FitsStep, IsText, IsTextIn};
 ghost use Rattle.service_record.specs.Spelling.{FitsNumber};
 
 use scm_model::{Action, ChangeService, Info, NewService, Request, Step};

@@ -1,17 +1,18 @@
 //! What the kept changes of a history come to.
 #![tactic(auto)]
 
-ghost use Rattle.std.specs.Prelude.{◌≡◌, ◌≤◌, IsTrue, List, ℕ};
+ghost use Rattle.std.specs.Prelude.{◌≡◌, ◌≤◌, List, ℕ};
 ghost use Rattle.scm_kept.specs.Read.{IsJournalOf, IsReadAgain, IsReadCut, IsReadOn};
-ghost use Rattle.scm_kept.specs.Reopened.{IsReopened, IsReopenedCut, KeepsReplayable};
+ghost use Rattle.scm_kept.specs.Reopened.{IsLeftSo, IsReopened, IsReopenedCut, KeepsReplayable};
+ghost use Rattle.scm_kept.specs.Reopened.{MayFollow};
 ghost use Rattle.scm_kept.specs.Replayed.{UnmarkedAreKept, unmarked};
 ghost use Rattle.scm_model.specs.declared.flat.Config.{Config};
 ghost use Rattle.scm_model.specs.declared.flat.Limits.{Limits};
 ghost use Rattle.scm_model.specs.declared.steps.Change.{Change};
+ghost use Rattle.record_journal.specs.declared.journal.Journal.{Journal};
 ghost use Rattle.record_journal.specs.declared.replaying.Replay.{Replay};
-ghost use Rattle.scm_rules.specs.Histories.{Legal, state};
+ghost use Rattle.scm_rules.specs.Histories.{Legal};
 ghost use Rattle.scm_rules.specs.Opening.{IsOpening, opening};
-ghost use Rattle.scm_rules.specs.Steps.{may};
 
 mod fitting;
 
@@ -49,8 +50,9 @@ pub fn openings_have_their_configurations()
 
 /// A legal history that begins with what a journal is read as, under a limit of 512 services, keeps
 /// changes that can be replayed, each over what those before it result in: appended to that journal
-/// they are read, so what one run kept never opens as damaged. Nor does it after an append of the
-/// next step's change that ended after any of its bytes.
+/// they are read, so what one run kept never opens as damaged. A keeper that bears them after that
+/// journal holds no damage, unless all of an entry stands at its end whose append failed. An append
+/// of the next step's change leaves none, after whichever of its bytes it ended.
 pub fn what_a_run_keeps_is_read(
     limits: &Limits,
     journal: &[u8],
@@ -64,8 +66,9 @@ pub fn what_a_run_keeps_is_read(
     requires legal { Legal limits.now opening.now steps.now }
     ensures kept { KeepsReplayable limits.now opening.now steps.now }
     ensures reopened { IsReopened journal.now limits.now opening.now steps.now }
-    ensures cut { IsTrue (may limits.now (state limits.now opening.now steps.now) next.now.0 next.now.1) →
-        (size : ℕ) →
+    ensures left { (j : Journal) (now : List ℕ) →
+        IsLeftSo journal.now limits.now opening.now steps.now j now }
+    ensures cut { MayFollow limits.now opening.now steps.now next.now → (size : ℕ) →
         IsReopenedCut journal.now limits.now opening.now steps.now next.now.1 size }
 {
     bytes_fit(journal);
