@@ -21,7 +21,7 @@ use Rattle.scm_rules.specs.Change.{config_from, display_or, tag_or}
 use Rattle.scm_rules.specs.Change2.{config_at, trigger_of}
 use Rattle.scm_rules.specs.Create.{created_config, display_of, next_tag, tag_of}
 use Rattle.scm_rules.specs.Needs.{need_named, needs_in_bytes, needs_or, needs_read, units_in_bytes}
-use Rattle.scm_kept.specs.Fitting.{AreBytes, AreBytesIn, HasDelay, IsByte, IsText, IsTextIn, FitsChange, FitsCreation, FitsLevel}
+use Rattle.scm_kept.specs.Fitting.{AreBytes, AreBytesIn, FitsDelay, IsByte, IsText, IsTextIn, FitsChange, FitsCreation, FitsLevel}
 
 -- ## Needs in bytes
 
@@ -108,7 +108,7 @@ pub record HasUnits (config : Config) : Type 0 where
   pub needs : All HasText config.needs
   pub description : IsText config.description
   pub reset : FitsNumber config.reset
-  pub actions : All HasDelay config.actions
+  pub actions : All FitsDelay config.actions
   pub command : IsText config.command
 
 given_or : (given : Option (List ℕ)) (old : List ℕ) → IsTextIn given → IsText old → IsText (unwrap_or given old)
@@ -133,7 +133,7 @@ created_units f new fits = record {
   needs = needs_given [] new.needs (All-nil HasText) fits.needs;
   description = All-nil IsUnit;
   reset = omega arith;
-  actions = All-nil HasDelay;
+  actions = All-nil FitsDelay;
   command = All-nil IsUnit;
 }
 
@@ -173,7 +173,7 @@ with_flags old on_exit delayed triggers is = record {
   command = is.command;
 }
 
-with_actions : (old : Config) (reset : ℕ) (actions : List Action) (command : Option (List ℕ)) → FitsNumber reset → All HasDelay actions → IsTextIn command → HasUnits old
+with_actions : (old : Config) (reset : ℕ) (actions : List Action) (command : Option (List ℕ)) → FitsNumber reset → All FitsDelay actions → IsTextIn command → HasUnits old
     → HasUnits (record old { reset = reset; actions = actions; command = unwrap_or command old.command })
 with_actions old reset actions command fits each given is = record {
   name = is.name;
@@ -205,7 +205,7 @@ with_description old text given is = record {
 pub level_units : (asked : Info) (old : Config) → FitsLevel asked → HasUnits old → HasUnits (config_at asked old)
 level_units (info.Description text) old fits is = with_description old text fits is
 level_units (info.Failure reset command None) old fits is = with_actions old old.reset old.actions command is.reset is.actions fits.1 is
-level_units (info.Failure reset command (Some [])) old fits is = with_actions old 0 [] command (omega arith) (All-nil HasDelay) fits.1 is
+level_units (info.Failure reset command (Some [])) old fits is = with_actions old 0 [] command (omega arith) (All-nil FitsDelay) fits.1 is
 level_units (info.Failure reset command (Some (action ∷ actions))) old fits is = with_actions old reset (action ∷ actions) command fits.0 fits.2 fits.1 is
 level_units (info.Delayed on) old fits is = with_flags old old.on_exit on old.triggers is
 level_units (info.OnExit on) old fits is = with_flags old on old.delayed old.triggers is

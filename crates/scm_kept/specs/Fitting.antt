@@ -43,12 +43,12 @@ pub record FitsChange (change : ChangeService) : Type 0 where
   pub group : IsTextIn change.group
   pub needs : AreBytesIn change.needs
 
-abbrev pub HasDelay : Action → Type 0
-HasDelay action = FitsNumber action.delay
+abbrev pub FitsDelay : Action → Type 0
+FitsDelay action = FitsNumber action.delay
 
 abbrev pub FitsLevel : Info → Type 0
 FitsLevel (info.Description text) = IsTextIn text
-FitsLevel (info.Failure reset command actions) = FitsNumber reset × IsTextIn command × IfSome actions (All HasDelay)
+FitsLevel (info.Failure reset command actions) = FitsNumber reset × IsTextIn command × IfSome actions (All FitsDelay)
 FitsLevel asked = Unit {0}
 
 abbrev pub FitsRequest : Request → Type 0

@@ -1,7 +1,7 @@
 //! Steps and bytes fit their types: a law of histories takes no other than a program can have.
 ghost use Rattle.std.specs.Prelude.{All, IfSome};
 ghost use Rattle.scm_text.specs.Fold.{HasNoZero};
-ghost use Rattle.scm_kept.specs.Fitting.{AllFit, AreBytes, AreBytesIn, HasDelay};
+ghost use Rattle.scm_kept.specs.Fitting.{AllFit, AreBytes, AreBytesIn, FitsDelay};
 ghost use Rattle.scm_kept.specs.Fitting.{FitsChange, FitsCreation, FitsLevel, FitsRequest};
 ghost use Rattle.scm_kept.specs.Fitting.{FitsStep, IsText, IsTextIn};
 ghost use Rattle.service_record.specs.Spelling.{FitsNumber};
@@ -64,13 +64,13 @@ fn number_fits(number: u32)
 {}
 
 fn delay_fits(action: &Action)
-    ensures { HasDelay action.now }
+    ensures { FitsDelay action.now }
 {
     number_fits(action.delay);
 }
 
 fn delays_fit(actions: &[Action])
-    ensures { All HasDelay actions.now }
+    ensures { All FitsDelay actions.now }
 {
     for action in actions {
         delay_fits(action);
@@ -78,7 +78,7 @@ fn delays_fit(actions: &[Action])
 }
 
 fn given_delays_fit(given: &Option<Items<Action>>)
-    ensures { IfSome given.now (All HasDelay) }
+    ensures { IfSome given.now (All FitsDelay) }
 {
     if let Some(actions) = given {
         delays_fit(actions.as_slice());

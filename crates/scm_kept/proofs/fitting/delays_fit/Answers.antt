@@ -1,7 +1,7 @@
 use Rattle.std.proofs.lemmas.List.Elements.{All-more}
-use Rattle.scm_kept.specs.Fitting.{HasDelay}
+use Rattle.scm_kept.specs.Fitting.{FitsDelay}
 use Rattle.scm_kept.proofs.fitting.delays_fit.Goals as goal
 
 pub loop-action-preserved : goal.loop-action-preserved
 loop-action-preserved c =
-    All-more HasDelay c.args.actions.now c.loop-action.action-index _ c.loop-action-test.true c.loop-action.invariant c.delay_fits.ensures
+    All-more FitsDelay c.args.actions.now c.loop-action.action-index _ c.loop-action-test.true c.loop-action.invariant c.delay_fits.ensures
