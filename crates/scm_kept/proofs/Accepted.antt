@@ -54,19 +54,24 @@ pub is_small : (config : Config) → check_new config None ≡ 0 → IsSmall con
 unfolding check_new
 is_small config e =
     let short = are_short config e in
-    let p = all_pass ((has_bad_names config, 123) ∷ (has_bad_numbers config || has_bad_texts config || has_bad_lists config, 87) ∷ (is_bad_account None, 1057) ∷ []) (refl, (refl, (refl, tt))) e in
+    let p = all_pass ((has_bad_names config, 123) ∷ (has_bad_numbers config || has_bad_texts config || has_bad_lists config, 87) ∷
+    (is_bad_account None, 1057) ∷ []) (refl, (refl, (refl, tt))) e in
     let parts = or_parts (has_bad_numbers config || has_bad_texts config) (has_bad_lists config) p.1.0 in
     let both = or_parts (has_bad_numbers config) (has_bad_texts config) parts.0 in
-    let delayed = or_parts (not (config.kind == 16 || config.kind == 32) || not (nat_le 2 config.start && nat_le config.start 4) || nat_lt 3 config.error) _ both.0 in
-    let error = or_parts (not (config.kind == 16 || config.kind == 32) || not (nat_le 2 config.start && nat_le config.start 4)) (nat_lt 3 config.error) delayed.0 in
+    let delayed = or_parts (not (config.kind == 16 || config.kind == 32) || not
+    (nat_le 2 config.start && nat_le config.start 4) || nat_lt 3 config.error) _ both.0 in
+    let error = or_parts (not (config.kind == 16 || config.kind == 32) || not (nat_le 2 config.start && nat_le config.start 4))
+    (nat_lt 3 config.error) delayed.0 in
     let start = or_parts (not (config.kind == 16 || config.kind == 32)) (not (nat_le 2 config.start && nat_le config.start 4)) error.0 in
     let lines = or_parts (is_bad_line config.path || is_longer 256 config.group || is_longer 2048 config.description) _ both.1 in
     let texts = or_parts (is_bad_line config.path || is_longer 256 config.group) (is_longer 2048 config.description) lines.0 in
     let triggers = or_parts (nat_lt 512 (length config.needs) || list_any (λ need. is_longer 256 (name_of_need need)) config.needs
-    || nat_lt 64 (length config.actions) || list_any (λ (action : Action). nat_lt 3 action.what) config.actions) (nat_lt 64 (length config.triggers)) parts.1 in
+    || nat_lt 64 (length config.actions) || list_any (λ (action : Action). nat_lt 3 action.what) config.actions)
+    (nat_lt 64 (length config.triggers)) parts.1 in
     let known = or_parts (nat_lt 512 (length config.needs) || list_any (λ need. is_longer 256 (name_of_need need)) config.needs
     || nat_lt 64 (length config.actions)) (list_any (λ (action : Action). nat_lt 3 action.what) config.actions) triggers.0 in
-    let lists = or_parts (nat_lt 512 (length config.needs) || list_any (λ need. is_longer 256 (name_of_need need)) config.needs) (nat_lt 64 (length config.actions)) known.0 in
+    let lists = or_parts (nat_lt 512 (length config.needs) || list_any (λ need. is_longer 256 (name_of_need need)) config.needs)
+    (nat_lt 64 (length config.actions)) known.0 in
     let many = or_parts (nat_lt 512 (length config.needs)) (list_any (λ need. is_longer 256 (name_of_need need)) config.needs) lists.0 in
     record {
       name = short.name;
@@ -79,7 +84,8 @@ is_small config e =
       description = ltb-false 2048 (length config.description) texts.1;
       command = short.command;
       needs = ltb-false 512 (length config.needs) many.0;
-      needed = All-weaker (λ need. is_longer 256 (name_of_need need) ≡ false) IsShortNeed (λ need h. ltb-false 256 (length (name_of_need need)) h) config.needs
+      needed = All-weaker (λ need. is_longer 256 (name_of_need need) ≡ false) IsShortNeed
+          (λ need h. ltb-false 256 (length (name_of_need need)) h) config.needs
           (none_any (λ need. is_longer 256 (name_of_need need)) config.needs many.1);
       actions = ltb-false 64 (length config.actions) lists.1;
       known = All-weaker (λ (a : Action). nat_lt 3 a.what ≡ false) IsKnown (λ a h. ltb-false 3 a.what h) config.actions
@@ -113,7 +119,11 @@ config_fits config small is = (
   },
   record {
     reset = is.reset;
-    actions = ((let n = small.actions in omega (arith, n)), λ k d lt. ((let n = small.known k d lt in omega (arith, n)), is.actions k d lt));
+    actions = (
+      (let n = small.actions in omega (arith, n)),
+      λ k d lt.
+          ((let n = small.known k d lt in omega (arith, n)), is.actions k d lt),
+    );
     command = text_fits config.command small.command is.command;
   },
 )
@@ -141,10 +151,12 @@ units_of config fits = record {
 
 units_long : (units : List ℕ) → length (flat_map (to_le_bytes w16) units) ≡ 2 * length units
 units_long [] = refl
-units_long (u ∷ units) = ap (λ (bytes : List ℕ). length bytes) (flat_map-cons (to_le_bytes w16) u units) ∙ (let rest = units_long units in omega (arith, rest))
+units_long (u ∷ units) = ap (λ (bytes : List ℕ). length bytes) (flat_map-cons (to_le_bytes w16) u units) ∙
+    (let rest = units_long units in omega (arith, rest))
 
 pub text_long : (units : List ℕ) (n : ℕ) → length units ≤ n → length (text units) ≤ 4 + 2 * n
-text_long units n short = let long = units_long units in let both = length-append (number (length units)) (flat_map (to_le_bytes w16) units) in omega (arith, long, both, short)
+text_long units n short = let long = units_long units in let both = length-append (number (length units))
+    (flat_map (to_le_bytes w16) units) in omega (arith, long, both, short)
 
 need_long : (need : Need) → IsShortNeed need → length (need_bytes need) ≤ 517
 need_long (needs.Service name) short = let long = text_long name 256 short in omega (arith, long)
@@ -176,23 +188,30 @@ flag_long false = omega arith
 front_long : (config : Config) → IsSmall config → length (front config) ≤ 5144
 front_long config small =
     let names = text config.name ++ text config.display in
-    let a = both_long (text config.name) (text config.display) 516 516 (text_long config.name 256 small.name) (text_long config.display 256 small.display) in
+    let a = both_long (text config.name) (text config.display) 516 516 (text_long config.name 256 small.name)
+    (text_long config.display 256 small.display) in
     let b = both_long names (number config.kind) 1032 4 a (four config.kind) in
     let c = both_long (names ++ number config.kind) (number config.start) 1036 4 b (four config.start) in
     let d = both_long (names ++ number config.kind ++ number config.start) (number config.error) 1040 4 c (four config.error) in
-    both_long (names ++ number config.kind ++ number config.start ++ number config.error) (text config.path) 1044 4100 d (text_long config.path 2048 small.path)
+    both_long (names ++ number config.kind ++ number config.start ++ number config.error) (text config.path) 1044 4100 d
+    (text_long config.path 2048 small.path)
 
 middle_long : (config : Config) → IsSmall config → length (middle config) ≤ 269328
 middle_long config small =
     let a = both_long (text config.group) (number config.tag) 516 4 (text_long config.group 256 small.group) (four config.tag) in
-    let b = both_long (text config.group ++ number config.tag) (counted_items need_bytes config.needs) 520 264708 a (needs_long config.needs small.needs small.needed) in
-    both_long (text config.group ++ number config.tag ++ counted_items need_bytes config.needs) (text config.description) 265228 4100 b (text_long config.description 2048 small.description)
+    let b = both_long (text config.group ++ number config.tag) (counted_items need_bytes config.needs) 520 264708 a
+    (needs_long config.needs small.needs small.needed) in
+    both_long (text config.group ++ number config.tag ++ counted_items need_bytes config.needs) (text config.description) 265228 4100 b
+    (text_long config.description 2048 small.description)
 
 back_long : (config : Config) → IsSmall config → length (back config) ≤ 4621
 back_long config small =
-    let a = both_long (number config.reset) (counted_items action config.actions) 4 516 (four config.reset) (actions_long config.actions small.actions) in
-    let b = both_long (number config.reset ++ counted_items action config.actions) (text config.command) 520 4100 a (text_long config.command 2048 small.command) in
-    both_long (number config.reset ++ counted_items action config.actions ++ text config.command) (flag config.on_exit) 4620 1 b (flag_long config.on_exit)
+    let a = both_long (number config.reset) (counted_items action config.actions) 4 516 (four config.reset)
+    (actions_long config.actions small.actions) in
+    let b = both_long (number config.reset ++ counted_items action config.actions) (text config.command) 520 4100 a
+    (text_long config.command 2048 small.command) in
+    both_long (number config.reset ++ counted_items action config.actions ++ text config.command) (flag config.on_exit) 4620 1 b
+    (flag_long config.on_exit)
 
 pub spelling_long : (config : Config) → IsSmall config → FitsNumber (length (spelling config))
 spelling_long config small =

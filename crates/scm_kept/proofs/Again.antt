@@ -50,14 +50,16 @@ configs_fit f s each =
     recursion_from_All IsConfig (unmarked f.services)
     (λ k d lt. config_fits _ (is_small _ (checked_unmarked f s k d lt)) (All-from_recursion HasUnits (unmarked f.services) each k d lt))
 
-kept_placed : (l : Limits) (f : Flat) (step : Step) → l.services ≤ 512 → Sound f → FitsStep step → HaveUnits f.services → IfSome (kept_change l f step) (IsPlaced f)
+kept_placed : (l : Limits) (f : Flat) (step : Step) → l.services ≤ 512 → Sound f → FitsStep step → HaveUnits f.services
+    → IfSome (kept_change l f step) (IsPlaced f)
 kept_placed l f (Call caller asked appended.Kept) few s fits each = call_placed l f caller asked few s fits each
 kept_placed l f (Call caller asked appended.NotAsked) few s fits each = tt
 kept_placed l f (Call caller asked appended.Failed) few s fits each = tt
 kept_placed l f step few s fits each = tt
 
 -- what is held after a step is what was held, after its kept change
-held_step : (l : Limits) (f : Flat) (moment : ℕ) (step : Step) → l.services ≤ 512 → Sound f → IsTrue (may l f moment step) → FitsStep step → HaveUnits f.services
+held_step : (l : Limits) (f : Flat) (moment : ℕ) (step : Step) → l.services ≤ 512 → Sound f → IsTrue (may l f moment step) → FitsStep step
+    → HaveUnits f.services
     → held_of (step_of l f moment step).flat ≡ replayed (held_of f) (map held_change (one_or_none (kept_change l f step)))
 held_step l f moment step few s ok fits each =
     let after = (step_of l f moment step).flat in
@@ -68,24 +70,29 @@ held_step l f moment step few s ok fits each =
     (one_fits (unmarked f.services) change (configs_fit f s each) body)
     ∙ held_one (unmarked f.services) change
 
-one_can : (f : Flat) (now : List Config) (change : Option Change) → now ≡ replayed (held_of f) (map held_change (one_or_none change)) → AreFine now
+one_can : (f : Flat) (now : List Config) (change : Option Change) → now ≡ replayed (held_of f) (map held_change (one_or_none change))
+    → AreFine now
     → IfSome change (IsPlaced f) → IfSome change (IsReplayable (held_of f))
 one_can f now None is fine placed = tt
 one_can f now (Some change) is fine placed = (placed.entry, can (held_of f) (held_change change) (subst AreFine is fine) placed.place)
 
-step_can : (l : Limits) (f : Flat) (moment : ℕ) (step : Step) → l.services ≤ 512 → Sound f → IsTrue (may l f moment step) → FitsStep step → HaveUnits f.services
+step_can : (l : Limits) (f : Flat) (moment : ℕ) (step : Step) → l.services ≤ 512 → Sound f → IsTrue (may l f moment step) → FitsStep step
+    → HaveUnits f.services
     → IfSome (kept_change l f step) (IsReplayable (held_of f))
 step_can l f moment step few s ok fits each =
     let after = (step_of l f moment step).flat in
-    one_can f (held_of after) (kept_change l f step) (held_step l f moment step few s ok fits each) (fine_state after (keeps l f (moment, step) s ok)) (kept_placed l f step few s fits each)
+    one_can f (held_of after) (kept_change l f step) (held_step l f moment step few s ok fits each)
+    (fine_state after (keeps l f (moment, step) s ok)) (kept_placed l f step few s fits each)
 
 -- whatever became of its append, the change of a step that may be made can be replayed
-pub next_can : (l : Limits) (f : Flat) (moment : ℕ) (step : Step) → l.services ≤ 512 → Sound f → IsTrue (may l f moment step) → FitsStep step → HaveUnits f.services
+pub next_can : (l : Limits) (f : Flat) (moment : ℕ) (step : Step) → l.services ≤ 512 → Sound f → IsTrue (may l f moment step)
+    → FitsStep step → HaveUnits f.services
     → IfSome (change_of l f step) (IsReplayable (held_of f))
 next_can l f moment (Call caller asked append) few s ok fits each =
     let change = change_of_call l f caller asked in
     found_all (λ (found : Option Change). IfSome found (IsReplayable (held_of f))) change tt (λ one is.
-    let tells : tells_right (is_some change) appended.Kept ≡ true = subst (λ (o : Option Change). tells_right (is_some o) appended.Kept ≡ true) (sym is) refl in
+    let tells : tells_right (is_some change) appended.Kept ≡ true = subst
+    (λ (o : Option Change). tells_right (is_some o) appended.Kept ≡ true) (sym is) refl in
     let kept = step_can l f moment (Call caller asked appended.Kept) few s (and_from _ _ (and_parts _ _ ok).0 tells) fits each in
     subst (λ (o : Option Change). IfSome o (IsReplayable (held_of f))) is kept)
 next_can l f moment step few s ok fits each = tt
@@ -93,7 +100,8 @@ next_can l f moment step few s ok fits each = tt
 -- ## A run
 
 behind : (configs : List Config) (change : Option Change) (changes : List Change) → IfSome change (IsReplayable configs)
-    → AreReplayable (replayed configs (map held_change (one_or_none change))) changes → AreReplayable configs (one_or_none change ++ changes)
+    → AreReplayable (replayed configs (map held_change (one_or_none change))) changes
+    → AreReplayable configs (one_or_none change ++ changes)
 behind configs None changes one rest = rest
 behind configs (Some change) changes one rest = (one.0, one.1, rest)
 
@@ -105,7 +113,8 @@ run_can l f (e ∷ es) few s legal fits each =
     let after = (step_of l f e.0 e.1).flat in
     let rest = run_can l after es few (keeps l f e s legal.0) legal.1 fits.1 (units_kept l f e.0 e.1 s legal.0 fits.0 each) in
     behind (held_of f) (kept_change l f e.1) (kept_changes l after es) (step_can l f e.0 e.1 few s legal.0 fits.0 each)
-    (subst (λ (configs : List Config). AreReplayable configs (kept_changes l after es)) (held_step l f e.0 e.1 few s legal.0 fits.0 each) rest)
+    (subst (λ (configs : List Config). AreReplayable configs (kept_changes l after es))
+    (held_step l f e.0 e.1 few s legal.0 fits.0 each) rest)
 
 -- the state that a run ends in
 pub record HasEnded (l : Limits) (f : Flat) (es : List Entry) : Type 0 where
@@ -113,7 +122,8 @@ pub record HasEnded (l : Limits) (f : Flat) (es : List Entry) : Type 0 where
   pub units : HaveUnits (run_state l f es).services
   pub held : held_of (run_state l f es) ≡ replayed (held_of f) (map held_change (kept_changes l f es))
 
-pub run_ends : (l : Limits) (f : Flat) (es : List Entry) → l.services ≤ 512 → Sound f → IsLegal l f es → AllFit es → HaveUnits f.services → HasEnded l f es
+pub run_ends : (l : Limits) (f : Flat) (es : List Entry) → l.services ≤ 512 → Sound f → IsLegal l f es → AllFit es → HaveUnits f.services
+    → HasEnded l f es
 unfolding kept_changes
 run_ends l f [] few s legal fits each = record { sound = s; units = each; held = refl }
 run_ends l f (e ∷ es) few s legal fits each =
@@ -123,7 +133,8 @@ run_ends l f (e ∷ es) few s legal fits each =
     record {
       sound = rest.sound;
       units = rest.units;
-      held = rest.held ∙ ap (λ (configs : List Config). replayed configs (map held_change (kept_changes l after es))) (held_step l f e.0 e.1 few s legal.0 fits.0 each)
+      held = rest.held ∙ ap (λ (configs : List Config). replayed configs (map held_change (kept_changes l after es)))
+          (held_step l f e.0 e.1 few s legal.0 fits.0 each)
           ∙ sym (replay_append (held_of f) (map held_change one) (map held_change (kept_changes l after es)))
           ∙ ap (replayed (held_of f)) (sym (map-append held_change one (kept_changes l after es)));
     }

@@ -78,24 +78,31 @@ the_last P xs y each = (All-pop P (xs ++ y ∷ []) xs (Some y) refl each).1
 last_apart : {X : Type 0} (R : X → X → Type 0) (xs : List X) (y : X) → AllPairs R (xs ++ y ∷ []) → All (λ x. R x y) xs
 last_apart R [] y pairs = All-nil (λ x. R x y)
 last_apart R (x ∷ xs) y pairs =
-    All-cons (λ z. R z y) x xs (the_last (R x) xs y (first_pairs R x (xs ++ y ∷ []) pairs)) (last_apart R xs y (later_pairs R x (xs ++ y ∷ []) pairs))
+    All-cons (λ z. R z y) x xs (the_last (R x) xs y (first_pairs R x (xs ++ y ∷ []) pairs))
+    (last_apart R xs y (later_pairs R x (xs ++ y ∷ []) pairs))
 
 -- ## What can be replayed
 
-created_can : (configs : List Config) (config : Config) → AreFine (configs ++ config ∷ []) → length configs < 512 → can_replay configs (Created config) ≡ true
+created_can : (configs : List Config) (config : Config) → AreFine (configs ++ config ∷ []) → length configs < 512
+    → can_replay configs (Created config) ≡ true
 created_can configs config fine few =
     let fresh = list_any_none (has_name config.name) configs (last_apart HasOtherName configs config fine.names) in
     let apart = last_apart HasOtherDisplay configs config fine.displays in
-    let alone = list_any_none (shows_as config) configs (All-weaker (λ (old : Config). HasOtherDisplay old config) (λ old. shows_as config old ≡ false) (λ old h. and_left _ _ h) configs apart) in
+    let alone = list_any_none (shows_as config) configs
+    (All-weaker (λ (old : Config). HasOtherDisplay old config) (λ old. shows_as config old ≡ false)
+    (λ old h. and_left _ _ h) configs apart) in
     let checked = eq-eqb (check_new config None) 0 (the_last IsChecked configs config fine.checked) in
-    and_from _ _ (and_from _ _ (and_from _ _ (not_from_false _ fresh) (lt-ltb (length configs) 512 few)) (and_from _ _ checked (not_from_false _ alone)))
+    and_from _ _ (and_from _ _ (and_from _ _ (not_from_false _ fresh) (lt-ltb (length configs) 512 few))
+    (and_from _ _ checked (not_from_false _ alone)))
     (not_from_false _ (acyclic_ends (needs_in (configs ++ config ∷ [])) fine.acyclic))
 
 -- what holds of each holds of the configuration that replaced one
-replaced_has : (P : Config → Type 0) (config : Config) (configs : List Config) → list_any (has_name config.name) configs ≡ true → All P (map (replaced_by config) configs) → P config
+replaced_has : (P : Config → Type 0) (config : Config) (configs : List Config) → list_any (has_name config.name) configs ≡ true
+    → All P (map (replaced_by config) configs) → P config
 replaced_has P config [] there each = absurd cc
 replaced_has P config (old ∷ configs) there each =
-    elim (same_text old.name config.name) as (λ t. All P (cond t config old ∷ map (replaced_by config) configs) → (t || list_any (has_name config.name) configs) ≡ true → P config) [
+    elim (same_text old.name config.name) as
+    (λ t. All P (cond t config old ∷ map (replaced_by config) configs) → (t || list_any (has_name config.name) configs) ≡ true → P config) [
       | true ↦ λ all h. All-head P config (map (replaced_by config) configs) all
       | false ↦ λ all h. replaced_has P config configs h (All-tail P old (map (replaced_by config) configs) all)
     ] each there
@@ -103,38 +110,49 @@ replaced_has P config (old ∷ configs) there each =
 -- it has another display name than each that it didn't replace
 not_shown : (config old : Config) → HasOtherDisplay config (replaced_by config old) → shows_as config old ≡ false
 not_shown config old other =
-    elim (same_text old.name config.name) as (λ t. HasOtherDisplay config (cond t config old) → (same_text old.display config.display && not t) ≡ false) [
+    elim (same_text old.name config.name) as
+    (λ t. HasOtherDisplay config (cond t config old) → (same_text old.display config.display && not t) ≡ false) [
       | true ↦ λ h. and_right _ _ refl
       | false ↦ λ h. and_left _ _ (same_swap old.display config.display ∙ h)
     ] other
 
-others_apart : (config : Config) (configs : List Config) → All (HasOtherDisplay config) (map (replaced_by config) configs) → All (λ (old : Config). shows_as config old ≡ false) configs
+others_apart : (config : Config) (configs : List Config) → All (HasOtherDisplay config) (map (replaced_by config) configs)
+    → All (λ (old : Config). shows_as config old ≡ false) configs
 others_apart config [] each = All-nil (λ (old : Config). shows_as config old ≡ false)
 others_apart config (old ∷ configs) each =
-    All-cons (λ (c : Config). shows_as config c ≡ false) old configs (not_shown config old (All-head (HasOtherDisplay config) (replaced_by config old) (map (replaced_by config) configs) each))
+    All-cons (λ (c : Config). shows_as config c ≡ false) old configs
+    (not_shown config old (All-head (HasOtherDisplay config) (replaced_by config old) (map (replaced_by config) configs) each))
     (others_apart config configs (All-tail (HasOtherDisplay config) (replaced_by config old) (map (replaced_by config) configs) each))
 
-shown_by_none : (config : Config) (configs : List Config) → list_any (has_name config.name) configs ≡ true → AllPairs HasOtherDisplay (map (replaced_by config) configs)
+shown_by_none : (config : Config) (configs : List Config) → list_any (has_name config.name) configs ≡ true
+    → AllPairs HasOtherDisplay (map (replaced_by config) configs)
     → All (λ (old : Config). shows_as config old ≡ false) configs
 shown_by_none config [] there pairs = absurd cc
 shown_by_none config (old ∷ configs) there pairs =
     let news = map (replaced_by config) configs in
-    elim (same_text old.name config.name) as (λ t. same_text old.name config.name ≡ t → (t || list_any (has_name config.name) configs) ≡ true → AllPairs HasOtherDisplay (cond t config old ∷ news)
+    elim (same_text old.name config.name) as
+    (λ t. same_text old.name config.name ≡ t → (t || list_any (has_name config.name) configs) ≡ true → AllPairs HasOtherDisplay
+    (cond t config old ∷ news)
     → All (λ (c : Config). shows_as config c ≡ false) (old ∷ configs)) [
       | true ↦ λ e h apart.
-          All-cons (λ (c : Config). shows_as config c ≡ false) old configs (and_right _ _ (ap not e)) (others_apart config configs (first_pairs HasOtherDisplay config news apart))
+          All-cons (λ (c : Config). shows_as config c ≡ false) old configs (and_right _ _ (ap not e))
+          (others_apart config configs (first_pairs HasOtherDisplay config news apart))
       | false ↦ λ e h apart.
-          All-cons (λ (c : Config). shows_as config c ≡ false) old configs (and_left _ _ (replaced_has (HasOtherDisplay old) config configs h (first_pairs HasOtherDisplay old news apart)))
+          All-cons (λ (c : Config). shows_as config c ≡ false) old configs
+          (and_left _ _ (replaced_has (HasOtherDisplay old) config configs h (first_pairs HasOtherDisplay old news apart)))
           (shown_by_none config configs h (later_pairs HasOtherDisplay old news apart))
     ] refl there pairs
 
-changed_can : (configs : List Config) (config : Config) → AreFine (map (replaced_by config) configs) → list_any (has_name config.name) configs ≡ true → can_replay configs (Changed config) ≡ true
+changed_can : (configs : List Config) (config : Config) → AreFine (map (replaced_by config) configs)
+    → list_any (has_name config.name) configs ≡ true → can_replay configs (Changed config) ≡ true
 changed_can configs config fine there =
     let alone = list_any_none (shows_as config) configs (shown_by_none config configs there fine.displays) in
     let checked = eq-eqb (check_new config None) 0 (replaced_has IsChecked config configs there fine.checked) in
-    and_from _ _ (and_from _ _ there (and_from _ _ checked (not_from_false _ alone))) (not_from_false _ (acyclic_ends (needs_in (map (replaced_by config) configs)) fine.acyclic))
+    and_from _ _ (and_from _ _ there (and_from _ _ checked (not_from_false _ alone)))
+    (not_from_false _ (acyclic_ends (needs_in (map (replaced_by config) configs)) fine.acyclic))
 
-pub can : (configs : List Config) (change : Change) → AreFine (after_change configs change) → HasPlace configs change → can_replay configs change ≡ true
+pub can : (configs : List Config) (change : Change) → AreFine (after_change configs change) → HasPlace configs change
+    → can_replay configs change ≡ true
 can configs (Created config) fine place = created_can configs config fine place
 can configs (Changed config) fine place = changed_can configs config fine place
 can configs (Removed name) fine place = place
@@ -150,19 +168,23 @@ no_refusal false false false x y z = refl
 held_accepted : (config : Config) → IsChecked config → IsChecked (held config)
 unfolding check_new
 held_accepted config e =
-    let p = all_pass ((has_bad_names config, 123) ∷ (has_bad_numbers config || has_bad_texts config || has_bad_lists config, 87) ∷ (is_bad_account None, 1057) ∷ []) (refl, (refl, (refl, tt))) e in
+    let p = all_pass ((has_bad_names config, 123) ∷ (has_bad_numbers config || has_bad_texts config || has_bad_lists config, 87) ∷
+    (is_bad_account None, 1057) ∷ []) (refl, (refl, (refl, tt))) e in
     let parts = or_parts (has_bad_numbers config || has_bad_texts config) (has_bad_lists config) p.1.0 in
     let both = or_parts (has_bad_numbers config) (has_bad_texts config) parts.0 in
     let numbers = or_parts _ _ both.0 in
     let lists = or_parts _ _ parts.1 in
-    no_refusal (has_bad_names (held config)) (has_bad_numbers (held config) || has_bad_texts (held config) || has_bad_lists (held config)) (is_bad_account None) p.0
+    no_refusal (has_bad_names (held config)) (has_bad_numbers (held config) || has_bad_texts (held config) || has_bad_lists (held config))
+    (is_bad_account None) p.0
     (or_from _ _ (or_from _ _ (or_from _ _ numbers.0 refl) both.1) (or_from _ _ lists.0 refl)) refl
 
-needs_held : (first : ℕ) (configs : List Config) → need_rows (services_from first (map held configs)) ≡ need_rows (services_from first configs)
+needs_held : (first : ℕ) (configs : List Config)
+    → need_rows (services_from first (map held configs)) ≡ need_rows (services_from first configs)
 needs_held first [] = refl
 needs_held first (config ∷ configs) = ap (λ (rows : List NeedRow). need_row_of first config ∷ rows) (needs_held (first + 1) configs)
 
-same_configs : (first : ℕ) (rows : List Service) → AllZip (λ (y x : Service). y.config ≡ x.config) (services_from first (map config_of rows)) rows
+same_configs : (first : ℕ) (rows : List Service)
+    → AllZip (λ (y x : Service). y.config ≡ x.config) (services_from first (map config_of rows)) rows
 same_configs first [] = tt
 same_configs first (row ∷ rows) = (refl, same_configs (first + 1) rows)
 
@@ -174,14 +196,18 @@ still_free f s =
     (fewer stays f.services s.services.numbered.rising s.services.acyclic)
 
 pub checked_unmarked : (f : Flat) → Sound f → All IsChecked (unmarked f.services)
-checked_unmarked f s = All-map IsChecked config_of (filter stays f.services) (All-filter stays (λ (row : Service). IsChecked row.config) f.services s.services.configs)
+checked_unmarked f s = All-map IsChecked config_of (filter stays f.services)
+    (All-filter stays (λ (row : Service). IsChecked row.config) f.services s.services.configs)
 
 pub fine_state : (f : Flat) → Sound f → AreFine (map held (unmarked f.services))
 fine_state f s = record {
   names = pairs_of HasOtherName held (unmarked f.services)
-      (pairs_of HasOtherName config_of (filter stays f.services) (AllPairs-filter (λ (a b : Service). HasOtherName a.config b.config) stays f.services s.services.names));
+      (pairs_of HasOtherName config_of (filter stays f.services)
+      (AllPairs-filter (λ (a b : Service). HasOtherName a.config b.config) stays f.services s.services.names));
   displays = pairs_of HasOtherDisplay held (unmarked f.services)
-      (pairs_of HasOtherDisplay config_of (filter stays f.services) (AllPairs-filter (λ (a b : Service). HasOtherDisplay a.config b.config) stays f.services s.services.displays));
-  checked = All-map IsChecked held (unmarked f.services) (All-weaker IsChecked (λ config. IsChecked (held config)) held_accepted (unmarked f.services) (checked_unmarked f s));
+      (pairs_of HasOtherDisplay config_of (filter stays f.services)
+      (AllPairs-filter (λ (a b : Service). HasOtherDisplay a.config b.config) stays f.services s.services.displays));
+  checked = All-map IsChecked held (unmarked f.services)
+      (All-weaker IsChecked (λ config. IsChecked (held config)) held_accepted (unmarked f.services) (checked_unmarked f s));
   acyclic = subst (λ (rows : List NeedRow). IsAcyclic (needs_of rows)) (sym (needs_held 1 (unmarked f.services))) (still_free f s);
 }

@@ -41,7 +41,8 @@ units_low [] each = All-nil IsLow
 units_low (low ∷ []) each = tt
 units_low (low ∷ high ∷ bytes) each =
     let rest = All-tail IsByte low (high ∷ bytes) each in
-    unit_before low high (units_in_bytes bytes) (All-head IsByte low (high ∷ bytes) each) (All-head IsByte high bytes rest) (units_low bytes (All-tail IsByte high bytes rest))
+    unit_before low high (units_in_bytes bytes) (All-head IsByte low (high ∷ bytes) each) (All-head IsByte high bytes rest)
+    (units_low bytes (All-tail IsByte high bytes rest))
 
 front_text : (u : ℕ) (texts : List (List ℕ)) → IsUnit u → AreTexts texts → AreTexts (with_front u texts)
 front_text u [] one each = tt
@@ -52,7 +53,8 @@ unfolding pieces
 pieces_are [] each = tt
 pieces_are (zero ∷ units) each = (All-nil IsUnit, pieces_are units (All-tail IsLow zero units each))
 pieces_are (suc u ∷ units) each =
-    front_text (suc u) (pieces units) (omega arith, All-head IsLow (suc u) units each) (pieces_are units (All-tail IsLow (suc u) units each))
+    front_text (suc u) (pieces units) (omega arith, All-head IsLow (suc u) units each)
+    (pieces_are units (All-tail IsLow (suc u) units each))
 
 one_behind : (name : List ℕ) (read : Reading) → IsText name → IfOk read AreTexts → IfOk (read_behind (name ∷ []) read) AreTexts
 one_behind name (Ok more) is each = (is, each)
@@ -63,9 +65,11 @@ unfolding names_from
 names_are place [] each = tt
 names_are place ([] ∷ texts) each = tt
 names_are place ((u ∷ name) ∷ texts) each =
-    elim (is_mark (u ∷ name)) as (λ b. IfOk (cond b (Err (EmptyName place)) (read_behind ((u ∷ name) ∷ []) (names_from (place + length (u ∷ name) + 1) texts))) AreTexts) [
+    elim (is_mark (u ∷ name)) as (λ b. IfOk
+    (cond b (Err (EmptyName place)) (read_behind ((u ∷ name) ∷ []) (names_from (place + length (u ∷ name) + 1) texts))) AreTexts) [
       | true ↦ tt
-      | false ↦ one_behind (u ∷ name) (names_from (place + length (u ∷ name) + 1) texts) each.0 (names_are (place + length (u ∷ name) + 1) texts each.1)
+      | false ↦ one_behind (u ∷ name) (names_from (place + length (u ∷ name) + 1) texts) each.0
+          (names_are (place + length (u ∷ name) + 1) texts each.1)
     ]
 
 -- a need's name is a text
@@ -75,7 +79,8 @@ HasText need = IsText (name_of_need need)
 need_is : (name : List ℕ) → IsText name → HasText (need_named name)
 need_is [] is = is
 need_is (u ∷ name) is =
-    elim (u == 43) as (λ b. HasText (cond b (needs.Group name) (needs.Service (u ∷ name)))) [ true ↦ All-tail IsUnit u name is | false ↦ is ]
+    elim (u == 43) as (λ b. HasText (cond b (needs.Group name)
+    (needs.Service (u ∷ name)))) [ true ↦ All-tail IsUnit u name is | false ↦ is ]
 
 needs_are : (names : List (List ℕ)) → AreTexts names → AllByRecursion HasText (map need_named names)
 needs_are [] each = tt
@@ -85,7 +90,8 @@ read_are : (read : Reading) → IfOk read AreTexts → IfSome (needs_read read) 
 read_are (Ok names) each = All-from_recursion HasText (map need_named names) (needs_are names each)
 read_are (Err fault) each = tt
 
-names_in : (read : Option (List ℕ)) → IfSome read (All IsLow) → IfSome (option_and_then (λ units. needs_read (names_of units)) read) (All HasText)
+names_in : (read : Option (List ℕ)) → IfSome read (All IsLow)
+    → IfSome (option_and_then (λ units. needs_read (names_of units)) read) (All HasText)
 names_in None each = tt
 names_in (Some units) each = read_are (names_of units) (names_are 0 (pieces units) (pieces_are units each))
 
@@ -121,7 +127,8 @@ display_is name (Some display) is each = elim (length display == 0) as (λ b. Is
 
 tag_is : (f : Flat) (group : List ℕ) (asked : Option ℕ) → FitsNumber (tag_of f group asked)
 tag_is f group None = omega arith
-tag_is f group (Some asked) = elim (length group == 0) as (λ b. FitsNumber (cond b 0 (next_tag f group))) [ true ↦ omega arith | false ↦ omega arith ]
+tag_is f group (Some asked) = elim (length group == 0) as
+    (λ b. FitsNumber (cond b 0 (next_tag f group))) [ true ↦ omega arith | false ↦ omega arith ]
 
 pub created_units : (f : Flat) (new : NewService) → FitsCreation new → HasUnits (created_config f new)
 created_units f new fits = record {
@@ -145,7 +152,8 @@ tag_left : (f : Flat) (old : Config) (group : List ℕ) (asked : Option ℕ) →
 tag_left f old group None is = is.tag
 tag_left f old group (Some asked) is = omega arith
 
-pub changed_units : (f : Flat) (change : ChangeService) (old : Config) → FitsChange change → HasUnits old → HasUnits (config_from f change old)
+pub changed_units : (f : Flat) (change : ChangeService) (old : Config) → FitsChange change → HasUnits old
+    → HasUnits (config_from f change old)
 changed_units f change old fits is = record {
   name = is.name;
   display = display_left old change.display is fits.display;
@@ -159,7 +167,8 @@ changed_units f change old fits is = record {
   command = is.command;
 }
 
-with_flags : (old : Config) (on_exit delayed : Bool) (triggers : List Trigger) → HasUnits old → HasUnits (record old { on_exit = on_exit; delayed = delayed; triggers = triggers })
+with_flags : (old : Config) (on_exit delayed : Bool) (triggers : List Trigger) → HasUnits old
+    → HasUnits (record old { on_exit = on_exit; delayed = delayed; triggers = triggers })
 with_flags old on_exit delayed triggers is = record {
   name = is.name;
   display = is.display;
@@ -173,7 +182,8 @@ with_flags old on_exit delayed triggers is = record {
   command = is.command;
 }
 
-with_actions : (old : Config) (reset : ℕ) (actions : List Action) (command : Option (List ℕ)) → FitsNumber reset → All FitsDelay actions → IsTextIn command → HasUnits old
+with_actions : (old : Config) (reset : ℕ) (actions : List Action) (command : Option (List ℕ)) → FitsNumber reset → All FitsDelay actions
+    → IsTextIn command → HasUnits old
     → HasUnits (record old { reset = reset; actions = actions; command = unwrap_or command old.command })
 with_actions old reset actions command fits each given is = record {
   name = is.name;
@@ -188,7 +198,8 @@ with_actions old reset actions command fits each given is = record {
   command = given_or command old.command given is.command;
 }
 
-with_description : (old : Config) (text : Option (List ℕ)) → IsTextIn text → HasUnits old → HasUnits (record old { description = unwrap_or text old.description })
+with_description : (old : Config) (text : Option (List ℕ)) → IsTextIn text → HasUnits old
+    → HasUnits (record old { description = unwrap_or text old.description })
 with_description old text given is = record {
   name = is.name;
   display = is.display;
@@ -206,7 +217,8 @@ pub level_units : (asked : Info) (old : Config) → FitsLevel asked → HasUnits
 level_units (info.Description text) old fits is = with_description old text fits is
 level_units (info.Failure reset command None) old fits is = with_actions old old.reset old.actions command is.reset is.actions fits.1 is
 level_units (info.Failure reset command (Some [])) old fits is = with_actions old 0 [] command (omega arith) (All-nil FitsDelay) fits.1 is
-level_units (info.Failure reset command (Some (action ∷ actions))) old fits is = with_actions old reset (action ∷ actions) command fits.0 fits.2 fits.1 is
+level_units (info.Failure reset command (Some (action ∷ actions))) old fits is = with_actions old reset
+    (action ∷ actions) command fits.0 fits.2 fits.1 is
 level_units (info.Delayed on) old fits is = with_flags old old.on_exit on old.triggers is
 level_units (info.OnExit on) old fits is = with_flags old on old.delayed old.triggers is
 level_units (info.Triggers list) old fits is = with_flags old old.on_exit old.delayed (map trigger_of list) is

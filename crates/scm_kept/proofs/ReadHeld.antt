@@ -43,9 +43,11 @@ IsOfHeld (Removed name) = Unit {0}
 same_change : (a b : Change) → Some a ≡ Some b → a ≡ b
 same_change a b e = cc
 
-config_read : (make : Config → Change) → ((config : Config) → IsHeld config → IsOfHeld (make config)) → (bytes : List ℕ) (change : Change) (read : Result Config ℕ) → IsBytes bytes → whole_of bytes ≡ read
+config_read : (make : Config → Change) → ((config : Config) → IsHeld config → IsOfHeld (make config))
+    → (bytes : List ℕ) (change : Change) (read : Result Config ℕ) → IsBytes bytes → whole_of bytes ≡ read
     → option_map make (if_read read) ≡ Some change → IsOfHeld change
-config_read make of bytes change (Ok config) fits is e = subst IsOfHeld (same_change (make config) change e) (of config (is_held bytes config fits is))
+config_read make of bytes change (Ok config) fits is e = subst IsOfHeld (same_change (make config) change e)
+    (of config (is_held bytes config fits is))
 config_read make of bytes change (Err left) fits is e = absurd cc
 
 name_read : (change : Change) (read : Result (List ℕ) ℕ) → option_map Removed (if_read read) ≡ Some change → IsOfHeld change
@@ -76,9 +78,11 @@ record AreWholeBytes (whole : Whole) : Type 0 where
 same_whole : (a b : Whole) → Some a ≡ Some b → a ≡ b
 same_whole a b e = cc
 
-body_bytes : (kind size : ℕ) (bytes : List ℕ) (whole : Whole) → IsBytes bytes → with_body kind (Some (size, bytes)) ≡ Some whole → AreWholeBytes whole
+body_bytes : (kind size : ℕ) (bytes : List ℕ) (whole : Whole) → IsBytes bytes → with_body kind (Some (size, bytes)) ≡ Some whole
+    → AreWholeBytes whole
 body_bytes kind size bytes whole fits =
-    elim (nat_lt (length bytes) size) as (λ b. cond b None (Some (record { kind = kind; body = take size bytes; rest = drop size bytes })) ≡ Some whole → AreWholeBytes whole) [
+    elim (nat_lt (length bytes) size) as (λ b. cond b None
+    (Some (record { kind = kind; body = take size bytes; rest = drop size bytes })) ≡ Some whole → AreWholeBytes whole) [
       | true ↦ λ e. absurd cc
       | false ↦ λ e. subst AreWholeBytes (same_whole (record { kind = kind; body = take size bytes; rest = drop size bytes }) whole e)
           (record { body = IsBytes-take size bytes fits; rest = IsBytes-drop size bytes fits })
@@ -90,9 +94,11 @@ after_first byte bytes fits i = fits (suc i)
 entry_bytes_are : (bytes : List ℕ) (whole : Whole) → IsBytes bytes → whole_entry bytes ≡ Some whole → AreWholeBytes whole
 entry_bytes_are [] whole fits e = absurd cc
 entry_bytes_are (kind ∷ bytes) whole fits e =
-    elim (nat_lt (length bytes) 4) as (λ b. with_body kind (if_read (cond b (Err (length bytes)) (Ok (from_le_bytes w32 (take 4 bytes), drop 4 bytes)))) ≡ Some whole → AreWholeBytes whole) [
+    elim (nat_lt (length bytes) 4) as (λ b. with_body kind
+    (if_read (cond b (Err (length bytes)) (Ok (from_le_bytes w32 (take 4 bytes), drop 4 bytes)))) ≡ Some whole → AreWholeBytes whole) [
       | true ↦ λ h. absurd cc
-      | false ↦ λ h. body_bytes kind (from_le_bytes w32 (take 4 bytes)) (drop 4 bytes) whole (IsBytes-drop 4 bytes (after_first kind bytes fits)) h
+      | false ↦ λ h. body_bytes kind (from_le_bytes w32 (take 4 bytes)) (drop 4 bytes) whole
+          (IsBytes-drop 4 bytes (after_first kind bytes fits)) h
     ] e
 
 -- ## Entries
@@ -112,30 +118,36 @@ last_held left false = tt
 abbrev Reads : ℕ → Type 0
 Reads n = (configs : List Config) (bytes : List ℕ) → IsBytes bytes → AreOfHeld (entries_from n configs bytes)
 
-followed_held : (n : ℕ) (configs : List Config) (left : ℕ) (rest : List ℕ) (change : Option Change) → Reads n → IsBytes rest → ((one : Change) → change ≡ Some one → IsOfHeld one)
+followed_held : (n : ℕ) (configs : List Config) (left : ℕ) (rest : List ℕ) (change : Option Change) → Reads n → IsBytes rest
+    → ((one : Change) → change ≡ Some one → IsOfHeld one)
     → AreOfHeld (followed (entries_from n) configs left rest (option_and_then (replayable configs) change))
 followed_held n configs left rest None later fits held = tt
 followed_held n configs left rest (Some change) later fits held =
     elim (can_replay configs change) as (λ b. AreOfHeld (followed (entries_from n) configs left rest (cond b (Some change) None))) [
-      | true ↦ one_more change (entries_from n (after_change configs change) rest) (held change refl) (later (after_change configs change) rest fits)
+      | true ↦ one_more change (entries_from n (after_change configs change) rest) (held change refl)
+          (later (after_change configs change) rest fits)
       | false ↦ tt
     ]
 
-first_held : (n : ℕ) (configs : List Config) (bytes : List ℕ) (whole : Option Whole) → Reads n → ((one : Whole) → whole ≡ Some one → AreWholeBytes one)
+first_held : (n : ℕ) (configs : List Config) (bytes : List ℕ) (whole : Option Whole) → Reads n
+    → ((one : Whole) → whole ≡ Some one → AreWholeBytes one)
     → AreOfHeld (first_of (entries_from n) configs bytes whole)
 first_held n configs bytes None later are = last_held (length bytes) (is_unfinished bytes)
 first_held n configs bytes (Some whole) later are =
     let fits = are whole refl in
-    followed_held n configs (length bytes) whole.rest (change_in whole.kind whole.body) later fits.rest (λ change is. change_read whole.kind whole.body change fits.body is)
+    followed_held n configs (length bytes) whole.rest (change_in whole.kind whole.body) later fits.rest
+    (λ change is. change_read whole.kind whole.body change fits.body is)
 
 reads : (n : ℕ) → Reads n
 unfolding entries_from
 reads zero configs bytes fits = tt
-reads (suc n) configs bytes fits = first_held n configs bytes (whole_entry bytes) (reads n) (λ whole is. entry_bytes_are bytes whole fits is)
+reads (suc n) configs bytes fits = first_held n configs bytes (whole_entry bytes) (reads n)
+    (λ whole is. entry_bytes_are bytes whole fits is)
 
 entries_held : (bytes : List ℕ) → IsBytes bytes → AreOfHeld (entries bytes)
 entries_held bytes fits =
-    elim (starts_with eqb header bytes && nat_lt (length bytes) 8) as (λ b. AreOfHeld (cond b (Ok (record { changes = []; left = length bytes }))
+    elim (starts_with eqb header bytes && nat_lt (length bytes) 8) as
+    (λ b. AreOfHeld (cond b (Ok (record { changes = []; left = length bytes }))
     (cond (starts_with eqb bytes header) (all_from [] (drop 8 bytes)) (Err (length bytes))))) [
       | true ↦ tt
       | false ↦ elim (starts_with eqb bytes header) as (λ b. AreOfHeld (cond b (all_from [] (drop 8 bytes)) (Err (length bytes)))) [
@@ -151,10 +163,14 @@ AreHeld configs = AllByRecursion IsHeld configs
 
 replaced_held : (config : Config) (configs : List Config) → IsHeld config → AreHeld configs → AreHeld (map (replaced_by config) configs)
 replaced_held config [] one each = tt
-replaced_held config (old ∷ configs) one each =
-    (elim (same_text old.name config.name) as (λ t. IsHeld (cond t config old)) [ true ↦ one | false ↦ each.0 ], replaced_held config configs one each.1)
+replaced_held config (old ∷ configs) one each = (
+  elim (same_text old.name config.name) as
+      (λ t. IsHeld (cond t config old)) [ true ↦ one | false ↦ each.0 ],
+  replaced_held config configs one each.1,
+)
 
-removed_held : (name : List ℕ) (configs : List Config) → AreHeld configs → AreHeld (filter (λ (old : Config). not (same_text old.name name)) configs)
+removed_held : (name : List ℕ) (configs : List Config) → AreHeld configs
+    → AreHeld (filter (λ (old : Config). not (same_text old.name name)) configs)
 removed_held name [] each = tt
 removed_held name (old ∷ configs) each =
     let others = filter (λ (c : Config). not (same_text c.name name)) configs in
@@ -162,20 +178,26 @@ removed_held name (old ∷ configs) each =
     elim (same_text old.name name) as (λ t. AreHeld (cond (not t) (old ∷ others) others)) [ true ↦ rest | false ↦ (each.0, rest) ]
 
 after_held : (configs : List Config) (change : Change) → AreHeld configs → IsOfHeld change → AreHeld (after_change configs change)
-after_held configs (Created config) each one = recursion_from_All IsHeld (configs ++ config ∷ []) (All-push IsHeld configs config (All-from_recursion IsHeld configs each) one)
+after_held configs (Created config) each one = recursion_from_All IsHeld (configs ++ config ∷ [])
+    (All-push IsHeld configs config (All-from_recursion IsHeld configs each) one)
 after_held configs (Changed config) each one = replaced_held config configs one each
 after_held configs (Removed name) each one = removed_held name configs each
 
-replayed_held : (configs : List Config) (changes : List Change) → AreHeld configs → AllByRecursion IsOfHeld changes → AreHeld (replayed configs changes)
+replayed_held : (configs : List Config) (changes : List Change) → AreHeld configs → AllByRecursion IsOfHeld changes
+    → AreHeld (replayed configs changes)
 replayed_held configs [] each news = each
-replayed_held configs (change ∷ changes) each news = replayed_held (after_change configs change) changes (after_held configs change each news.0) news.1
+replayed_held configs (change ∷ changes) each news = replayed_held (after_change configs change) changes
+    (after_held configs change each news.0) news.1
 
 same_replay : (a b : Replay) → ◌≡◌ {A = Result Replay ℕ} (Ok a) (Ok b) → a ≡ b
 same_replay a b e = cc
 
-replay_held : (size : ℕ) (read : Result Entries ℕ) (replay : Replay) → AreOfHeld read → replay_of size [] read ≡ Ok replay → AreHeld replay.configs
+replay_held : (size : ℕ) (read : Result Entries ℕ) (replay : Replay) → AreOfHeld read → replay_of size [] read ≡ Ok replay
+    → AreHeld replay.configs
 replay_held size (Ok entries) replay each is =
-    subst AreHeld (ap (λ (r : Replay). r.configs) (same_replay (record { configs = replayed [] entries.changes; kept = size - entries.left }) replay is)) (replayed_held [] entries.changes tt each)
+    subst AreHeld (ap (λ (r : Replay). r.configs)
+    (same_replay (record { configs = replayed [] entries.changes; kept = size - entries.left }) replay is))
+    (replayed_held [] entries.changes tt each)
 replay_held size (Err left) replay each is = absurd cc
 
 pub journal_held : (bytes : List ℕ) (replay : Replay) → IsBytes bytes → read_journal bytes ≡ Ok replay → AreHeld replay.configs
@@ -183,4 +205,5 @@ journal_held bytes replay fits is = replay_held (length bytes) (entries bytes) r
 
 pub held_already : (configs : List Config) → AreHeld configs → map held configs ≡ configs
 held_already [] each = refl
-held_already (config ∷ configs) each = ap (λ (c : Config). c ∷ map held configs) each.0.same ∙ ap (λ (cs : List Config). config ∷ cs) (held_already configs each.1)
+held_already (config ∷ configs) each = ap (λ (c : Config). c ∷ map held configs) each.0.same ∙ ap (λ (cs : List Config). config ∷ cs)
+    (held_already configs each.1)

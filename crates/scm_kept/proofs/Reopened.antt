@@ -54,7 +54,8 @@ pub record IsMadeOf (journal : List ℕ) (f : Flat) : Type 0 where
   pub read : IsJournalOf journal (unmarked f.services)
 
 made_held : (bytes : List ℕ) (f : Flat) → IsMadeOf bytes f → AreHeld (unmarked f.services)
-made_held bytes f made = journal_held bytes (record { configs = unmarked f.services; kept = length bytes }) (are_bytes bytes made.bytes) made.read
+made_held bytes f made = journal_held bytes (record { configs = unmarked f.services; kept = length bytes })
+    (are_bytes bytes made.bytes) made.read
 
 made_units : (bytes : List ℕ) (f : Flat) → IsMadeOf bytes f → HaveUnits f.services
 made_units bytes f made = held_units (unmarked f.services) (made_held bytes f made)
@@ -62,33 +63,43 @@ made_units bytes f made = held_units (unmarked f.services) (made_held bytes f ma
 made_same : (bytes : List ℕ) (f : Flat) → IsMadeOf bytes f → held_of f ≡ unmarked f.services
 made_same bytes f made = held_already (unmarked f.services) (made_held bytes f made)
 
-pub kept_replayable : (l : Limits) (f : Flat) (es : List Entry) → l.services ≤ 512 → IsOpening l f → Legal l f es → AllFit es → (bytes : List ℕ) → IsMadeOf bytes f
+pub kept_replayable : (l : Limits) (f : Flat) (es : List Entry) → l.services ≤ 512 → IsOpening l f → Legal l f es → AllFit es
+    → (bytes : List ℕ) → IsMadeOf bytes f
     → KeepsReplayable l f es
 kept_replayable l f es few begins legal fits bytes made =
     subst (λ (configs : List Config). AreReplayable configs (kept_changes l f es)) (made_same bytes f made)
     (run_can l f es few (begun l f begins) (legal_made l f es legal) fits (made_units bytes f made))
 
-pub reopened : (l : Limits) (f : Flat) (es : List Entry) → l.services ≤ 512 → IsOpening l f → Legal l f es → AllFit es → (bytes : List ℕ) → IsMadeOf bytes f
+pub reopened : (l : Limits) (f : Flat) (es : List Entry) → l.services ≤ 512 → IsOpening l f → Legal l f es → AllFit es → (bytes : List ℕ)
+    → IsMadeOf bytes f
     → IsReopened bytes l f es
 reopened l f es few begins legal fits bytes made =
     read_on bytes (unmarked f.services) (kept_changes l f es) made.read (kept_replayable l f es few begins legal fits bytes made)
 
-pub left_so : (l : Limits) (f : Flat) (es : List Entry) → l.services ≤ 512 → IsOpening l f → Legal l f es → AllFit es → (bytes : List ℕ) → IsMadeOf bytes f
+pub left_so : (l : Limits) (f : Flat) (es : List Entry) → l.services ≤ 512 → IsOpening l f → Legal l f es → AllFit es → (bytes : List ℕ)
+    → IsMadeOf bytes f
     → (j : Journal) (now : List ℕ) → IsLeftSo bytes l f es j now
 left_so l f es few begins legal fits bytes made j now =
-    if_weaker (λ kept. IsJournalOf kept (kept_configs l f es)) (λ kept. Bears (Some kept) j (Some now) → IsLeftReadable kept (kept_configs l f es) now)
-    (and_changes (Some bytes) (kept_changes l f es)) (λ kept is borne. borne_left kept (kept_configs l f es) j now is borne) (reopened l f es few begins legal fits bytes made)
+    if_weaker (λ kept. IsJournalOf kept (kept_configs l f es))
+    (λ kept. Bears (Some kept) j (Some now) → IsLeftReadable kept (kept_configs l f es) now)
+    (and_changes (Some bytes) (kept_changes l f es)) (λ kept is borne. borne_left kept (kept_configs l f es) j now is borne)
+    (reopened l f es few begins legal fits bytes made)
 
-pub reopened_cut : (l : Limits) (f : Flat) (es : List Entry) → l.services ≤ 512 → IsOpening l f → Legal l f es → AllFit es → (bytes : List ℕ) → IsMadeOf bytes f
-    → (moment : ℕ) (step : Step) → IsTrue (may l (state l f es) moment step) → FitsStep step → (size : ℕ) → IsReopenedCut bytes l f es step size
+pub reopened_cut : (l : Limits) (f : Flat) (es : List Entry) → l.services ≤ 512 → IsOpening l f → Legal l f es → AllFit es
+    → (bytes : List ℕ) → IsMadeOf bytes f
+    → (moment : ℕ) (step : Step) → IsTrue (may l (state l f es) moment step) → FitsStep step → (size : ℕ)
+    → IsReopenedCut bytes l f es step size
 unfolding state
 reopened_cut l f es few begins legal fits bytes made moment step ok asked size =
     let g = run_state l f es in
     let ends = run_ends l f es few (begun l f begins) (legal_made l f es legal) fits (made_units bytes f made) in
-    let configs : held_of g ≡ kept_configs l f es = ends.held ∙ ap (λ (cs : List Config). replayed cs (map held_change (kept_changes l f es))) (made_same bytes f made) in
+    let configs : held_of g ≡ kept_configs l f es = ends.held ∙ ap
+    (λ (cs : List Config). replayed cs (map held_change (kept_changes l f es))) (made_same bytes f made) in
     if_weaker (IsReplayable (held_of g)) (λ (change : Change). IfSome (and_changes (Some bytes) (kept_changes l f es))
     (λ now. Stays now (kept_configs l f es) change (now ++ take size (piece (length now) change)))) (change_of l g step)
     (λ change can. let here = subst (λ (cs : List Config). IsReplayable cs change) configs can in
-    if_weaker (λ now. IsJournalOf now (kept_configs l f es)) (λ now. Stays now (kept_configs l f es) change (now ++ take size (piece (length now) change)))
-    (and_changes (Some bytes) (kept_changes l f es)) (λ now is. read_cut now (kept_configs l f es) change size is here.0 here.1) (reopened l f es few begins legal fits bytes made))
+    if_weaker (λ now. IsJournalOf now (kept_configs l f es))
+    (λ now. Stays now (kept_configs l f es) change (now ++ take size (piece (length now) change)))
+    (and_changes (Some bytes) (kept_changes l f es)) (λ now is. read_cut now (kept_configs l f es) change size is here.0 here.1)
+    (reopened l f es few begins legal fits bytes made))
     (next_can l g moment step few ends.sound ok asked ends.units)

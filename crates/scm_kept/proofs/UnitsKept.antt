@@ -39,10 +39,13 @@ HaveUnits rows = AllByRecursion HasUnits (unmarked rows)
 
 -- ## Rows
 
-units_added : (rows : List Service) (row : Service) → row.marked ≡ false → HasUnits row.config → HaveUnits rows → HaveUnits (rows ++ row ∷ [])
+units_added : (rows : List Service) (row : Service) → row.marked ≡ false → HasUnits row.config → HaveUnits rows
+    → HaveUnits (rows ++ row ∷ [])
 units_added rows row stands one each =
-    subst (AllByRecursion HasUnits) (sym (ap (map config_of) (filter-append stays rows (row ∷ []) ∙ rw stands refl) ∙ map-append config_of (filter stays rows) (row ∷ [])))
-    (recursion_from_All HasUnits (unmarked rows ++ row.config ∷ []) (All-push HasUnits (unmarked rows) row.config (All-from_recursion HasUnits (unmarked rows) each) one))
+    subst (AllByRecursion HasUnits) (sym
+    (ap (map config_of) (filter-append stays rows (row ∷ []) ∙ rw stands refl) ∙ map-append config_of (filter stays rows) (row ∷ [])))
+    (recursion_from_All HasUnits (unmarked rows ++ row.config ∷ [])
+    (All-push HasUnits (unmarked rows) row.config (All-from_recursion HasUnits (unmarked rows) each) one))
 
 marked_units : (number : ℕ) (rows : List Service) → HaveUnits rows → HaveUnits (map (marked_if number) rows)
 marked_units number [] each = tt
@@ -51,7 +54,8 @@ marked_units number (row ∷ rows) each =
     elim row.marked as (λ mark. AllByRecursion HasUnits (map config_of (cond (not mark) (row ∷ filter stays rows) (filter stays rows)))
     → AllByRecursion HasUnits (map config_of (cond (not (mark || row.number == number)) (record row { marked = mark || row.number == number } ∷ left) left))) [
       | true ↦ λ h. marked_units number rows h
-      | false ↦ λ h. elim (row.number == number) as (λ b. AllByRecursion HasUnits (map config_of (cond (not b) (record row { marked = b } ∷ left) left)))
+      | false ↦ λ h. elim (row.number == number) as
+          (λ b. AllByRecursion HasUnits (map config_of (cond (not b) (record row { marked = b } ∷ left) left)))
           [ true ↦ marked_units number rows h.1 | false ↦ (h.0, marked_units number rows h.1) ]
     ] each
 
@@ -59,11 +63,14 @@ marked_units number (row ∷ rows) each =
 abbrev Gets : ℕ → Config → Service → Type 0
 Gets number config row = (row.number == number) ≡ true → HasUnits row.config → HasUnits config
 
-one_configured : (number : ℕ) (config : Config) (row : Service) → Gets number config row → HasUnits row.config → HasUnits (configured_if number config row).config
+one_configured : (number : ℕ) (config : Config) (row : Service) → Gets number config row → HasUnits row.config
+    → HasUnits (configured_if number config row).config
 one_configured number config row gets one =
-    elim (row.number == number) as (λ b. (row.number == number) ≡ b → HasUnits (cond b (replaced config row) row).config) [ true ↦ λ e. gets e one | false ↦ λ e. one ] refl
+    elim (row.number == number) as (λ b. (row.number == number) ≡ b → HasUnits
+    (cond b (replaced config row) row).config) [ true ↦ λ e. gets e one | false ↦ λ e. one ] refl
 
-configured_units : (number : ℕ) (config : Config) (rows : List Service) → All (Gets number config) rows → HaveUnits rows → HaveUnits (map (configured_if number config) rows)
+configured_units : (number : ℕ) (config : Config) (rows : List Service) → All (Gets number config) rows → HaveUnits rows
+    → HaveUnits (map (configured_if number config) rows)
 configured_units number config [] gets each = tt
 configured_units number config (row ∷ rows) gets each =
     let new = configured_if number config row in
@@ -78,7 +85,8 @@ configured_units number config (row ∷ rows) gets each =
 
 -- ## Calls
 
-another : (f : Flat) (caller handle : ℕ) (new : Service → Config) → Sound f → ((row : Service) → HasUnits row.config → HasUnits (new row)) → HaveUnits f.services
+another : (f : Flat) (caller handle : ℕ) (new : Service → Config) → Sound f → ((row : Service) → HasUnits row.config → HasUnits (new row))
+    → HaveUnits f.services
     → HaveUnits (configured_in new (held_service f caller handle) f.services)
 another f caller handle new s gives each =
     found_keeps HaveUnits (λ (row : Service). map (configured_if row.number (new row))) (held_service f caller handle) f.services each
@@ -87,7 +95,8 @@ another f caller handle new s gives each =
     (λ r only same one. gives row (subst (λ (old : Service). HasUnits old.config) (only same) one)) f.services
     (found_only (λ (r : Service). r.number) row.number row f.services s.services.numbered.rising (held_is f caller handle row is))) each)
 
-of_call : (l : Limits) (f : Flat) (moment caller : ℕ) (asked : Request) (append : Kept) → Sound f → IsTrue (may l f moment (Call caller asked append)) → FitsRequest asked
+of_call : (l : Limits) (f : Flat) (moment caller : ℕ) (asked : Request) (append : Kept) → Sound f
+    → IsTrue (may l f moment (Call caller asked append)) → FitsRequest asked
     → HaveUnits f.services → HaveUnits (step_of l f moment (Call caller asked append)).flat.services
 of_call l f moment caller (request.Create new) append s ok fits each =
     let g = with_moment f moment in
@@ -100,7 +109,8 @@ of_call l f moment caller (request.Delete handle) append s ok fits each =
     let code = delete_verdict g caller handle append in
     subst (AllByRecursion HasUnits) (sym (of_effect l f moment (Call caller (request.Delete handle) append) s ok))
     (by_verdict (λ r. HaveUnits r.flat.services) code (told_refused g caller (request.Delete handle) code) g (delete_done g caller handle)
-    (λ e. found_keeps HaveUnits (λ (row : Service). map (marked_if row.number)) (held_service f caller handle) f.services each (λ row is. marked_units row.number f.services each)) (λ e. each))
+    (λ e. found_keeps HaveUnits (λ (row : Service). map (marked_if row.number)) (held_service f caller handle) f.services each
+    (λ row is. marked_units row.number f.services each)) (λ e. each))
 of_call l f moment caller (request.Change change) append s ok fits each =
     let g = with_moment f moment in
     let code = change_verdict g caller change append in
@@ -111,12 +121,16 @@ of_call l f moment caller (request.Change2 handle asked) append s ok fits each =
     let g = with_moment f moment in
     let code = change2_verdict g caller handle asked append in
     subst (AllByRecursion HasUnits) (sym (of_effect l f moment (Call caller (request.Change2 handle asked) append) s ok))
-    (by_verdict (λ r. HaveUnits r.flat.services) code (told_refused g caller (request.Change2 handle asked) code) g (change2_done g caller handle asked)
+    (by_verdict (λ r. HaveUnits r.flat.services) code (told_refused g caller (request.Change2 handle asked) code) g
+    (change2_done g caller handle asked)
     (λ e. another f caller handle (level_config asked) s (λ row one. level_units asked row.config fits one) each) (λ e. each))
 of_call l f moment caller asked append s ok fits each =
-    subst (AllByRecursion HasUnits) (sym (unchanged_by l f (moment, Call caller asked append) s ok refl (λ number. refl) (λ number. refl))) each
+    subst (AllByRecursion HasUnits) (sym
+    (unchanged_by l f (moment, Call caller asked append) s ok refl (λ number. refl) (λ number. refl))) each
 
-pub units_kept : (l : Limits) (f : Flat) (moment : ℕ) (step : Step) → Sound f → IsTrue (may l f moment step) → FitsStep step → HaveUnits f.services
+pub units_kept : (l : Limits) (f : Flat) (moment : ℕ) (step : Step) → Sound f → IsTrue (may l f moment step) → FitsStep step
+    → HaveUnits f.services
     → HaveUnits (step_of l f moment step).flat.services
 units_kept l f moment (Call caller asked append) s ok fits each = of_call l f moment caller asked append s ok fits each
-units_kept l f moment step s ok fits each = subst (AllByRecursion HasUnits) (sym (unchanged_by l f (moment, step) s ok refl (λ number. refl) (λ number. refl))) each
+units_kept l f moment step s ok fits each = subst (AllByRecursion HasUnits)
+    (sym (unchanged_by l f (moment, step) s ok refl (λ number. refl) (λ number. refl))) each
