@@ -37,8 +37,8 @@ use Rattle.conn_worker.specs.Serving.{IsServed, step_for}
 use Rattle.conn_worker.proofs.Complete.{ends_as, lacks, rest_of}
 use Rattle.conn_worker.proofs.Fronts.{front_of_all}
 use Rattle.scm_pipe.specs.declared.alone.Piped.{Piped}
-use Rattle.scm_pipe.specs.Histories.{replies, the_caller}
-use Rattle.scm_pipe.specs.Piping.{HasNoRoomBehind, HasRoomForAll, IsEnd, IsEndAt, IsJoined, IsKept, IsPiped, IsRoot, IsUnjoined, begun_with}
+use Rattle.scm_pipe.specs.Histories.{AreServed, replies, the_caller}
+use Rattle.scm_pipe.specs.Piping.{HasNoRoomAfter, HasRoomForAll, IsEnd, IsEndAt, IsJoined, IsKept, IsPiped, IsRoot, IsUnjoined, begun_with}
 use Rattle.scm_pipe.proofs.Histories.{replies_append}
 use Rattle.scm_pipe.proofs.Joining.{HasJoined}
 use Rattle.scm_pipe.proofs.Walking.{RunsTo, runs}
@@ -68,13 +68,13 @@ sees_no_more o served.OutOfMemory last stood alone (inr learnt) = sees_learnt o 
 sees_no_more o how last stood alone leaves = sees_same last stood leaves
 
 -- no room for a request of caller 1 behind what the pass has seen
-no_room : (o : Opening) (stood : Known) (request : Asked) → stood.caller ≡ the_caller → HasNoRoomFor o stood request → HasNoRoomBehind o.limits o.first stood.seen request
+no_room : (o : Opening) (stood : Known) (request : Asked) → stood.caller ≡ the_caller → HasNoRoomFor o stood request → HasNoRoomAfter o.limits o.first stood.seen request
 no_room o stood request mine none =
     subst (λ (c : ℕ). has_room o.limits (state o.limits o.first stood.seen) (length stood.seen) (text_in stood.seen) (step_for c request) ≡ false) mine none
 
 reached_so : (o : Opening) (how : Served) (stood : Known) (read : List ℕ) (left_now : Option (List ℕ)) (done : List Incoming) (heard : List (Option Reply)) (written : List ℕ)
     → stood.caller ≡ the_caller → Reached (HasNoRoomFor o) stood how read left_now done heard written
-    → Reached (HasNoRoomBehind o.limits o.first) stood.seen how read left_now done heard written
+    → Reached (HasNoRoomAfter o.limits o.first) stood.seen how read left_now done heard written
 reached_so o served.Full stood read left_now done heard written mine reached = (
   reached.0,
   record {
@@ -138,8 +138,8 @@ module _ (tells : ℕ → Type 0) (principal : Principal) (o : Opening) (k k' : 
       (All-append (λ (e : Entry). tells e.0) all.entries ((c.moment, Gone the_caller) ∷ []) all.moments
       (All-cons (λ (e : Entry). tells e.0) (c.moment, Gone the_caller) [] c.told (All-nil (λ (e : Entry). tells e.0))))
 
-  came : Reached (HasNoRoomBehind l f) run how c.read left_now c.done c.heard c.written
-  came = subst (λ (es : List Entry). Reached (HasNoRoomBehind l f) es how c.read left_now c.done c.heard c.written) stood_is
+  came : Reached (HasNoRoomAfter l f) run how c.read left_now c.done c.heard c.written
+  came = subst (λ (es : List Entry). Reached (HasNoRoomAfter l f) es how c.read left_now c.done c.heard c.written) stood_is
       (reached_so o how c.stood c.read left_now c.done c.heard c.written (no_more.caller ∙ all.caller) c.reached)
 
   pub piped : IsPiped tells principal l f left left_now held held_now how history
@@ -152,14 +152,19 @@ module _ (tells : ℕ → Type 0) (principal : Principal) (o : Opening) (k k' : 
     appended = c.appended;
     run = run;
     alone = record {
-      runs = record { joined = joined.moment; calls = all.entries; order = refl; served = all.served };
+      runs = record {
+        joined = joined.moment;
+        calls = all.entries;
+        order = refl;
+        served = subst (λ (es : List Entry). AreServed l f es the_caller (asked c.done) all.entries) joined.seen all.served;
+      };
       gone = c.moment;
       order = refl;
     };
     legal = subst (Legal l f) gone_is c.goes.legal;
     moments = moments;
     replied = subst (λ (ts : List (Option Reply)). AsMany (asked c.done) ts) (sym told_all) (chain_as_many (IsServed false tells o) k c.last (asked c.done) c.heard c.chain);
-    reached = subst (λ (ts : List (Option Reply)). Reached (HasNoRoomBehind l f) run how c.read left_now c.done ts c.written) (sym told_all) came;
+    reached = subst (λ (ts : List (Option Reply)). Reached (HasNoRoomAfter l f) run how c.read left_now c.done ts c.written) (sym told_all) came;
   }
 
   -- it is what the pass has then seen
@@ -206,7 +211,7 @@ module _ (principal : Principal) (l : Limits) (f : Flat) (bytes : List ℕ) (lef
   ends_piped : (tells : ℕ → Type 0) (how : Served) (h : List Entry) → IsPiped tells principal l f (Some bytes) left_now held held_now how h
       → IsServedFor how source source_now sink sink_now → EndsAs bytes how
   ends_piped tells how h p cause =
-      ends_as (HasNoRoomBehind l f) p.run bytes p.read p.done (replies l f the_caller h) p.written left_now p.consumed p.most source source_now sink sink_now how p.reached cause no_read no_write
+      ends_as (HasNoRoomAfter l f) p.run bytes p.read p.done (replies l f the_caller h) p.written left_now p.consumed p.most source source_now sink sink_now how p.reached cause no_read no_write
       (λ _ none.
       false≢true (sym none.met ∙ room p.done none.next none.request
       (front_of_all p.read bytes (p.done ++ none.next ∷ []) (rest_of bytes p.read left_now p.consumed) none.follows) none.asks p.run p.alone.runs

@@ -20,14 +20,14 @@ use Rattle.scm_rules.specs.Steps.{step_of}
 use Rattle.scm_runs.proofs.Histories.{same_answer, state_behind, state_is, state_more, told}
 use Rattle.book_rule.specs.declared.view.Opening.{Opening}
 use Rattle.scm_book.specs.Called.{RaisedSo}
-use Rattle.scm_book.specs.Passes.{Known, Learnt, Made, MadeSo}
+use Rattle.scm_book.specs.Passes.{Known, Learnt, Made, room_behind}
 use Rattle.conn_desk.specs.declared.asked.Asked.{Asked}
 use Rattle.conn_desk.specs.declared.asked.Asked.TheVariants as asks
 use Rattle.conn_desk.specs.Desks.{Chain}
-use Rattle.conn_worker.specs.Serving.{IsServed as IsServedBy, IsRaised, IsRefused, IsTold, IsWaitedFor}
+use Rattle.conn_worker.specs.Serving.{IsServed as IsServedBy, IsRaised, IsRefused, IsTold, IsWaitedFor, step_for}
 use Rattle.conn_worker.specs.Waiting.{Ends, FailsLaunch, Turns, Waits as WaitsBehind, WaitsOnce}
-use Rattle.conn_worker.proofs.Owning.{want_made}
-use Rattle.scm_pipe.specs.Histories.{AreServed, Follows, IsAskedAs, IsServed, Waits, replies}
+use Rattle.conn_worker.proofs.Owning.{Lacked, want_made}
+use Rattle.scm_pipe.specs.Histories.{AreServed, Follows, IsAskedAs, IsServed, Waits, has_room_after, replies}
 use Rattle.scm_pipe.proofs.Histories.{begun_tells, call_tells, end_tells, failure_tells, first_told, raise_tells, replies_append, want_tells}
 
 module _ (tells : ℕ → Type 0) (o : Opening) where
@@ -154,7 +154,7 @@ module _ (tells : ℕ → Type 0) (o : Opening) where
   pub record RunsTo (c : ℕ) (k k' : Known) (g : Flat) (requests : List Asked) (told_so : List (Option Reply)) : Type 0 where
     pub entries : List Entry
     pub seen : k'.seen ≡ k.seen ++ entries
-    pub served : AreServed l g c requests entries
+    pub served : AreServed l o.first k.seen c requests entries
     pub heard : replies l g c entries ≡ told_so
     pub moments : All (λ (e : Entry). tells e.0) entries
     pub alone : k'.alone ≡ true
@@ -164,11 +164,18 @@ module _ (tells : ℕ → Type 0) (o : Opening) where
   record Serves (c : ℕ) (k k' : Known) (g : Flat) (asked : Asked) (told_so : Option Reply) : Type 0 where
     entries : List Entry
     seen : k'.seen ≡ k.seen ++ entries
+    room : has_room_after l o.first k.seen c asked ≡ true
     served : IsServed l g c asked entries
     heard : replies l g c entries ≡ told_so ∷ []
     moments : All (λ (e : Entry). tells e.0) entries
     alone : k'.alone ≡ true
     caller : k'.caller ≡ c
+
+  -- there was room for the request of a pass that is alone in what it had seen
+  had_room : (c : ℕ) (k : Known) (before : List Entry) (asked : Asked) → before ≡ k.seen → k.caller ≡ c → room_behind o before (step_for k.caller asked) ≡ true
+      → has_room_after l o.first k.seen c asked ≡ true
+  had_room c k before asked front mine room =
+      subst (λ (n : ℕ). has_room_after l o.first k.seen n asked ≡ true) mine (subst (λ (es : List Entry). has_room_after l o.first es k.caller asked ≡ true) front room)
 
   at_once : (c : ℕ) (k k' : Known) (g : Flat) (asked : Request) (reply : Reply) → k.alone ≡ true → at k ≡ g → k.caller ≡ c → IsTold tells o k asked reply k' → Serves c k k' g (asks.Call asked) (Some reply)
   at_once c k k' g asked reply alone is mine one =
@@ -179,6 +186,7 @@ module _ (tells : ℕ → Type 0) (o : Opening) where
       let step = steps k k' t call (answers.Reply reply) g alone is made in record {
         entries = (t, call) ∷ [];
         seen = step.seen;
+        room = had_room c k one.made.made.before (asks.Call asked) (one.made.made.alone alone) mine one.made.room;
         served = ((refl, refl), subst (λ (a : Answer). Follows l (step_of l g t call).flat c a []) step.answers refl);
         heard = ap (λ (x : Option (Option Reply)). cons_option x []) (call_tells l g t c asked append reply step.answers);
         moments = All-cons (λ (e : Entry). tells e.0) (t, call) [] one.told (All-nil (λ (e : Entry). tells e.0));
@@ -195,6 +203,7 @@ module _ (tells : ℕ → Type 0) (o : Opening) where
       let step = steps k k' t raise (answers.Reply reply) g alone is made in record {
         entries = (t, raise) ∷ [];
         seen = step.seen;
+        room = had_room c k so.made.made.before (asks.Raise subtype) (so.made.made.alone alone) mine so.made.room;
         served = ((refl, refl), subst (λ (a : Answer). Follows l (step_of l g t raise).flat c a []) step.answers refl);
         heard = ap (λ (x : Option (Option Reply)). cons_option x []) (raise_tells l g t c subtype reply step.answers);
         moments = All-cons (λ (e : Entry). tells e.0) (t, raise) [] one.told (All-nil (λ (e : Entry). tells e.0));
@@ -210,11 +219,12 @@ module _ (tells : ℕ → Type 0) (o : Opening) where
   refused_so c k k' g asked alone is mine one =
       let t = one.moment in
       let want : Step = NoMemory c in
-      let so : MadeSo o k t (NoMemory k.caller) answers.Done k' = want_made o k k' t asked one.wants in
+      let so : Lacked o k t asked k' = want_made o k k' t asked one.wants in
       let made : Made o k t want answers.Done k' = subst (λ (n : ℕ). Made o k t (NoMemory n) answers.Done k') mine so.made in
       let step = steps k k' t want answers.Done g alone is made in record {
         entries = (t, want) ∷ [];
         seen = step.seen;
+        room = had_room c k so.made.before asked (so.made.alone alone) mine so.room;
         served = (asked_none c asked, subst (λ (a : Answer). Follows l (step_of l g t want).flat c a []) step.answers refl);
         heard = want_tells l g t c;
         moments = All-cons (λ (e : Entry). tells e.0) (t, want) [] one.told (All-nil (λ (e : Entry). tells e.0));
@@ -233,6 +243,7 @@ module _ (tells : ℕ → Type 0) (o : Opening) where
       one.ends.told one.ends.waits one.ends.ends in record {
         entries = (t, call) ∷ rest.entries;
         seen = rest.seen ∙ (ap (λ (es : List Entry). es ++ rest.entries) step.seen ∙ append_assoc k.seen ((t, call) ∷ []) rest.entries);
+        room = had_room c k one.made.made.before (asks.Call asked) (one.made.made.alone alone) mine one.made.room;
         served = ((refl, refl), subst (λ (a : Answer). Follows l (step_of l g t call).flat c a rest.entries) step.answers rest.waits);
         heard = ap (λ (x : Option (Option Reply)). cons_option x (replies l (step_of l g t call).flat c rest.entries)) (begun_tells l g t c asked append one.plan step.answers) ∙ rest.heard;
         moments = All-cons (λ (e : Entry). tells e.0) (t, call) rest.entries one.told rest.moments;
@@ -269,7 +280,14 @@ module _ (tells : ℕ → Type 0) (o : Opening) where
       let rest = runs c m k' h requests heard first.alone (behind k m g first.entries is first.seen) first.caller chain.2 in record {
         entries = first.entries ++ rest.entries;
         seen = rest.seen ∙ (ap (λ (es : List Entry). es ++ rest.entries) first.seen ∙ append_assoc k.seen first.entries rest.entries);
-        served = (first.entries, rest.entries, refl, first.served, rest.served);
+        served = (
+          first.entries,
+          rest.entries,
+          refl,
+          first.room,
+          subst (λ (x : Flat). IsServed l x c asked first.entries) (sym is) first.served,
+          subst (λ (es : List Entry). AreServed l o.first es c requests rest.entries) first.seen rest.served,
+        );
         heard = replies_append l g c first.entries rest.entries
             ∙ ap (λ (ts : List (Option Reply)). ts ++ replies l h c rest.entries) first.heard
             ∙ ap (λ (ts : List (Option Reply)). told_so ∷ ts) rest.heard;

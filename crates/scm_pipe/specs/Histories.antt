@@ -1,5 +1,5 @@
 -- The history of a caller that is alone: what serves its requests, and what that tells it.
-use Rattle.std.specs.Prelude.{ℕ, ◌≡◌, ◌==◌, ◌++◌, List, [], ◌∷◌, Option, None, Some, if◌then◌else◌}
+use Rattle.std.specs.Prelude.{ℕ, Bool, ◌≡◌, ◌==◌, ◌++◌, true, List, [], ◌∷◌, length, Option, None, Some, if◌then◌else◌}
 use Rattle.std.specs.List.{cons_option}
 use Rattle.scm_model.specs.declared.flat.Flat.{Flat}
 use Rattle.scm_model.specs.declared.flat.Limits.{Limits}
@@ -10,13 +10,16 @@ use Rattle.scm_model.specs.declared.steps.Step.{Step}
 use Rattle.scm_model.specs.declared.steps.Step.TheVariants.{Call, EndStart, Gone, Joined, LaunchFailed, LaunchTaken, NoMemory, Raised}
 use Rattle.scm_model.specs.declared.steps.Answer.{Answer}
 use Rattle.scm_model.specs.declared.steps.Answer.TheVariants as answers
-use Rattle.scm_model.specs.Entries.{Entry}
+use Rattle.scm_model.specs.Entries.{Entry, text_in}
 use Rattle.start_plan.specs.Decided.{code_of}
+use Rattle.scm_rules.specs.Histories.{state}
 use Rattle.scm_rules.specs.Launches.{first_wanted}
+use Rattle.scm_rules.specs.Room.{has_room}
 use Rattle.scm_rules.specs.Steps.{step_of}
 use Rattle.scm_rules.specs.Runs.{run_state}
 use Rattle.conn_desk.specs.declared.asked.Asked.{Asked}
 use Rattle.conn_desk.specs.declared.asked.Asked.TheVariants as asks
+use Rattle.conn_worker.specs.Serving.{step_for}
 
 -- ## Replies
 
@@ -72,12 +75,16 @@ IsServed l f caller request [] = ⊥
 IsServed l f caller request (e ∷ es) =
     IsAskedAs caller request e.1 × Follows l (step_of l f e.0 e.1).flat caller (step_of l f e.0 e.1).answer es
 
--- the entries are what became of a caller's requests, one after another, from state to state
-abbrev pub AreServed : Limits → Flat → ℕ → List Asked → List Entry → Type 0
-AreServed l f caller [] es = es ≡ []
-AreServed l f caller (request ∷ requests) es =
-    (served : List Entry) × (rest : List Entry) × (es ≡ served ++ rest)
-    × IsServed l f caller request served × AreServed l (run_state l f served) caller requests rest
+-- whether the limits have room for a caller's request after a history
+abbrev pub has_room_after : Limits → Flat → (before : List Entry) → ℕ → Asked → Bool
+has_room_after l f before caller request = has_room l (state l f before) (length before) (text_in before) (step_for caller request)
+
+-- The entries are what became of a caller's requests after a history, one after another: each found room in the state that it met there.
+abbrev pub AreServed : Limits → Flat → (before : List Entry) → ℕ → List Asked → List Entry → Type 0
+AreServed l f before caller [] es = es ≡ []
+AreServed l f before caller (request ∷ requests) es =
+    (served : List Entry) × (rest : List Entry) × (es ≡ served ++ rest) × (has_room_after l f before caller request ≡ true)
+    × IsServed l (state l f before) caller request served × AreServed l f (before ++ served) caller requests rest
 
 -- ## The whole history
 
@@ -90,7 +97,7 @@ pub record IsPipeRun (principal : Principal) (l : Limits) (f : Flat) (requests :
   pub joined : ℕ
   pub calls : List Entry
   pub order : history ≡ (joined, Joined principal) ∷ calls
-  pub served : AreServed l (run_state l f ((joined, Joined principal) ∷ [])) the_caller requests calls
+  pub served : AreServed l f ((joined, Joined principal) ∷ []) the_caller requests calls
 
 -- then it goes; nothing else stands in the history
 pub record IsPipeHistory (principal : Principal) (l : Limits) (f : Flat) (requests : List Asked) (run history : List Entry) : Type 0 where

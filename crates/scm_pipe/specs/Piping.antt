@@ -1,15 +1,14 @@
 -- A connection alone at a book of its own: what was read, the whole history, and what was written and kept.
-use Rattle.std.specs.Prelude.{ℕ, ◌≡◌, ◌⊎◌, ◌≤◌, ◌^◌, ◌++◌, Bool, true, false, List, [], ◌∷◌, length, All, Option, Some}
+use Rattle.std.specs.Prelude.{ℕ, ◌≡◌, ◌⊎◌, ◌≤◌, ◌^◌, ◌++◌, true, false, List, [], ◌∷◌, length, All, Option, Some}
 use Rattle.std.specs.Io.KnownBytes.{Appends, Consumes}
 use Rattle.outside.specs.Written.{Begins}
 use Rattle.scm_model.specs.declared.flat.Flat.{Flat}
 use Rattle.scm_model.specs.declared.flat.Limits.{Limits}
 use Rattle.scm_model.specs.declared.flat.Principal.{Principal}
 use Rattle.scm_model.specs.declared.steps.Step.TheVariants.{Joined}
-use Rattle.scm_model.specs.Entries.{Entry, text_in}
-use Rattle.scm_rules.specs.Histories.{Legal, state}
+use Rattle.scm_model.specs.Entries.{Entry}
+use Rattle.scm_rules.specs.Histories.{Legal}
 use Rattle.scm_rules.specs.Opening.{IsOpening}
-use Rattle.scm_rules.specs.Room.{has_room}
 use Rattle.scm_history.specs.Kept.{kept_changes}
 use Rattle.record_journal.specs.Bearing.{Bears, and_changes}
 use Rattle.record_journal.specs.declared.journal.Journal.{Journal}
@@ -25,24 +24,20 @@ use Rattle.conn_desk.specs.declared.served.Served.TheVariants as served
 use Rattle.conn_desk.specs.Bodies.{asked, asked_by}
 use Rattle.conn_desk.specs.Connection.{Reached}
 use Rattle.conn_desk.specs.Desks.{AsMany}
-use Rattle.conn_worker.specs.Serving.{step_for}
 use Rattle.scm_pipe.specs.declared.alone.Piped.{Piped}
-use Rattle.scm_pipe.specs.Histories.{IsPipeHistory, IsPipeRun, replies, the_caller}
+use Rattle.scm_pipe.specs.Histories.{IsPipeHistory, IsPipeRun, has_room_after, replies, the_caller}
 
 -- ## Room
 
--- whether the limits have room for a request behind a history
-abbrev pub has_room_behind : Limits → Flat → List Entry → Asked → Bool
-has_room_behind l f run request = has_room l (state l f run) (length run) (text_in run) (step_for the_caller request)
+-- the limits have no room for a request of the one caller after a history
+abbrev pub HasNoRoomAfter : Limits → Flat → List Entry → Asked → Type 0
+HasNoRoomAfter l f run request = has_room_after l f run the_caller request ≡ false
 
-abbrev pub HasNoRoomBehind : Limits → Flat → List Entry → Asked → Type 0
-HasNoRoomBehind l f run request = has_room_behind l f run request ≡ false
-
--- behind whatever serves the first requests of these bytes, they have room for the next one
+-- after whatever serves the first requests of these bytes, they have room for the next one
 abbrev pub HasRoomForAll : Principal → Limits → Flat → List ℕ → Type 0
 HasRoomForAll principal l f bytes =
     (done : List Incoming) (next : Incoming) (request : Asked) → Begins (done ++ next ∷ []) (items bytes).items → asked_by next ≡ Some request
-    → (run : List Entry) → IsPipeRun principal l f (asked done) run → Legal l f run → has_room_behind l f run request ≡ true
+    → (run : List Entry) → IsPipeRun principal l f (asked done) run → Legal l f run → has_room_after l f run the_caller request ≡ true
 
 -- ## A connection
 
@@ -63,7 +58,7 @@ pub record IsPiped (tells : ℕ → Type 0) (principal : Principal) (l : Limits)
   pub moments : All (λ (e : Entry). tells e.0) history
   -- the connection came as far as it is answered, with the replies that this history gives
   pub replied : AsMany (asked done) (replies l f the_caller history)
-  pub reached : Reached (HasNoRoomBehind l f) run how read left_now done (replies l f the_caller history) written
+  pub reached : Reached (HasNoRoomAfter l f) run how read left_now done (replies l f the_caller history) written
 
 -- there was no memory for the caller's joining: nothing was read or written
 pub record IsUnjoined (left left_now held held_now : Option (List ℕ)) (how : Served) : Type 0 where
