@@ -1,29 +1,40 @@
 -- Ticks that follow others.
-use Rattle.std.proofs.Common.{◌≡◌, ℕ, List, [], ◌∷◌, ◌++◌, ◌∙◌, ap, refl, subst, sym}
+use Rattle.std.proofs.Common.{◌≡◌, ℕ, Bool, true, false, List, [], ◌∷◌, ◌++◌, ◌∙◌, All, ap, inr, refl, subst, sym}
+use Rattle.std.proofs.lemmas.List.Elements.{All-push}
 use Rattle.book_rule.specs.declared.view.Opening.{Opening}
 use Rattle.scm_book.specs.declared.reporting.TickEnd.{TickEnd}
 use Rattle.scm_book.specs.declared.reporting.TickEnd.TheVariants as ticks
 use Rattle.scm_book.specs.Passes.{Known}
 use Rattle.scm_book.specs.Reporting.{TickEnds}
-use Rattle.scm_launcher.specs.Ticks.{Chain, IsTicked, TicksOn}
+use Rattle.scm_launcher.specs.Ticks.{Chain, IsTicked, IsTicksEnd, TicksOn, is_full}
 
 module _ (tells : ℕ → Type 0) (o : Opening) where
+  -- ticks that found room lead from k to m
+  pub record Ticked (k m : Known) : Type 0 where
+    pub ends : List TickEnd
+    pub chain : Chain tells o k m ends
+    pub room : All (λ end. is_full end ≡ false) ends
+
   -- a tick behind a chain
   pub chain_then : (k m k' : Known) (done : List TickEnd) (end : TickEnd) → Chain tells o k m done → IsTicked tells o m end k' → Chain tells o k k' (done ++ end ∷ [])
   chain_then k m k' [] end first then = subst (λ (x : Known). Chain tells o x k' (end ∷ [])) first (k', then, refl)
   chain_then k m k' (d ∷ done) end first then = (first.0, first.1, chain_then first.0 m k' done end first.2 then)
 
-  pub one_more : (k m k' : Known) (moment : ℕ) (end : TickEnd) → tells moment → TickEnds o m moment end k' → (done : List TickEnd) × Chain tells o k m done
-      → (done : List TickEnd) × Chain tells o k k' done
-  one_more k m k' moment end told ends before =
-      (before.0 ++ end ∷ [], chain_then k m k' before.0 end before.1 (record { moment = moment; told = told; ends = ends }))
+  -- a tick that found room, after others that did
+  pub one_more : (k m k' : Known) (moment : ℕ) (end : TickEnd) → tells moment → TickEnds o m moment end k' → is_full end ≡ false → Ticked k m → Ticked k k'
+  one_more k m k' moment end told ends room so = record {
+    ends = so.ends ++ end ∷ [];
+    chain = chain_then k m k' so.ends end so.chain (record { moment = moment; told = told; ends = ends });
+    room = All-push (λ e. is_full e ≡ false) so.ends end so.room room;
+  }
 
-  some : (k m k' : Known) (done : List TickEnd) (end : TickEnd) → Chain tells o k m done → IsTicked tells o m end k' → TicksOn tells o k k'
-  some k m k' [] end first then = record { first = end; more = []; chain = chain_then k m k' [] end first then }
-  some k m k' (d ∷ done) end first then = record { first = d; more = done ++ end ∷ []; chain = chain_then k m k' (d ∷ done) end first then }
-
-  pub ticked : (k m k' : Known) (moment : ℕ) (end : TickEnd) → tells moment → TickEnds o m moment end k' → (done : List TickEnd) × Chain tells o k m done → TicksOn tells o k k'
-  ticked k m k' moment end told ends before = some k m k' before.0 end before.1 (record { moment = moment; told = told; ends = ends })
+  pub ticked : (k m k' : Known) (moment : ℕ) (end : TickEnd) → tells moment → TickEnds o m moment end k' → Ticked k m → TicksOn tells o k k'
+  ticked k m k' moment end told ends so = record {
+    before = so.ends;
+    last = end;
+    chain = chain_then k m k' so.ends end so.chain (record { moment = moment; told = told; ends = ends });
+    room = so.room;
+  }
 
   caller_kept : (k m : Known) (end : TickEnd) (moment : ℕ) → TickEnds o k moment end m → m.caller ≡ k.caller
   caller_kept k m ticks.Ticked moment e = e.made.caller
@@ -36,5 +47,18 @@ module _ (tells : ℕ → Type 0) (o : Opening) where
   callers_kept k k' (end ∷ more) c = callers_kept c.0 k' more c.2 ∙ caller_kept k c.0 end c.1.moment c.1.ends
 
   -- a pass that was nobody's is spent as it ticked last
+  pub spent_as : (k m k' : Known) → (m.caller ≡ 0 → k' ≡ m) → k.caller ≡ 0 → TicksOn tells o k m → k' ≡ m
+  spent_as k m k' goes nobody ticked = goes (callers_kept k m (ticked.before ++ ticked.last ∷ []) ticked.chain ∙ nobody)
+
   pub spent : (k m k' : Known) → (m.caller ≡ 0 → k' ≡ m) → k.caller ≡ 0 → TicksOn tells o k m → TicksOn tells o k k'
-  spent k m k' goes nobody ticked = subst (λ (x : Known). TicksOn tells o k x) (sym (goes (callers_kept k m (ticked.first ∷ ticked.more) ticked.chain ∙ nobody))) ticked
+  spent k m k' goes nobody ticked = subst (λ (x : Known). TicksOn tells o k x) (sym (spent_as k m k' goes nobody ticked)) ticked
+
+  pub spent_end : (asked : Type 0) (k m k' : Known) → (m.caller ≡ 0 → k' ≡ m) → k.caller ≡ 0 → TicksOn tells o k m → IsTicksEnd asked o m → IsTicksEnd asked o k'
+  spent_end asked k m k' goes nobody ticked end = subst (IsTicksEnd asked o) (sym (spent_as k m k' goes nobody ticked)) end
+
+-- one that found no room ends it
+pub full_end : (asked : Type 0) (o : Opening) (k k' : Known) (moment : ℕ) (end : TickEnd) → TickEnds o k moment end k' → is_full end ≡ true → IsTicksEnd asked o k'
+full_end asked o k k' moment ticks.Full ends full = inr ends.0.full
+full_end asked o k k' moment ticks.Ticked ends = absurd cc
+full_end asked o k k' moment ticks.Idle ends = absurd cc
+full_end asked o k k' moment ticks.OutOfMemory ends = absurd cc

@@ -1,5 +1,5 @@
 -- What a pass has seen that took in those of the ticker, of the launcher and of both listeners.
-use Rattle.std.proofs.Common.{◌≡◌, ◌∙◌, ℕ, Bool, true, false, cond, List, [], ◌∷◌, length, sym, ap, subst}
+use Rattle.std.proofs.Common.{◌≡◌, ◌∙◌, ℕ, Bool, true, false, cond, List, [], ◌∷◌, ◌++◌, length, sym, ap, subst}
 use Rattle.std.specs.Prelude.{nat_lt}
 use mathlib.Core.List.{IsPrefix}
 use Rattle.scm_model.specs.Entries.{Entry}
@@ -71,7 +71,7 @@ all_seen tells o root by t0 t1 t2 t3 ln sv ticked launched both root' moment end
     let at3 : t3.seen ≡ t1.seen = ap seen is_t3 ∙ at2 in
     let first : t0.seen ≡ by.seen = ap seen is_t0 ∙ sym (ap seen is_by) in
     let legal : Legal o.limits o.first t1.seen = tick_legal tells o t0 t1 moment end ends in
-    let far : SeesLegal o t3 ticked = chain_far tells o t3 ticked (ticks.first ∷ ticks.more) ticks.chain in
+    let far : SeesLegal o t3 ticked = chain_far tells o t3 ticked (ticks.before ++ ticks.last ∷ []) ticks.chain in
     let legal_ticked : Legal o.limits o.first ticked.seen = far.legal (subst (Legal o.limits o.first) (sym at3) legal) in
     let legal_launched : Legal o.limits o.first launched.seen = sees.legal (subst (Legal o.limits o.first) (sym (ap seen is_ln)) legal) in
     let legal_both : Legal o.limits o.first both.seen = serves.legal (subst (Legal o.limits o.first) (sym (ap seen is_sv ∙ at2)) legal) in
