@@ -43,19 +43,22 @@ fn echoes<N: Listener>(listener: &mut N, peer: &mut TcpStream) -> bool {
     is_written && is_answered && is_read && byte[0] == b'b' && ends
 }
 
-/// Whether a byte comes back from the listener's port, of the loopback, and the port then is closed.
+/// Whether nobody comes to the listener's port until a peer does, a byte comes back from it, of the
+/// loopback, and it then is closed.
 fn is_exchanged<N: Listener, R: Net<Stream = TcpStream>>(
     net: &R,
     listener: &mut N,
     address: SocketAddr,
 ) -> bool {
+    let nobody = !listener.wait_briefly();
     let Ok(mut peer) = TcpStream::connect(net, address) else {
         return false;
     };
+    let came = listener.wait_briefly();
     let echoed = echoes(listener, &mut peer);
     drop(peer);
     let closed = matches!(&listener.accept(), Accepted::Closed);
-    address.ip().is_loopback() && echoed && closed
+    address.ip().is_loopback() && nobody && came && echoed && closed
 }
 
 /// One exchange over a port that takes one connection, after which it is closed.

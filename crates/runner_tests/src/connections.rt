@@ -94,6 +94,10 @@ impl<'a> Listener for HeldListener<'a> {
         self.listener.listen(port, take)
     }
 
+    fn wait_briefly(&mut self) -> bool {
+        self.listener.wait_briefly()
+    }
+
     fn accept(&mut self) -> Accepted<HeldIn<'a>, HeldOut<'a>> {
         match self.listener.accept() {
             Accepted::Conn(input, output) => {

@@ -34,6 +34,10 @@ or_all false = refl
 pub only_trans : (a b c : Told) → OnlyNotes a b → OnlyNotes b c → OnlyNotes a c
 only_trans a b c first next = record { same = next.same ∙ ap (λ (t : Told). record t { noted = c.noted }) first.same }
 
+-- the listener is then as it was
+pub only_then : (a b c d : Told) → OnlyNotes a b → OnlyNotes b c → d ≡ c → OnlyNotes a d
+only_then a b c d first next same = subst (OnlyNotes a) (sym same) (only_trans a b c first next)
+
 module _ (tells : ℕ → Type 0) (o : Opening) where
   pub continue_none : (by : Known) (m : Told) (outs : List Out) → Continues tells o by m outs by m outs false
   continue_none by m outs principal before begins first l serves =
@@ -43,6 +47,10 @@ module _ (tells : ℕ → Type 0) (o : Opening) where
   continue_trans a b c k l m us vs ws one other first next principal before begins from at serves =
       subst (λ (s : Bool). Serves tells o principal from at (standing c m ws s)) (or_more before one other)
       (next principal (before || one) begins from at (first principal before begins from at serves))
+
+  pub continue_then : (a b c : Known) (k l m n : Told) (us vs ws : List Out) (one other : Bool) → Continues tells o a k us b l vs one → Continues tells o b l vs c m ws other → n ≡ m → Continues tells o a k us c n ws (one || other)
+  continue_then a b c k l m n us vs ws one other first next same =
+      subst (λ (t : Told). Continues tells o a k us c t ws (one || other)) (sym same) (continue_trans a b c k l m us vs ws one other first next)
 
   serves_short : (principal : Principal) (from : Known) (at : Told) (by : Known) (m : Told) (outs : List Out) (s : Bool) → Serves tells o principal from at (standing by m outs s) → Serves tells o principal from at (standing by m outs true)
   serves_short principal from at by m outs s serves = record {

@@ -10,7 +10,7 @@ ghost use Rattle.scm_server.specs.Workers.{AreOf, outs_of};
 ghost use Rattle.scm_server.specs.Works.{IsUntouched};
 
 use crate::beginning::run;
-use crate::joining::{is_either, reap};
+use crate::joining::{is_either, reap_until_next};
 use crate::worker::Worker;
 use outside::{Clock, Sink, Source};
 use record_journal::Keeper;
@@ -105,8 +105,8 @@ where
     }
 }
 
-/// Takes back what is past, and then serves the next connection. `is_short` says whether there was
-/// no memory for one before it.
+/// Takes back what is past until the next connection comes, and then serves it. `is_short` says
+/// whether there was no memory for one before it.
 fn serve_next<'s, E, R, K, N, I, O, P, C>(
     scope: &Scope<'s, E>,
     rt: &'s R,
@@ -142,7 +142,7 @@ where
         (outs_of I.left O.held I.faults O.faults
         workers.new.items) result }
 {
-    let past = reap(rt, book, by, listener, workers, clock);
+    let past = reap_until_next(rt, book, by, listener, workers, clock);
     let is_short = is_either(is_short, past);
     match listener.accept() {
         Accepted::Conn(input, output) => {

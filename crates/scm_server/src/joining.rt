@@ -15,6 +15,7 @@ use outside::Clock;
 use record_journal::Keeper;
 use scm_book::{Book, Pass};
 use scm_listener::Listener;
+use std::sync::Wait;
 use std::sync::atomic::Ordering::SeqCst;
 use std::thread::Threads;
 
@@ -140,6 +141,61 @@ pub fn reap<R: Threads, K: Keeper, N: Listener, C: Clock>(
         is_short = is_either(is_short, one);
     }
     is_short
+}
+
+/// Waits for the listener's next connection, but not for long, and not at all where no thread is at
+/// work. Returns whether an `accept` is to follow.
+fn is_next<K: Keeper, N: Listener, C: Clock>(
+    listener: &mut N,
+    workers: &[Worker<K, N, C>],
+) -> bool
+    ensures same {
+        told (N.left listener.new) (N.accepted listener.new) (N.noted listener.new)
+        (N.listened listener.new) (N.faults listener.new)
+        ≡ told (N.left listener.old) (N.accepted listener.old) (N.noted listener.old)
+        (N.listened listener.old) (N.faults listener.old) }
+{
+    workers.is_empty() || listener.wait_briefly()
+}
+
+/// Takes the connections back whose threads are about to end, again and again until the listener's
+/// next connection came. Answers as `reap` does.
+pub fn reap_until_next<R: Threads + Wait, K: Keeper, N: Listener, C: Clock>(
+    rt: &R,
+    book: &Book<K>,
+    by: &mut Pass,
+    listener: &mut N,
+    workers: &mut Vec<Worker<K, N, C>>,
+    clock: &C,
+) -> bool
+    requires by { IsOf book.now by.old }
+    requires of { AreOf book.now clock.now workers.old.items }
+    ensures by { IsOf book.now by.new }
+    ensures of { AreOf book.now clock.now workers.new.items }
+    ensures only { OnlyNotes
+        (told (N.left listener.old) (N.accepted listener.old) (N.noted listener.old)
+        (N.listened listener.old) (N.faults listener.old))
+        (told (N.left listener.new) (N.accepted listener.new) (N.noted listener.new)
+        (N.listened listener.new) (N.faults listener.new)) }
+    ensures goes { Continues (C.tells clock.now) book.now.opening
+        by.old (told (N.left listener.old) (N.accepted listener.old) (N.noted listener.old)
+        (N.listened listener.old) (N.faults listener.old))
+        (outs_of N.In.left N.Out.held N.In.faults N.Out.faults
+        workers.old.items)
+        by.new (told (N.left listener.new) (N.accepted listener.new) (N.noted listener.new)
+        (N.listened listener.new) (N.faults listener.new))
+        (outs_of N.In.left N.Out.held N.In.faults N.Out.faults
+        workers.new.items) result }
+{
+    let mut is_short = false;
+    for _ in rt.forever() {
+        let one = reap(rt, book, by, listener, workers, clock);
+        is_short = is_either(is_short, one);
+        if is_next(listener, workers.as_slice()) {
+            return is_short;
+        }
+    }
+    unreachable!()
 }
 
 /// Waits for all threads, and takes their connections back. Answers as `reap` does.
