@@ -83,7 +83,10 @@ fn made() -> [(Row, Rung); 4] {
         (told(Asked::OpensManager, 0, 1), Rung::Nothing),
         (told(Asked::Creates { manager, name }, 0, 2), Rung::Common),
         (told(Asked::Opens { manager, name }, 0, 3), Rung::Nothing),
-        (told(Asked::Queries { handle: 2 }, 0, stopped), Rung::Nothing),
+        (
+            told(Asked::Queries { handle: 2 }, 0, stopped),
+            Rung::Nothing,
+        ),
     ]
 }
 
@@ -91,7 +94,10 @@ fn made() -> [(Row, Rung); 4] {
 fn stopped() -> [(Row, Rung); 2] {
     let running = u64::from(SERVICE_RUNNING);
     [
-        (told(Asked::Queries { handle: 2 }, 0, running), Rung::Nothing),
+        (
+            told(Asked::Queries { handle: 2 }, 0, running),
+            Rung::Nothing,
+        ),
         (told(Asked::Stops { handle: 2 }, 0, running), Rung::All),
     ]
 }
@@ -126,12 +132,7 @@ fn starts<R: Wait>(
 }
 
 /// Whether a process that was sent a control takes it and ends, and rings so.
-fn ends<R: Wait>(
-    rt: &R,
-    book: &Book<MemoryKeeper>,
-    other: &mut Pass,
-    process: u64,
-) -> bool
+fn ends<R: Wait>(rt: &R, book: &Book<MemoryKeeper>, other: &mut Pass, process: u64) -> bool
     requires book { IsOf book.now other.old }
     requires process { HoldsProcess book.now.opening other.old process phases.Launched }
     ensures book { IsOf book.now other.new }

@@ -339,10 +339,12 @@ module _ (tells : ℕ → Type 0) (o : Opening) where
           });
           found = subst (λ (ps : List ℕ). FoundRoom o k'.seen (length made.made.before ∷ ps) (step_for k.caller (asks.Call asked) ∷ []))
               (sym (unowed_none (turns.places ++ length end.before ∷ []) (turns.entries ++ close ∷ [])
-              (All-append IsOwed turns.entries (close ∷ []) turns.owed (All-cons IsOwed close [] refl (All-nil IsOwed)))))
-              (had_behind o waited.begun.seen k'.seen (length made.made.before) (step_for k.caller (asks.Call asked))
-              (prefix_trans waited.begun.seen ends.waited.seen k'.seen turns.makes.adds.longer (adds_made o ends.waited k' last.moment (EndStart k.caller waited.plan) (answers.Reply reply) end).longer)
-              (had_room o k waited.begun waited.moment (Call k.caller asked made.append) (answers.Begun waited.plan) made.made (step_for k.caller (asks.Call asked)) made.room), tt);
+              (All-append IsOwed turns.entries (close ∷ []) turns.owed (All-cons IsOwed close [] refl (All-nil IsOwed))))) (
+                had_behind o waited.begun.seen k'.seen (length made.made.before) (step_for k.caller (asks.Call asked))
+                    (prefix_trans waited.begun.seen ends.waited.seen k'.seen turns.makes.adds.longer (adds_made o ends.waited k' last.moment (EndStart k.caller waited.plan) (answers.Reply reply) end).longer)
+                    (had_room o k waited.begun waited.moment (Call k.caller asked made.append) (answers.Begun waited.plan) made.made (step_for k.caller (asks.Call asked)) made.room),
+                tt,
+              );
         }
 
     pub record DidAll (k k' : Known) (requests : List Asked) (heard : List (Option Reply)) : Type 0 where

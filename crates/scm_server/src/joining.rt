@@ -145,12 +145,8 @@ pub fn reap<R: Threads, K: Keeper, N: Listener, C: Clock>(
 
 /// Waits for the listener's next connection, but not for long, and not at all where no thread is at
 /// work. Returns whether an `accept` is to follow.
-fn is_next<K: Keeper, N: Listener, C: Clock>(
-    listener: &mut N,
-    workers: &[Worker<K, N, C>],
-) -> bool
-    ensures same {
-        told (N.left listener.new) (N.accepted listener.new) (N.noted listener.new)
+fn is_next<K: Keeper, N: Listener, C: Clock>(listener: &mut N, workers: &[Worker<K, N, C>]) -> bool
+    ensures same { told (N.left listener.new) (N.accepted listener.new) (N.noted listener.new)
         (N.listened listener.new) (N.faults listener.new)
         ≡ told (N.left listener.old) (N.accepted listener.old) (N.noted listener.old)
         (N.listened listener.old) (N.faults listener.old) }
