@@ -3,7 +3,7 @@
 
 use outside::{Sink, WriteSink};
 use sc_dial::{Dialer, TcpDialer};
-use sc_top::{ScFault, sc_main, status_of};
+use sc_top::{ScFault, finish, sc_main};
 use scm_text::{Items, Text};
 use standard_streams::fill_closed;
 use std::io::ErrorKind;
@@ -15,7 +15,7 @@ fn arguments<R: Env + AllocGlobal>(rt: &R) -> Result<Items<Text>, ScFault> {
     let mut words = Items::new(rt.alloc());
     let args = match std::env::args(rt) {
         Ok(args) => args,
-        Err(fault) if fault.kind() == ErrorKind::InvalidData => return Err(ScFault::Words),
+        Err(fault) if fault.kind() == ErrorKind::InvalidData => return Err(ScFault::Encoding),
         Err(_) => return Err(ScFault::OutOfMemory),
     };
     for word in args.skip(1) {
@@ -26,20 +26,25 @@ fn arguments<R: Env + AllocGlobal>(rt: &R) -> Result<Items<Text>, ScFault> {
     Ok(words)
 }
 
-/// The whole program. Its bounds give it no leave to write to standard error, nor to any place that
-/// it isn't handed.
-fn program<R: Env + AllocGlobal, D: Dialer, O: Sink>(rt: &R, dialer: &mut D, output: &mut O) -> u8 {
+/// The whole program. Its bounds give it no leave to write to any place that it isn't handed.
+fn program<R: Env + AllocGlobal, D: Dialer, O: Sink, E: Sink>(
+    rt: &R,
+    dialer: &mut D,
+    output: &mut O,
+    errors: &mut E,
+) -> u8 {
     match arguments(rt) {
-        Ok(words) => sc_main(rt.alloc(), &words, dialer, output),
-        Err(fault) => status_of(Err(fault)),
+        Ok(words) => sc_main(rt.alloc(), &words, dialer, output, errors),
+        Err(fault) => finish(&[], Err(fault), errors),
     }
 }
 
 fn main(rt: HostRuntime) -> ExitCode {
+    let mut errors = WriteSink::new(rt.stderr());
     if fill_closed(&rt).is_err() {
-        return ExitCode::from(status_of(Err(ScFault::Output)));
+        return ExitCode::from(finish(&[], Err(ScFault::Output), &mut errors));
     }
     let mut dialer = TcpDialer::new(rt);
     let mut output = WriteSink::new(rt.stdout());
-    ExitCode::from(program(&rt, &mut dialer, &mut output))
+    ExitCode::from(program(&rt, &mut dialer, &mut output, &mut errors))
 }

@@ -1,7 +1,7 @@
 //! What a command asks after answers, and what is printed of them.
 use crate::bytes::{say, show};
 use crate::words::command_of;
-use sc_words::{Command, Heard, is_refused, next_request, show_reply};
+use sc_words::{Command, Heard, failure_of, next_request, show_reply};
 use scm_model::{NewService, Reply, Request, Status};
 use scm_text::{Items, OutOfMemory};
 use std::alloc::Global;
@@ -88,7 +88,7 @@ fn show_text<W: Write>(
     command: &Command,
     heard: &Items<Heard>,
 ) -> io::Result<()> {
-    let refused = is_refused(command, heard);
+    let refused = failure_of(command, heard).is_some();
     say(out, &[if refused { "refused" } else { "not refused" }])?;
     match show_reply(alloc, command, heard) {
         Ok(text) => out.write_all(text.as_slice()),

@@ -21,12 +21,13 @@ pub struct Peer {
     prints: Vec<bool>,
 }
 
-/// Prints what a run came to.
+/// Prints what a run resulted in: its status, its connection, what it printed and its diagnostic.
 fn tell<W: Write>(
     out: &mut W,
     status: u8,
     dialer: &MemoryDialer,
     output: &MemorySink,
+    errors: &MemorySink,
 ) -> io::Result<()> {
     writeln!(out, "status {status}")?;
     if let Some(address) = dialer.address() {
@@ -35,7 +36,8 @@ fn tell<W: Write>(
     if let Some(written) = dialer.written() {
         show_pdus(out, written)?;
     }
-    out.write_all(output.bytes())
+    out.write_all(output.bytes())?;
+    out.write_all(errors.bytes())
 }
 
 /// Prints the text of the answers to a command over a connection, or why there is none.
@@ -98,11 +100,13 @@ impl Peer {
         } = replace(self, Peer::new(alloc));
         let mut dialer = MemoryDialer::new(alloc, MemorySource::new(sends, reads), dials, writes);
         let mut output = MemorySink::new(alloc, prints);
-        let status = sc_main(alloc, &words, &mut dialer, &mut output);
+        let mut errors = MemorySink::new(alloc, Vec::new(alloc));
+        let status = sc_main(alloc, &words, &mut dialer, &mut output, &mut errors);
         drop(words);
-        let told = tell(out, status, &dialer, &output);
+        let told = tell(out, status, &dialer, &output, &errors);
         drop(dialer);
         drop(output);
+        drop(errors);
         told
     }
 

@@ -1,6 +1,6 @@
 -- A run without faults has the status of the peer's bytes.
 use Rattle.std.proofs.Common.{◌≡◌, ℕ, List, [], ◌++◌, sym, ap, ◌∙◌, subst, refl, append-nil, inl, inr}
-use Rattle.std.specs.Prelude.{Bool, Option, None, Some, IfSome, IfOk, Result, Ok, Err}
+use Rattle.std.specs.Prelude.{Option, None, Some, is_some, IfSome, IfOk, Result, Ok, Err}
 use Rattle.std.specs.Io.KnownBytes.{Consumes, IsAtEnd}
 use Rattle.outside.specs.Causes.{Rose}
 use Rattle.sc_client.specs.declared.fault.ClientFault.TheVariants as client
@@ -9,8 +9,9 @@ use Rattle.sc_client.specs.Talks.{TalkEnd, followed}
 use Rattle.sc_top.specs.declared.fault.ScFault.{ScFault}
 use Rattle.sc_top.specs.declared.fault.ScFault.TheVariants as faults
 use Rattle.sc_top.specs.Runs.{Outside, EndsWith, HasRun, IsComplete, IsUnlessMemory, status_due, status_of, status_of_text}
+use Rattle.sc_words.specs.declared.calls.Failure.{Failure}
 use Rattle.sc_words.specs.declared.command.Command.{Command}
-use Rattle.sc_words.specs.Told.{is_refused}
+use Rattle.sc_words.specs.Told.{failure_of}
 
 -- what was read stands at the front of what the peer sends
 rest_of : (left : Option (List ℕ)) (bytes read : List ℕ) → Consumes (Some bytes) left read → (rest : List ℕ) × (bytes ≡ read ++ rest)
@@ -27,12 +28,13 @@ due_by c next left bytes read text ending is x e =
     let rest = rest_of left bytes read (subst (λ n. Consumes n left read) is x) in
     ap (followed c) rest.1 ∙ e.told rest.0
 
-due : (c : Command) (o : Outside) (bytes : List ℕ) → o.next ≡ Some bytes → (status : ℕ) (how : Result Bool ScFault) → HasRun c o how
+due : (c : Command) (o : Outside) (bytes : List ℕ) → o.next ≡ Some bytes → (status : ℕ) (how : Result (Option Failure) ScFault) → HasRun c o how
     → (Rose o.dialer o.dialer_now → ⊥) → (Rose o.output o.output_now → ⊥) → status ≡ status_of how → IsUnlessMemory (status_due c (followed c bytes)) status
-due c o bytes is status (Ok refused) x undialled unwritten e =
+due c o bytes is status (Ok failure) x undialled unwritten e =
     let run = x.1.run in
-    inl (e ∙ ap status_of_text (x.3 ∙ ap (is_refused c) (sym run.reached.1)) ∙ sym (ap (status_due c) (due_by c o.next x.1.left bytes run.read run.text _ is run.consumed run.reached.0)))
-due c o bytes is status (Err faults.Words) x undialled unwritten e = absurd x
+    inl (e ∙ ap (λ f. status_of_text (is_some f)) (x.3 ∙ ap (failure_of c) (sym run.reached.1)) ∙ sym (ap (status_due c) (due_by c o.next x.1.left bytes run.read run.text _ is run.consumed run.reached.0)))
+due c o bytes is status (Err (faults.Words place)) x undialled unwritten e = absurd x
+due c o bytes is status (Err faults.Encoding) x undialled unwritten e = absurd x
 due c o bytes is status (Err faults.Dial) x undialled unwritten e = absurd (undialled x.1)
 due c o bytes is status (Err (faults.Client client.ReadFault)) x undialled unwritten e = absurd (undialled x.1)
 due c o bytes is status (Err (faults.Client client.WriteFault)) x undialled unwritten e = absurd (undialled x.1)
@@ -50,8 +52,8 @@ if_told : {A : Type 0} {P : A → Type 0} (o : Option A) → ((x : A) → o ≡ 
 if_told None f = tt
 if_told (Some x) f = f x refl
 
-pub complete : (c : Command) (o : Outside) (status : ℕ) → EndsWith c o status → IsComplete c o status
-complete c o status e = if_told o.next (λ bytes is undialled unwritten. due c o bytes is status e.how e.run undialled unwritten e.status_is)
+pub complete : (words : List (List ℕ)) (c : Command) (o : Outside) (held held_now : Option (List ℕ)) (before now status : ℕ) → EndsWith words c o held held_now before now status → IsComplete c o status
+complete words c o held held_now before now status e = if_told o.next (λ bytes is undialled unwritten. due c o bytes is status e.how e.run undialled unwritten e.told.status_is)
 
 -- whatever command the words are
 pub of_any : (P : Command → Type 0) (told : Result Command ℕ) → ((c : Command) → P c) → IfOk told P

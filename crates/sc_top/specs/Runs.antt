@@ -1,5 +1,5 @@
--- What a run of the client comes to: its status, its connection and what it printed.
-use Rattle.std.specs.Prelude.{ℕ, ◌≡◌, Bool, true, false, List, [], Option, None, Some, IfSome, Result, Ok, Err, if◌then◌else◌, ◌⊎◌}
+-- What a run of the client results in: its status, its connection, what it printed and its diagnostic.
+use Rattle.std.specs.Prelude.{ℕ, ◌≡◌, Bool, List, [], Option, is_some, IfSome, Result, Ok, Err, if◌then◌else◌, ◌⊎◌}
 use Rattle.std.specs.Io.KnownBytes.{Appends}
 use Rattle.outside.specs.Causes.{Rose}
 use Rattle.outside.specs.Written.{AppendsFront}
@@ -10,14 +10,17 @@ use Rattle.sc_client.specs.Talks.{Followed, TalkEnd, Over, Bad, Early, followed}
 use Rattle.sc_dial.specs.Connections.{PastConnection, IsGivenBack}
 use Rattle.sc_top.specs.declared.fault.ScFault.{ScFault}
 use Rattle.sc_top.specs.declared.fault.ScFault.TheVariants as faults
+use Rattle.sc_top.specs.Diagnostics.{IsWritten, diagnostic}
+use Rattle.sc_words.specs.declared.calls.Failure.{Failure}
 use Rattle.sc_words.specs.declared.calls.Heard.{Heard}
 use Rattle.sc_words.specs.declared.command.Command.{Command}
-use Rattle.sc_words.specs.Told.{is_refused, told_text}
+use Rattle.sc_words.specs.Told.{failure_of, told_text}
 
 -- ## Statuses
 
 abbrev pub status_of_fault : ScFault → ℕ
-status_of_fault faults.Words = 2
+status_of_fault (faults.Words place) = 2
+status_of_fault faults.Encoding = 2
 status_of_fault faults.Dial = 3
 status_of_fault (faults.Client client.ReadFault) = 3
 status_of_fault (faults.Client client.WriteFault) = 3
@@ -31,8 +34,8 @@ status_of_fault faults.OutOfMemory = 8
 abbrev pub status_of_text : Bool → ℕ
 status_of_text refused = if refused then 1 else 0
 
-abbrev pub status_of : Result Bool ScFault → ℕ
-status_of (Ok refused) = status_of_text refused
+abbrev pub status_of : Result (Option Failure) ScFault → ℕ
+status_of (Ok failure) = status_of_text (is_some failure)
 status_of (Err fault) = status_of_fault fault
 
 -- ## A run
@@ -79,21 +82,32 @@ IsDialerCaused client.WriteFault dialer dialer_now = Rose dialer dialer_now
 IsDialerCaused _ dialer dialer_now = Unit {0}
 
 -- What a command's run did by how it ended. With all answers its text was printed, and nothing is printed of fewer.
-abbrev pub HasRun : Command → Outside → Result Bool ScFault → Type 0
-HasRun c o (Ok refused) =
-    (heard : List Heard) × IsCalled c o.next o.past o.past_now (Ok heard) × Appends o.held o.held_now (told_text c heard) × (refused ≡ is_refused c heard)
-HasRun c o (Err faults.Words) = ⊥
+abbrev pub HasRun : Command → Outside → Result (Option Failure) ScFault → Type 0
+HasRun c o (Ok failure) =
+    (heard : List Heard) × IsCalled c o.next o.past o.past_now (Ok heard) × Appends o.held o.held_now (told_text c heard) × (failure ≡ failure_of c heard)
+HasRun c o (Err (faults.Words place)) = ⊥
+HasRun c o (Err faults.Encoding) = ⊥
 HasRun c o (Err faults.Dial) = (o.past_now ≡ o.past) × Rose o.dialer o.dialer_now × (o.held_now ≡ o.held)
 HasRun c o (Err (faults.Client fault)) = IsCalled c o.next o.past o.past_now (Err fault) × IsDialerCaused fault o.dialer o.dialer_now × (o.held_now ≡ o.held)
 HasRun c o (Err faults.Output) =
     (heard : List Heard) × IsCalled c o.next o.past o.past_now (Ok heard) × AppendsFront o.held o.held_now (told_text c heard) × Rose o.output o.output_now
 HasRun c o (Err faults.OutOfMemory) = ((o.past_now ≡ o.past) ⊎ ((heard : List Heard) × IsCalled c o.next o.past o.past_now (Ok heard))) × (o.held_now ≡ o.held)
 
--- a run ended so, with this status
-pub record EndsWith (c : Command) (o : Outside) (status : ℕ) : Type 0 where
-  pub how : Result Bool ScFault
-  pub run : HasRun c o how
+-- how a run ended, as the program tells it: by its status, and by a diagnostic on standard error
+pub record IsTold (words : List (List ℕ)) (how : Result (Option Failure) ScFault) (held held_now : Option (List ℕ)) (faults faults_now status : ℕ) : Type 0 where
   pub status_is : status ≡ status_of how
+  pub written : IsWritten (diagnostic words how) held held_now faults faults_now
+
+-- a command's run ended in a way that is told so
+pub record EndsWith (words : List (List ℕ)) (c : Command) (o : Outside) (held held_now : Option (List ℕ)) (faults faults_now status : ℕ) : Type 0 where
+  pub how : Result (Option Failure) ScFault
+  pub run : HasRun c o how
+  pub told : IsTold words how held held_now faults faults_now status
+
+-- arguments are no command, by the one at this place; or memory ran out
+abbrev pub IsNoCommand : (words : List (List ℕ)) → (place : ℕ) → (held held_now : Option (List ℕ)) → (faults faults_now status : ℕ) → Type 0
+IsNoCommand words place held held_now before now status =
+    IsTold words (Err (faults.Words place)) held held_now before now status ⊎ IsTold words (Err faults.OutOfMemory) held held_now before now status
 
 -- ## Completeness
 
@@ -108,7 +122,7 @@ status_at Early refused = 4
 
 -- the status that a command has by what its peer sends
 abbrev pub status_due : Command → Followed → ℕ
-status_due c f = status_at f.ending (is_refused c f.talk.heard)
+status_due c f = status_at f.ending (is_some (failure_of c f.talk.heard))
 
 -- where no count rose and the dialer tells, the status is that of the peer's bytes
 abbrev pub IsComplete : Command → Outside → (status : ℕ) → Type 0

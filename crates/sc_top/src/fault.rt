@@ -2,13 +2,17 @@ ghost use Rattle.std.specs.Prelude.{◌≡◌};
 ghost use Rattle.sc_top.specs.Runs.{status_of, status_of_fault};
 
 use sc_client::ClientFault;
+use sc_words::Failure;
 use thiserror::Error;
 
 /// Why a run of the client didn't print its text.
 #[derive(Clone, Copy, Debug, PartialEq, Eq, Error)]
 pub enum ScFault {
-    #[error("the words are no command")]
-    Words,
+    /// The first argument that doesn't fit, counted from 0, or the count of them if one is missing.
+    #[error("argument {0} doesn't fit")]
+    Words(usize),
+    #[error("an argument isn't UTF-8")]
+    Encoding,
     #[error("the manager can't be reached")]
     Dial,
     #[error("{0}")]
@@ -24,7 +28,7 @@ fn status_of_fault(fault: ScFault) -> u8
     ensures { result ≡ status_of_fault fault }
 {
     match fault {
-        ScFault::Words => 2,
+        ScFault::Words(_) | ScFault::Encoding => 2,
         ScFault::Dial | ScFault::Output => 3,
         ScFault::Client(ClientFault::ReadFault | ClientFault::WriteFault) => 3,
         ScFault::Client(ClientFault::BadReply(_) | ClientFault::Truncated) => 4,
@@ -32,13 +36,13 @@ fn status_of_fault(fault: ScFault) -> u8
     }
 }
 
-/// The status of a run, by whether a call was refused or why its text wasn't printed.
-pub fn status_of(how: Result<bool, ScFault>) -> u8
+/// The status of a run, by why a call didn't succeed or why its text wasn't printed.
+pub fn status_of(how: Result<Option<Failure>, ScFault>) -> u8
     ensures { result ≡ status_of how }
 {
     match how {
-        Ok(false) => 0,
-        Ok(true) => 1,
+        Ok(None) => 0,
+        Ok(Some(_)) => 1,
         Err(fault) => status_of_fault(fault),
     }
 }

@@ -5,7 +5,7 @@ use super::fault::ScFault;
 use outside::{Sink, write_all};
 use sc_client::run_command;
 use sc_dial::{Connection, Dialer};
-use sc_words::{Command, Heard, is_refused, show_reply};
+use sc_words::{Command, Failure, Heard, failure_of, show_reply};
 use scm_text::Items;
 use std::alloc::Global;
 
@@ -34,13 +34,13 @@ pub fn hear<D: Dialer>(
     }
 }
 
-/// Prints the text of the answers, and tells whether a call was refused.
+/// Prints the text of the answers, and tells why a call didn't succeed, if one didn't.
 pub fn show<O: Sink>(
     alloc: Global,
     command: &Command,
     heard: &Items<Heard>,
     output: &mut O,
-) -> Result<bool, ScFault>
+) -> Result<Option<Failure>, ScFault>
     ensures shown { HasShown command.now heard.now (O.held output.old) (O.held output.new)
         (O.faults output.old) (O.faults output.new) result }
     ensures grows { O.faults output.old ≤ O.faults output.new }
@@ -51,5 +51,5 @@ pub fn show<O: Sink>(
     if write_all(output, text.as_slice()).is_err() || output.flush().is_err() {
         return Err(ScFault::Output);
     }
-    Ok(is_refused(command, heard))
+    Ok(failure_of(command, heard))
 }

@@ -3,6 +3,8 @@ use Rattle.std.specs.Prelude.{ℕ, ◌+◌, ◌-◌, ◌==◌, Bool, true, false
 use Rattle.std.specs.List.{flat_map}
 use Rattle.scm_model.specs.declared.calls.Reply.{Reply}
 use Rattle.scm_model.specs.declared.calls.Reply.TheVariants as reply
+use Rattle.sc_words.specs.declared.calls.Failure.{Failure}
+use Rattle.sc_words.specs.declared.calls.Failure.TheVariants as failure
 use Rattle.sc_words.specs.declared.calls.Heard.{Heard}
 use Rattle.sc_words.specs.declared.calls.Heard.TheVariants as heard
 use Rattle.sc_words.specs.declared.calls.Method.{Method}
@@ -63,6 +65,11 @@ code_heard (reply.Notice mask status name code) = code
 abbrev pub is_good : Heard → Bool
 is_good (heard.Reply r) = code_heard r == 0
 is_good (heard.Fault status) = false
+
+-- why a call didn't succeed that was answered so
+abbrev pub failure_heard : Heard → Failure
+failure_heard (heard.Reply r) = failure.Refused (code_heard r)
+failure_heard (heard.Fault status) = failure.Fault status
 
 -- how many calls succeeded before the first that didn't, or that isn't answered yet
 unfoldable pub succeeded : List Method → List Heard → ℕ

@@ -1,9 +1,10 @@
 -- What is printed of the replies.
-use Rattle.std.specs.Prelude.{ℕ, Bool, true, false, List, [], ◌∷◌, ◌++◌, slice_get, Option, None, Some, codes, decimal, ◌==◌, if◌then◌else◌}
+use Rattle.std.specs.Prelude.{ℕ, List, [], ◌∷◌, ◌++◌, slice_get, Option, None, Some, codes, decimal, ◌==◌, if◌then◌else◌}
 use Rattle.scm_model.specs.declared.calls.Reply.{Reply}
 use Rattle.scm_model.specs.declared.calls.Reply.TheVariants as reply
 use Rattle.scm_model.specs.declared.codes.TheConstants.{SERVICE_STOPPED, SERVICE_START_PENDING, SERVICE_STOP_PENDING, SERVICE_RUNNING, SERVICE_CONTINUE_PENDING, SERVICE_PAUSE_PENDING, SERVICE_PAUSED}
 use Rattle.scm_model.specs.declared.flat.Status.{Status}
+use Rattle.sc_words.specs.declared.calls.Failure.{Failure}
 use Rattle.sc_words.specs.declared.calls.Heard.{Heard}
 use Rattle.sc_words.specs.declared.calls.Heard.TheVariants as heard
 use Rattle.sc_words.specs.declared.calls.Method.{Method}
@@ -11,7 +12,7 @@ use Rattle.sc_words.specs.declared.calls.Method.TheVariants as method
 use Rattle.sc_words.specs.declared.command.Command.{Command}
 use Rattle.sc_words.specs.declared.command.Task.{Task}
 use Rattle.sc_words.specs.declared.command.Task.TheVariants as task
-use Rattle.sc_words.specs.Calls.{Standing, Asks, Failed, Done, stage_of, code_heard}
+use Rattle.sc_words.specs.Calls.{Standing, Asks, Failed, Done, stage_of, code_heard, failure_heard}
 use Rattle.sc_words.specs.Texts.{printed}
 
 abbrev pub method_name : Method → List ℕ
@@ -96,10 +97,10 @@ told_at Done c hs = done_text c.name c.task hs
 unfoldable pub told_text : Command → List Heard → List ℕ
 told_text c hs = told_at (stage_of c.task hs) c hs
 
-abbrev pub is_failure : Standing → Bool
-is_failure (Failed m h) = true
-is_failure _ = false
+abbrev pub failure_at : Standing → Option Failure
+failure_at (Failed m h) = Some (failure_heard h)
+failure_at _ = None
 
--- whether a call was refused or met a fault
-unfoldable pub is_refused : Command → List Heard → Bool
-is_refused c hs = is_failure (stage_of c.task hs)
+-- why a call didn't succeed, if one didn't
+unfoldable pub failure_of : Command → List Heard → Option Failure
+failure_of c hs = failure_at (stage_of c.task hs)

@@ -1,5 +1,5 @@
 ghost use Rattle.std.specs.Prelude.{◌≡◌, ◌≤◌, ◌∷◌, Some, length};
-ghost use Rattle.sc_words.specs.Calls.{and_delay, calls_of, closed, code_heard, delay_of_change, delay_of_creation, given, handle_before, handle_in, handle_heard, is_good, stage_of, succeeded};
+ghost use Rattle.sc_words.specs.Calls.{and_delay, calls_of, closed, code_heard, delay_of_change, delay_of_creation, failure_heard, given, handle_before, handle_in, handle_heard, is_good, stage_of, succeeded};
 ghost use Rattle.sc_words.specs.Seen.{seen_standing};
 ghost use Rattle.sc_words.specs.declared.calls.Method.TheVariants.{ChangeServiceConfig, CreateService, OpenSCManager, OpenService};
 
@@ -36,6 +36,15 @@ impl Drop for Heard {
             Heard::Fault(_) => {}
         }
     }
+}
+
+/// Why a call didn't succeed.
+#[derive(Clone, Copy, PartialEq, Eq)]
+pub enum Failure {
+    /// It was refused with this code (MS-ERREF).
+    Refused(u32),
+    /// It met a fault of this status (C706, appendix E).
+    Fault(u32),
 }
 
 /// Where the calls of a task stand.
@@ -174,6 +183,16 @@ impl Heard {
         match self {
             Heard::Reply(reply) => code_heard(reply) == ERROR_SUCCESS,
             Heard::Fault(_) => false,
+        }
+    }
+
+    /// Why a call didn't succeed that was answered so.
+    pub fn failure(&self) -> Failure
+        ensures { result ≡ failure_heard self.now }
+    {
+        match self {
+            Heard::Reply(reply) => Failure::Refused(code_heard(reply)),
+            Heard::Fault(status) => Failure::Fault(*status),
         }
     }
 

@@ -13,12 +13,12 @@ mod values;
 mod verb;
 
 pub use asking::next_request;
-pub use calls::{Heard, Method};
+pub use calls::{Failure, Heard, Method};
 pub use command::{Command, Task};
 pub use fault::WordsFault;
 pub use reading::read_words;
 pub use settings::{Key, Settings};
-pub use showing::{is_refused, show_reply};
+pub use showing::{failure_of, show_reply};
 pub use texts::word_text;
 pub use values::StartType;
-pub use verb::Verb;
+pub use verb::{Verb, verb_named};

@@ -1,9 +1,9 @@
 ghost use Rattle.std.specs.Prelude.{◌≡◌, ◌<◌, ◌≤◌, ◌++◌, ◌∷◌, IfOk, OnOk, codes, decimal, drop, length, slice_get, string_bytes};
 ghost use Rattle.std.specs.Char.Utf16.{utf16_chars};
 ghost use Rattle.sc_words.specs.Texts.{printed};
-ghost use Rattle.sc_words.specs.Told.{call_line, done_text, exit_lines, failed_line, is_refused, labelled, method_name, state_lines, state_name, status_at, status_text, success, told_text};
+ghost use Rattle.sc_words.specs.Told.{call_line, done_text, exit_lines, failed_line, failure_of, labelled, method_name, state_lines, state_name, status_at, status_text, success, told_text};
 
-use super::calls::{Heard, Method, Stage, code_heard, stage_of};
+use super::calls::{Failure, Heard, Method, Stage, code_heard, stage_of};
 use super::command::{Command, Task};
 use scm_model::codes::{
     SERVICE_CONTINUE_PENDING, SERVICE_PAUSE_PENDING, SERVICE_PAUSED, SERVICE_RUNNING,
@@ -239,13 +239,13 @@ pub fn show_reply(
     Ok(text)
 }
 
-/// Whether a call was refused, or met a fault.
-#[tactic(auto, unfolding(crate::specs::Told::is_refused))]
-pub fn is_refused(command: &Command, heard: &Items<Heard>) -> bool
-    ensures { result ≡ is_refused command.now heard.now }
+/// Why a call didn't succeed, if one didn't.
+#[tactic(auto, unfolding(crate::specs::Told::failure_of))]
+pub fn failure_of(command: &Command, heard: &Items<Heard>) -> Option<Failure>
+    ensures { result ≡ failure_of command.now heard.now }
 {
-    matches!(
-        stage_of(&command.task, heard.as_slice()),
-        Stage::Failed(_, _)
-    )
+    match stage_of(&command.task, heard.as_slice()) {
+        Stage::Failed(_, failed) => Some(failed.failure()),
+        _ => None,
+    }
 }

@@ -22,7 +22,9 @@ fn prints<D: Dialer>(alloc: Global, dialer: &mut D, address: &str, row: &Row) ->
         && put_words(alloc, &mut words, row.words, '|').is_some();
     let words = Items::from_vec(words);
     let mut output = MemorySink::new(alloc, Vec::new(alloc));
-    let status = sc_main(alloc, &words, dialer, &mut output);
+    let mut errors = MemorySink::new(alloc, Vec::new(alloc));
+    let status = sc_main(alloc, &words, dialer, &mut output, &mut errors);
+    drop(errors);
     let is_so = is_put && status == row.status && output.bytes() == row.text.as_bytes();
     drop(output);
     drop(words);
