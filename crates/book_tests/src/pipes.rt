@@ -40,6 +40,20 @@ const TEXTS: [u8; 152] = [
     0, 0, 0, 0, 0, 0, 0, 0, 0, 0, 0, 0, 0, 0, 0, 0, // no handle
 ];
 
+/// A bind, and a manager that is opened by the name of its database, ServicesActive.
+const NAMED: [u8; 152] = [
+    5, 0, 0xb, 3, 0x10, 0, 0, 0, 0x48, 0, 0, 0, 1, 0, 0, 0, //
+    0xd0, 0x16, 0xd0, 0x16, 0, 0, 0, 0, 1, 0, 0, 0, 0, 0, 1, 0, //
+    0x81, 0xbb, 0x7a, 0x36, 0x44, 0x98, 0xf1, 0x35, 0xad, 0x32, 0x98, 0xf0, 0x38, 0, 0x10, 3, //
+    2, 0, 0, 0, 4, 0x5d, 0x88, 0x8a, 0xeb, 0x1c, 0xc9, 0x11, 0x9f, 0xe8, 8, 0, //
+    0x2b, 0x10, 0x48, 0x60, 2, 0, 0, 0, // the bind
+    5, 0, 0, 3, 0x10, 0, 0, 0, 0x50, 0, 0, 0, 2, 0, 0, 0, //
+    0x38, 0, 0, 0, 0, 0, 0xf, 0, 0, 0, 0, 0, 1, 0, 0, 0, //
+    0xf, 0, 0, 0, 0, 0, 0, 0, 0xf, 0, 0, 0, 0x53, 0, 0x65, 0, //
+    0x72, 0, 0x76, 0, 0x69, 0, 0x63, 0, 0x65, 0, 0x73, 0, 0x41, 0, 0x63, 0, //
+    0x74, 0, 0x69, 0, 0x76, 0, 0x65, 0, 0, 0, 0, 0, 0, 0, 0, 0, // the opening
+];
+
 /// A bind to svcctl as context 0 and to the trigger interface as context 1, and a raise.
 const RAISE: [u8; 156] = [
     5, 0, 0xb, 3, 0x10, 0, 0, 0, 0x74, 0, 0, 0, 1, 0, 0, 0, //
@@ -67,20 +81,23 @@ const RAISE_TEXTS: [u8; 108] = [
 ];
 
 /// What is sent, all that it may be answered, how many steps the limits have room for beside the
-/// caller's coming and going, how the connection ends, and how many bytes it is answered.
+/// caller's coming and going, for how many bytes of text, how the connection ends, and how many
+/// bytes it is answered.
 struct Row {
     session: &'static [u8],
     texts: &'static [u8],
     calls: u8,
+    text: u8,
     end: Served,
     answered: usize,
 }
 
-const SESSIONS: [Row; 3] = [
+const SESSIONS: [Row; 5] = [
     Row {
         session: &SESSION,
         texts: &TEXTS,
         calls: 0,
+        text: 0,
         end: Served::Full,
         answered: 56,
     },
@@ -88,6 +105,7 @@ const SESSIONS: [Row; 3] = [
         session: &SESSION,
         texts: &TEXTS,
         calls: 1,
+        text: 0,
         end: Served::Full,
         answered: 104,
     },
@@ -95,8 +113,26 @@ const SESSIONS: [Row; 3] = [
         session: &SESSION,
         texts: &TEXTS,
         calls: 2,
+        text: 0,
         end: Served::Ended,
         answered: 152,
+    },
+    // The name has 14 units of two bytes each.
+    Row {
+        session: &NAMED,
+        texts: &TEXTS,
+        calls: 1,
+        text: 27,
+        end: Served::Full,
+        answered: 56,
+    },
+    Row {
+        session: &NAMED,
+        texts: &TEXTS,
+        calls: 1,
+        text: 28,
+        end: Served::Ended,
+        answered: 104,
     },
 ];
 
@@ -105,6 +141,7 @@ const RAISES: [Row; 2] = [
         session: &RAISE,
         texts: &RAISE_TEXTS,
         calls: 0,
+        text: 0,
         end: Served::Full,
         answered: 80,
     },
@@ -112,13 +149,14 @@ const RAISES: [Row; 2] = [
         session: &RAISE,
         texts: &RAISE_TEXTS,
         calls: 1,
+        text: 0,
         end: Served::Ended,
         answered: 108,
     },
 ];
 
-/// Limits with room for so many steps beside a caller's coming and going.
-fn limits(calls: u8) -> Limits
+/// Limits with room for so many steps beside a caller's coming and going, and for so much text.
+fn limits(calls: u8, text: u8) -> Limits
     ensures small { AreSmall result }
     ensures callers { result.callers ≡ 1 }
     ensures steps { 2 ≤ result.steps }
@@ -131,7 +169,7 @@ fn limits(calls: u8) -> Limits
         processes: 1,
         controls: 1,
         steps: 2 + u64::from(calls),
-        text: 1024,
+        text: u64::from(text),
     }
 }
 
@@ -143,7 +181,7 @@ fn ends_so<R: Wait>(
     input: &mut MemorySource,
     output: &mut MemorySink,
 ) -> bool {
-    match new_manager(alloc, limits(row.calls)) {
+    match new_manager(alloc, limits(row.calls, row.text)) {
         Ok(manager) => {
             let keeper = MemoryKeeper::new(Vec::new(alloc), Vec::new(alloc));
             let clock = FixedClock { moment: 0 };

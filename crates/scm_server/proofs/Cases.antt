@@ -1,5 +1,5 @@
 -- What becomes of a connection: the first case from a join that was refused, the second from a caller's pass that was spent.
-use Rattle.std.proofs.Common.{◌≡◌, ◌≢◌, ◌∙◌, ℕ, true, false, List, [], ◌∷◌, ◌++◌, length, Option, None, Some, refl, sym, ap, subst, inl, inr, eq-eqb}
+use Rattle.std.proofs.Common.{◌≡◌, ◌≢◌, ◌∙◌, ℕ, true, false, List, [], ◌∷◌, ◌++◌, length, map, Option, None, Some, refl, sym, ap, subst, inl, inr, eq-eqb}
 use Rattle.std.specs.Prelude.{IfSome}
 use Rattle.std.proofs.lemmas.List.Elements.{All-cons}
 use mathlib.Core.List.{IsPrefix}
@@ -32,7 +32,9 @@ use Rattle.conn_desk.specs.declared.served.Served.TheVariants as served
 use Rattle.conn_desk.specs.Bodies.{asked}
 use Rattle.conn_desk.specs.Connection.{IsServedFor, Reached}
 use Rattle.conn_worker.specs.Connecting.{Connects, HasNoRoomFor}
-use Rattle.conn_worker.specs.Owning.{Owns, StandAt}
+use Rattle.conn_worker.specs.Owning.{FoundRoom, HadRoom, Owns, StandAt, unowed_places}
+use Rattle.conn_worker.specs.Serving.{step_for}
+use Rattle.conn_worker.proofs.Owning.{found_behind, had_behind, had_room}
 use Rattle.scm_listener.specs.Connections.{PastConnection}
 use Rattle.scm_server.specs.Handling.{Handed, HasNoRoomBehind, IsHandledAs, JoinedBehind, NamedOnlyAt, StandsForIt, WasRefused, is_without_memory, wants_memory}
 use Rattle.scm_server.specs.Pairs.{IsRising}
@@ -76,6 +78,8 @@ module _ (tells : ℕ → Type 0) (o : Opening) (begins : IsOpening o.limits o.f
     last = s.last;
     stand = stand_behind o log later s.places (made_of (s.joined, Joined principal) (answers.Caller caller) ∷ s.entries) is s.stand;
     goes = stands_behind o log later s.last (made_of (s.gone, Gone caller) answers.Done) is s.goes;
+    found = found_behind o log later (unowed_places s.places (made_of (s.joined, Joined principal) (answers.Caller caller) ∷ s.entries))
+        (Joined principal ∷ map (step_for caller) (asked s.done)) is s.found;
     rising = s.rising;
     ahead = s.ahead;
     no_other = named_only o begins caller log later (s.places ++ s.last ∷ []) s.last s.gone is legal s.goes s.no_other;
@@ -171,6 +175,18 @@ module _ (tells : ℕ → Type 0) (o : Opening) (begins : IsOpening o.limits o.f
         subst (λ (places : List ℕ). StandAt o spent.seen places (made_of (moment, Joined principal) (answers.Caller p.caller) ∷ connects.entries ++ made_of (connects.moment, Gone p.caller) answers.Done ∷ [])) gone.own
         (connects.adds.own (made_of (moment, Joined principal) (answers.Caller p.caller) ∷ []) joined_stands)
 
+    joining_found : HadRoom o spent.seen (length joins.made.made.before) (Joined principal)
+    joining_found =
+        had_behind o p.seen spent.seen (length joins.made.made.before) (Joined principal) connects.adds.longer
+        (had_room o (fresh by) p moment (Joined principal) (answers.Caller p.caller) joins.made.made (Joined principal) joins.made.room)
+
+    all_found : FoundRoom o spent.seen (unowed_places connects.stood.own (made_of (moment, Joined principal) (answers.Caller p.caller) ∷ connects.entries))
+        (Joined principal ∷ map (step_for p.caller) (asked connects.done))
+    all_found =
+        subst (λ (places : List ℕ). FoundRoom o spent.seen (unowed_places places (made_of (moment, Joined principal) (answers.Caller p.caller) ∷ connects.entries))
+        (Joined principal ∷ map (step_for p.caller) (asked connects.done)))
+        (sym (connects.own ∙ ap (λ (own : List ℕ). own ++ connects.places) joins.made.made.own)) (joining_found, connects.found)
+
     only : p.caller ≢ 0 → NamedOnlyAt spent.seen p.caller (connects.stood.own ++ length gone.before ∷ [])
     only some front e rest split named =
         let same : connects.stood.caller ≡ p.caller = goes_stood.caller in
@@ -215,6 +231,7 @@ module _ (tells : ℕ → Type 0) (o : Opening) (begins : IsOpening o.limits o.f
           last = length gone.before;
           stand = but_last o spent.seen connects.stood.own (length gone.before) (one ∷ connects.entries) last all_stand;
           goes = record { front = gone.before; rest = []; is = gone.seen; at = refl; told = gone.answer };
+          found = all_found;
           rising = subst IsRising gone.own (rises o connects.stood spent connects.moment (Gone p.caller) answers.Done gone (goes_stood.rising one_rises));
           ahead = gone.until.within;
           no_other = only some;

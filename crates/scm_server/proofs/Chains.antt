@@ -8,7 +8,7 @@ use Rattle.scm_model.specs.declared.steps.Step.TheVariants.{Call, EndStart, NoMe
 use Rattle.book_rule.specs.declared.view.Opening.{Opening}
 use Rattle.book_rule.proofs.Prefixes.{prefix_length}
 use Rattle.scm_book.specs.Called.{RaisedSo}
-use Rattle.scm_book.specs.Passes.{Known, Learnt, Made, MadeSo}
+use Rattle.scm_book.specs.Passes.{Known, Learnt, Made}
 use Rattle.conn_desk.specs.declared.asked.Asked.{Asked}
 use Rattle.conn_desk.specs.declared.asked.Asked.TheVariants as asks
 use Rattle.conn_desk.specs.declared.served.Served.{Served}
@@ -17,7 +17,7 @@ use Rattle.conn_desk.specs.Desks.{Chain}
 use Rattle.conn_desk.specs.Serves.{Leaves}
 use Rattle.conn_worker.specs.Serving.{IsServed}
 use Rattle.conn_worker.specs.Waiting.{Turns, Waits, WaitsOnce}
-use Rattle.conn_worker.proofs.Owning.{want_made}
+use Rattle.conn_worker.proofs.Owning.{Lacked, want_made}
 use Rattle.scm_server.specs.Pairs.{IsRising}
 use Rattle.scm_server.proofs.Lists.{pairwise_more}
 
@@ -59,7 +59,7 @@ module _ (o : Opening) where
 
   of_served : (tells : ℕ → Type 0) (k k' : Known) (asked : Asked) (heard : Option Reply) → IsServed true tells o k k' asked heard → Goes k k'
   of_served tells k k' asked None wanted =
-      let made : MadeSo o k wanted.moment (NoMemory k.caller) answers.Done k' = want_made o k k' wanted.moment asked wanted.wants in
+      let made : Lacked o k wanted.moment asked k' = want_made o k k' wanted.moment asked wanted.wants in
       goes_made k k' wanted.moment (NoMemory k.caller) answers.Done made.made made.made.caller
   of_served tells k k' (asks.Raise subtype) (Some reply) raised =
       let made : RaisedSo o k raised.moment subtype reply k' = raised.made in

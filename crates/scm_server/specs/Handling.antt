@@ -1,5 +1,5 @@
 -- What becomes of a connection at the book: it was refused, or a caller of the history stands for it.
-use Rattle.std.specs.Prelude.{ℕ, ◌≡◌, ◌≤◌, ◌<◌, ◌^◌, ◌⊎◌, ◌++◌, Bool, true, false, List, [], ◌∷◌, length, Option, None, Some, IfSome}
+use Rattle.std.specs.Prelude.{ℕ, ◌≡◌, ◌≤◌, ◌<◌, ◌^◌, ◌⊎◌, ◌++◌, Bool, true, false, List, [], ◌∷◌, length, map, Option, None, Some, IfSome}
 use Rattle.std.specs.Io.KnownBytes.{Appends, Consumes}
 use mathlib.Core.List.{IsPrefix}
 use Rattle.scm_model.specs.declared.calls.Reply.{Reply}
@@ -21,7 +21,7 @@ use Rattle.conn_desk.specs.declared.served.Served.{Served}
 use Rattle.conn_desk.specs.declared.served.Served.TheVariants as served
 use Rattle.conn_desk.specs.Bodies.{asked}
 use Rattle.conn_desk.specs.Connection.{IsServedFor, Reached}
-use Rattle.conn_worker.specs.Owning.{AreOfAll, AreTold, StandAt, StandsAt}
+use Rattle.conn_worker.specs.Owning.{AreOfAll, AreTold, FoundRoom, StandAt, StandsAt, unowed_places}
 use Rattle.conn_worker.specs.Serving.{step_for}
 use Rattle.scm_listener.specs.Connections.{PastConnection}
 use Rattle.scm_server.specs.Pairs.{IsRising}
@@ -96,6 +96,9 @@ pub record StandsForIt (tells : ℕ → Type 0) (o : Opening) (log : List Entry)
   pub last : ℕ
   pub stand : StandAt o log places (made_of (joined, Joined principal) (answers.Caller caller) ∷ entries)
   pub goes : StandsAt o log last (made_of (gone, Gone caller) answers.Done)
+  -- its joining and each request found room in the state of its place
+  pub found : FoundRoom o log (unowed_places places (made_of (joined, Joined principal) (answers.Caller caller) ∷ entries))
+      (Joined principal ∷ map (step_for caller) (asked done))
   pub rising : IsRising (places ++ last ∷ [])
   pub ahead : (place : ℕ) → Has place places → place < length stood
   pub no_other : NamedOnlyAt log caller (places ++ last ∷ [])
