@@ -1,5 +1,5 @@
 -- A connection over a book of its own, behind the opening of its journal.
-use Rattle.std.proofs.Common.{ℕ, ◌≡◌, ◌≤◌, ◌∙◌, ◌⊎◌, Bool, inl, inr, refl, sym, ap, subst, List, [], ◌∷◌, length, take, Option, None, Some, arith}
+use Rattle.std.proofs.Common.{ℕ, ◌≡◌, ◌≤◌, ◌∙◌, ◌⊎◌, Bool, inl, inr, refl, sym, ap, subst, List, [], length, take, Option, None, Some, arith}
 use Rattle.std.specs.Prelude.{IfSome}
 use Rattle.outside.specs.Causes.{Rose}
 use Rattle.scm_model.specs.declared.flat.Flat.{Flat}
@@ -26,13 +26,10 @@ use Rattle.scmd_top.specs.Opening.{FailsToOpen, HasOpened, IsCut, IsUnopened, ke
 use Rattle.scmd_top.specs.Pipe.{EndsAs, HasCome, HasNotJoined, HasPiped, HasRoomAlways, IsComplete, IsOrFails, KeepsJournal, pipe_status, status_of}
 use Rattle.scmd_top.specs.Sides.{IsUntouched, Side, Sides, side}
 use Rattle.scmd_top.specs.Statuses.{program_limits}
+use Rattle.scmd_top.proofs.Again.{no_more, opens_again}
 use Rattle.scmd_top.proofs.Openings.{fails}
 
 -- ## What is kept
-
-no_more : (changes : List Change) → and_changes None changes ≡ None
-no_more [] = refl
-no_more (change ∷ changes) = no_more changes
 
 -- what is borne behind what was cut is borne behind the kept front of what stood
 behind : (kept : ℕ) (old mid now : Option (List ℕ)) (changes : List Change) (j : Journal) → IsCut kept old mid
@@ -78,6 +75,8 @@ module _ {K : Type 0} (told : K → Option (List ℕ)) (faulted : K → ℕ) whe
     history = j.history;
     piped = j.piped;
     kept = keeps h.replay.kept program_limits (program_opening [] h.replay.configs moment) j.history keeper mid end.keeper h.cut h.faults j.kept;
+    again = opens_again path [] (side told faulted keeper mid) moment o h j.history (failures_in j.history) (side told faulted keeper end.keeper) refl j.piped.legal
+        (keeps h.replay.kept program_limits (program_opening [] h.replay.configs moment) j.history keeper mid end.keeper h.cut h.faults j.kept);
   })
   came tells path principal moment o a b keeper mid end at h (inl (inr u)) = inr (record {
     replay = h.replay;

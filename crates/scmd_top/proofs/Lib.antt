@@ -1,6 +1,7 @@
 mod Ends
 mod Fronts
 mod Openings
+mod Again
 mod Replays
 mod Connected
 mod Summaries

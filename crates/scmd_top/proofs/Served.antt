@@ -5,6 +5,7 @@ use Rattle.scm_model.specs.declared.flat.Flat.{Flat}
 use Rattle.scm_model.specs.declared.flat.Limits.{Limits}
 use Rattle.record_journal.specs.declared.opening.JournalFault.{JournalFault}
 use Rattle.record_journal.specs.declared.opening.JournalFault.TheVariants as faults
+use Rattle.scm_book.specs.Holds.{failures_in}
 use Rattle.scm_listener.specs.declared.listener.Listening.{Listening}
 use Rattle.scm_pipe.specs.Piping.{begun_with}
 use Rattle.scm_restored.specs.declared.Opened.{Opened}
@@ -17,6 +18,7 @@ use Rattle.scmd_top.specs.Opening.{FailsToOpen, HasNotOpened, HasOpened, IsUnope
 use Rattle.scmd_top.specs.Serving.{HasListened, HasNotListened, HasServed, HasServedOver, HasWritten, IsComplete}
 use Rattle.scmd_top.specs.Sides.{IsUntouched, Ports, Side, Sides, side}
 use Rattle.scmd_top.specs.Statuses.{IsOrLacks, program_limits}
+use Rattle.scmd_top.proofs.Again.{opens_again}
 use Rattle.scmd_top.proofs.Connected.{keeps, rests}
 use Rattle.scmd_top.proofs.Openings.{fails}
 
@@ -36,6 +38,8 @@ module _ {K : Type 0} (told : K → Option (List ℕ)) (faulted : K → ℕ) whe
     history = s.history;
     legal = s.legal;
     kept = keeps told faulted h.replay.kept program_limits (program_opening groups h.replay.configs moment) s.history keeper mid now h.cut h.faults s.kept;
+    again = opens_again path groups (side told faulted keeper mid) moment o h s.history (failures_in s.history) (side told faulted keeper now) refl s.legal
+        (keeps told faulted h.replay.kept program_limits (program_opening groups h.replay.configs moment) s.history keeper mid now h.cut h.faults s.kept);
     served = s.served;
     ends = s.ends;
   })

@@ -1,5 +1,5 @@
 -- `pipe`: one connection from the input to the output, over a book that only its caller calls.
-use Rattle.std.specs.Prelude.{ℕ, ◌≡◌, ◌<◌, ◌^◌, ◌⊎◌, Bool, List, [], length, Option, IfSome}
+use Rattle.std.specs.Prelude.{ℕ, ◌≡◌, ◌<◌, ◌^◌, ◌⊎◌, Bool, List, [], length, map, Option, IfSome}
 use Rattle.outside.specs.Causes.{Rose}
 use Rattle.outside.specs.Written.{Begins}
 use Rattle.scm_model.specs.declared.flat.Principal.{Principal}
@@ -7,8 +7,12 @@ use Rattle.scm_model.specs.declared.steps.Change.{Change}
 use Rattle.scm_model.specs.Entries.{Entry}
 use Rattle.scm_history.specs.Kept.{kept_changes}
 use Rattle.record_journal.specs.Bearing.{Bears, and_changes}
+use Rattle.record_journal.specs.ReadBack.{held_change}
+use Rattle.record_journal.specs.Replay.{replayed}
 use Rattle.record_journal.specs.declared.journal.Journal.{Journal}
 use Rattle.record_journal.specs.declared.replaying.Replay.{Replay}
+use Rattle.scm_kept.specs.Fitting.{AllFit, AreBytes}
+use Rattle.scm_kept.specs.Read.{IsJournalOf, IsLeftReadable}
 use Rattle.scm_book.specs.Holds.{RoseBy, failures_in}
 use Rattle.rpc_session.specs.Items.{StreamEnd, AtRest, Unfinished, BadPdu, TooLong, items}
 use Rattle.conn_desk.specs.declared.served.Served.{Served}
@@ -38,6 +42,15 @@ pub record KeepsJournal (kept : ℕ) (changes : List Change) (failed : ℕ) (kee
   pub bears : Bears (and_changes (kept_front kept keeper.told) changes) journal keeper.told_now
   pub faults : RoseBy failed keeper.faults keeper.faults_now
 
+-- Where bytes are bytes, the next opening reads what was kept of what stood and then these changes, as what they come to. It reads so what
+-- the keeper holds, unless all of an entry stands at its end whose append failed.
+abbrev pub OpensAgain : Replay → List Change → (keeper : Side) → Type 0
+OpensAgain replay changes keeper =
+    let configs = replayed replay.configs (map held_change changes) in
+    IfSome keeper.told AreBytes
+    → IfSome (and_changes (kept_front replay.kept keeper.told) changes)
+    (λ kept. IsJournalOf kept configs × IfSome keeper.told_now (IsLeftReadable kept configs))
+
 -- ## The connection
 
 -- One history from a moment of the clock on, over what stood under the path: what the output holds more is what it answers to what was read
@@ -50,6 +63,7 @@ pub record HasServed (tells : ℕ → Type 0) (path : Bool) (principal : Princip
   pub history : List Entry
   pub piped : IsPiped tells principal program_limits (program_opening [] replay.configs opened) s.input.told s.input.told_now s.output.told s.output.told_now how history
   pub kept : KeepsJournal replay.kept (kept_changes program_limits (program_opening [] replay.configs opened) history) (failures_in history) s.keeper
+  pub again : AllFit history → OpensAgain replay (kept_changes program_limits (program_opening [] replay.configs opened) history) s.keeper
 
 -- there was no memory for a book and its caller: nothing is read or written, and no change is kept
 pub record HasNotJoined (path : Bool) (how : Served) (s : Sides) : Type 0 where

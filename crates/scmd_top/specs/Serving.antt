@@ -10,6 +10,7 @@ use Rattle.record_journal.specs.declared.replaying.Replay.{Replay}
 use Rattle.scm_model.specs.declared.flat.Config.{Config}
 use Rattle.book_rule.specs.declared.view.Opening.{Opening}
 use Rattle.scm_book.specs.Holds.{failures_in}
+use Rattle.scm_kept.specs.Fitting.{AllFit}
 use Rattle.scm_listener.specs.declared.listener.Listening.{Listening}
 use Rattle.scm_server.specs.All.{ServedIn}
 use Rattle.scm_server.specs.Ports.{Told}
@@ -18,7 +19,7 @@ use Rattle.scm_serving.specs.Serving.{EndsAs, lacked_memory}
 use Rattle.scm_serving.specs.declared.serving.BookEnd.{BookEnd}
 use Rattle.scm_serving.specs.declared.serving.BookEnd.TheVariants.{Ended, ListenFault, OutOfMemory}
 use Rattle.scmd_top.specs.Opening.{HasNotOpened, IsDamaged, IsRead, program_opening}
-use Rattle.scmd_top.specs.Pipe.{KeepsJournal}
+use Rattle.scmd_top.specs.Pipe.{KeepsJournal, OpensAgain}
 use Rattle.scmd_top.specs.Sides.{IsUntouched, Ports, Side, Sides}
 use Rattle.scmd_top.specs.Statuses.{IsOrLacks, program_limits}
 
@@ -51,6 +52,7 @@ pub record HasHistory (tells : ℕ → Type 0) (path : Bool) (groups : List (Lis
   pub history : List Entry
   pub legal : Legal program_limits (program_opening groups replay.configs opened) history
   pub kept : KeepsJournal replay.kept (kept_changes program_limits (program_opening groups replay.configs opened) history) (failures_in history) keeper
+  pub again : AllFit history → OpensAgain replay (kept_changes program_limits (program_opening groups replay.configs opened) history) keeper
   pub served : ServedIn tells opening history a a' u u' (lacked_memory end)
   pub ends : EndsAs opening history a a' u u' end
 
