@@ -59,6 +59,6 @@ module _ (tells : ℕ → Type 0) (o : Opening) where
 -- one that found no room ends it
 pub full_end : (asked : Type 0) (o : Opening) (k k' : Known) (moment : ℕ) (end : TickEnd) → TickEnds o k moment end k' → is_full end ≡ true → IsTicksEnd asked o k'
 full_end asked o k k' moment ticks.Full ends full = inr ends.0.full
-full_end asked o k k' moment ticks.Ticked ends = absurd cc
-full_end asked o k k' moment ticks.Idle ends = absurd cc
-full_end asked o k k' moment ticks.OutOfMemory ends = absurd cc
+full_end asked o k k' moment ticks.Ticked ends full = absurd cc
+full_end asked o k k' moment ticks.Idle ends full = absurd cc
+full_end asked o k k' moment ticks.OutOfMemory ends full = absurd cc

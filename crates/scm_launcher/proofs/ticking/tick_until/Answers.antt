@@ -7,7 +7,7 @@ use Rattle.scm_launcher.proofs.ticking.tick_until.Goals as goal
 pub loop-init : goal.loop-init
 loop-init g c = record {
   book = c.requires.book;
-  ticks = record { ends = []; chain = refl; room = tt };
+  ticks = record { ends = []; chain = refl; room = All-nil (λ end. is_full end ≡ false) };
 }
 
 pub returns-then-is_full-clause-ticks : goal.returns-then-is_full-clause-ticks
@@ -24,5 +24,5 @@ returns-then-asked-clause-ticks g c =
 pub loop-preserved : goal.loop-preserved
 loop-preserved g c = record {
   book = c.tick-end.ensures.book;
-  ticks = one_more (g.C.Clock.tells c.args.clock.now) c.args.book.now.opening c.args.pass.now c.loop.pass c.tick-end.new.pass c.now.result c.tick-end.result c.now.ensures c.tick-end.ensures.ends cc c.loop.invariant.ticks;
+  ticks = one_more (g.C.Clock.tells c.args.clock.now) c.args.book.now.opening c.args.pass.now c.loop.pass c.tick-end.new.pass c.now.result c.tick-end.result c.now.ensures c.tick-end.ensures.ends (let same = c.is_full.ensures in cc) c.loop.invariant.ticks;
 }
