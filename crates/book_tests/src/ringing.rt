@@ -21,7 +21,7 @@ struct Counts {
     second: u64,
 }
 
-fn counts(book: &Book<MemoryKeeper>) -> Counts {
+fn counted(book: &Book<MemoryKeeper>) -> Counts {
     Counts {
         common: book.bell().count(),
         first: book.child_bell(1).count(),
@@ -40,7 +40,7 @@ enum Rung {
 
 /// Which of them have rung since they were counted.
 fn rung_since(book: &Book<MemoryKeeper>, before: Counts) -> Option<Rung> {
-    let now = counts(book);
+    let now = counted(book);
     let common = now.common != before.common;
     let first = now.first != before.first;
     let second = now.second != before.second;
@@ -67,7 +67,7 @@ fn ring<R: Wait>(
     ensures caller { pass.new.caller ≢ 0 }
 {
     for (row, rung) in rows {
-        let before = counts(book);
+        let before = counted(book);
         if !come(rt, alloc, book, pass, &[*row]) || rung_since(book, before) != Some(*rung) {
             return false;
         }
@@ -118,10 +118,10 @@ fn starts<R: Wait>(
     ensures other { IsOf book.now other.new }
     ensures process { IfSome result (λ process. HoldsProcess book.now.opening other.new process phases.Launched) }
 {
-    let before = counts(book);
+    let before = counted(book);
     let is_begun = begin_start(rt, alloc, book, pass, 2).is_some();
     let begun = rung_since(book, before);
-    let before = counts(book);
+    let before = counted(book);
     let process = launch(rt, alloc, book, other)?;
     let launched = rung_since(book, before);
     if is_begun && begun == Some(Rung::Common) && launched == Some(Rung::Common) {
@@ -137,10 +137,10 @@ fn ends<R: Wait>(rt: &R, book: &Book<MemoryKeeper>, other: &mut Pass, process: u
     requires process { HoldsProcess book.now.opening other.old process phases.Launched }
     ensures book { IsOf book.now other.new }
 {
-    let before = counts(book);
+    let before = counted(book);
     let control = book.take_control(rt, other, 0, process);
     let taken = rung_since(book, before);
-    let before = counts(book);
+    let before = counted(book);
     let end = book.ended(rt, other, 0, process);
     let ended = rung_since(book, before);
     control == ControlLook::Control(SERVICE_CONTROL_STOP)
@@ -164,7 +164,7 @@ fn obeys<R: Wait>(
     requires process { HoldsProcess book.now.opening other.old process phases.Launched }
     ensures { IsOf book.now other.new }
 {
-    let before = counts(book);
+    let before = counted(book);
     let runs = [(SERVICE_RUNNING, ReportEnd::Taken)];
     let is_running = report(rt, book, other, process, &runs);
     let reported = rung_since(book, before);
