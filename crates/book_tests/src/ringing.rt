@@ -53,6 +53,25 @@ fn rung_since(book: &Book<MemoryKeeper>, before: Counts) -> Option<Rung> {
     }
 }
 
+/// Whether a call comes to what is wanted of it, and rings so.
+fn ring_once<R: Wait>(
+    rt: &R,
+    alloc: Global,
+    book: &Book<MemoryKeeper>,
+    pass: &mut Pass,
+    row: Row,
+    rung: Rung,
+) -> bool
+    requires book { IsOf book.now pass.old }
+    requires caller { pass.old.caller ≢ 0 }
+    ensures book { IsOf book.now pass.new }
+    ensures caller { pass.new.caller ≢ 0 }
+{
+    let before = counted(book);
+    let is_right = come(rt, alloc, book, pass, &[row]);
+    is_right && rung_since(book, before) == Some(rung)
+}
+
 /// Whether each call comes to what is beside it, and rings so.
 fn ring<R: Wait>(
     rt: &R,
@@ -67,8 +86,7 @@ fn ring<R: Wait>(
     ensures caller { pass.new.caller ≢ 0 }
 {
     for (row, rung) in rows {
-        let before = counted(book);
-        if !come(rt, alloc, book, pass, &[*row]) || rung_since(book, before) != Some(*rung) {
+        if !ring_once(rt, alloc, book, pass, *row, *rung) {
             return false;
         }
     }
