@@ -3,7 +3,8 @@ use Rattle.std.specs.Prelude.{ℕ, Bool, true, false, ◌==◌, ◌-◌, ◌^◌
 use Rattle.access_mask.specs.declared.granting.Mapping.{Mapping}
 use Rattle.scm_model.specs.declared.flat.Principal.{Principal}
 use Rattle.scm_model.specs.declared.flat.Principal.TheVariants.{Admin, User}
-use Rattle.scm_model.specs.declared.codes.TheConstants.{GENERIC_ALL, GENERIC_EXECUTE, GENERIC_READ, GENERIC_WRITE, MAXIMUM_ALLOWED, SC_MANAGER_ALL_ACCESS, SC_MANAGER_CONNECT, SERVICE_ALL_ACCESS, SERVICE_SET_STATUS}
+use Rattle.scm_model.specs.declared.codes.TheConstants.{GENERIC_ALL, GENERIC_EXECUTE, GENERIC_READ, GENERIC_WRITE, MAXIMUM_ALLOWED}
+use Rattle.scm_model.specs.declared.codes.TheConstants.{SC_MANAGER_ALL_ACCESS, SC_MANAGER_CONNECT, SERVICE_ALL_ACCESS, SERVICE_SET_STATUS}
 
 -- what the generic rights stand for: of the manager where true, else of a service
 abbrev pub mapping_of : Bool → Mapping

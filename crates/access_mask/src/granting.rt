@@ -1,5 +1,6 @@
 ghost use Rattle.std.specs.Prelude.{◌≡◌};
-ghost use Rattle.access_mask.specs.Granted.{chosen, connected, granted, is_allowed, map_generic, mapped, mapping_of, rights_of};
+ghost use Rattle.access_mask.specs.Granted.{chosen, connected, granted, is_allowed, map_generic};
+ghost use Rattle.access_mask.specs.Granted.{mapped, mapping_of, rights_of};
 
 use super::AccessMask;
 use bitflags::Flags;
@@ -67,8 +68,8 @@ fn mask_of(manager: bool, desired: u32) -> AccessMask
     desired.difference(generic).union(upper)
 }
 
-/// The rights asked for, with each generic one replaced by what it stands for on the manager where `manager` is true, else on a
-/// service. The other bits stay, `MAXIMUM_ALLOWED` too.
+/// The rights asked for, with each generic one replaced by what it stands for on the manager where
+/// `manager` is true, else on a service. The other bits stay, `MAXIMUM_ALLOWED` too.
 pub fn map_generic(manager: bool, desired: u32) -> u32
     ensures { result ≡ map_generic manager desired }
 {
@@ -134,9 +135,11 @@ fn connected(manager: bool, mask: AccessMask) -> u32
     }
 }
 
-/// The rights of a new handle, of the manager where `manager` is true, else of a service, for who asks for the desired access.
-/// `None` is for access denied: a right is asked for that the principal can't have. The rights and the generic mappings are those of
-/// MS-SCMR and Win32's `winsvc.h`, 0x8000 is this manager's own: to set a service's status.
+/// The rights of a new handle, of the manager where `manager` is true, else of a service, for who
+/// asks for the desired access.
+/// `None` is for access denied: a right is asked for that the principal can't have. The rights and
+/// the generic mappings are those of MS-SCMR and Win32's `winsvc.h`, 0x8000 is this manager's own:
+/// to set a service's status.
 pub fn granted(principal: Principal, manager: bool, desired: u32) -> Option<u32>
     ensures { result ≡ granted principal manager desired }
 {

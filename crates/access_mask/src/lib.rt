@@ -1,4 +1,5 @@
-//! What is granted of the rights that a caller asks for when it opens a handle, by the rules of this service manager.
+//! What is granted of the rights that a caller asks for when it opens a handle, by the rules of
+//! this service manager.
 #![tactic(auto)]
 
 mod granting;

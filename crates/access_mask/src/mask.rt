@@ -2,8 +2,8 @@ ghost use Rattle.std.specs.Prelude.{⊤, [], ◌∷◌, codes};
 
 use bitflags::{Flag, Flags, bitflag_items};
 
-/// An `ACCESS_MASK` of Win32: a right a bit. The bits that every object has in common have names; what the others mean depends on
-/// the object, and they are kept as they are.
+/// An `ACCESS_MASK` of Win32: a right a bit. The bits that every object has in common have names;
+/// what the others mean depends on the object, and they are kept as they are.
 #[derive(Clone, Copy, PartialEq, Eq, Debug)]
 pub struct AccessMask(u32);
 

@@ -1,5 +1,5 @@
-//! Rows of bodies: each stands in hex beside its call and what it asks or tells. They were written by
-//! hand after the formats, and not by the crates below.
+//! Rows of bodies: each stands in hex beside its call and what it asks or tells. They were written
+//! by hand after the formats, and not by the crates below.
 #![tactic(auto)]
 
 #[cfg(test)]

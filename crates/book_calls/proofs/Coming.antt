@@ -16,14 +16,16 @@ use Rattle.scm_book.specs.Joins.{TakesIn, accompanied, fresh}
 use Rattle.scm_book.specs.Passes.{IsOf, Known}
 
 -- a call leaves the pass the caller's
-pub calls_stay : (o : Opening) (k : Known) (moment : ℕ) (asked : Request) (k' : Known) (end : CallEnd) → Calls o k moment asked k' end → k'.caller ≡ k.caller
+pub calls_stay : (o : Opening) (k : Known) (moment : ℕ) (asked : Request) (k' : Known) (end : CallEnd) → Calls o k moment asked k' end
+    → k'.caller ≡ k.caller
 calls_stay o k moment asked k' (calls.Answered reply) (inl made) = made.made.caller
 calls_stay o k moment asked k' (calls.Answered reply) (inr lacks) = lacks.made.made.caller
 calls_stay o k moment asked k' calls.Full finds = finds.learnt.caller
 calls_stay o k moment asked k' calls.OutOfMemory finds = finds.learnt.caller
 
 -- so does a raise
-pub raises_stay : (o : Opening) (k : Known) (moment : ℕ) (subtype : List ℕ) (k' : Known) (end : CallEnd) → Raises o k moment subtype k' end → k'.caller ≡ k.caller
+pub raises_stay : (o : Opening) (k : Known) (moment : ℕ) (subtype : List ℕ) (k' : Known) (end : CallEnd) → Raises o k moment subtype k' end
+    → k'.caller ≡ k.caller
 raises_stay o k moment subtype k' (calls.Answered reply) (inl so) = so.made.made.caller
 raises_stay o k moment subtype k' (calls.Answered reply) (inr lacks) = lacks.made.made.caller
 raises_stay o k moment subtype k' calls.Full finds = finds.learnt.caller
@@ -45,7 +47,8 @@ accompanied_of b k k' of is = subst (IsOf b) (sym is) (record { table = of.table
 
 -- ## A manager of nobody and nothing
 
-pub opens_new : (l : Limits) (groups : List (List ℕ)) (configs : List Config) (moment : ℕ) (r : Result Managed OutOfMemory) → CanOpen l configs
+pub opens_new : (l : Limits) (groups : List (List ℕ)) (configs : List Config) (moment : ℕ) (r : Result Managed OutOfMemory)
+    → CanOpen l configs
     → IfOk r (λ m. m.flat ≡ opening l groups configs moment) → IfOk r (λ m. m.limits ≡ l) → IfOk r (λ m. IsOpening m.limits m.flat)
 opens_new l groups configs moment (Ok m) can flat limits = record {
   groups = groups;

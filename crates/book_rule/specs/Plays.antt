@@ -7,11 +7,11 @@ use Rattle.scm_model.specs.Entries.{Entry}
 use Rattle.book_rule.specs.declared.view.Opening.{Opening}
 use Rattle.book_rule.specs.declared.view.View.{View}
 use Rattle.book_rule.specs.declared.view.Stage.TheVariants.{Taken, Merged}
-use Rattle.book_rule.specs.Ways.{Way}
+use Rattle.book_rule.specs.Ways.{Protocol}
 use Rattle.book_rule.specs.Views.{in_company, having_taken, having_seen, having_made, having_left, having_met}
 use Rattle.book_rule.specs.Rule.{ClaimsOf, HasAll}
 
-module _ {X : Type 0} (w : Way X) where
+module _ {X : Type 0} (w : Protocol X) where
   -- what a seat learns of the whole history where it takes the turn
   pub record Learns (o : Opening) (v : View) (log : List Entry) (h : Box X Global) : Type 0 where
     pub longer : IsPrefix v.seen log
@@ -46,7 +46,8 @@ module _ {X : Type 0} (w : Way X) where
     pub claims : ClaimsOf w o m'.0.seen m'.0
 
   abbrev pub committed : Step (Option (Box X Global)) → Me (Option (Box X Global)) View → ℕ → Me (Option (Box X Global)) View → Type 0
-  committed st m r m' = (o : Opening) (h : Box X Global) (e : Entry) → m.0.opening ≡ Some o → m.1 ≡ (0, Some h) ∷ [] → w.trail (box_value h) ≡ m.0.seen ++ e ∷ []
+  committed st m r m' = (o : Opening) (h : Box X Global) (e : Entry) → m.0.opening ≡ Some o → m.1 ≡ (0, Some h) ∷ []
+      → w.trail (box_value h) ≡ m.0.seen ++ e ∷ []
       → Committed o e m m'
 
   pub record Freed (m m' : Me (Option (Box X Global)) View) : Type 0 where

@@ -8,7 +8,7 @@ use Rattle.scm_model.specs.Entries.{Entry}
 use Rattle.book_rule.specs.declared.view.Opening.{Opening}
 use Rattle.book_rule.specs.declared.view.View.{View}
 use Rattle.book_rule.specs.declared.view.Stage.TheVariants.{Away, Looked}
-use Rattle.book_rule.specs.Ways.{Way, Follows, NamesOwn}
+use Rattle.book_rule.specs.Ways.{Protocol, Follows, NamesOwn}
 use Rattle.book_rule.specs.Views.{first_view, newcomer, in_company, having_seen, having_made, having_left, longer}
 use Rattle.book_rule.specs.Rule.{ClaimsOf, HasAll}
 use Rattle.book_rule.specs.Plays.{Learns}
@@ -75,7 +75,7 @@ module _ {H : Type 0} where
   abbrev pub LiesIn : List (Option (Box H Global)) → H → Type 0
   LiesIn slots h = (b : Box H Global) → slots ≡ Some b ∷ [] → h ≡ box_value b
 
-  module _ (w : Way H) where
+  module _ (w : Protocol H) where
     -- what the seat has seen begins a legal history, of which it claims what it claimed
     pub record StillClaims (b : Identity) (s s' : Seat (Option (Box H Global)) View) : Type 0 where
       pub log : List Entry

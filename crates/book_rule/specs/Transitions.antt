@@ -7,8 +7,9 @@ use Rattle.scm_model.specs.Entries.{Entry}
 use Rattle.book_rule.specs.declared.view.Opening.{Opening}
 use Rattle.book_rule.specs.declared.view.View.{View}
 use Rattle.book_rule.specs.declared.view.Stage.TheVariants.{Away, Taken, Looked, Merged}
-use Rattle.book_rule.specs.Ways.{Way, Follows, NamesOwn}
-use Rattle.book_rule.specs.Views.{nobody, newcomer, in_company, having_taken, having_seen, having_made, having_left, having_joined, having_met}
+use Rattle.book_rule.specs.Ways.{Protocol, Follows, NamesOwn}
+use Rattle.book_rule.specs.Views.{nobody, newcomer, in_company, having_taken, having_seen, having_made, having_left, having_joined}
+use Rattle.book_rule.specs.Views.{having_met}
 use Rattle.book_rule.specs.Rule.{Standing, free, taken}
 
 pub data Transition (X : Type 0) : Type 0 where
@@ -36,7 +37,7 @@ module _ {X : Type 0} where
   abbrev pub with_view : Standing X → ℕ → View → Standing X
   with_view t id v = record { lock = t.lock; log = t.log; views = slice_set t.views id v }
 
-module _ {X : Type 0} (w : Way X) (o : Opening) (t : Standing X) (id : ℕ) (v : View) where
+module _ {X : Type 0} (w : Protocol X) (o : Opening) (t : Standing X) (id : ℕ) (v : View) where
   -- when the seat of this number and view may make it
   abbrev pub Enabled : Transition X → Type 0
   Enabled (take h) = (t.lock ≡ free h) × (v.stage ≡ Away)
@@ -61,8 +62,9 @@ module _ {X : Type 0} (w : Way X) (o : Opening) (t : Standing X) (id : ℕ) (v :
   after (merge j d) = record { lock = t.lock; log = t.log; views = slice_set (slice_set t.views id (having_joined v d)) j nobody }
   after (meet theirs) = with_view t id (having_met v theirs)
 
-module _ {X : Type 0} (w : Way X) where
+module _ {X : Type 0} (w : Protocol X) where
   -- from a table that stands so, each transition leads to one that stands so
   abbrev pub Preserves : (Opening → Standing X → Type 0) → (Opening → Standing X → Type 0) → Type 0
-  Preserves Before After = (o : Opening) (t : Standing X) (id : ℕ) (v : View) (m : Transition X) → get_elem? t.views id ≡ some v → Enabled w o t id v m
+  Preserves Before After = (o : Opening) (t : Standing X) (id : ℕ) (v : View) (m : Transition X) → get_elem? t.views id ≡ some v
+      → Enabled w o t id v m
       → Before o t → After o (after w o t id v m)

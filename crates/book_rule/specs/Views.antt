@@ -4,7 +4,7 @@ use Rattle.scm_model.specs.Entries.{Entry}
 use Rattle.book_rule.specs.declared.view.Opening.{Opening}
 use Rattle.book_rule.specs.declared.view.View.{View}
 use Rattle.book_rule.specs.declared.view.Stage.TheVariants.{Away, Taken, Looked, Merged}
-use Rattle.book_rule.specs.Ways.{Way}
+use Rattle.book_rule.specs.Ways.{Protocol}
 
 -- all places of a history of this length
 abbrev pub places_below : ℕ → List ℕ
@@ -36,7 +36,7 @@ abbrev pub having_seen : View → List Entry → View
 having_seen v log = record v { seen = log; stage = Looked }
 
 -- with the turn held, it made the entry
-abbrev pub having_made : {X : Type 0} → Way X → Opening → View → Entry → View
+abbrev pub having_made : {X : Type 0} → Protocol X → Opening → View → Entry → View
 having_made w o v e = record v {
   caller = w.whose o v.seen v.caller e;
   names = v.names ++ w.makes o v.seen e;

@@ -10,7 +10,7 @@ abbrev pub Has : {A : Type 0} → A → List A → Type 0
 Has x [] = ⊥
 Has x (y ∷ ys) = (x ≡ y) ⊎ Has x ys
 
-pub record Way (X : Type 0) : Type 1 where
+pub record Protocol (X : Type 0) : Type 1 where
   pub opening : X → Opening  -- how a history opens that begins with it
   pub trail : X → List Entry  -- the history that it holds
   pub fits : Opening → List Entry → X → Type 0  -- it stands at the end of a history
@@ -20,7 +20,7 @@ pub record Way (X : Type 0) : Type 1 where
   pub makes : Opening → List Entry → Entry → List Name  -- whom it makes behind a history
   pub whose : Opening → List Entry → ℕ → Entry → ℕ  -- whose a seat is that made it behind a history
 
-module _ {X : Type 0} (w : Way X) where
+module _ {X : Type 0} (w : Protocol X) where
   -- the entry at a place of a history made this one
   pub record MadeAt (o : Opening) (log : List Entry) (k : ℕ) (n : Name) : Type 0 where
     pub front : List Entry
@@ -39,7 +39,8 @@ module _ {X : Type 0} (w : Way X) where
     pub place : k ≡ length front
     pub named : Has n (w.names entry)
 
-  -- all that a commit asks of the content's entry: the history stays legal; whom the entry makes nobody made or named before; a caller lives on
+  -- all that a commit asks of the content's entry: the history stays legal; whom the entry makes nobody made or named before; a caller
+  -- lives on
   -- unless the entry names it; whose the seat then is lives, and is who it was or was made
   pub record Follows (o : Opening) (log : List Entry) (e : Entry) : Type 0 where
     pub run : w.run o (log ++ e ∷ [])
@@ -50,7 +51,8 @@ module _ {X : Type 0} (w : Way X) where
     pub mine : (c : ℕ) → (c ≢ 0 → w.lives o log c) → w.whose o log c e ≢ 0 → w.lives o (log ++ e ∷ []) (w.whose o log c e)
     pub who : (c : ℕ) → w.whose o log c e ≢ 0 → (w.whose o log c e ≡ c) ⊎ Has (Caller (w.whose o log c e)) (w.makes o log e)
 
-  -- whose own places these are: they are places of what was seen; the names are just those whom the entries there made; each entry of the history
+  -- whose own places these are: they are places of what was seen; the names are just those whom the entries there made; each entry of the
+  -- history
   -- that names one of them stands there; the caller, where there is one, is one of them and lives
   pub record Claims (o : Opening) (log : List Entry) (whose : ℕ) (names : List Name) (own : List ℕ) (seen : List Entry) : Type 0 where
     pub within : (k : ℕ) → Has k own → k < length seen

@@ -7,10 +7,10 @@ use std::snapshot::Snapshot;
 /// What threads take turns at. Its `way` names how a history begins with it, the history that it
 /// holds, what it is to stand at a history's end, which histories are legal, and whom entries name
 /// and make.
-pub trait Content: Drop {
-    ghost use Rattle.book_rule.specs.Ways.{Way};
+pub trait Guarded: Drop {
+    ghost use Rattle.book_rule.specs.Ways.{Protocol};
 
-    ghost way: { Way Self };
+    ghost way: { Protocol Self };
 }
 
 /// The slot of the table. It is empty while a call has the content in hand.
@@ -21,7 +21,7 @@ pub struct Rule<H> {
     marker: PhantomData<H>,
 }
 
-impl<H: Content> TableRule<Slot<H>, View, Snapshot<H>> for Rule<H> {
+impl<H: Guarded> TableRule<Slot<H>, View, Snapshot<H>> for Rule<H> {
     ghost use Rattle.book_rule.specs.Rule.{Turned};
     ghost use Rattle.book_rule.specs.Views.{first_view};
 
@@ -33,7 +33,7 @@ impl<H: Content> TableRule<Slot<H>, View, Snapshot<H>> for Rule<H> {
 /// Takes the turn, or finds it taken.
 pub struct Take;
 
-impl<H: Content> Play<Slot<H>, View> for Take {
+impl<H: Guarded> Play<Slot<H>, View> for Take {
     ghost use Rattle.book_rule.specs.Plays.{took};
 
     ghost then = { took H.way };
@@ -42,7 +42,7 @@ impl<H: Content> Play<Slot<H>, View> for Take {
 /// Sees the whole history, with the turn held.
 pub struct Look;
 
-impl<H: Content> Play<Slot<H>, View> for Look {
+impl<H: Guarded> Play<Slot<H>, View> for Look {
     ghost use Rattle.book_rule.specs.Plays.{looked};
 
     ghost then = { looked H.way };
@@ -51,7 +51,7 @@ impl<H: Content> Play<Slot<H>, View> for Look {
 /// Makes the last entry of what lies in the slot the last of the history.
 pub struct Commit;
 
-impl<H: Content> Play<Slot<H>, View> for Commit {
+impl<H: Guarded> Play<Slot<H>, View> for Commit {
     ghost use Rattle.book_rule.specs.Plays.{committed};
 
     ghost then = { committed H.way };
@@ -60,7 +60,7 @@ impl<H: Content> Play<Slot<H>, View> for Commit {
 /// Gives the turn up.
 pub struct Free;
 
-impl<H: Content> Play<Slot<H>, View> for Free {
+impl<H: Guarded> Play<Slot<H>, View> for Free {
     ghost use Rattle.book_rule.specs.Plays.{freed};
 
     ghost then = { freed H.way };
@@ -69,7 +69,7 @@ impl<H: Content> Play<Slot<H>, View> for Free {
 /// Is no longer alone.
 pub struct Accompany;
 
-impl<H: Content> Play<Slot<H>, View> for Accompany {
+impl<H: Guarded> Play<Slot<H>, View> for Accompany {
     ghost use Rattle.book_rule.specs.Plays.{accompanied};
 
     ghost then = { accompanied H.way };
@@ -78,7 +78,7 @@ impl<H: Content> Play<Slot<H>, View> for Accompany {
 /// Goes on from the longer of two histories: its own, or that of the seat that it took in.
 pub struct Meet;
 
-impl<H: Content> Play<Slot<H>, View> for Meet {
+impl<H: Guarded> Play<Slot<H>, View> for Meet {
     ghost use Rattle.book_rule.specs.Plays.{met};
 
     ghost then = { met H.way };

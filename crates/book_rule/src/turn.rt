@@ -2,8 +2,8 @@
 ghost use Rattle.std.specs.Prelude.{◌≡◌, [], IfOk, IfErr, IfSome, IsSome, IfNone, Some};
 ghost use Rattle.book_rule.specs.Seats.{IsOne, LiesIn};
 
-use crate::gate::Gate;
-use crate::rule::{Accompany, Commit, Content, Fork, Free, Look, Meet, Merge, Rule, Slot, Take};
+use crate::gate::WaitQueue;
+use crate::rule::{Accompany, Commit, Fork, Free, Guarded, Look, Meet, Merge, Rule, Slot, Take};
 use crate::view::View;
 use atomic_table::{Refused, Seat, Table};
 use std::alloc::{AllocFailed, Global};
@@ -46,19 +46,19 @@ pub type TurnSeat<H> = Seat<Slot<H>, View>;
 /// An object that threads take turns at. Contracts see which table it is, and how its history
 /// opened.
 #[derive(Drop)]
-pub struct Turn<H: Content> {
+pub struct Turn<H: Guarded> {
     table: Table<Slot<H>, View, Snapshot<H>, Rule<H>, Global>,
-    gate: Gate,
+    gate: WaitQueue,
 }
 
 /// A new turn, and its first seat.
 #[derive(Drop)]
-pub struct Begun<H: Content> {
+pub struct Begun<H: Guarded> {
     pub turn: Turn<H>,
     pub seat: TurnSeat<H>,
 }
 
-impl<H: Content> Model for Turn<H> {
+impl<H: Guarded> Model for Turn<H> {
     ghost use Rattle.book_rule.specs.Seats.{Identity, IsShaped, identity};
 
     ghost Value = { Identity };
@@ -68,8 +68,10 @@ impl<H: Content> Model for Turn<H> {
     ghost invariant = { λ b. IsShaped b.table.shared.table_id };
 }
 
-impl<H: Content> Turn<H> {
-    ghost use Rattle.book_rule.specs.Seats.{IsSameSeat, IsSeatOf, Waits, Holding, Forks, Merges, StillClaims, Enters, Settled, IsOneMore, MakesLast, Begins, Closes};
+impl<H: Guarded> Turn<H> {
+    ghost use Rattle.book_rule.specs.Seats.{IsSameSeat, IsSeatOf, Waits, Holding, Forks, Merges};
+    ghost use Rattle.book_rule.specs.Seats.{StillClaims, Enters, Settled, IsOneMore, MakesLast};
+    ghost use Rattle.book_rule.specs.Seats.{Begins, Closes};
     ghost use Rattle.book_rule.specs.Views.{having_left};
 
     /// A turn whose history is empty. The content comes back where memory is short.
@@ -96,7 +98,7 @@ impl<H: Content> Turn<H> {
             Ok((table, seat)) => Ok(Begun {
                 turn: Turn {
                     table,
-                    gate: Gate::new(),
+                    gate: WaitQueue::new(),
                 },
                 seat,
             }),
@@ -147,7 +149,7 @@ impl<H: Content> Turn<H> {
     }
 
     /// Puts the content back, which holds what the seat has seen, and gives the turn up.
-    pub fn give_back<R: Wait>(&self, _rt: &R, seat: &mut TurnSeat<H>, content: Box<H>)
+    pub fn unlock<R: Wait>(&self, _rt: &R, seat: &mut TurnSeat<H>, content: Box<H>)
         requires seat { Holding self.now seat.old }
         requires fits { H.way.fits self.now.opening seat.old.me.0.seen content.value }
         ensures table { seat.new.table_id ≡ seat.old.table_id }
@@ -242,7 +244,7 @@ fn rest(pauses: u32) {
 }
 
 /// What lies in the slot.
-fn content_of<H: Content>(slot: Slot<H>) -> H
+fn content_of<H: Guarded>(slot: Slot<H>) -> H
     requires { IsSome slot }
     ensures { IfSome slot (λ b. result ≡ b.value) }
 {
@@ -253,7 +255,7 @@ fn content_of<H: Content>(slot: Slot<H>) -> H
 }
 
 /// What lies in the one slot.
-fn content_in<H: Content>(mut slots: Vec<Slot<H>>) -> H
+fn content_in<H: Guarded>(mut slots: Vec<Slot<H>>) -> H
     requires { IsOne slots.items }
     ensures { LiesIn slots.items result }
 {

@@ -1,5 +1,7 @@
 -- Histories of rolls, and what stands in a longer one.
-use Rattle.std.proofs.Common.{◌≡◌, ◌≢◌, ℕ, ◌+◌, ◌<◌, ◌≤◌, eqb, Bool, true, false, ◌||◌, cond, List, [], ◌∷◌, ◌++◌, length, ◌⊎◌, inl, inr, ⊎_elim, refl, sym, ap, ◌∙◌, subst, arith, append_assoc, append-nil, length-append, map, ne_eqb, eqb-true, eq-eqb}
+use Rattle.std.proofs.Common.{◌≡◌, ◌≢◌, ℕ, ◌+◌, ◌<◌, ◌≤◌, eqb, Bool, true, false, ◌||◌, cond, List, [], ◌∷◌, ◌++◌, length, ◌⊎◌, inl, inr}
+use Rattle.std.proofs.Common.{⊎_elim, refl, sym, ap, ◌∙◌, subst, arith, append_assoc, append-nil, length-append, map, ne_eqb, eqb-true}
+use Rattle.std.proofs.Common.{eq-eqb}
 use Rattle.std.proofs.lemmas.List.{map-append}
 use mathlib.Core.List.{IsPrefix}
 use Rattle.scm_model.specs.Entries.{Entry}
@@ -10,14 +12,16 @@ use Rattle.scm_model.specs.declared.steps.Step.TheVariants.{Joined, Gone, NoMemo
 use Rattle.book_rule.specs.Ways.{Has}
 use Rattle.book_rule.proofs.Places.{snoc_cases}
 use Rattle.book_rule_tests.specs.declared.roll.Line.{Line}
-use Rattle.book_rule_tests.specs.Rolls.{step_of_what, entry_of, joins, callers_in, caller_told_of, entries_naming, is_going, has_gone, May, IsLegal, names_in, made_by, MOST}
+use Rattle.book_rule_tests.specs.Rolls.{step_of_what, entry_of, joins, callers_in, caller_told_of, entries_naming, is_going, has_gone, May}
+use Rattle.book_rule_tests.specs.Rolls.{IsLegal, names_in, made_by, MOST}
 
 pub callers_append : (xs ys : List Entry) → callers_in (xs ++ ys) ≡ callers_in xs + callers_in ys
 callers_append [] ys = omega arith
 callers_append (x ∷ xs) ys = let r = callers_append xs ys in omega arith
 
 -- a roll of one line more
-pub callers_line : (lines : List Line) (line : Line) → callers_in (map entry_of (lines ++ line ∷ [])) ≡ callers_in (map entry_of lines) + joins (step_of_what line.what)
+pub callers_line : (lines : List Line) (line : Line) → callers_in (map entry_of (lines ++ line ∷ [])) ≡ callers_in (map entry_of lines)
+    + joins (step_of_what line.what)
 callers_line lines line =
     let more = ap callers_in (map-append entry_of lines (line ∷ [])) in
     let r = callers_append (map entry_of lines) (entry_of line ∷ []) in omega arith
@@ -37,7 +41,8 @@ named_in (NoMemory d) c some_one is = inl (ap Caller (sym is))
 named_in (Gone d) c some_one is = inl (ap Caller (sym is))
 named_in step c some_one is = absurd (some_one (sym is))
 
-pub named_is : (front : List Entry) (step : Step) (n : Name) → May front step → Has n (names_in step) → (c : ℕ) × (n ≡ Caller c) × (caller_told_of step ≡ c)
+pub named_is : (front : List Entry) (step : Step) (n : Name) → May front step → Has n (names_in step) → (c : ℕ) × (n ≡ Caller c)
+    × (caller_told_of step ≡ c)
 named_is front (NoMemory d) n may (inl is) = (d, is, refl)
 named_is front (NoMemory d) n may (inr bad) = absurd bad
 named_is front (Gone d) n may (inl is) = (d, is, refl)
@@ -45,7 +50,8 @@ named_is front (Gone d) n may (inr bad) = absurd bad
 named_is front step n may has = absurd has
 
 -- whom an entry makes has the number behind all before
-pub made_is : (front : List Entry) (step : Step) (n : Name) → Has n (made_by front step) → (n ≡ Caller (callers_in front + 1)) × (joins step ≡ 1)
+pub made_is : (front : List Entry) (step : Step) (n : Name) → Has n (made_by front step) → (n ≡ Caller (callers_in front + 1))
+    × (joins step ≡ 1)
 made_is front (Joined p) n (inl is) = (is, refl)
 made_is front (Joined p) n (inr bad) = absurd bad
 made_is front step n has = absurd has
@@ -56,14 +62,17 @@ pick false x xs ys = refl
 
 pub of_append : (c : ℕ) (xs ys : List Entry) → entries_naming c (xs ++ ys) ≡ entries_naming c xs ++ entries_naming c ys
 of_append c [] ys = refl
-of_append c (x ∷ xs) ys = ap (λ (l : List Entry). cond (eqb (caller_told_of x.1) c) (x ∷ l) l) (of_append c xs ys) ∙ sym (pick (eqb (caller_told_of x.1) c) x (entries_naming c xs) (entries_naming c ys))
+of_append c (x ∷ xs) ys = ap (λ (l : List Entry). cond (eqb (caller_told_of x.1) c) (x ∷ l) l) (of_append c xs ys)
+    ∙ sym (pick (eqb (caller_told_of x.1) c) x (entries_naming c xs) (entries_naming c ys))
 
 -- where no entry names a caller, it has none
-pub of_quiet : (c : ℕ) (log : List Entry) → ((front : List Entry) (e : Entry) (rest : List Entry) → log ≡ front ++ e ∷ rest → caller_told_of e.1 ≢ c) → entries_naming c log ≡ []
+pub of_quiet : (c : ℕ) (log : List Entry) → ((front : List Entry) (e : Entry) (rest : List Entry) → log ≡ front ++ e ∷ rest
+    → caller_told_of e.1 ≢ c) → entries_naming c log ≡ []
 of_quiet c [] none = refl
 of_quiet c (e ∷ es) none =
     let not : eqb (caller_told_of e.1) c ≡ false = ne_eqb (caller_told_of e.1) c (none [] e es refl) in
-    ap (λ (b : Bool). cond b (e ∷ entries_naming c es) (entries_naming c es)) not ∙ of_quiet c es (λ front d rest is. none (e ∷ front) d rest (ap (λ (l : List Entry). e ∷ l) is))
+    ap (λ (b : Bool). cond b (e ∷ entries_naming c es) (entries_naming c es)) not
+    ∙ of_quiet c es (λ front d rest is. none (e ∷ front) d rest (ap (λ (l : List Entry). e ∷ l) is))
 
 pub of_last : (c : ℕ) (e : Entry) → caller_told_of e.1 ≡ c → entries_naming c (e ∷ []) ≡ e ∷ []
 of_last c e is = ap (λ (b : Bool). cond b (e ∷ []) []) (eq-eqb (caller_told_of e.1) c is)
@@ -79,7 +88,8 @@ or_more false b c = refl
 
 pub gone_append : (c : ℕ) (xs ys : List Entry) → has_gone c (xs ++ ys) ≡ (has_gone c xs || has_gone c ys)
 gone_append c [] ys = refl
-gone_append c (x ∷ xs) ys = ap (λ (b : Bool). is_going c x.1 || b) (gone_append c xs ys) ∙ or_more (is_going c x.1) (has_gone c xs) (has_gone c ys)
+gone_append c (x ∷ xs) ys = ap (λ (b : Bool). is_going c x.1 || b) (gone_append c xs ys)
+    ∙ or_more (is_going c x.1) (has_gone c xs) (has_gone c ys)
 
 pub gone_snoc : (c : ℕ) (log : List Entry) (e : Entry) → has_gone c (log ++ e ∷ []) ≡ (has_gone c log || is_going c e.1)
 gone_snoc c log e = gone_append c log (e ∷ []) ∙ or_last (has_gone c log) (is_going c e.1)
@@ -97,7 +107,8 @@ or_cases true b is = inl refl
 or_cases false b is = inr is
 
 -- who has gone had joined
-gone_joined_at : (c : ℕ) (log : List Entry) → IsLegal log → (front rest : List Entry) → log ≡ front ++ rest → has_gone c rest ≡ true → c ≤ callers_in log
+gone_joined_at : (c : ℕ) (log : List Entry) → IsLegal log → (front rest : List Entry) → log ≡ front ++ rest → has_gone c rest ≡ true
+    → c ≤ callers_in log
 gone_joined_at c log legal front [] is gone = absurd cc
 gone_joined_at c log legal front (e ∷ es) is gone =
     ⊎_elim
@@ -118,9 +129,11 @@ not_gone c log legal late false is = refl
 
 -- who hasn't joined has no entries
 pub of_late : (c : ℕ) (log : List Entry) → IsLegal log → callers_in log < c → entries_naming c log ≡ []
-of_late c log legal late = of_quiet c log (λ front e rest is same. let le = named_below front e.1 (legal.each front e rest is) in let more = callers_front log front (e ∷ rest) is in absurd (omega arith))
+of_late c log legal late = of_quiet c log (λ front e rest is same. let le = named_below front e.1 (legal.each front e rest is) in
+    let more = callers_front log front (e ∷ rest) is in absurd (omega arith))
 
-legal_snoc_at : (log : List Entry) (e : Entry) → IsLegal log → May log e.1 → (front : List Entry) (d : Entry) (rest : List Entry) → log ++ e ∷ [] ≡ front ++ d ∷ rest → May front d.1
+legal_snoc_at : (log : List Entry) (e : Entry) → IsLegal log → May log e.1 → (front : List Entry) (d : Entry) (rest : List Entry) → log
+    ++ e ∷ [] ≡ front ++ d ∷ rest → May front d.1
 legal_snoc_at log e legal may front d rest is =
     ⊎_elim (λ (t : (log ≡ front) × (e ≡ d)). subst (λ (x : List Entry × Entry). May x.0 x.1.1) (λ i. (t.0 i, t.1 i)) may)
     (λ (t : (more : List Entry) × (log ≡ front ++ d ∷ more)). legal.each front d t.0 t.1)
@@ -135,24 +148,29 @@ lives_there front (NoMemory d) c some_one may is = subst (λ (x : ℕ). has_gone
 lives_there front (Gone d) c some_one may is = subst (λ (x : ℕ). has_gone x front ≡ false) is may.stays
 lives_there front step c some_one may is = absurd (some_one (sym is))
 
-names_none : (c : ℕ) (log front : List Entry) (e : Entry) (rest log' : List Entry) → c ≢ 0 → IsLegal log' → has_gone c log ≡ true → log' ≡ log ++ (front ++ e ∷ rest) → caller_told_of e.1 ≡ c → ⊥
+names_none : (c : ℕ) (log front : List Entry) (e : Entry) (rest log' : List Entry) → c ≢ 0 → IsLegal log' → has_gone c log ≡ true
+    → log' ≡ log ++ (front ++ e ∷ rest) → caller_told_of e.1 ≡ c → ⊥
 names_none c log front e rest log' some_one legal gone is same =
     let may = legal.each (log ++ front) e rest (is ∙ sym (append_assoc log front (e ∷ rest))) in
     let lives = lives_there (log ++ front) e.1 c some_one may same in
     let left = gone_stays c log front gone in cc
 
 -- a caller that has gone is named no more
-pub of_gone : (c : ℕ) (log log' : List Entry) → c ≢ 0 → IsLegal log' → has_gone c log ≡ true → IsPrefix log log' → entries_naming c log' ≡ entries_naming c log
+pub of_gone : (c : ℕ) (log log' : List Entry) → c ≢ 0 → IsLegal log' → has_gone c log ≡ true → IsPrefix log log'
+    → entries_naming c log' ≡ entries_naming c log
 of_gone c log log' some_one legal gone p =
-    let none : entries_naming c p.0 ≡ [] = of_quiet c p.0 (λ front e rest is same. names_none c log front e rest log' some_one legal gone (sym p.1 ∙ ap (λ (l : List Entry). log ++ l) is) same) in
-    ap (entries_naming c) (sym p.1) ∙ (of_append c log p.0 ∙ (ap (λ (l : List Entry). entries_naming c log ++ l) none ∙ append-nil (entries_naming c log)))
+    let none : entries_naming c p.0 ≡ [] = of_quiet c p.0 (λ front e rest is same. names_none c log front e rest log' some_one legal gone
+    (sym p.1 ∙ ap (λ (l : List Entry). log ++ l) is) same) in
+    ap (entries_naming c) (sym p.1) ∙ (of_append c log p.0 ∙ (ap (λ (l : List Entry). entries_naming c log ++ l) none
+    ∙ append-nil (entries_naming c log)))
 
 joins_few : (step : Step) → joins step ≤ 1
 joins_few (Joined p) = omega arith
 joins_few step = omega arith
 
 -- what a roll keeps beside its lines
-pub line_kept : (lines lines' : List Line) (line : Line) (callers n : ℕ) → lines' ≡ lines ++ line ∷ [] → callers ≡ callers_in (map entry_of lines) → callers ≤ length lines → length lines < MOST → n ≡ joins (step_of_what line.what)
+pub line_kept : (lines lines' : List Line) (line : Line) (callers n : ℕ) → lines' ≡ lines ++ line ∷ []
+    → callers ≡ callers_in (map entry_of lines) → callers ≤ length lines → length lines < MOST → n ≡ joins (step_of_what line.what)
     → (callers + n ≡ callers_in (map entry_of lines')) × (callers + n ≤ length lines') × (length lines' ≤ MOST)
 line_kept lines lines' line callers n is count few room made =
     let more = callers_line lines line in

@@ -7,7 +7,7 @@ use Rattle.scm_model.specs.declared.steps.Name.TheVariants.{Caller}
 use Rattle.scm_model.specs.declared.steps.Step.{Step}
 use Rattle.scm_model.specs.declared.steps.Step.TheVariants.{Joined, Gone, NoMemory}
 use Rattle.book_rule.specs.declared.view.Opening.{Opening}
-use Rattle.book_rule.specs.Ways.{Way}
+use Rattle.book_rule.specs.Ways.{Protocol}
 use Rattle.book_rule_tests.specs.declared.roll.Line.{Line}
 use Rattle.book_rule_tests.specs.declared.roll.What.{What}
 use Rattle.book_rule_tests.specs.declared.roll.What.TheVariants as what
@@ -112,7 +112,7 @@ roll_opening = record {
   faults = 0;
 }
 
-abbrev pub way_of_rolls : Way (List Entry)
+abbrev pub way_of_rolls : Protocol (List Entry)
 way_of_rolls = record {
   opening = λ r. roll_opening;
   trail = λ r. r;

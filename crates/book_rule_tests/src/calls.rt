@@ -39,7 +39,7 @@ pub fn make<R: Wait>(
             Some(callers)
         }
         Err(_) => {
-            turn.give_back(rt, seat, roll);
+            turn.unlock(rt, seat, roll);
             None
         }
     }

@@ -2,7 +2,7 @@
 ghost use Rattle.std.specs.Prelude.{◌≡◌, ◌<◌, ◌++◌, ◌∷◌, [], OnErr, OnOk, length};
 ghost use Rattle.book_rule_tests.specs.Rolls.{MOST, callers_in, entry_of, joins, step_of_what};
 
-use book_rule::Content;
+use book_rule::Guarded;
 use std::alloc::{AllocError, Global};
 use std::marker::Model;
 
@@ -58,7 +58,7 @@ impl Model for Roll {
     ghost invariant = { λ r. IsCounted r.lines.items r.callers };
 }
 
-impl Content for Roll {
+impl Guarded for Roll {
     ghost use Rattle.book_rule_tests.specs.Rolls.{way_of_rolls};
 
     ghost way = { way_of_rolls };
@@ -90,7 +90,8 @@ impl Roll {
 
     /// Adds a line. Want of memory is told of a roll with as many lines as it may have, too.
     pub fn add(&mut self, line: Line) -> Result<(), AllocError>
-        ensures ok { OnOk result ((length self.old < MOST) × (self.new ≡ self.old ++ entry_of line ∷ [])) }
+        ensures ok { OnOk result ((length self.old < MOST)
+            × (self.new ≡ self.old ++ entry_of line ∷ [])) }
         ensures err { OnErr result (self.new ≡ self.old) }
     {
         if self.lines.len() >= MOST_LINES {

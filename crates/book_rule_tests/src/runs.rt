@@ -98,11 +98,13 @@ pub fn visits<R: Threads + Wait + Sync>(
         rt,
         || -> Option<Crowd>
             requires { Waits turn.now seat × (low < middle) }
-            ensures { IfSome result (λ r. IsCrowd turn.entry.now seat.me.0.seen notes low (middle - low) r) }
+            ensures { IfSome result (λ r. IsCrowd turn.entry.now seat.me.0.seen notes low
+                (middle - low) r) }
         { visits(rt, alloc, turn, seat, low, middle, notes, spins) },
         || -> Option<Crowd>
             requires { Waits turn.now other × (middle < high) }
-            ensures { IfSome result (λ r. IsCrowd turn.entry.now other.me.0.seen notes middle (high - middle) r) }
+            ensures { IfSome result (λ r. IsCrowd turn.entry.now other.me.0.seen notes middle
+                (high - middle) r) }
         { visits(rt, alloc, turn, other, middle, high, notes, spins) },
     );
     both(turn, left?, right?)

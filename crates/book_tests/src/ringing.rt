@@ -116,7 +116,10 @@ fn stopped() -> [(Row, Rung); 2] {
             told(Asked::Queries { handle: 2 }, 0, running),
             Rung::Nothing,
         ),
-        (told(Asked::Stops { handle: 2 }, 0, running), Rung::All),
+        (
+            told(Asked::Stops { handle: 2 }, 0, running),
+            Rung::CommonAndFirst,
+        ),
     ]
 }
 
@@ -134,7 +137,8 @@ fn starts<R: Wait>(
     ensures book { IsOf book.now pass.new }
     ensures caller { pass.new.caller ≢ 0 }
     ensures other { IsOf book.now other.new }
-    ensures process { IfSome result (λ process. HoldsProcess book.now.opening other.new process phases.Launched) }
+    ensures process { IfSome result (λ process. HoldsProcess book.now.opening other.new process
+        phases.Launched) }
 {
     let before = counted(book);
     let is_begun = begin_start(rt, alloc, book, pass, 2).is_some();

@@ -30,7 +30,8 @@ fn take_into<R: Wait>(
     requires book { IsOf book.now pass.old }
     requires path { 2048 ≤ room.old.path.room }
     ensures book { IsOf book.now pass.new }
-    ensures process { IfSome result (λ process. HoldsProcess book.now.opening pass.new process phases.Taken) }
+    ensures process { IfSome result (λ process. HoldsProcess book.now.opening pass.new process
+        phases.Taken) }
 {
     match book.take_launch(rt, pass, 0, room) {
         LaunchLook::Launch(process) if room.path.units() == [0x2F, 0x61].as_slice() => {
@@ -49,7 +50,8 @@ pub fn take<R: Wait>(
 ) -> Option<u64>
     requires { IsOf book.now pass.old }
     ensures book { IsOf book.now pass.new }
-    ensures process { IfSome result (λ process. HoldsProcess book.now.opening pass.new process phases.Taken) }
+    ensures process { IfSome result (λ process. HoldsProcess book.now.opening pass.new process
+        phases.Taken) }
 {
     match LaunchRoom::new(alloc) {
         Ok(mut room) => {
@@ -70,7 +72,8 @@ pub fn launch<R: Wait>(
 ) -> Option<u64>
     requires { IsOf book.now pass.old }
     ensures book { IsOf book.now pass.new }
-    ensures process { IfSome result (λ process. HoldsProcess book.now.opening pass.new process phases.Launched) }
+    ensures process { IfSome result (λ process. HoldsProcess book.now.opening pass.new process
+        phases.Launched) }
 {
     let process = take(rt, alloc, book, pass)?;
     book.launched(rt, pass, 0, process, 7);
@@ -147,7 +150,8 @@ fn fill<R: Wait>(
     requires other { IsOf book.now other.old }
     ensures book { IsOf book.now pass.new }
     ensures other { IsOf book.now other.new }
-    ensures process { IfSome result (λ process. HoldsProcess book.now.opening other.new process phases.Launched) }
+    ensures process { IfSome result (λ process. HoldsProcess book.now.opening other.new process
+        phases.Launched) }
 {
     let is_made = come(rt, alloc, book, pass, &service());
     let plan = begin_start(rt, alloc, book, pass, 2)?;
@@ -171,7 +175,8 @@ fn is_over<R: Wait>(
     process: Option<u64>,
 ) -> bool
     requires book { IsOf book.now pass.old }
-    requires process { IfSome process (λ process. HoldsProcess book.now.opening pass.old process phases.Launched) }
+    requires process { IfSome process (λ process. HoldsProcess book.now.opening pass.old process
+        phases.Launched) }
     ensures { IsOf book.now pass.new }
 {
     match process {

@@ -1,5 +1,6 @@
 -- Controls and their lines.
-use Rattle.std.proofs.Common.{arith, ℕ, ◌≡◌, ◌^◌, ◌<◌, ◌≤◌, List, [], ◌∷◌, ◌++◌, ◌==◌, false, length, drop, None, Some, refl, sym, ap, ◌∙◌, subst}
+use Rattle.std.proofs.Common.{arith, ℕ, ◌≡◌, ◌^◌, ◌<◌, ◌≤◌, List, [], ◌∷◌, ◌++◌, ◌==◌, false, length, drop, None, Some, refl, sym, ap, ◌∙◌}
+use Rattle.std.proofs.Common.{subst}
 use Rattle.std.specs.Prelude.{is_none, bytes_eq, codes, decimal, option_and_then}
 use Rattle.std.specs.List.{join_with_byte}
 use Rattle.std.proofs.lemmas.List.{length-append}
@@ -9,7 +10,8 @@ use Rattle.std.proofs.lemmas.Slice.Eq.{bytes_eq-Decides}
 use Rattle.child_link.specs.Words.{words_in, nth_word, code_of}
 use Rattle.child_link.specs.Lines.{control_in, control_text, code_in, front_of, handed_on}
 use Rattle.child_link.proofs.Splits.{none_some, split_joined}
-use Rattle.child_link.proofs.Reports.{and_then_some, code_read, front_is, front_on, if_some, if_then, joined_short, number_again, words_clean, words_end}
+use Rattle.child_link.proofs.Reports.{and_then_some, code_read, front_is, front_on, if_some, if_then, joined_short, number_again}
+use Rattle.child_link.proofs.Reports.{words_clean, words_end}
 
 -- a word is the decimal form of the number that it is read as
 code_words : (words : List (List ℕ)) (n : ℕ) → code_in words ≡ Some n → (words ≡ decimal n ∷ []) × (n < 2 ^ 32)

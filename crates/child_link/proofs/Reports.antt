@@ -1,12 +1,15 @@
 -- Reports and their lines.
-use Rattle.std.proofs.Common.{inl, inr, arith, ℕ, suc, ◌≡◌, ◌+◌, ◌-◌, ◌*◌, ◌^◌, ◌%◌, ◌<◌, ◌≤◌, ◌==◌, ◌&&◌, ◌⊎◌, Bool, true, false, cond, List, [], ◌∷◌, ◌++◌, length, map, take, drop, Option, None, Some, refl, sym, ap, ◌∙◌, subst, append_assoc, true≢false}
+use Rattle.std.proofs.Common.{inl, inr, arith, ℕ, suc, ◌≡◌, ◌+◌, ◌-◌, ◌*◌, ◌^◌, ◌%◌, ◌<◌, ◌≤◌, ◌==◌, ◌&&◌, ◌⊎◌, Bool, true, false, cond}
+use Rattle.std.proofs.Common.{List, [], ◌∷◌, ◌++◌, length, map, take, drop, Option, None, Some, refl, sym, ap, ◌∙◌, subst, append_assoc}
+use Rattle.std.proofs.Common.{true≢false}
 use Rattle.std.specs.Prelude.{nat_lt, is_none, bytes_eq, codes, decimal, option_and_then, option_map, unwrap_or, slice_get, slice_index_or}
 use Rattle.std.specs.List.{All, join_with_byte}
 use Rattle.std.specs.Str.Parse.{digits_value}
 use Rattle.std.proofs.lemmas.Bool.{ltb-true, lt-ltb, ne_eqb, eqb-true, eq-eqb}
 use Rattle.std.proofs.lemmas.Fmt.{decimal_by_steps, length-decimal-le}
 use Rattle.std.proofs.lemmas.List.{length-append}
-use Rattle.std.proofs.lemmas.List.Elements.{All-head, All-tail, All-nil, All-cons, All-append, All-push, All-weaker, All-from_recursion, recursion_from_All}
+use Rattle.std.proofs.lemmas.List.Elements.{All-head, All-tail, All-nil, All-cons, All-append, All-push, All-weaker, All-from_recursion}
+use Rattle.std.proofs.lemmas.List.Elements.{recursion_from_All}
 use Rattle.std.proofs.lemmas.List.Splits.{join_with_byte-slice_split}
 use Rattle.std.proofs.lemmas.Slice.Eq.{bytes_eq-Decides}
 use Rattle.std.proofs.Math.Seq.{take-suc, take-length, take-append_seam, get_or-append_seam}
@@ -27,7 +30,8 @@ pub if_then : {A : Type 0} (b : Bool) (o : Option A) (y : A) → cond b o None �
 if_then true o y e = (refl, e)
 if_then false o y e = absurd (none_some None y refl e)
 
-pub and_then_some : {A B : Type 0} (f : A → Option B) (o : Option A) (y : B) → option_and_then f o ≡ Some y → (x : A) × (o ≡ Some x) × (f x ≡ Some y)
+pub and_then_some : {A B : Type 0} (f : A → Option B) (o : Option A) (y : B) → option_and_then f o ≡ Some y → (x : A) × (o ≡ Some x)
+    × (f x ≡ Some y)
 and_then_some f None y e = absurd (none_some None y refl e)
 and_then_some f (Some x) y e = (x, refl, e)
 
@@ -91,7 +95,8 @@ words_clean (n ∷ numbers) small =
 abbrev HasNoReturn : List ℕ → Type 0
 HasNoReturn bytes = All (λ b. (b == 13) ≡ false) bytes
 
-joined_clean : (word : List ℕ) (numbers : List ℕ) → HasNoReturn word → AreSmall numbers → HasNoReturn (join_with_byte 32 (word ∷ map decimal numbers))
+joined_clean : (word : List ℕ) (numbers : List ℕ) → HasNoReturn word → AreSmall numbers
+    → HasNoReturn (join_with_byte 32 (word ∷ map decimal numbers))
 joined_clean word [] clean small = clean
 joined_clean word (n ∷ numbers) clean small =
     All-append (λ b. (b == 13) ≡ false) word (32 ∷ join_with_byte 32 (decimal n ∷ map decimal numbers)) clean
@@ -137,7 +142,8 @@ status_read words status e =
     let H = code_read (drop 1 (drop 1 (drop 1 (drop 1 (drop 1 (drop 1 words)))))) h.0 h.1 in
     let L = words_end (drop 1 (drop 1 (drop 1 (drop 1 (drop 1 (drop 1 (drop 1 words))))))) end.0 in
     subst (AreNumbers words) end.1 (
-      A.0 ∙ ap (λ ws. decimal a.0 ∷ ws) (B.0 ∙ ap (λ ws. decimal b.0 ∷ ws) (C.0 ∙ ap (λ ws. decimal c.0 ∷ ws) (D.0 ∙ ap (λ ws. decimal d.0 ∷ ws)
+      A.0 ∙ ap (λ ws. decimal a.0 ∷ ws) (B.0 ∙ ap (λ ws. decimal b.0 ∷ ws) (C.0
+          ∙ ap (λ ws. decimal c.0 ∷ ws) (D.0 ∙ ap (λ ws. decimal d.0 ∷ ws)
           (F.0 ∙ ap (λ ws. decimal f.0 ∷ ws) (G.0 ∙ ap (λ ws. decimal g.0 ∷ ws) (H.0 ∙ ap (λ ws. decimal h.0 ∷ ws) L)))))),
       All-from_recursion (λ n. n < 2 ^ 32) (numbers_of made) (A.1, (B.1, (C.1, (D.1, (F.1, (G.1, (H.1, tt))))))),
     )
@@ -168,7 +174,8 @@ report_words (name ∷ words) status e =
     let read = status_read words status told.1 in
     (ap (λ n. n ∷ words) ((bytes_eq-Decides name (codes "STATUS")).0 told.0) ∙ ap (λ ws. codes "STATUS" ∷ ws) read.0, read.1)
 
-text_read : (text : List ℕ) (status : Status) → report_in (words_in (Some text)) ≡ Some status → (text ≡ report_text status) × AreSmall (numbers_of status)
+text_read : (text : List ℕ) (status : Status) → report_in (words_in (Some text)) ≡ Some status → (text ≡ report_text status)
+    × AreSmall (numbers_of status)
 text_read text status e =
     let h = report_words (words_in (Some text)) status e in
     (sym (join_with_byte-slice_split 32 text) ∙ ap (join_with_byte 32) h.0, h.1)
@@ -196,7 +203,8 @@ front_is byte (b ∷ bytes) front some e =
 pub front_on : (byte : ℕ) (front : List ℕ) → front_of byte (front ++ byte ∷ []) ≡ Some front
 front_on byte front =
     let size : length (front ++ byte ∷ []) - 1 ≡ length front = omega (arith, length-append front (byte ∷ [])) in
-    rw (size, eq-eqb (slice_index_or (front ++ byte ∷ []) (length front) 0) byte (get_or-append_seam front byte [] 0)) (ap Some (take-append_seam front (byte ∷ [])))
+    rw (size, eq-eqb (slice_index_or (front ++ byte ∷ []) (length front) 0) byte (get_or-append_seam front byte [] 0))
+    (ap Some (take-append_seam front (byte ∷ [])))
 
 no_return : (text : List ℕ) → HasNoReturn text → front_of 13 text ≡ None
 no_return [] clean = refl
@@ -208,11 +216,13 @@ no_return (b ∷ text) clean =
 abbrev EndsText : List ℕ → List ℕ → Type 0
 EndsText line text = (line ≡ text ++ 10 ∷ []) ⊎ (line ≡ text ++ 13 ∷ 10 ∷ [])
 
-text_in : (line front text : List ℕ) (before : Option (List ℕ)) → line ≡ front ++ 10 ∷ [] → front_of 13 front ≡ before → unwrap_or before front ≡ text
+text_in : (line front text : List ℕ) (before : Option (List ℕ)) → line ≡ front ++ 10 ∷ [] → front_of 13 front ≡ before
+    → unwrap_or before front ≡ text
     → EndsText line text
 text_in line front text None ends found is = inl (ends ∙ ap (λ t. t ++ 10 ∷ []) is)
 text_in line front text (Some cut) ends found is =
-    inr (ends ∙ ap (λ t. t ++ 10 ∷ []) (front_is 13 front cut (omega arith) found ∙ ap (λ t. t ++ 13 ∷ []) is) ∙ append_assoc text (13 ∷ []) (10 ∷ []))
+    inr (ends ∙ ap (λ t. t ++ 10 ∷ []) (front_is 13 front cut (omega arith) found ∙ ap (λ t. t ++ 13 ∷ []) is)
+    ∙ append_assoc text (13 ∷ []) (10 ∷ []))
 
 line_read : (line text : List ℕ) → line_text line ≡ Some text → EndsText line text
 unfolding line_text
@@ -223,7 +233,12 @@ line_read line text e =
 line_again : (line text : List ℕ) → HasNoReturn text → EndsText line text → line_text line ≡ Some text
 unfolding line_text
 line_again line text clean (inl ends) = rw (ends, front_on 10 text, no_return text clean) refl
-line_again line text clean (inr ends) = rw (ends, sym (append_assoc text (13 ∷ []) (10 ∷ [])), front_on 10 (text ++ 13 ∷ []), front_on 13 text) refl
+line_again line text clean (inr ends) = rw (
+  ends,
+  sym (append_assoc text (13 ∷ []) (10 ∷ [])),
+  front_on 10 (text ++ 13 ∷ []),
+  front_on 13 text,
+) refl
 
 line_short : (line text : List ℕ) → length text ≤ 83 → EndsText line text → length line ≤ 4096
 line_short line text short (inl ends) = omega (arith, short, ap length ends ∙ length-append text (10 ∷ []))
@@ -235,7 +250,8 @@ unfolding reported
 read_back line status h =
     let clean = joined_clean (codes "STATUS") (numbers_of status)
     (All-from_recursion (λ b. (b == 13) ≡ false) (codes "STATUS") (refl, (refl, (refl, (refl, (refl, (refl, tt))))))) h.small in
-    ap (option_and_then (λ text. report_in (words_in (Some text)))) (line_again line (report_text status) clean h.text) ∙ text_again status h.small
+    ap (option_and_then (λ text. report_in (words_in (Some text)))) (line_again line (report_text status) clean h.text)
+    ∙ text_again status h.small
 
 -- what is read as a status is its report
 pub read_only : (line : List ℕ) (status : Status) → reported line ≡ Some status → IsReport line status

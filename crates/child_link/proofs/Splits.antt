@@ -1,5 +1,6 @@
 -- Texts and their words.
-use Rattle.std.proofs.Common.{arith, ℕ, zero, suc, ◌≡◌, ◌+◌, ◌-◌, ◌==◌, true, false, List, [], ◌∷◌, length, take, drop, Option, None, Some, refl, sym, ap, ◌∙◌}
+use Rattle.std.proofs.Common.{arith, ℕ, zero, suc, ◌≡◌, ◌+◌, ◌-◌, ◌==◌, true, false, List, [], ◌∷◌, length, take, drop, Option, None, Some}
+use Rattle.std.proofs.Common.{refl, sym, ap, ◌∙◌}
 use Rattle.std.specs.Prelude.{slice_get}
 use Rattle.std.specs.List.{All, slice_split, onto_first, join_with_byte}
 use Rattle.std.proofs.lemmas.List.{take_rest}
@@ -30,7 +31,8 @@ split_word (b ∷ text) (suc place) at clean =
 
 -- the same, as the part of the text behind the space
 pub split_part : (text : List ℕ) (place : ℕ) → slice_get text place ≡ Some 32 → IsOneWord (take place text)
-    → slice_split (λ b. b == 32) text ≡ take place text ∷ slice_split (λ b. b == 32) (take (length text - (place + 1)) (drop (place + 1) text))
+    → slice_split (λ b. b == 32) text ≡ take place text ∷ slice_split (λ b. b == 32)
+    (take (length text - (place + 1)) (drop (place + 1) text))
 split_part text place at clean =
     let next : suc place ≡ place + 1 = omega arith in
     split_word text place at clean

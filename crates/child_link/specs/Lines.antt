@@ -1,5 +1,6 @@
 -- What a child's lines report, and the lines that it is sent.
-use Rattle.std.specs.Prelude.{ℕ, ◌≡◌, ◌-◌, ◌^◌, ◌<◌, ◌≤◌, ◌==◌, ◌⊎◌, List, [], ◌∷◌, ◌++◌, length, map, take, Option, None, Some, is_none, option_and_then, option_map, slice_index_or, unwrap_or, bytes_eq, codes, decimal, if◌then◌else◌}
+use Rattle.std.specs.Prelude.{ℕ, ◌≡◌, ◌-◌, ◌^◌, ◌<◌, ◌≤◌, ◌==◌, ◌⊎◌, List, [], ◌∷◌, ◌++◌, length, map, take, Option, None, Some, is_none}
+use Rattle.std.specs.Prelude.{option_and_then, option_map, slice_index_or, unwrap_or, bytes_eq, codes, decimal, if◌then◌else◌}
 use Rattle.std.specs.List.{All, flat_map, join_with_byte}
 use Rattle.scm_model.specs.declared.flat.Status.{Status}
 use Rattle.child_link.specs.Words.{words_in, nth_word, code_of}
@@ -49,7 +50,15 @@ status_in words = do
   checkpoint ← code_of (nth_word words 5)
   hint ← code_of (nth_word words 6)
   if is_none (nth_word words 7)
-      then Some (record { kind = kind; state = state; accepted = accepted; win32 = win32; specific = specific; checkpoint = checkpoint; hint = hint })
+      then Some (record {
+        kind = kind;
+        state = state;
+        accepted = accepted;
+        win32 = win32;
+        specific = specific;
+        checkpoint = checkpoint;
+        hint = hint;
+      })
       else None
 
 -- the status that words report

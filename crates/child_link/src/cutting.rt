@@ -70,5 +70,6 @@ impl LineCutter {
 /// What is kept of a line is read as the whole line is.
 pub fn kept_lines_are_read()
     ensures reports { (front : List ℕ) → reported (kept_line front) ≡ reported (front ++ 10 ∷ []) }
-    ensures controls { (front : List ℕ) → handed_on (kept_line front) ≡ handed_on (front ++ 10 ∷ []) }
+    ensures controls { (front : List ℕ) → handed_on (kept_line front) ≡ handed_on (front
+        ++ 10 ∷ []) }
 {}

@@ -1,7 +1,10 @@
-ghost use Rattle.std.specs.Prelude.{◌≡◌, ◌<◌, ◌^◌, ◌++◌, ◌∷◌, [], ℕ, List, IfOk, OnOk, Some, decimal, option_map};
+ghost use Rattle.std.specs.Prelude.{◌≡◌, ◌<◌, ◌^◌, ◌++◌, ◌∷◌, [], ℕ, List, IfOk, OnOk, Some};
+ghost use Rattle.std.specs.Prelude.{decimal, option_map};
 ghost use Rattle.scm_model.specs.declared.steps.Step.TheVariants.{Report};
 ghost use Rattle.child_link.specs.Words.{words_in};
-ghost use Rattle.child_link.specs.Lines.{IsReport, code_in, control_in, control_text, front_of, handed_on, line_text, report_in, report_text, reported, spaced, status_in};
+ghost use Rattle.child_link.specs.Lines.{IsReport, code_in, control_in, control_text, front_of};
+ghost use Rattle.child_link.specs.Lines.{handed_on, line_text, report_in, report_text, reported};
+ghost use Rattle.child_link.specs.Lines.{spaced, status_in};
 
 use super::words::Words;
 use scm_model::{Status, Step};

@@ -1,4 +1,5 @@
-ghost use Rattle.std.specs.Prelude.{◌≡◌, ◌==◌, ◌<◌, ◌^◌, ◌∷◌, All, IfNone, IfSome, Some, bytes_eq, drop, length, option_map, slice_get, take, false};
+ghost use Rattle.std.specs.Prelude.{◌≡◌, ◌==◌, ◌<◌, ◌^◌, ◌∷◌, All, IfNone, IfSome, Some, bytes_eq};
+ghost use Rattle.std.specs.Prelude.{drop, length, option_map, slice_get, take, false};
 ghost use Rattle.child_link.specs.Words.{code_of, words_in};
 
 use decimal_words::number_below;

@@ -1,8 +1,9 @@
 -- How far the reports of a child's output came.
-use Rattle.std.proofs.Common.{ℕ, ◌≡◌, ◌∙◌, ◌+◌, ◌<◌, ◌≤◌, ◌^◌, ◌⊎◌, inl, inr, List, [], ◌∷◌, ◌++◌, length, Option, refl, sym, ap, subst, append_assoc, arith, length-append}
+use Rattle.std.proofs.Common.{ℕ, ◌≡◌, ◌∙◌, ◌+◌, ◌<◌, ◌≤◌, ◌^◌, ◌⊎◌, inl, inr, List, [], ◌∷◌, ◌++◌, length, Option, refl, sym, ap, subst}
+use Rattle.std.proofs.Common.{append_assoc, arith, length-append}
 use Rattle.std.specs.Io.KnownBytes.{Consumes, IsAtEnd}
 use Rattle.std.proofs.KnownBytes.{Consumes-trans, Consumes-whole}
-use Rattle.feed_loop.specs.declared.fed.Fed.TheVariants as fed
+use Rattle.feed_loop.specs.declared.fed.ReadEnd.TheVariants as fed
 use Rattle.outside.specs.Causes.{Rose}
 use Rattle.outside.specs.Written.{Begins}
 use Rattle.scm_model.specs.declared.flat.Status.{Status}
@@ -30,7 +31,8 @@ pub record SoFar (tells : ℕ → Type 0) (o : Opening) (process : ℕ) (k m : K
   pub chain : Chain tells o process k m done
 
 -- one piece more
-pub one_piece : (tells : ℕ → Type 0) (o : Opening) (process : ℕ) (k m now : Known) (read line piece line' : List ℕ) → SoFar tells o process k m read line
+pub one_piece : (tells : ℕ → Type 0) (o : Opening) (process : ℕ) (k m now : Known) (read line piece line' : List ℕ)
+    → SoFar tells o process k m read line
     → GoesOn tells o process piece line line' m now → SoFar tells o process k now (read ++ piece) line'
 one_piece tells o process k m now read line piece line' on goes = record {
   done = on.done ++ goes.statuses;
@@ -38,7 +40,8 @@ one_piece tells o process k m now read line piece line' on goes = record {
   chain = chain_append tells o process k m now on.done goes.statuses on.chain goes.chain;
 }
 
-module _ (tells : ℕ → Type 0) (o : Opening) (process : ℕ) (k m : Known) (left left_now : Option (List ℕ)) (read line : List ℕ) (on : SoFar tells o process k m read line) where
+module _ (tells : ℕ → Type 0) (o : Opening) (process : ℕ) (k m : Known) (left left_now : Option (List ℕ)) (read line : List ℕ)
+    (on : SoFar tells o process k m read line) where
   -- all reports of what was read were made
   pub read_ends : (count : ℕ) (how : ChildServed) (now : Known) → Consumes left left_now read → count ≡ length read → length read ≤ 2 ^ 40
       → CameTo o process m now how left read on.done → MakesReports tells o process k now left left_now count how
@@ -58,17 +61,27 @@ module _ (tells : ℕ → Type 0) (o : Opening) (process : ℕ) (k m : Known) (l
   all_read consumed end few = (all_of left left_now read consumed end, few, all_told read on.done line on.has)
 
   -- a report wasn't made
-  module _ (piece line' : List ℕ) (now : Known) (count : ℕ) (consumed : Consumes left left_now (read ++ piece)) (counted : count ≡ length read + length piece) (much : count ≤ 2 ^ 40) where
-    next_is : (why : MakeFault) (s : Stops tells o process piece line line' m now why) (more : List ℕ) → Begins ((on.done ++ s.statuses) ++ s.next ∷ []) (reports ((read ++ piece) ++ more))
+  module _ (piece line' : List ℕ) (now : Known) (count : ℕ) (consumed : Consumes left left_now (read ++ piece))
+      (counted : count ≡ length read + length piece) (much : count ≤ 2 ^ 40) where
+    next_is : (why : MakeFault) (s : Stops tells o process piece line line' m now why) (more : List ℕ)
+        → Begins ((on.done ++ s.statuses) ++ s.next ∷ []) (reports ((read ++ piece) ++ more))
     next_is why s more =
-        subst (λ (front : List Status). Begins front (reports ((read ++ piece) ++ more))) (sym (append_assoc on.done s.statuses (s.next ∷ [])))
-        (subst (λ (bs : List ℕ). Begins (on.done ++ (s.statuses ++ s.next ∷ [])) (reports bs)) (sym (append_assoc read piece more)) (s.follows read on.done on.has more))
+        subst (λ (front : List Status). Begins front (reports ((read ++ piece) ++ more)))
+        (sym (append_assoc on.done s.statuses (s.next ∷ [])))
+        (subst (λ (bs : List ℕ). Begins (on.done ++ (s.statuses ++ s.next ∷ [])) (reports bs)) (sym (append_assoc read piece more))
+        (s.follows read on.done on.has more))
 
-    came_to : (why : MakeFault) (s : Stops tells o process piece line line' m now why) → CameTo o process s.last now (served_as (fed.Stopped why)) left (read ++ piece) (on.done ++ s.statuses)
+    came_to : (why : MakeFault) (s : Stops tells o process piece line line' m now why)
+        → CameTo o process s.last now (served_as (fed.Stopped why)) left (read ++ piece) (on.done ++ s.statuses)
     came_to lacks.Full s = (s.next, next_is lacks.Full s, s.lacks)
-    came_to lacks.OutOfMemory s = (s.lacks.learnt, λ more. shorter (on.done ++ s.statuses) s.next (reports ((read ++ piece) ++ more)) (next_is lacks.OutOfMemory s more))
+    came_to lacks.OutOfMemory s = (
+      s.lacks.learnt,
+      λ more. shorter (on.done ++ s.statuses) s.next (reports ((read ++ piece) ++ more))
+          (next_is lacks.OutOfMemory s more),
+    )
 
-    pub report_lacks : (why : MakeFault) → Stops tells o process piece line line' m now why → MakesReports tells o process k now left left_now count (served_as (fed.Stopped why))
+    pub report_lacks : (why : MakeFault) → Stops tells o process piece line line' m now why
+        → MakesReports tells o process k now left left_now count (served_as (fed.Stopped why))
     report_lacks why s = record {
       read = read ++ piece;
       done = on.done ++ s.statuses;
@@ -89,7 +102,8 @@ pub rose_behind : (a b c : ℕ) → (b ≡ a) ⊎ Rose a b → Rose b c → Rose
 rose_behind a b c (inl same) more = subst (λ (n : ℕ). Rose n c) same more
 rose_behind a b c (inr rose) more = rose_both a b c rose more
 
-out_of : (left left_now : Option (List ℕ)) (all : List ℕ) (count : ℕ) (more : List ℕ) (a b c : ℕ) → Consumes left left_now all → length all ≡ count + length more → (b ≡ a) ⊎ Rose a b
+out_of : (left left_now : Option (List ℕ)) (all : List ℕ) (count : ℕ) (more : List ℕ) (a b c : ℕ) → Consumes left left_now all
+    → length all ≡ count + length more → (b ≡ a) ⊎ Rose a b
     → IsAtEnd left_now ⊎ (count + length more ≡ 2 ^ 40) ⊎ Rose b c → IsReadOut left all a c
 out_of left left_now all count more a b c consumed long first (inl end) = inl (all_of left left_now all consumed end)
 out_of left left_now all count more a b c consumed long first (inr (inl many)) = inr (inl (long ∙ many))
@@ -98,9 +112,11 @@ out_of left left_now all count more a b c consumed long first (inr (inr rose)) =
 module _ (tells : ℕ → Type 0) (o : Opening) (process : ℕ) (k now : Known) (left mid : Option (List ℕ)) where
   -- the first reports were made, and the rest of the output was read without steps
   module _ (left_now : Option (List ℕ)) (count a b c : ℕ) (first : (b ≡ a) ⊎ Rose a b) (r : ReadsOn mid left_now count b c) where
-    pub behind_full : MakesReports tells o process k now left mid count served.Full → ReadsAll tells o process k now left left_now a c served.Full
+    pub behind_full : MakesReports tells o process k now left mid count served.Full
+        → ReadsAll tells o process k now left left_now a c served.Full
     behind_full m =
-        let long : length (m.read ++ r.more) ≡ count + length r.more = length-append m.read r.more ∙ ap (λ (n : ℕ). n + length r.more) (sym m.counted) in
+        let long : length (m.read ++ r.more) ≡ count + length r.more = length-append m.read r.more
+        ∙ ap (λ (n : ℕ). n + length r.more) (sym m.counted) in
         let consumed = Consumes-trans left mid left_now m.read r.more m.consumed r.consumed in record {
           read = m.read ++ r.more;
           done = m.done;
@@ -113,9 +129,11 @@ module _ (tells : ℕ → Type 0) (o : Opening) (process : ℕ) (k now : Known) 
           reached = record { next = m.came.0; follows = m.came.1 r.more; full = m.came.2.full };
         }
 
-    pub behind_no_memory : MakesReports tells o process k now left mid count served.OutOfMemory → ReadsAll tells o process k now left left_now a c served.OutOfMemory
+    pub behind_no_memory : MakesReports tells o process k now left mid count served.OutOfMemory
+        → ReadsAll tells o process k now left left_now a c served.OutOfMemory
     behind_no_memory m =
-        let long : length (m.read ++ r.more) ≡ count + length r.more = length-append m.read r.more ∙ ap (λ (n : ℕ). n + length r.more) (sym m.counted) in
+        let long : length (m.read ++ r.more) ≡ count + length r.more = length-append m.read r.more
+        ∙ ap (λ (n : ℕ). n + length r.more) (sym m.counted) in
         let consumed = Consumes-trans left mid left_now m.read r.more m.consumed r.consumed in record {
           read = m.read ++ r.more;
           done = m.done;

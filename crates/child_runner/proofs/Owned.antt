@@ -1,5 +1,6 @@
 -- The places that reports and an end add to a pass's own.
-use Rattle.std.proofs.Common.{ℕ, zero, suc, ◌≡◌, ◌∙◌, List, [], ◌∷◌, ◌++◌, length, Some, inl, inr, refl, sym, ap, subst, append_assoc, append-nil}
+use Rattle.std.proofs.Common.{ℕ, zero, suc, ◌≡◌, ◌∙◌, List, [], ◌∷◌, ◌++◌, length, Some, inl, inr, refl, sym, ap, subst, append_assoc}
+use Rattle.std.proofs.Common.{append-nil}
 use Rattle.std.specs.Prelude.{slice_get}
 use Rattle.std.proofs.lemmas.List.Elements.{All-cons, All-nil}
 use mathlib.Core.List.{IsPrefix}
@@ -30,16 +31,22 @@ there_still [] more place e is = absurd cc
 there_still (x ∷ log) more zero e is = is
 there_still (x ∷ log) more (suc place) e is = there_still log more place e is
 
-there_behind : (log longer : List Entry) (place : ℕ) (e : Entry) → IsPrefix log longer → slice_get log place ≡ Some e → slice_get longer place ≡ Some e
+there_behind : (log longer : List Entry) (place : ℕ) (e : Entry) → IsPrefix log longer → slice_get log place ≡ Some e
+    → slice_get longer place ≡ Some e
 there_behind log longer place e more is = subst (λ (l : List Entry). slice_get l place ≡ Some e) more.1 (there_still log more.0 place e is)
 
-stand_behind : (log longer : List Entry) (places : List ℕ) (entries : List Entry) → IsPrefix log longer → StandAt log places entries → StandAt longer places entries
+stand_behind : (log longer : List Entry) (places : List ℕ) (entries : List Entry) → IsPrefix log longer → StandAt log places entries
+    → StandAt longer places entries
 stand_behind log longer [] [] more stand = tt
-stand_behind log longer (place ∷ places) (e ∷ entries) more stand = (there_behind log longer place e more stand.0, stand_behind log longer places entries more stand.1)
+stand_behind log longer (place ∷ places) (e ∷ entries) more stand = (
+  there_behind log longer place e more stand.0,
+  stand_behind log longer places entries more stand.1,
+)
 stand_behind log longer [] (e ∷ entries) more stand = absurd stand
 stand_behind log longer (place ∷ places) [] more stand = absurd stand
 
-stand_more : (log : List Entry) (places : List ℕ) (entries : List Entry) (place : ℕ) (e : Entry) → StandAt log places entries → slice_get log place ≡ Some e → StandAt log (places ++ place ∷ []) (entries ++ e ∷ [])
+stand_more : (log : List Entry) (places : List ℕ) (entries : List Entry) (place : ℕ) (e : Entry) → StandAt log places entries
+    → slice_get log place ≡ Some e → StandAt log (places ++ place ∷ []) (entries ++ e ∷ [])
 stand_more log [] [] place e stand is = (is, tt)
 stand_more log (first ∷ places) (other ∷ entries) place e stand is = (stand.0, stand_more log places entries place e stand.1 is)
 stand_more log [] (other ∷ entries) place e stand is = absurd stand
@@ -47,10 +54,13 @@ stand_more log (first ∷ places) [] place e stand is = absurd stand
 
 module _ (o : Opening) (process : ℕ) where
   longer_made : (k k' : Known) (moment : ℕ) (step : Step) (told : Answer) → Made o k moment step told k' → IsPrefix k.seen k'.seen
-  longer_made k k' moment step told made = subst (IsPrefix k.seen) (sym made.seen) (prefix_snoc k.seen made.before (moment, step) made.longer)
+  longer_made k k' moment step told made = subst (IsPrefix k.seen) (sym made.seen)
+      (prefix_snoc k.seen made.before (moment, step) made.longer)
 
-  made_there : (k k' : Known) (moment : ℕ) (step : Step) (told : Answer) → (made : Made o k moment step told k') → slice_get k'.seen (length made.before) ≡ Some (moment, step)
-  made_there k k' moment step told made = subst (λ (l : List Entry). slice_get l (length made.before) ≡ Some (moment, step)) (sym made.seen) (last_there made.before (moment, step))
+  made_there : (k k' : Known) (moment : ℕ) (step : Step) (told : Answer) → (made : Made o k moment step told k')
+      → slice_get k'.seen (length made.before) ≡ Some (moment, step)
+  made_there k k' moment step told made = subst (λ (l : List Entry). slice_get l (length made.before) ≡ Some (moment, step)) (sym made.seen)
+      (last_there made.before (moment, step))
 
   -- ## Reports, one after another
 
@@ -76,7 +86,8 @@ module _ (o : Opening) (process : ℕ) where
       caller = refl;
     }
 
-    left_more : (k m k' : Known) (status : Status) (more : List Status) → IsReported tells o process k status m → Left m k' more → Left k k' (status ∷ more)
+    left_more : (k m k' : Known) (status : Status) (more : List Status) → IsReported tells o process k status m → Left m k' more
+        → Left k k' (status ∷ more)
     left_more k m k' status more first rest =
         let made = first.made.made in
         let e : Entry = (first.moment, Report process status) in
@@ -88,7 +99,10 @@ module _ (o : Opening) (process : ℕ) where
           };
           places = place ∷ rest.places;
           own = rest.own ∙ (ap (λ (ps : List ℕ). ps ++ rest.places) made.own ∙ append_assoc k.own (place ∷ []) rest.places);
-          stand = (there_behind m.seen k'.seen place e rest.longer (made_there k m first.moment (Report process status) first.answer made), rest.stand);
+          stand = (
+            there_behind m.seen k'.seen place e rest.longer (made_there k m first.moment (Report process status) first.answer made),
+            rest.stand,
+          );
           longer = prefix_trans k.seen m.seen k'.seen (longer_made k m first.moment (Report process status) first.answer made) rest.longer;
           caller = rest.caller ∙ made.caller;
         }
@@ -112,7 +126,8 @@ module _ (o : Opening) (process : ℕ) where
     left_same : (k last stood : Known) (statuses : List Status) → Left k last statuses → stood ≡ last → Left k stood statuses
     left_same k last stood statuses left same = subst (λ (x : Known). Left k x statuses) (sym same) left
 
-    pub left_stood : (how : ChildServed) (k last stood : Known) (statuses : List Status) → Left k last statuses → Leaves o how last stood → Left k stood statuses
+    pub left_stood : (how : ChildServed) (k last stood : Known) (statuses : List Status) → Left k last statuses → Leaves o how last stood
+        → Left k stood statuses
     left_stood served.Full k last stood statuses left leaves = left_learnt k last stood statuses left leaves
     left_stood served.OutOfMemory k last stood statuses left (inl same) = left_same k last stood statuses left same
     left_stood served.OutOfMemory k last stood statuses left (inr learnt) = left_learnt k last stood statuses left learnt
@@ -120,17 +135,21 @@ module _ (o : Opening) (process : ℕ) where
 
     -- ## The end
 
-    made_end : (k k' : Known) (moment : ℕ) (ended : EndedEnd) → EndedSo o k moment process ended k' → Made o k moment (Ended process) (told_of_end ended) k'
+    made_end : (k k' : Known) (moment : ℕ) (ended : EndedEnd) → EndedSo o k moment process ended k'
+        → Made o k moment (Ended process) (told_of_end ended) k'
     made_end k k' moment ends.Taken so = so.0
     made_end k k' moment ends.Stale so = so.0
 
-    pub longer_end : (stood k' : Known) (moment : ℕ) (ended : EndedEnd) → EndedSo o stood moment process ended k' → IsPrefix stood.seen k'.seen
-    longer_end stood k' moment ended so = longer_made stood k' moment (Ended process) (told_of_end ended) (made_end stood k' moment ended so)
+    pub longer_end : (stood k' : Known) (moment : ℕ) (ended : EndedEnd) → EndedSo o stood moment process ended k'
+        → IsPrefix stood.seen k'.seen
+    longer_end stood k' moment ended so = longer_made stood k' moment (Ended process) (told_of_end ended)
+        (made_end stood k' moment ended so)
 
     pub end_caller : (stood k' : Known) (moment : ℕ) (ended : EndedEnd) → EndedSo o stood moment process ended k' → k'.caller ≡ stood.caller
     end_caller stood k' moment ended so = (made_end stood k' moment ended so).caller
 
-    pub has_reported : (k stood k' : Known) (statuses : List Status) (moment : ℕ) (ended : EndedEnd) → Left k stood statuses → tells moment → EndedSo o stood moment process ended k'
+    pub has_reported : (k stood k' : Known) (statuses : List Status) (moment : ℕ) (ended : EndedEnd) → Left k stood statuses → tells moment
+        → EndedSo o stood moment process ended k'
         → HasReported tells o process k k' statuses
     has_reported k stood k' statuses moment ended left told so =
         let made = made_end stood k' moment ended so in

@@ -1,5 +1,6 @@
 -- What was read of a child's output, byte by byte.
-use Rattle.std.proofs.Common.{ℕ, ◌≡◌, ◌∙◌, ◌<◌, ◌≤◌, ◌==◌, ◌⊎◌, inl, inr, cond, true, false, List, [], ◌∷◌, ◌++◌, length, Option, None, Some, refl, sym, ap, append_assoc, append-nil, arith, eqb-true}
+use Rattle.std.proofs.Common.{ℕ, ◌≡◌, ◌∙◌, ◌<◌, ◌≤◌, ◌==◌, ◌⊎◌, inl, inr, cond, true, false, List, [], ◌∷◌, ◌++◌, length, Option, None}
+use Rattle.std.proofs.Common.{Some, refl, sym, ap, append_assoc, append-nil, arith, eqb-true}
 use Rattle.std.specs.Prelude.{All, option_to_list}
 use Rattle.std.specs.List.{cons_option, slice_split}
 use Rattle.std.proofs.lemmas.Bool.{cases_lt}
@@ -14,7 +15,8 @@ use Rattle.child_runner.specs.Reports.{HasRead, reports, reports_in}
 
 -- ## Lines
 
-more_lines : (line : List ℕ) (pieces : List (List ℕ)) → 0 < length pieces → reports_in (line ∷ pieces) ≡ cons_option (reported (line ++ 10 ∷ [])) (reports_in pieces)
+more_lines : (line : List ℕ) (pieces : List (List ℕ)) → 0 < length pieces
+    → reports_in (line ∷ pieces) ≡ cons_option (reported (line ++ 10 ∷ [])) (reports_in pieces)
 unfolding reports_in
 more_lines line [] some = absurd (omega (arith, some))
 more_lines line (next ∷ more) some = refl
@@ -41,7 +43,8 @@ cons_as_append (Some x) more = refl
 
 -- ## What is kept of a line
 
-kept_cases : (rest : List ℕ) (byte : ℕ) → (4096 < length rest) ⊎ (length rest ≤ 4096) → kept (kept rest ++ byte ∷ []) ≡ kept (rest ++ byte ∷ [])
+kept_cases : (rest : List ℕ) (byte : ℕ) → (4096 < length rest) ⊎ (length rest ≤ 4096)
+    → kept (kept rest ++ byte ∷ []) ≡ kept (rest ++ byte ∷ [])
 kept_cases rest byte (inr few) = ap (λ (front : List ℕ). kept (front ++ byte ∷ [])) (take_all 4096 rest few)
 kept_cases rest byte (inl many) =
     let long = length-take 4096 rest in
@@ -61,7 +64,8 @@ goes_short line line' byte other is =
     kept_short line' (line ++ byte ∷ []) (is ∙ ap (λ b. cond b (line ++ byte ∷ []) (kept (line ++ byte ∷ []))) other)
 
 pub ended_line : (line : List ℕ) (byte : ℕ) → (byte == 10) ≡ true → kept_with line byte ≡ line ++ 10 ∷ []
-ended_line line byte is = ap (λ b. cond b (line ++ byte ∷ []) (kept (line ++ byte ∷ []))) is ∙ ap (λ (n : ℕ). line ++ n ∷ []) (eqb-true byte 10 is)
+ended_line line byte is = ap (λ b. cond b (line ++ byte ∷ []) (kept (line ++ byte ∷ []))) is
+    ∙ ap (λ (n : ℕ). line ++ n ∷ []) (eqb-true byte 10 is)
 
 -- ## Byte by byte
 
@@ -76,28 +80,35 @@ has_none = record {
 }
 
 -- one byte more of a line
-pub one_byte : (read : List ℕ) (before : List Status) (line line' : List ℕ) (byte : ℕ) → (byte == 10) ≡ false → line' ≡ kept_with line byte → HasRead read before line → HasRead (read ++ byte ∷ []) before line'
+pub one_byte : (read : List ℕ) (before : List Status) (line line' : List ℕ) (byte : ℕ) → (byte == 10) ≡ false → line' ≡ kept_with line byte
+    → HasRead read before line → HasRead (read ++ byte ∷ []) before line'
 one_byte read before line line' byte other is has = record {
   lines = has.lines;
   rest = has.rest ++ byte ∷ [];
   parts = ap (λ (bs : List ℕ). bs ++ byte ∷ []) has.parts ∙ append_assoc has.lines has.rest (byte ∷ []);
   told = has.told;
-  one_line = All-append (λ (b : ℕ). (b == 10) ≡ false) has.rest (byte ∷ []) has.one_line (All-cons (λ (b : ℕ). (b == 10) ≡ false) byte [] other none_in_it);
-  is_kept = is ∙ (ap (λ b. cond b (line ++ byte ∷ []) (kept (line ++ byte ∷ []))) other ∙ (ap (λ (front : List ℕ). kept (front ++ byte ∷ [])) has.is_kept ∙ kept_more has.rest byte));
+  one_line = All-append (λ (b : ℕ). (b == 10) ≡ false) has.rest (byte ∷ []) has.one_line
+      (All-cons (λ (b : ℕ). (b == 10) ≡ false) byte [] other none_in_it);
+  is_kept = is ∙ (ap (λ b. cond b (line ++ byte ∷ []) (kept (line ++ byte ∷ []))) other
+      ∙ (ap (λ (front : List ℕ). kept (front ++ byte ∷ [])) has.is_kept ∙ kept_more has.rest byte));
 }
 
 -- a line feed, behind which this follows
-pub feed_told : (read : List ℕ) (before : List Status) (line : List ℕ) (found : Option Status) → found ≡ reported (line ++ 10 ∷ []) → HasRead read before line → (more : List ℕ)
+pub feed_told : (read : List ℕ) (before : List Status) (line : List ℕ) (found : Option Status) → found ≡ reported (line ++ 10 ∷ [])
+    → HasRead read before line → (more : List ℕ)
     → reports (read ++ 10 ∷ more) ≡ (before ++ option_to_list found) ++ reports more
 feed_told read before line found is has more =
-    let same : found ≡ reported (has.rest ++ 10 ∷ []) = is ∙ (ap (λ (front : List ℕ). reported (front ++ 10 ∷ [])) has.is_kept ∙ kept_report has.rest) in
+    let same : found ≡ reported (has.rest ++ 10 ∷ []) = is ∙ (ap (λ (front : List ℕ). reported (front ++ 10 ∷ [])) has.is_kept
+    ∙ kept_report has.rest) in
     ap (λ (bs : List ℕ). reports (bs ++ 10 ∷ more)) has.parts
     ∙ (ap reports (append_assoc has.lines has.rest (10 ∷ more))
     ∙ (has.told (has.rest ++ 10 ∷ more)
-    ∙ (ap (λ (ss : List Status). before ++ ss) (whole_line has.rest more has.one_line ∙ (ap (λ (o : Option Status). cons_option o (reports more)) (sym same) ∙ cons_as_append found (reports more)))
+    ∙ (ap (λ (ss : List Status). before ++ ss) (whole_line has.rest more has.one_line
+    ∙ (ap (λ (o : Option Status). cons_option o (reports more)) (sym same) ∙ cons_as_append found (reports more)))
     ∙ sym (append_assoc before (option_to_list found) (reports more)))))
 
-pub line_ends : (read : List ℕ) (before : List Status) (line : List ℕ) (found : Option Status) → found ≡ reported (line ++ 10 ∷ []) → HasRead read before line
+pub line_ends : (read : List ℕ) (before : List Status) (line : List ℕ) (found : Option Status) → found ≡ reported (line ++ 10 ∷ [])
+    → HasRead read before line
     → HasRead (read ++ 10 ∷ []) (before ++ option_to_list found) []
 line_ends read before line found is has = record {
   lines = read ++ 10 ∷ [];
@@ -112,4 +123,5 @@ line_ends read before line found is has = record {
 
 pub all_told : (read : List ℕ) (before : List Status) (line : List ℕ) → HasRead read before line → before ≡ reports read
 all_told read before line has =
-    sym (ap reports has.parts ∙ (has.told has.rest ∙ (ap (λ (ss : List Status). before ++ ss) (rest_alone has.rest has.one_line) ∙ append-nil before)))
+    sym (ap reports has.parts ∙ (has.told has.rest ∙ (ap (λ (ss : List Status). before ++ ss) (rest_alone has.rest has.one_line)
+    ∙ append-nil before)))

@@ -1,5 +1,6 @@
 -- Controls that a pass takes one after another, and their lines.
-use Rattle.std.proofs.Common.{◌≡◌, ◌∙◌, ◌+◌, ℕ, List, [], ◌∷◌, ◌++◌, length, Option, None, Some, true, inl, inr, refl, sym, ap, subst, append_assoc, append-nil, length-append, arith}
+use Rattle.std.proofs.Common.{◌≡◌, ◌≤◌, ◌∙◌, ◌+◌, ℕ, List, [], ◌∷◌, ◌++◌, length, Option, None, Some, true, inl, inr, refl, sym, ap, subst}
+use Rattle.std.proofs.Common.{append_assoc, append-nil, length-append, arith}
 use Rattle.std.specs.List.{AllZip}
 use Rattle.std.specs.Io.KnownBytes.{Appends}
 use Rattle.std.proofs.KnownBytes.{Appends-nil, Appends-trans}
@@ -12,13 +13,14 @@ use Rattle.scm_rules.specs.Histories.{answer, state}
 use Rattle.scm_rules.specs.Steps.{step_of}
 use Rattle.scm_runs.proofs.Histories.{told}
 use Rattle.book_rule.specs.declared.view.Opening.{Opening}
-use Rattle.book_rule.proofs.Prefixes.{prefix_self, prefix_snoc, prefix_trans}
+use Rattle.book_rule.proofs.Prefixes.{prefix_length, prefix_self, prefix_snoc, prefix_trans}
 use Rattle.scm_book.specs.Passes.{FindsNoMemory, FindsNoRoom, KeepsAll, Known, Learnt, Made, MadeSo, may_behind, room_behind}
 use Rattle.scm_book.specs.Reporting.{waiting_behind}
 use Rattle.child_link.specs.Lines.{control_text}
 use Rattle.child_runner.specs.declared.sending.ControlsSent.{ControlsSent}
 use Rattle.child_runner.specs.declared.sending.ControlsSent.TheVariants as sent
-use Rattle.child_runner.specs.Sending.{AreLines, FeedCause, GoesOn, HasReason, IsBehindOwn, MayEnd, Sends, Takes, TookAt, WritesLine, control_lines}
+use Rattle.child_runner.specs.Sending.{AreLines, AreRisingFrom, FeedCause, GoesOn, HasReason, IsBehindOwn, MayEnd, Sends, Takes, TookAt}
+use Rattle.child_runner.specs.Sending.{WritesLine, control_lines}
 
 -- ## Lines
 
@@ -32,7 +34,8 @@ whole_behind : (codes more text : List ℕ) → text ≡ control_lines more → 
 whole_behind codes more text is = ap (λ t. control_lines codes ++ t) is ∙ sym (lines_append codes more)
 
 -- lines behind those of controls that came before
-lines_behind : (how : ControlsSent) (codes more text : List ℕ) → AreLines how more text → AreLines how (codes ++ more) (control_lines codes ++ text)
+lines_behind : (how : ControlsSent) (codes more text : List ℕ) → AreLines how more text
+    → AreLines how (codes ++ more) (control_lines codes ++ text)
 lines_behind sent.WriteFault codes more text lines = record {
   whole = codes ++ lines.whole;
   last = lines.last;
@@ -40,7 +43,8 @@ lines_behind sent.WriteFault codes more text lines = record {
   codes_are = ap (λ cs. codes ++ cs) lines.codes_are ∙ sym (append_assoc codes lines.whole (lines.last ∷ []));
   begins = lines.begins;
   text_is = ap (λ t. control_lines codes ++ t) lines.text_is
-      ∙ (sym (append_assoc (control_lines codes) (control_lines lines.whole) lines.front) ∙ ap (λ t. t ++ lines.front) (sym (lines_append codes lines.whole)));
+      ∙ (sym (append_assoc (control_lines codes) (control_lines lines.whole) lines.front)
+      ∙ ap (λ t. t ++ lines.front) (sym (lines_append codes lines.whole)));
 }
 lines_behind sent.OutOfMemory codes more text (inl is) = inl (whole_behind codes more text is)
 lines_behind sent.OutOfMemory codes more text (inr lacks) = inr (record {
@@ -70,27 +74,68 @@ zip_append R (x ∷ xs) ys (v ∷ vs) ws first then = (first.0, zip_append R xs 
 zip_append R [] ys (v ∷ vs) ws first then = absurd first
 zip_append R (x ∷ xs) ys [] ws first then = absurd first
 
+-- ## Places
+
+rises_from : (least more : ℕ) (places : List ℕ) → least ≤ more → AreRisingFrom more places → AreRisingFrom least places
+rises_from least more [] few rising = tt
+rises_from least more (place ∷ places) few rising = (let from : more ≤ place = rising.0 in omega arith, rising.1)
+
 -- ## Controls that are taken
 
 module _ (tells : ℕ → Type 0) (o : Opening) (process : ℕ) where
-  took_still : (log more : List Entry) (place code : ℕ) → TookAt tells o process log place code → TookAt tells o process (log ++ more) place code
+  took_still : (log more : List Entry) (place code : ℕ) → TookAt tells o process log place code
+      → TookAt tells o process (log ++ more) place code
   took_still log more place code took =
       let l = o.limits in
       let f = o.first in
       let e : Entry = (took.moment, ControlTaken process) in
-      let whole : log ++ more ≡ took.front ++ e ∷ (took.rest ++ more) = ap (λ (es : List Entry). es ++ more) took.is ∙ append_assoc took.front (e ∷ took.rest) more in
-      let first : answer l f log place ≡ Some (step_of l (state l f took.front) e.0 e.1).answer = (λ i. answer l f (took.is i) (took.at i)) ∙ told l f took.front e took.rest in
-      let then : answer l f (log ++ more) place ≡ Some (step_of l (state l f took.front) e.0 e.1).answer = (λ i. answer l f (whole i) (took.at i)) ∙ told l f took.front e (took.rest ++ more) in
-      record { front = took.front; moment = took.moment; rest = took.rest ++ more; is = whole; at = took.at; told = took.told; answered = then ∙ (sym first ∙ took.answered); room = took.room }
+      let whole : log ++ more ≡ took.front ++ e ∷ (took.rest ++ more) = ap (λ (es : List Entry). es ++ more) took.is
+      ∙ append_assoc took.front (e ∷ took.rest) more in
+      let first : answer l f log place ≡ Some (step_of l (state l f took.front) e.0 e.1).answer = (λ i. answer l f (took.is i) (took.at i))
+      ∙ told l f took.front e took.rest in
+      let then : answer l f (log ++ more) place ≡ Some (step_of l (state l f took.front) e.0 e.1).answer =
+      (λ i. answer l f (whole i) (took.at i)) ∙ told l f took.front e (took.rest ++ more) in
+      record {
+        front = took.front;
+        moment = took.moment;
+        rest = took.rest ++ more;
+        is = whole;
+        at = took.at;
+        told = took.told;
+        answered =
+            then ∙ (sym first ∙ took.answered);
+        room = took.room;
+      }
 
-  all_still : (log more : List Entry) (places codes : List ℕ) → AllZip (TookAt tells o process log) places codes → AllZip (TookAt tells o process (log ++ more)) places codes
+  all_still : (log more : List Entry) (places codes : List ℕ) → AllZip (TookAt tells o process log) places codes
+      → AllZip (TookAt tells o process (log ++ more)) places codes
   all_still log more [] [] all = tt
   all_still log more (place ∷ places) (code ∷ codes) all = (took_still log more place code all.0, all_still log more places codes all.1)
   all_still log more [] (code ∷ codes) all = absurd all
   all_still log more (place ∷ places) [] all = absurd all
 
-  all_behind : (log longer : List Entry) (places codes : List ℕ) → IsPrefix log longer → AllZip (TookAt tells o process log) places codes → AllZip (TookAt tells o process longer) places codes
-  all_behind log longer places codes is all = subst (λ (es : List Entry). AllZip (TookAt tells o process es) places codes) is.1 (all_still log is.0 places codes all)
+  all_behind : (log longer : List Entry) (places codes : List ℕ) → IsPrefix log longer → AllZip (TookAt tells o process log) places codes
+      → AllZip (TookAt tells o process longer) places codes
+  all_behind log longer places codes is all = subst (λ (es : List Entry). AllZip (TookAt tells o process es) places codes) is.1
+      (all_still log is.0 places codes all)
+
+  took_within : (log : List Entry) (place code : ℕ) → TookAt tells o process log place code → place + 1 ≤ length log
+  took_within log place code took =
+      let e : Entry = (took.moment, ControlTaken process) in
+      let all : length log ≡ length (took.front ++ e ∷ took.rest) = ap length took.is in
+      let parts : length (took.front ++ e ∷ took.rest) ≡ length took.front + length (e ∷ took.rest) =
+      length-append took.front (e ∷ took.rest) in
+      let at : place ≡ length took.front = took.at in omega arith
+
+  -- places of what was seen before, and then places behind that
+  rises_then : (log : List Entry) (least : ℕ) (places codes more : List ℕ) → least ≤ length log
+      → AllZip (TookAt tells o process log) places codes
+      → AreRisingFrom least places → AreRisingFrom (length log) more → AreRisingFrom least (places ++ more)
+  rises_then log least [] [] more few all first then = rises_from least (length log) more few then
+  rises_then log least (place ∷ places) (code ∷ codes) more few all first then =
+      (first.0, rises_then log (place + 1) places codes more (took_within log place code all.0) all.1 first.1 then)
+  rises_then log least [] (code ∷ codes) more few all first then = absurd all
+  rises_then log least (place ∷ places) [] more few all first then = absurd all
 
   pub takes_none : (k : Known) → Takes tells o process k [] k
   takes_none k = record {
@@ -98,6 +143,7 @@ module _ (tells : ℕ → Type 0) (o : Opening) (process : ℕ) where
     legal = λ legal. legal;
     places = [];
     own = sym (append-nil k.own);
+    rising = tt;
     took = tt;
     names = refl;
     caller = refl;
@@ -112,6 +158,7 @@ module _ (tells : ℕ → Type 0) (o : Opening) (process : ℕ) where
     legal = λ legal. learnt.legal;
     places = [];
     own = learnt.own ∙ sym (append-nil k.own);
+    rising = tt;
     took = tt;
     names = learnt.names;
     caller = learnt.caller;
@@ -120,34 +167,54 @@ module _ (tells : ℕ → Type 0) (o : Opening) (process : ℕ) where
     same = learnt.same;
   }
 
-  made_takes : (k k' : Known) (moment code : ℕ) → tells moment → (made : Made o k moment (ControlTaken process) (answers.Control code) k') → room_behind o made.before (ControlTaken process) ≡ true
+  made_takes : (k k' : Known) (moment code : ℕ) → tells moment → (made : Made o k moment (ControlTaken process) (answers.Control code) k')
+      → room_behind o made.before (ControlTaken process) ≡ true
       → Takes tells o process k (code ∷ []) k'
   made_takes k k' moment code told made room = record {
     longer = subst (IsPrefix k.seen) (sym made.seen) (prefix_snoc k.seen made.before (moment, ControlTaken process) made.longer);
     legal = λ legal. made.legal;
     places = length made.before ∷ [];
     own = made.own;
-    took = (record { front = made.before; moment = moment; rest = []; is = made.seen; at = refl; told = told; answered = made.answer; room = room }, tt);
+    rising = (prefix_length k.seen made.before made.longer, tt);
+    took = (
+      record {
+        front = made.before;
+        moment = moment;
+        rest = [];
+        is = made.seen;
+        at = refl;
+        told = told;
+        answered = made.answer;
+        room = room;
+      },
+      tt,
+    );
     names = made.names ∙ append-nil k.names;
     caller = made.caller;
     claims = λ claims. made.claims;
     alone = λ alone.
         let all : length k'.seen ≡ length (made.before ++ (moment, ControlTaken process) ∷ []) = ap length made.seen in
-        let parts : length (made.before ++ (moment, ControlTaken process) ∷ []) ≡ length made.before + 1 = length-append made.before ((moment, ControlTaken process) ∷ []) in
+        let parts : length (made.before ++ (moment, ControlTaken process) ∷ []) ≡ length made.before
+        + 1 = length-append made.before ((moment, ControlTaken process) ∷ []) in
         let before : length made.before ≡ length k.seen = ap length (made.alone alone) in omega arith;
     same = made.same;
   }
 
-  pub takes_one : (k k' : Known) (moment code : ℕ) → tells moment → MadeSo o k moment (ControlTaken process) (answers.Control code) k' → Takes tells o process k (code ∷ []) k'
+  pub takes_one : (k k' : Known) (moment code : ℕ) → tells moment → MadeSo o k moment (ControlTaken process) (answers.Control code) k'
+      → Takes tells o process k (code ∷ []) k'
   takes_one k k' moment code told so = made_takes k k' moment code told so.made so.room
 
-  takes_then : (k m k' : Known) (codes more : List ℕ) → Takes tells o process k codes m → Takes tells o process m more k' → Takes tells o process k (codes ++ more) k'
+  takes_then : (k m k' : Known) (codes more : List ℕ) → Takes tells o process k codes m → Takes tells o process m more k'
+      → Takes tells o process k (codes ++ more) k'
   takes_then k m k' codes more first then = record {
     longer = prefix_trans k.seen m.seen k'.seen first.longer then.longer;
     legal = λ legal. then.legal (first.legal legal);
     places = first.places ++ then.places;
     own = then.own ∙ (ap (λ (own : List ℕ). own ++ then.places) first.own ∙ append_assoc k.own first.places then.places);
-    took = zip_append (TookAt tells o process k'.seen) first.places then.places codes more (all_behind m.seen k'.seen first.places codes then.longer first.took) then.took;
+    rising = rises_then m.seen (length k.seen) first.places codes then.places (prefix_length k.seen m.seen first.longer) first.took
+        first.rising then.rising;
+    took = zip_append (TookAt tells o process k'.seen) first.places then.places codes more
+        (all_behind m.seen k'.seen first.places codes then.longer first.took) then.took;
     names = then.names ∙ first.names;
     caller = then.caller ∙ first.caller;
     claims = λ claims. then.claims (first.claims claims);
@@ -167,22 +234,27 @@ module _ (tells : ℕ → Type 0) (o : Opening) (process : ℕ) where
   pub goes_none : (k : Known) (held : Option (List ℕ)) (faults : ℕ) → GoesOn tells o process k held held faults faults k
   goes_none k held faults = record { codes = []; takes = takes_none k; appended = Appends-nil held; kept = refl }
 
-  pub goes_learnt : (k k' : Known) (held : Option (List ℕ)) (faults : ℕ) → Learnt o k k' → GoesOn tells o process k held held faults faults k'
+  pub goes_learnt : (k k' : Known) (held : Option (List ℕ)) (faults : ℕ) → Learnt o k k'
+      → GoesOn tells o process k held held faults faults k'
   goes_learnt k k' held faults learnt = record { codes = []; takes = takes_learnt k k' learnt; appended = Appends-nil held; kept = refl }
 
-  appends_lines : (held mid now : Option (List ℕ)) (codes text : List ℕ) → Appends held mid (control_lines codes) → Appends mid now text → Appends held now (control_lines codes ++ text)
+  appends_lines : (held mid now : Option (List ℕ)) (codes text : List ℕ) → Appends held mid (control_lines codes) → Appends mid now text
+      → Appends held now (control_lines codes ++ text)
   appends_lines held mid now codes text first then = Appends-trans held mid now (control_lines codes) text first then
 
-  module _ (k m k' : Known) (held mid now : Option (List ℕ)) (faults faults_mid faults_now : ℕ) (first : GoesOn tells o process k held mid faults faults_mid m) where
+  module _ (k m k' : Known) (held mid now : Option (List ℕ)) (faults faults_mid faults_now : ℕ)
+      (first : GoesOn tells o process k held mid faults faults_mid m) where
     pub goes_then : GoesOn tells o process m mid now faults_mid faults_now k' → GoesOn tells o process k held now faults faults_now k'
     goes_then then = record {
       codes = first.codes ++ then.codes;
       takes = takes_then k m k' first.codes then.codes first.takes then.takes;
-      appended = subst (Appends held now) (sym (lines_append first.codes then.codes)) (appends_lines held mid now first.codes (control_lines then.codes) first.appended then.appended);
+      appended = subst (Appends held now) (sym (lines_append first.codes then.codes))
+          (appends_lines held mid now first.codes (control_lines then.codes) first.appended then.appended);
       kept = then.kept ∙ first.kept;
     }
 
-    pub sends_then : (may_ask : Type 0) (how : ControlsSent) → Sends tells o process may_ask m mid now faults_mid faults_now how k' → Sends tells o process may_ask k held now faults faults_now how k'
+    pub sends_then : (may_ask : Type 0) (how : ControlsSent) → Sends tells o process may_ask m mid now faults_mid faults_now how k'
+        → Sends tells o process may_ask k held now faults faults_now how k'
     sends_then may_ask how then = record {
       codes = first.codes ++ then.codes;
       takes = takes_then k m k' first.codes then.codes first.takes then.takes;
@@ -200,8 +272,17 @@ module _ (tells : ℕ → Type 0) (o : Opening) (process : ℕ) where
     abbrev Ends : ControlsSent → Type 0
     Ends how = Sends tells o process may_ask k held held faults faults how k'
 
-    ends_so : (how : ControlsSent) → Takes tells o process k [] k' → AreLines how [] [] → HasReason tells o process may_ask how k' → FeedCause how faults faults → Ends how
-    ends_so how takes lines reason cause = record { codes = []; takes = takes; text = []; lines = lines; appended = Appends-nil held; reason = reason; cause = cause }
+    ends_so : (how : ControlsSent) → Takes tells o process k [] k' → AreLines how [] [] → HasReason tells o process may_ask how k'
+        → FeedCause how faults faults → Ends how
+    ends_so how takes lines reason cause = record {
+      codes = [];
+      takes = takes;
+      text = [];
+      lines = lines;
+      appended = Appends-nil held;
+      reason = reason;
+      cause = cause;
+    }
 
     pub shut : k' ≡ k → may_ask → Ends sent.Shut
     shut same asks = ends_so sent.Shut (subst (λ (x : Known). Takes tells o process k [] x) (sym same) (takes_none k)) refl asks refl
@@ -212,16 +293,22 @@ module _ (tells : ℕ → Type 0) (o : Opening) (process : ℕ) where
     pub over : Learnt o k k' → waiting_behind o k'.seen process ≡ None → Ends sent.Over
     over learnt none = ends_so sent.Over (takes_learnt k k' learnt) refl (behind_own learnt, none) refl
 
-    pub full : (moment : ℕ) → tells moment → FindsNoRoom o k (ControlTaken process) k' → may_behind o k'.seen moment (ControlTaken process) ≡ true → Ends sent.Full
+    pub full : (moment : ℕ) → tells moment → FindsNoRoom o k (ControlTaken process) k'
+        → may_behind o k'.seen moment (ControlTaken process) ≡ true → Ends sent.Full
     full moment told finds may =
-        ends_so sent.Full (takes_learnt k k' finds.learnt) refl (behind_own finds.learnt, record { full = finds.full; moment = moment; told = told; may = may }) refl
+        ends_so sent.Full (takes_learnt k k' finds.learnt) refl (
+          behind_own finds.learnt,
+          record { full = finds.full; moment = moment; told = told; may = may },
+        ) refl
 
     pub no_memory : FindsNoMemory o k (ControlTaken process) k' → Ends sent.OutOfMemory
     no_memory finds = ends_so sent.OutOfMemory (takes_learnt k k' finds.learnt) (inl refl) tt refl
 
   -- a control was taken, and this became of its line
-  module _ (may_ask : Type 0) (k k' : Known) (code : ℕ) (held held_now : Option (List ℕ)) (faults faults_now : ℕ) (takes : Takes tells o process k (code ∷ []) k') where
-    pub line_ends : (end : Option ControlsSent) → WritesLine code held held_now faults faults_now end → MayEnd tells o process may_ask k held held_now faults faults_now end k'
+  module _ (may_ask : Type 0) (k k' : Known) (code : ℕ) (held held_now : Option (List ℕ)) (faults faults_now : ℕ)
+      (takes : Takes tells o process k (code ∷ []) k') where
+    pub line_ends : (end : Option ControlsSent) → WritesLine code held held_now faults faults_now end
+        → MayEnd tells o process may_ask k held held_now faults faults_now end k'
     line_ends None line = record {
       codes = code ∷ [];
       takes = takes;

@@ -12,7 +12,8 @@ use Rattle.process_runner.specs.Spawning.{Starts, counted}
 use Rattle.process_runner.specs.declared.spawning.SpawnFault.TheVariants as spawn
 use Rattle.process_runner.specs.declared.spawning.SpawnFaults.{SpawnFaults}
 use Rattle.process_runner.specs.declared.spawning.Spawned.{Spawned}
-use Rattle.scm_model.specs.declared.codes.TheConstants.{ERROR_ACCESS_DENIED, ERROR_FILE_NOT_FOUND, ERROR_GEN_FAILURE, ERROR_NOT_ENOUGH_MEMORY, ERROR_PATH_NOT_FOUND}
+use Rattle.scm_model.specs.declared.codes.TheConstants.{ERROR_ACCESS_DENIED, ERROR_FILE_NOT_FOUND, ERROR_GEN_FAILURE}
+use Rattle.scm_model.specs.declared.codes.TheConstants.{ERROR_NOT_ENOUGH_MEMORY, ERROR_PATH_NOT_FOUND}
 use Rattle.child_runner.specs.declared.fault.LaunchFault.{LaunchFault}
 use Rattle.child_runner.specs.declared.fault.LaunchFault.TheVariants as faults
 use Rattle.child_runner.specs.declared.launching.LaunchEnd.{LaunchEnd}
@@ -32,7 +33,12 @@ pub record Spawning : Type 0 where
   pub faults_now : SpawnFaults
 
 abbrev pub spawning_of : (started started_now : Option (List (List (List ℕ)))) → (faults faults_now : SpawnFaults) → Spawning
-spawning_of started started_now faults faults_now = record { started = started; started_now = started_now; faults = faults; faults_now = faults_now }
+spawning_of started started_now faults faults_now = record {
+  started = started;
+  started_now = started_now;
+  faults = faults;
+  faults_now = faults_now;
+}
 
 -- nothing was asked of it
 pub record IsIdle (s : Spawning) : Type 0 where
@@ -43,7 +49,8 @@ pub record IsIdle (s : Spawning) : Type 0 where
 -- memory it isn't asked
 abbrev pub SpawnComesTo : {C : Type 0} → Spawning → Result C LaunchFault → List (List ℕ) → Type 0
 SpawnComesTo {C} s (Ok child) words = Starts {C = C} s.started s.started_now (Ok child) words × (s.faults_now ≡ s.faults)
-SpawnComesTo {C} s (Err (faults.Spawn fault)) words = Starts {C = C} s.started s.started_now (Err fault) words × (s.faults_now ≡ counted fault s.faults)
+SpawnComesTo {C} s (Err (faults.Spawn fault)) words = Starts {C = C} s.started s.started_now (Err fault) words
+    × (s.faults_now ≡ counted fault s.faults)
 SpawnComesTo s (Err faults.OutOfMemory) words = IsIdle s
 
 -- ## Why a launch failed
@@ -76,7 +83,8 @@ module _ (o : Opening) (tells : ℕ → Type 0) where
   -- started, and the code says why; or nothing is wanted in the state of the pass's new history
   abbrev pub Launches : {L F : Type 0} → (L → ℕ) → (L → F → Type 0) → Known → Spawning → LaunchEnd L F → Known → Type 0
   Launches {L} {F} pid gives k s (ends.Started process link feed) k' =
-      (line : List ℕ × List (List ℕ)) × TakesAndTells k process line (steps.Launched process (pid link)) k' × HoldsProcess o k' process phases.Launched
+      (line : List ℕ × List (List ℕ)) × TakesAndTells k process line (steps.Launched process (pid link)) k'
+      × HoldsProcess o k' process phases.Launched
       × SpawnComesTo {C = Spawned L F} s (Ok (record { link = link; feed = feed })) (started_words line) × gives link feed
   Launches {L} {F} pid gives k s (ends.Failed process code) k' =
       (line : List ℕ × List (List ℕ)) × TakesAndTells k process line (steps.LaunchFailed process code) k'

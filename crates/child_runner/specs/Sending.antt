@@ -64,8 +64,14 @@ WritesLine code held held_now faults faults_now (Some how) = ⊥
 abbrev pub IsBehindOwn : Known → Type 0
 IsBehindOwn k = (place : ℕ) → Has place k.own → place < length k.seen
 
+-- places one behind another, from this one on
+abbrev pub AreRisingFrom : ℕ → List ℕ → Type 0
+AreRisingFrom least [] = Unit {0}
+AreRisingFrom least (place ∷ places) = (least ≤ place) × AreRisingFrom (place + 1) places
+
 module _ (tells : ℕ → Type 0) (o : Opening) (process : ℕ) where
-  -- the entry at a place of a history took this control for the process, at a moment of the clock, and found room for that in the state before it
+  -- the entry at a place of a history took this control for the process, at a moment of the clock, and found room for that in the state
+  -- before it
   pub record TookAt (log : List Entry) (place code : ℕ) : Type 0 where
     pub front : List Entry
     pub moment : ℕ
@@ -76,12 +82,14 @@ module _ (tells : ℕ → Type 0) (o : Opening) (process : ℕ) where
     pub answered : answer o.limits o.first log place ≡ Some (answers.Control code)
     pub room : room_behind o front (ControlTaken process) ≡ true
 
-  -- the pass took these controls, one after another, and has no other own entry more; where it is alone nobody made any
+  -- the pass took these controls, one after another, behind all that it had seen, and has no other own entry more; where it is alone nobody
+  -- made any
   pub record Takes (k : Known) (codes : List ℕ) (k' : Known) : Type 0 where
     pub longer : IsPrefix k.seen k'.seen
     pub legal : Legal o.limits o.first k.seen → Legal o.limits o.first k'.seen
     pub places : List ℕ
     pub own : k'.own ≡ k.own ++ places
+    pub rising : AreRisingFrom (length k.seen) places
     pub took : AllZip (TookAt k'.seen) places codes
     pub names : k'.names ≡ k.names
     pub caller : k'.caller ≡ k.caller
@@ -106,7 +114,8 @@ module _ (tells : ℕ → Type 0) (o : Opening) (process : ℕ) where
   HasReason may_ask how k = Unit {0}
 
   -- controls were taken and their lines written, until this ended it
-  pub record Sends (may_ask : Type 0) (k : Known) (held held_now : Option (List ℕ)) (faults faults_now : ℕ) (how : ControlsSent) (k' : Known) : Type 0 where
+  pub record Sends (may_ask : Type 0) (k : Known) (held held_now : Option (List ℕ)) (faults faults_now : ℕ) (how : ControlsSent)
+      (k' : Known) : Type 0 where
     pub codes : List ℕ
     pub takes : Takes k codes k'
     pub text : List ℕ
@@ -122,6 +131,7 @@ module _ (tells : ℕ → Type 0) (o : Opening) (process : ℕ) where
     pub appended : Appends held held_now (control_lines codes)
     pub kept : faults_now ≡ faults
 
-  abbrev pub MayEnd : (may_ask : Type 0) → Known → (held held_now : Option (List ℕ)) → (faults faults_now : ℕ) → Option ControlsSent → Known → Type 0
+  abbrev pub MayEnd : (may_ask : Type 0) → Known → (held held_now : Option (List ℕ)) → (faults faults_now : ℕ) → Option ControlsSent → Known
+      → Type 0
   MayEnd may_ask k held held_now faults faults_now None k' = GoesOn k held held_now faults faults_now k'
   MayEnd may_ask k held held_now faults faults_now (Some how) k' = Sends may_ask k held held_now faults faults_now how k'

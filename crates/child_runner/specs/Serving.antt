@@ -1,9 +1,10 @@
 -- A child from its first byte to its end.
-use Rattle.std.specs.Prelude.{ℕ, ◌≡◌, ◌<◌, ◌≤◌, ◌+◌, ◌^◌, ◌⊎◌, ◌++◌, All, Bool, IfSome, false, true, List, [], ◌∷◌, length, map, slice_get, Option, Some}
+use Rattle.std.specs.Prelude.{ℕ, ◌≡◌, ◌<◌, ◌≤◌, ◌+◌, ◌^◌, ◌⊎◌, ◌++◌, All, Bool, IfSome, false, true, List, [], ◌∷◌, length, map, slice_get}
+use Rattle.std.specs.Prelude.{Option, Some}
 use Rattle.std.specs.Io.KnownBytes.{Consumes, IsAtEnd}
 use mathlib.Core.List.{IsPrefix}
-use Rattle.feed_loop.specs.declared.fed.Fed.{Fed}
-use Rattle.feed_loop.specs.declared.fed.Fed.TheVariants as fed
+use Rattle.feed_loop.specs.declared.fed.ReadEnd.{ReadEnd}
+use Rattle.feed_loop.specs.declared.fed.ReadEnd.TheVariants as fed
 use Rattle.outside.specs.Causes.{Rose}
 use Rattle.outside.specs.Written.{Begins}
 use Rattle.scm_model.specs.declared.flat.Status.{Status}
@@ -24,7 +25,7 @@ use Rattle.child_runner.specs.Reports.{Chain, reports}
 -- ## All reads
 
 -- how it ends that a child's output was fed so
-abbrev pub served_as : Fed MakeFault → ChildServed
+abbrev pub served_as : ReadEnd MakeFault → ChildServed
 served_as fed.Ended = served.Ended
 served_as fed.ReadFault = served.ReadFault
 served_as fed.Worn = served.Worn
@@ -64,7 +65,8 @@ Reached o process k served.OutOfMemory left read done = Begins done (reports rea
 -- How far they came where reading ended or a report wasn't made, whatever follows what was read.
 abbrev pub CameTo : Opening → ℕ → (last now : Known) → ChildServed → (left : Option (List ℕ)) → (read : List ℕ) → List Status → Type 0
 CameTo o process last now served.Full left read done =
-    (next : Status) × ((more : List ℕ) → Begins (done ++ next ∷ []) (reports (read ++ more))) × FindsNoRoom o last (steps.Report process next) now
+    (next : Status) × ((more : List ℕ) → Begins (done ++ next ∷ []) (reports (read ++ more)))
+    × FindsNoRoom o last (steps.Report process next) now
 CameTo o process last now served.OutOfMemory left read done = Learnt o last now × ((more : List ℕ) → Begins done (reports (read ++ more)))
 CameTo o process last now how left read done = (now ≡ last) × Reached o process now how left read done
 
@@ -161,11 +163,14 @@ module _ (tells : ℕ → Type 0) (o : Opening) (process : ℕ) where
 -- the limits had room for each of these reports behind all that the pass then saw
 abbrev pub HasRoomFor : Opening → ℕ → Known → Known → List Status → Type 0
 HasRoomFor o process k k' statuses =
-    (log : List Entry) (status : Status) → IsPrefix k.seen log → IsPrefix log k'.seen → Has status statuses → room_behind o log (steps.Report process status) ≡ true
+    (log : List Entry) (status : Status) → IsPrefix k.seen log → IsPrefix log k'.seen → Has status statuses
+    → room_behind o log (steps.Report process status) ≡ true
 
--- Where the link tells its bytes, fewer than a child may have, its count didn't rise, and there was room, all reports were made and the answer is
+-- Where the link tells its bytes, fewer than a child may have, its count didn't rise, and there was room, all reports were made and the
+-- answer is
 -- Ended, or there was no memory.
-abbrev pub IsComplete : (tells : ℕ → Type 0) → Opening → ℕ → (k k' : Known) → (left : Option (List ℕ)) → (faults faults_now : ℕ) → ChildServed → Type 0
+abbrev pub IsComplete : (tells : ℕ → Type 0) → Opening → ℕ → (k k' : Known) → (left : Option (List ℕ)) → (faults faults_now : ℕ)
+    → ChildServed → Type 0
 IsComplete tells o process k k' left faults faults_now how =
     (bytes : List ℕ) → left ≡ Some bytes → length bytes < 2 ^ 40 → (Rose faults faults_now → ⊥) → HasRoomFor o process k k' (reports bytes)
     → (how ≡ served.OutOfMemory) ⊎ ((how ≡ served.Ended) × HasReported tells o process k k' (reports bytes))

@@ -1,6 +1,7 @@
 ghost use Rattle.std.specs.Prelude.{◌≡◌, ◌≤◌, IfOk};
 ghost use Rattle.scm_book.specs.Passes.{IsOf};
-ghost use Rattle.child_runner.specs.Launches.{SpawnComesTo, IsEmpty, Launches, spawning_of, started_words};
+ghost use Rattle.child_runner.specs.Launches.{SpawnComesTo, IsEmpty, Launches, spawning_of};
+ghost use Rattle.child_runner.specs.Launches.{started_words};
 
 use crate::fault::LaunchFault;
 use child_link::Link;

@@ -1,7 +1,7 @@
 // A child's output as what eats the pieces of its link.
 use crate::reports::feed;
 use child_link::LineCutter;
-use feed_loop::Eater;
+use feed_loop::ByteConsumer;
 use outside::Clock;
 use record_journal::Keeper;
 use scm_book::{Book, MakeFault, Pass};
@@ -31,7 +31,7 @@ impl<'a, R: Wait, K: Keeper, C: Clock> Drop for Reporter<'a, R, K, C> {
     }
 }
 
-impl<'a, R: Wait, K: Keeper, C: Clock> Eater<Pass, ()> for Reporter<'a, R, K, C> {
+impl<'a, R: Wait, K: Keeper, C: Clock> ByteConsumer<Pass, ()> for Reporter<'a, R, K, C> {
     ghost use Rattle.std.specs.Prelude.{◌≡◌, ◌≤◌, length};
     ghost use Rattle.scm_model.specs.declared.flat.Phase.TheVariants as phases;
     ghost use Rattle.scm_book.specs.Passes.{HoldsProcess, IsOf};
@@ -53,7 +53,12 @@ impl<'a, R: Wait, K: Keeper, C: Clock> Eater<Pass, ()> for Reporter<'a, R, K, C>
         × Stops (C.tells a.eater.clock.now) a.eater.book.now.opening a.eater.process piece
         a.eater.line b.eater.line a.place b.place why };
 
-    fn eat(&mut self, pass: &mut Pass, _output: &mut (), piece: &[u8]) -> Result<(), MakeFault> {
+    fn consume(
+        &mut self,
+        pass: &mut Pass,
+        _output: &mut (),
+        piece: &[u8],
+    ) -> Result<(), MakeFault> {
         feed(
             self.rt,
             self.book,
@@ -70,7 +75,7 @@ impl<'a, R: Wait, K: Keeper, C: Clock> Eater<Pass, ()> for Reporter<'a, R, K, C>
 #[derive(Drop)]
 pub struct Unread;
 
-impl Eater<(), ()> for Unread {
+impl ByteConsumer<(), ()> for Unread {
     type Stop = Infallible;
 
     ghost ready = { λ a most. Unit {0} };
@@ -79,7 +84,12 @@ impl Eater<(), ()> for Unread {
 
     ghost stops = { λ a b piece why. ⊥ };
 
-    fn eat(&mut self, _place: &mut (), _output: &mut (), _piece: &[u8]) -> Result<(), Infallible> {
+    fn consume(
+        &mut self,
+        _place: &mut (),
+        _output: &mut (),
+        _piece: &[u8],
+    ) -> Result<(), Infallible> {
         Ok(())
     }
 }

@@ -63,7 +63,8 @@ fn send_next<R: Wait, K: Keeper, F: Feed, C: Clock, Q: Quit>(
 ) -> Option<ControlsSent>
     requires book { IsOf book.now pass.old }
     ensures book { IsOf book.now pass.new }
-    ensures sends { MayEnd (C.tells clock.now) book.now.opening process (Q.may_ask quit.now) pass.old
+    ensures sends { MayEnd (C.tells clock.now) book.now.opening process
+        (Q.may_ask quit.now) pass.old
         (F.held feed.old) (F.held feed.new) (F.faults feed.old) (F.faults feed.new)
         result pass.new }
     ensures keeps { KeepsAll book.now.opening pass.old pass.new }

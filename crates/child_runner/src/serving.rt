@@ -10,7 +10,7 @@ ghost use Rattle.child_runner.specs.Serving.{served_as, waited_in_vain};
 use crate::reporter::{Reporter, Unread};
 use crate::served::{ChildEnded, ChildServed};
 use child_link::{LineCutter, Link};
-use feed_loop::{Fed, feed_all};
+use feed_loop::{ReadEnd, feed_all};
 use outside::{Clock, Failed};
 use record_journal::Keeper;
 use scm_book::{Book, MakeFault, Pass};
@@ -18,15 +18,15 @@ use std::alloc::Global;
 use std::sync::Wait;
 
 /// How it ends that a child's output was fed so.
-fn served_as(fed: Fed<MakeFault>) -> ChildServed
+fn served_as(fed: ReadEnd<MakeFault>) -> ChildServed
     ensures { result ≡ served_as fed }
 {
     match fed {
-        Fed::Ended => ChildServed::Ended,
-        Fed::ReadFault => ChildServed::ReadFault,
-        Fed::Worn => ChildServed::Worn,
-        Fed::Stopped(MakeFault::Full) => ChildServed::Full,
-        Fed::Stopped(MakeFault::OutOfMemory) => ChildServed::OutOfMemory,
+        ReadEnd::Ended => ChildServed::Ended,
+        ReadEnd::ReadFault => ChildServed::ReadFault,
+        ReadEnd::Worn => ChildServed::Worn,
+        ReadEnd::Stopped(MakeFault::Full) => ChildServed::Full,
+        ReadEnd::Stopped(MakeFault::OutOfMemory) => ChildServed::OutOfMemory,
     }
 }
 

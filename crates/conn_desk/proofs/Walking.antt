@@ -1,8 +1,9 @@
 -- Stretches of a connection, one after another.
-use Rattle.std.proofs.Common.{ℕ, ◌≡◌, ◌<◌, List, [], ◌∷◌, ◌++◌, Option, Some, Result, Ok, Err, inl, refl, sym, ap, ◌∙◌, subst, append_assoc, append-nil}
+use Rattle.std.proofs.Common.{ℕ, ◌≡◌, ◌<◌, List, [], ◌∷◌, ◌++◌, Option, Some, Result, Ok, Err, inl, refl, sym, ap, ◌∙◌, subst, append_assoc}
+use Rattle.std.proofs.Common.{append-nil}
 use Rattle.std.specs.Prelude.{IfSome}
 use Rattle.outside.specs.Written.{Begins}
-use Rattle.conn_desk.specs.declared.asked.Asked.{Asked}
+use Rattle.conn_desk.specs.declared.asked.DecodedRequest.{DecodedRequest}
 use Rattle.scm_model.specs.declared.calls.Reply.{Reply}
 use Rattle.rpc_session.specs.declared.state.Incoming.{Incoming}
 use Rattle.rpc_session.specs.Items.{Seen, StreamEnd, Told, given_by, BadPdu, TooLong, Gave, Says, IsOpen, items, to_come}
@@ -18,7 +19,7 @@ use Rattle.conn_desk.specs.Serves.{fed}
 use Rattle.conn_desk.proofs.Talking.{answers_none, answers_append, cut_both}
 
 -- a stretch on which all items that were given are answered
-pub record Stretch {D : Type 0} (called : D → D → Asked → Option Reply → Type 0) (a b : Point D) : Type 0 where
+pub record Stretch {D : Type 0} (called : D → D → DecodedRequest → Option Reply → Type 0) (a b : Point D) : Type 0 where
   pub given : List Incoming
   pub gave : GaveMore (λ stream. stream) a.session b.session given
   pub answers : AreAnswered called a.desk b.desk a.held b.held given
@@ -32,8 +33,10 @@ front_of s stream given gave =
 front_behind : (s : Seen) (stream more : List ℕ) (given : List Incoming) → Gave stream given s → Begins given (items (stream ++ more)).items
 front_behind s stream more given gave = ((to_come s more).items, ap (λ (t : Told). t.items) (gave more))
 
-abbrev gave_then : (s m t : Seen) (xs ys : List Incoming) → GaveMore (λ stream. stream) s m xs → GaveMore (λ stream. stream) m t ys → GaveMore (λ stream. stream) s t (xs ++ ys)
-gave_then s m t xs ys p q = λ stream before h. subst (λ g. Gave stream g t) (append_assoc before xs ys) (q stream (before ++ xs) (p stream before h))
+abbrev gave_then : (s m t : Seen) (xs ys : List Incoming) → GaveMore (λ stream. stream) s m xs → GaveMore (λ stream. stream) m t ys
+    → GaveMore (λ stream. stream) s t (xs ++ ys)
+gave_then s m t xs ys p q = λ stream before h. subst (λ g. Gave stream g t) (append_assoc before xs ys)
+    (q stream (before ++ xs) (p stream before h))
 
 gave_nothing : (s : Seen) → GaveMore (λ stream. stream) s s []
 gave_nothing s = λ stream before h. subst (λ g. Gave stream g s) (sym (append-nil before)) h
@@ -48,19 +51,23 @@ shorter_front a b c h = (b ++ h.0, h.1 ∙ append_assoc a b h.0)
 -- the front of a front
 pub front_less : (grown : List ℕ → List ℕ) (s : Seen) (xs ys : List Incoming) → IsFront grown s (xs ++ ys) → IsFront grown s xs
 front_less grown s xs ys p = λ stream before h.
-    shorter_front (before ++ xs) ys (items (grown stream)).items (subst (λ g. Begins g (items (grown stream)).items) (sym (append_assoc before xs ys)) (p stream before h))
+    shorter_front (before ++ xs) ys (items (grown stream)).items (subst (λ g. Begins g (items (grown stream)).items)
+    (sym (append_assoc before xs ys)) (p stream before h))
 
 -- ## The items that are whole
 
 -- the item that came
 pub gave_item : (s t : Seen) (o : Option Incoming) (item : Incoming) → o ≡ Some item
-    → ((stream : List ℕ) (given : List Incoming) → Gave stream given s → Gave stream (given ++ given_by (Ok o)) t) → GaveMore (λ stream. stream) s t (item ∷ [])
-gave_item s t o item e h = subst (λ x. (stream : List ℕ) (given : List Incoming) → Gave stream given s → Gave stream (given ++ given_by (Ok x)) t) e h
+    → ((stream : List ℕ) (given : List Incoming) → Gave stream given s → Gave stream (given ++ given_by (Ok o)) t)
+    → GaveMore (λ stream. stream) s t (item ∷ [])
+gave_item s t o item e h = subst (λ x. (stream : List ℕ) (given : List Incoming) → Gave stream given s
+    → Gave stream (given ++ given_by (Ok x)) t) e h
 
 pub shorter_item : (o : Option Incoming) (item : Incoming) (a b : ℕ) → o ≡ Some item → IfSome o (λ _. a < b) → a < b
 shorter_item o item a b e h = subst (λ x. IfSome x (λ _. a < b)) e h
 
-module _ {D : Type 0} (called : D → D → Asked → Option Reply → Type 0) (rests : D → D → Type 0) (full : D → Asked → Type 0) (a : Point D) where
+module _ {D : Type 0} (called : D → D → DecodedRequest → Option Reply → Type 0) (rests : D → D → Type 0) (full : D → DecodedRequest
+    → Type 0) (a : Point D) where
   -- nothing yet
   pub begins : Stretch called a a
   begins = record { given = []; gave = gave_nothing a.session; answers = answers_none called a.desk a.held }
@@ -79,7 +86,8 @@ module _ {D : Type 0} (called : D → D → Asked → Option Reply → Type 0) (
       → CutsShort called m.desk b.desk m.held b.held (item ∷ []) → Breaks called (λ stream. stream) a b
   one_cut m b item on gave cut = record {
     given = on.given ++ item ∷ [];
-    front = front_gave a.session b.session (on.given ++ item ∷ []) (gave_then a.session m.session b.session on.given (item ∷ []) on.gave gave);
+    front = front_gave a.session b.session (on.given ++ item ∷ []) (gave_then a.session m.session b.session on.given
+        (item ∷ []) on.gave gave);
     answers = (cut_both called a.desk m.desk b.desk a.held m.held b.held on.given (item ∷ []) on.answers cut).0;
   }
 
@@ -88,19 +96,24 @@ module _ {D : Type 0} (called : D → D → Asked → Option Reply → Type 0) (
       → b.held ≡ m.held → IsLeft rests m.desk b.desk → Wants called rests (λ stream. stream) a b
   one_wants m b item on gave held left = record {
     given = on.given;
-    front = front_less (λ stream. stream) a.session on.given (item ∷ []) (front_gave a.session b.session (on.given ++ item ∷ []) (gave_then a.session m.session b.session on.given (item ∷ []) on.gave gave));
+    front = front_less (λ stream. stream) a.session on.given (item ∷ [])
+        (front_gave a.session b.session (on.given ++ item ∷ []) (gave_then a.session m.session b.session on.given
+        (item ∷ []) on.gave gave));
     last = m.desk;
     answers = subst (λ now. AreAnswered called a.desk m.desk a.held now on.given) (sym held) on.answers;
     left = left;
   }
 
   -- there is no room for the request of an item
-  one_full : (m b : Point D) (item : Incoming) (request : Asked) → Stretch called a m → GaveMore (λ stream. stream) m.session b.session (item ∷ [])
-      → b.held ≡ m.held → asked_by item ≡ Some request → rests m.desk b.desk → full b.desk request → MeetsFull called rests full (λ stream. stream) a b
+  one_full : (m b : Point D) (item : Incoming) (request : DecodedRequest) → Stretch called a m
+      → GaveMore (λ stream. stream) m.session b.session (item ∷ [])
+      → b.held ≡ m.held → asked_by item ≡ Some request → rests m.desk b.desk → full b.desk request
+      → MeetsFull called rests full (λ stream. stream) a b
   one_full m b item request on gave held asks left met = record {
     given = on.given;
     next = item;
-    front = front_gave a.session b.session (on.given ++ item ∷ []) (gave_then a.session m.session b.session on.given (item ∷ []) on.gave gave);
+    front = front_gave a.session b.session (on.given ++ item ∷ []) (gave_then a.session m.session b.session on.given
+        (item ∷ []) on.gave gave);
     request = request;
     asks = asks;
     last = m.desk;
@@ -110,8 +123,10 @@ module _ {D : Type 0} (called : D → D → Asked → Option Reply → Type 0) (
   }
 
   -- an item stops the serving
-  pub one_stops : (T : Type 0) (m b : Point D) (item : Incoming) (why : Stop) → Stretch called a m → GaveMore (λ stream. stream) m.session b.session (item ∷ [])
-      → Answered {T = T} called rests full m.desk b.desk m.held b.held item (Err why) → FedOn {T = T} called rests full (λ stream. stream) a b (Err why)
+  pub one_stops : (T : Type 0) (m b : Point D) (item : Incoming) (why : Stop) → Stretch called a m
+      → GaveMore (λ stream. stream) m.session b.session (item ∷ [])
+      → Answered {T = T} called rests full m.desk b.desk m.held b.held item (Err why)
+      → FedOn {T = T} called rests full (λ stream. stream) a b (Err why)
   one_stops T m b item (stop.Bad place _) on gave h = absurd h
   one_stops T m b item (stop.TooLong length) on gave h = absurd h
   one_stops T m b item stop.WriteFault on gave h = one_cut m b item on gave h
@@ -119,7 +134,8 @@ module _ {D : Type 0} (called : D → D → Asked → Option Reply → Type 0) (
   one_stops T m b item stop.OutOfMemory on gave h = one_wants m b item on gave h.0 h.1
 
   -- there is no memory for the next item
-  none_wants : (m : Point D) (t : Seen) → Stretch called a m → Wants called rests (λ stream. stream) a (record { session = t; desk = m.desk; held = m.held })
+  none_wants : (m : Point D) (t : Seen) → Stretch called a m → Wants called rests (λ stream. stream) a
+      (record { session = t; desk = m.desk; held = m.held })
   none_wants m t on = record {
     given = on.given;
     front = front_gave a.session m.session on.given on.gave;
@@ -129,7 +145,8 @@ module _ {D : Type 0} (called : D → D → Asked → Option Reply → Type 0) (
   }
 
   -- no item is whole
-  pub no_more : (m : Point D) (t : Seen) → Stretch called a m → GaveMore (λ stream. stream) m.session t [] → IsOpen t → GoesOn called (λ stream. stream) a (record { session = t; desk = m.desk; held = m.held })
+  pub no_more : (m : Point D) (t : Seen) → Stretch called a m → GaveMore (λ stream. stream) m.session t [] → IsOpen t
+      → GoesOn called (λ stream. stream) a (record { session = t; desk = m.desk; held = m.held })
   no_more m t on gave waits = record {
     given = on.given ++ [];
     gave = gave_then a.session m.session t on.given [] on.gave gave;
@@ -139,7 +156,8 @@ module _ {D : Type 0} (called : D → D → Asked → Option Reply → Type 0) (
 
   -- the stream ends badly
   bad_end : (m : Point D) (t : Seen) (ending : StreamEnd) → Stretch called a m
-      → ((stream : List ℕ) (given : List Incoming) → Gave stream given m.session → (more : List ℕ) → items (stream ++ more) ≡ record { items = given; ending = ending })
+      → ((stream : List ℕ) (given : List Incoming) → Gave stream given m.session → (more : List ℕ)
+      → items (stream ++ more) ≡ record { items = given; ending = ending })
       → GoesBad called (λ stream. stream) a (record { session = t; desk = m.desk; held = m.held }) ending
   bad_end m t ending on says = record {
     given = on.given;
@@ -157,8 +175,10 @@ module _ {D : Type 0} (called : D → D → Asked → Option Reply → Type 0) (
 
 -- ## A piece, and the items that it makes whole
 
-module _ {D : Type 0} (called : D → D → Asked → Option Reply → Type 0) (rests : D → D → Type 0) (full : D → Asked → Type 0) (piece : List ℕ) (a : Point D) where
-  module _ (s : Seen) (took : (stream : List ℕ) (given : List Incoming) → Gave stream given a.session → Gave (stream ++ piece) given s) where
+module _ {D : Type 0} (called : D → D → DecodedRequest → Option Reply → Type 0) (rests : D → D → Type 0) (full : D → DecodedRequest
+    → Type 0) (piece : List ℕ) (a : Point D) where
+  module _ (s : Seen) (took : (stream : List ℕ) (given : List Incoming) → Gave stream given a.session
+      → Gave (stream ++ piece) given s) where
     abbrev taken : Point D
     taken = record { session = s; desk = a.desk; held = a.held }
 
@@ -172,7 +192,8 @@ module _ {D : Type 0} (called : D → D → Asked → Option Reply → Type 0) (
       answers = on.answers;
     }
 
-    pub fed_piece : {T : Type 0} (b : Point D) (result : Result T Stop) → FedOn called rests full (λ stream. stream) taken b result → FedOn called rests full (fed piece) a b result
+    pub fed_piece : {T : Type 0} (b : Point D) (result : Result T Stop) → FedOn called rests full (λ stream. stream) taken b result
+        → FedOn called rests full (fed piece) a b result
     fed_piece b (Ok done) on = record {
       given = on.given;
       gave = λ stream before h. on.gave (stream ++ piece) before (took stream before h);
@@ -205,7 +226,8 @@ module _ {D : Type 0} (called : D → D → Asked → Option Reply → Type 0) (
   pub piece_wants : (t : Seen) → Wants called rests (fed piece) a (record { session = t; desk = a.desk; held = a.held })
   piece_wants t = record {
     given = [];
-    front = λ stream before h. subst (λ g. Begins g (items (stream ++ piece)).items) (sym (append-nil before)) (front_behind a.session stream piece before h);
+    front = λ stream before h. subst (λ g. Begins g (items (stream ++ piece)).items) (sym (append-nil before))
+        (front_behind a.session stream piece before h);
     last = a.desk;
     answers = answers_none called a.desk a.held;
     left = inl refl;

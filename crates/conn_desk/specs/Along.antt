@@ -3,17 +3,17 @@ use Rattle.std.specs.Prelude.{ℕ, ◌≡◌, ◌≤◌, ◌<◌, ◌^◌, ◌++
 use Rattle.feed_loop.specs.Feeding.{At}
 use Rattle.outside.specs.Causes.{Rose}
 use Rattle.outside.specs.Written.{Begins}
-use Rattle.conn_desk.specs.declared.asked.Asked.{Asked}
+use Rattle.conn_desk.specs.declared.asked.DecodedRequest.{DecodedRequest}
 use Rattle.scm_model.specs.declared.calls.Reply.{Reply}
 use Rattle.rpc_session.specs.declared.state.Incoming.{Incoming}
 use Rattle.rpc_session.specs.Items.{Seen, StreamEnd, BadPdu, TooLong, Gave, IsOpen, items}
 use Rattle.rpc_session.specs.declared.session.SessionFault.{SessionFault}
 use Rattle.rpc_session.specs.declared.session.SessionFault.TheVariants as faults
-use Rattle.conn_desk.specs.declared.desk.Lacks.{Lacks}
-use Rattle.conn_desk.specs.declared.desk.Lacks.TheVariants as lacks
+use Rattle.conn_desk.specs.declared.desk.HandlerError.{HandlerError}
+use Rattle.conn_desk.specs.declared.desk.HandlerError.TheVariants as lacks
 use Rattle.conn_desk.specs.declared.stop.Stop.{Stop}
 use Rattle.conn_desk.specs.declared.stop.Stop.TheVariants as stop
-use Rattle.conn_desk.specs.declared.talker.Talker.{Talker}
+use Rattle.conn_desk.specs.declared.talker.ConnectionReader.{ConnectionReader}
 use Rattle.conn_desk.specs.Bodies.{asked_by}
 use Rattle.conn_desk.specs.Desks.{CallAnswered, IsLeft}
 use Rattle.conn_desk.specs.Talks.{AreAnswered, CutsShort}
@@ -26,7 +26,7 @@ pub record Point (D : Type 0) : Type 0 where
   pub held : Option (List ℕ)
 
 -- where a connection stands whose session eats what is read
-abbrev pub point_of : {D O : Type 0} → (O → Option (List ℕ)) → At Talker D O → Point D
+abbrev pub point_of : {D O : Type 0} → (O → Option (List ℕ)) → At ConnectionReader D O → Point D
 point_of held a = record { session = a.eater.session; desk = a.place; held = held a.output }
 
 -- Whatever the session had been fed and had given: it was fed as grown says, and gave these items more.
@@ -40,31 +40,36 @@ EndsWith grown s given ending = (stream : List ℕ) (before : List Incoming) →
 
 -- whatever the session had been fed and had given: these come next, of what was fed by then
 abbrev pub IsFront : (List ℕ → List ℕ) → Seen → List Incoming → Type 0
-IsFront grown s given = (stream : List ℕ) (before : List Incoming) → Gave stream before s → Begins (before ++ given) (items (grown stream)).items
+IsFront grown s given = (stream : List ℕ) (before : List Incoming) → Gave stream before s
+    → Begins (before ++ given) (items (grown stream)).items
 
 -- ## A stretch
 
 -- all whole items are answered, and the stream may go on
-pub record GoesOn {D : Type 0} (called : D → D → Asked → Option Reply → Type 0) (grown : List ℕ → List ℕ) (a b : Point D) : Type 0 where
+pub record GoesOn {D : Type 0} (called : D → D → DecodedRequest → Option Reply → Type 0) (grown : List ℕ → List ℕ)
+    (a b : Point D) : Type 0 where
   pub given : List Incoming
   pub gave : GaveMore grown a.session b.session given
   pub waits : IsOpen b.session
   pub answers : AreAnswered called a.desk b.desk a.held b.held given
 
 -- all items before a bad end are answered
-pub record GoesBad {D : Type 0} (called : D → D → Asked → Option Reply → Type 0) (grown : List ℕ → List ℕ) (a b : Point D) (ending : StreamEnd) : Type 0 where
+pub record GoesBad {D : Type 0} (called : D → D → DecodedRequest → Option Reply → Type 0) (grown : List ℕ → List ℕ) (a b : Point D)
+    (ending : StreamEnd) : Type 0 where
   pub given : List Incoming
   pub ends : EndsWith grown a.session given ending
   pub answers : AreAnswered called a.desk b.desk a.held b.held given
 
 -- the first items are answered, but for a rest of the last one's text
-pub record Breaks {D : Type 0} (called : D → D → Asked → Option Reply → Type 0) (grown : List ℕ → List ℕ) (a b : Point D) : Type 0 where
+pub record Breaks {D : Type 0} (called : D → D → DecodedRequest → Option Reply → Type 0) (grown : List ℕ → List ℕ)
+    (a b : Point D) : Type 0 where
   pub given : List Incoming
   pub front : IsFront grown a.session given
   pub answers : CutsShort called a.desk b.desk a.held b.held given
 
 -- the first items are answered, and there is no memory for what comes next
-pub record Wants {D : Type 0} (called : D → D → Asked → Option Reply → Type 0) (rests : D → D → Type 0) (grown : List ℕ → List ℕ) (a b : Point D) : Type 0 where
+pub record Wants {D : Type 0} (called : D → D → DecodedRequest → Option Reply → Type 0) (rests : D → D → Type 0) (grown : List ℕ → List ℕ)
+    (a b : Point D) : Type 0 where
   pub given : List Incoming
   pub front : IsFront grown a.session given
   pub last : D
@@ -72,18 +77,20 @@ pub record Wants {D : Type 0} (called : D → D → Asked → Option Reply → T
   pub left : IsLeft rests last b.desk
 
 -- the first items are answered, and the desk has no room for the request of the next one
-pub record MeetsFull {D : Type 0} (called : D → D → Asked → Option Reply → Type 0) (rests : D → D → Type 0) (full : D → Asked → Type 0) (grown : List ℕ → List ℕ) (a b : Point D) : Type 0 where
+pub record MeetsFull {D : Type 0} (called : D → D → DecodedRequest → Option Reply → Type 0) (rests : D → D → Type 0) (full : D
+    → DecodedRequest → Type 0) (grown : List ℕ → List ℕ) (a b : Point D) : Type 0 where
   pub given : List Incoming
   pub next : Incoming
   pub front : IsFront grown a.session (given ++ next ∷ [])
-  pub request : Asked
+  pub request : DecodedRequest
   pub asks : asked_by next ≡ Some request
   pub last : D
   pub answers : AreAnswered called a.desk last a.held b.held given
   pub left : rests last b.desk
   pub met : full b.desk request
 
-abbrev pub FedOn : {D T : Type 0} → (called : D → D → Asked → Option Reply → Type 0) → (rests : D → D → Type 0) → (full : D → Asked → Type 0) → (List ℕ → List ℕ) → (a b : Point D) → Result T Stop → Type 0
+abbrev pub FedOn : {D T : Type 0} → (called : D → D → DecodedRequest → Option Reply → Type 0) → (rests : D → D → Type 0)
+    → (full : D → DecodedRequest → Type 0) → (List ℕ → List ℕ) → (a b : Point D) → Result T Stop → Type 0
 FedOn called rests full grown a b (Ok done) = GoesOn called grown a b
 FedOn called rests full grown a b (Err (stop.Bad place kind)) = GoesBad called grown a b (BadPdu place kind)
 FedOn called rests full grown a b (Err (stop.TooLong length)) = GoesBad called grown a b (TooLong length)
@@ -100,7 +107,7 @@ stop_of (faults.TooLong length) = stop.TooLong length
 stop_of faults.OutOfMemory = stop.OutOfMemory
 
 -- why a request without an answer stops the serving
-abbrev pub stop_at : Lacks → Stop
+abbrev pub stop_at : HandlerError → Stop
 stop_at lacks.Full = stop.Full
 stop_at lacks.OutOfMemory = stop.OutOfMemory
 
@@ -110,19 +117,22 @@ write_stopped (Ok done) = Ok done
 write_stopped (Err fault) = Err stop.WriteFault
 
 -- a request was made, and this is the body of its reply
-pub record Replied {D : Type 0} (called : D → D → Asked → Option Reply → Type 0) (d e : D) (request : Asked) (body : List ℕ) : Type 0 where
+pub record Replied {D : Type 0} (called : D → D → DecodedRequest → Option Reply → Type 0) (d e : D) (request : DecodedRequest)
+    (body : List ℕ) : Type 0 where
   pub reply : Reply
   pub answered : CallAnswered called d e request reply
   pub written : body ≡ body_of reply
   pub small : length body < 2 ^ 32
 
 -- what became of one item
-abbrev pub Answered : {D T : Type 0} → (called : D → D → Asked → Option Reply → Type 0) → (rests : D → D → Type 0) → (full : D → Asked → Type 0) → (d e : D) (before now : Option (List ℕ)) → Incoming → Result T Stop → Type 0
+abbrev pub Answered : {D T : Type 0} → (called : D → D → DecodedRequest → Option Reply → Type 0) → (rests : D → D → Type 0)
+    → (full : D → DecodedRequest → Type 0) → (d e : D) (before now : Option (List ℕ)) → Incoming → Result T Stop → Type 0
 Answered called rests full d e before now item (Ok done) = AreAnswered called d e before now (item ∷ [])
 Answered called rests full d e before now item (Err (stop.Bad place _)) = ⊥
 Answered called rests full d e before now item (Err (stop.TooLong length)) = ⊥
 Answered called rests full d e before now item (Err stop.WriteFault) = CutsShort called d e before now (item ∷ [])
-Answered called rests full d e before now item (Err stop.Full) = (now ≡ before) × (request : Asked) × (asked_by item ≡ Some request) × rests d e × full e request
+Answered called rests full d e before now item (Err stop.Full) = (now ≡ before) × (request : DecodedRequest)
+    × (asked_by item ≡ Some request) × rests d e × full e request
 Answered called rests full d e before now item (Err stop.OutOfMemory) = (now ≡ before) × IsLeft rests d e
 
 -- the sink's count of faults rose where it is said to have failed, and is the same elsewhere

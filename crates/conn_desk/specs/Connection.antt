@@ -3,7 +3,7 @@ use Rattle.std.specs.Prelude.{ℕ, ◌≡◌, ◌<◌, ◌≤◌, ◌^◌, ◌++
 use Rattle.std.specs.Io.KnownBytes.{IsAtEnd}
 use Rattle.outside.specs.Causes.{NeitherFailed, ReadFailed, WriteFailed}
 use Rattle.outside.specs.Written.{Begins}
-use Rattle.conn_desk.specs.declared.asked.Asked.{Asked}
+use Rattle.conn_desk.specs.declared.asked.DecodedRequest.{DecodedRequest}
 use Rattle.scm_model.specs.declared.calls.Reply.{Reply}
 use Rattle.rpc_session.specs.declared.state.Incoming.{Incoming}
 use Rattle.rpc_session.specs.Items.{StreamEnd, AtRest, Unfinished, BadPdu, TooLong, items}
@@ -14,7 +14,8 @@ use Rattle.conn_desk.specs.Bodies.{asked_by, spoken}
 -- ## What was served
 
 -- every item of what was read has its whole text, and what was read ends so
-pub record AllServed (read : List ℕ) (done : List Incoming) (ending : StreamEnd) (told : List (Option Reply)) (written : List ℕ) : Type 0 where
+pub record AllServed (read : List ℕ) (done : List Incoming) (ending : StreamEnd) (told : List (Option Reply))
+    (written : List ℕ) : Type 0 where
   pub all : items read ≡ record { items = done; ending = ending }
   pub text : written ≡ spoken done told
 
@@ -31,7 +32,8 @@ pub record IsAhead (read : List ℕ) (answered : List Incoming) : Type 0 where
   pub all : Begins (items front).items answered
 
 -- what was read ends badly, whatever follows, and every item before that has its whole text
-pub record AllBefore (read : List ℕ) (done : List Incoming) (ending : StreamEnd) (told : List (Option Reply)) (written : List ℕ) : Type 0 where
+pub record AllBefore (read : List ℕ) (done : List Incoming) (ending : StreamEnd) (told : List (Option Reply))
+    (written : List ℕ) : Type 0 where
   pub all : (more : List ℕ) → items (read ++ more) ≡ record { items = done; ending = ending }
   pub text : written ≡ spoken done told
   pub ahead : IsAhead read done
@@ -66,17 +68,19 @@ pub record CutShort (read : List ℕ) (done : List Incoming) (told : List (Optio
   pub ahead : IsAhead read earlier
 
 -- the next item asks what the desk has no room for
-pub record HasNoRoom {D : Type 0} (full : D → Asked → Type 0) (desk : D) (read : List ℕ) (done : List Incoming) : Type 0 where
+pub record HasNoRoom {D : Type 0} (full : D → DecodedRequest → Type 0) (desk : D) (read : List ℕ) (done : List Incoming) : Type 0 where
   pub next : Incoming
   pub follows : Begins (done ++ next ∷ []) (items read).items
-  pub request : Asked
+  pub request : DecodedRequest
   pub asks : asked_by next ≡ Some request
   pub met : full desk request
 
 -- How far a connection came, by what it answered, with its desk behind it.
-abbrev pub Reached : {D : Type 0} → (full : D → Asked → Type 0) → (desk : D) → Served → (read : List ℕ) → (left : Option (List ℕ)) → List Incoming → List (Option Reply) → (written : List ℕ) → Type 0
+abbrev pub Reached : {D : Type 0} → (full : D → DecodedRequest → Type 0) → (desk : D) → Served → (read : List ℕ) → (left : Option (List ℕ))
+    → List Incoming → List (Option Reply) → (written : List ℕ) → Type 0
 Reached full desk served.Ended read left done told written = IsAtEnd left × (length read < 2 ^ 40) × AllServed read done AtRest told written
-Reached full desk served.Truncated read left done told written = IsAtEnd left × (length read < 2 ^ 40) × AllServed read done Unfinished told written
+Reached full desk served.Truncated read left done told written = IsAtEnd left × (length read < 2 ^ 40)
+    × AllServed read done Unfinished told written
 Reached full desk (served.BadPdu place kind) read left done told written = AllBefore read done (BadPdu place kind) told written
 Reached full desk (served.TooLong length) read left done told written = AllBefore read done (TooLong length) told written
 Reached full desk served.ReadFault read left done told written = (length read < 2 ^ 40) × SoFarServed read done told written

@@ -1,9 +1,9 @@
 -- A whole connection at a desk.
 use Rattle.std.specs.Prelude.{◌^◌, ℕ, ◌≡◌, ◌≤◌, ◌++◌, Bool, List, length, Option, Err, true, false}
 use Rattle.std.specs.Io.KnownBytes.{Appends, Consumes}
-use Rattle.feed_loop.specs.declared.fed.Fed.{Fed}
-use Rattle.feed_loop.specs.declared.fed.Fed.TheVariants as fed_to
-use Rattle.conn_desk.specs.declared.asked.Asked.{Asked}
+use Rattle.feed_loop.specs.declared.fed.ReadEnd.{ReadEnd}
+use Rattle.feed_loop.specs.declared.fed.ReadEnd.TheVariants as fed_to
+use Rattle.conn_desk.specs.declared.asked.DecodedRequest.{DecodedRequest}
 use Rattle.scm_model.specs.declared.calls.Reply.{Reply}
 use Rattle.rpc_session.specs.declared.state.Incoming.{Incoming}
 use Rattle.conn_desk.specs.declared.served.Served.{Served}
@@ -22,7 +22,8 @@ Leaves rests served.OutOfMemory last now = IsLeft rests last now
 Leaves rests how last now = now ≡ last
 
 -- The requests of the items that were answered lead from d to last, and the connection came as far as it is answered.
-pub record Serves {D : Type 0} (called : D → D → Asked → Option Reply → Type 0) (rests : D → D → Type 0) (full : D → Asked → Type 0) (d e : D)
+pub record Serves {D : Type 0} (called : D → D → DecodedRequest → Option Reply → Type 0) (rests : D → D → Type 0) (full : D → DecodedRequest
+    → Type 0) (d e : D)
     (left left_now held held_now : Option (List ℕ)) (how : Served) : Type 0 where
   pub read : List ℕ
   pub done : List Incoming
@@ -43,17 +44,19 @@ abbrev pub fed : List ℕ → List ℕ → List ℕ
 fed read stream = stream ++ read
 
 -- a piece was taken, and all items that it made whole are answered
-pub record Eaten {D : Type 0} (called : D → D → Asked → Option Reply → Type 0) (a b : Point D) (faults faults_now : ℕ) (piece : List ℕ) : Type 0 where
+pub record Eaten {D : Type 0} (called : D → D → DecodedRequest → Option Reply → Type 0) (a b : Point D) (faults faults_now : ℕ)
+    (piece : List ℕ) : Type 0 where
   pub goes : GoesOn called (fed piece) a b
   pub unfailed : faults_now ≡ faults
 
 -- a piece was taken at which the serving stops
-pub record Stopped {D : Type 0} (called : D → D → Asked → Option Reply → Type 0) (rests : D → D → Type 0) (full : D → Asked → Type 0) (a b : Point D) (faults faults_now : ℕ) (piece : List ℕ) (why : Stop) : Type 0 where
+pub record Stopped {D : Type 0} (called : D → D → DecodedRequest → Option Reply → Type 0) (rests : D → D → Type 0) (full : D
+    → DecodedRequest → Type 0) (a b : Point D) (faults faults_now : ℕ) (piece : List ℕ) (why : Stop) : Type 0 where
   pub stops : FedOn {T = Unit {0}} called rests full (fed piece) a b (Err why)
   pub cause : HasStopCause {T = Unit {0}} faults faults_now (Err why)
 
 -- how a connection ends whose feeding ended so, where its session is at rest or isn't
-abbrev pub served_as : Fed Stop → Bool → Served
+abbrev pub served_as : ReadEnd Stop → Bool → Served
 served_as fed_to.Ended true = served.Ended
 served_as fed_to.Ended false = served.Truncated
 served_as fed_to.ReadFault rest = served.ReadFault

@@ -3,21 +3,20 @@ ghost use Rattle.scm_bodies.specs.Replies.{reply_bytes as body_of};
 ghost use Rattle.scm_model.specs.Ranges.{in_range};
 ghost use Rattle.scm_model.specs.declared.calls.Reply.TheVariants.{Code};
 ghost use Rattle.scm_calls.specs.declared.raises.TheConstants.{RAISE_REPLY_BYTES};
-ghost use Rattle.conn_desk.specs.declared.asked.Asked.TheVariants.{Call, Raise};
-ghost use Rattle.conn_desk.specs.Bodies.{IsInRange};
+ghost use Rattle.conn_desk.specs.declared.asked.DecodedRequest.TheVariants.{Call, Raise};
 ghost use Rattle.conn_desk.specs.Along.{Answered, HasStopCause, Replied, stop_at, write_stopped};
-ghost use Rattle.conn_desk.specs.declared.desk.Lacks.TheVariants as lacks;
+ghost use Rattle.conn_desk.specs.declared.desk.HandlerError.TheVariants as lacks;
 ghost use Rattle.conn_desk.specs.Desks.{Unanswered};
 ghost use Rattle.rpc_session.specs.Moves.{IsFor};
+ghost use Rattle.rpc_session.specs.declared.contexts.Interface.TheVariants.{Svcctl, Trigger};
 ghost use Rattle.rpc_session.specs.declared.state.Incoming.TheVariants as items;
 
-use super::asked::Asked;
-use super::asking::asked;
-use super::desk::{Desk, Lacks};
+use super::asking::{OP_RANGE, status_of, subtype_of};
+use super::desk::{HandlerError, RequestHandler};
 use super::stop::Stop;
 use outside::{Failed, Sink, write_all};
-use rpc_session::{Incoming, RequestItem, Session};
-use scm_bodies::{reply_bound, write_reply};
+use rpc_session::{Incoming, Interface, RequestItem, Session};
+use scm_bodies::{call_at, read_request, reply_bound, write_reply};
 use scm_calls::{RAISE_REPLY_BYTES, write_raise_reply};
 use scm_model::{Reply, Request};
 use scm_text::Buffer;
@@ -34,12 +33,12 @@ fn stopped(written: Result<(), Failed>) -> Result<(), Stop>
 }
 
 /// Why a request without an answer stops the serving.
-fn stop_at(lacks: Lacks) -> Stop
+fn stop_at(lacks: HandlerError) -> Stop
     ensures { result ≡ stop_at lacks }
 {
     match lacks {
-        Lacks::Full => Stop::Full,
-        Lacks::OutOfMemory => Stop::OutOfMemory,
+        HandlerError::Full => Stop::Full,
+        HandlerError::OutOfMemory => Stop::OutOfMemory,
     }
 }
 
@@ -55,18 +54,22 @@ fn written(reply: &Reply, out: Buffer<u8>) -> Buffer<u8>
 }
 
 /// An empty buffer with room for so many bytes.
-fn room_for(alloc: Global, bytes: usize) -> Result<Buffer<u8>, Lacks>
+fn room_for(alloc: Global, bytes: usize) -> Result<Buffer<u8>, HandlerError>
     ensures ok { IfOk result (λ out. (out.items ≡ []) × (out.room ≡ bytes)) }
     ensures err { IfErr result (λ why. why ≡ lacks.OutOfMemory) }
 {
     match Buffer::with_room(alloc, bytes) {
         Ok(out) => Ok(out),
-        Err(_) => Err(Lacks::OutOfMemory),
+        Err(_) => Err(HandlerError::OutOfMemory),
     }
 }
 
 /// Makes a call, and the body of its reply. There is room for the body before the call is made.
-fn replied<D: Desk>(alloc: Global, desk: &mut D, request: Request) -> Result<Buffer<u8>, Lacks>
+fn replied<D: RequestHandler>(
+    alloc: Global,
+    desk: &mut D,
+    request: Request,
+) -> Result<Buffer<u8>, HandlerError>
     requires ready { D.ready desk.old }
     requires ranged { IsTrue (in_range request) }
     ensures ready { D.ready desk.new }
@@ -75,7 +78,7 @@ fn replied<D: Desk>(alloc: Global, desk: &mut D, request: Request) -> Result<Buf
 {
     let Ok(out) = room_for(alloc, reply_bound(&request) as usize) else {
         drop(request);
-        return Err(Lacks::OutOfMemory);
+        return Err(HandlerError::OutOfMemory);
     };
     match desk.call(request) {
         Ok(reply) => {
@@ -103,7 +106,11 @@ fn written_code(code: u32, out: Buffer<u8>) -> Buffer<u8>
 
 /// Raises a subtype, and makes the body of the code that is answered. There is room for the body
 /// before.
-fn raised<D: Desk>(alloc: Global, desk: &mut D, subtype: [u8; 16]) -> Result<Buffer<u8>, Lacks>
+fn raised<D: RequestHandler>(
+    alloc: Global,
+    desk: &mut D,
+    subtype: [u8; 16],
+) -> Result<Buffer<u8>, HandlerError>
     requires { D.ready desk.old }
     ensures ready { D.ready desk.new }
     ensures ok { IfOk result (λ body. Replied D.called desk.old desk.new (Raise subtype) body.items) }
@@ -114,22 +121,64 @@ fn raised<D: Desk>(alloc: Global, desk: &mut D, subtype: [u8; 16]) -> Result<Buf
     Ok(written_code(code, out))
 }
 
-/// Makes a request, and the body of its reply.
-fn made<D: Desk>(alloc: Global, desk: &mut D, asked: Asked) -> Result<Buffer<u8>, Lacks>
+/// Answers a call of svcctl.
+fn answer_call<D: RequestHandler, O: Sink>(
+    alloc: Global,
+    desk: &mut D,
+    session: &Session,
+    item: &RequestItem,
+    output: &mut O,
+) -> Result<(), Stop>
     requires ready { D.ready desk.old }
-    requires ranged { IsInRange asked }
+    requires svcctl { item.now.interface ≡ Svcctl }
+    requires bound { IsFor session.now.state.terms (Some (items.Request item.now)) }
     ensures ready { D.ready desk.new }
-    ensures ok { IfOk result (λ body. Replied D.called desk.old desk.new asked body.items) }
-    ensures err { IfErr result (Unanswered D.rests D.full desk.old desk.new asked) }
+    ensures answered { Answered D.called D.rests D.full desk.old desk.new
+        (O.held output.old) (O.held output.new) (items.Request item.now) result }
+    ensures cause { HasStopCause (O.faults output.old) (O.faults output.new) result }
 {
-    match asked {
-        Asked::Call(request) => replied(alloc, desk, request),
-        Asked::Raise(subtype) => raised(alloc, desk, subtype),
+    let Some(call) = call_at(item.opnum) else {
+        return stopped(session.fault(item.call, item.context, OP_RANGE, output));
+    };
+    match read_request(alloc, call, item.body.as_slice()) {
+        Ok(request) => match replied(alloc, desk, request) {
+            Ok(body) => stopped(session.reply(item.call, item.context, body.as_slice(), output)),
+            Err(lacks) => Err(stop_at(lacks)),
+        },
+        Err(fault) => match status_of(fault) {
+            Some(status) => stopped(session.fault(item.call, item.context, status, output)),
+            None => Err(Stop::OutOfMemory),
+        },
+    }
+}
+
+/// Answers a request of the trigger interface.
+fn answer_raise<D: RequestHandler, O: Sink>(
+    alloc: Global,
+    desk: &mut D,
+    session: &Session,
+    item: &RequestItem,
+    output: &mut O,
+) -> Result<(), Stop>
+    requires ready { D.ready desk.old }
+    requires trigger { item.now.interface ≡ Trigger }
+    requires bound { IsFor session.now.state.terms (Some (items.Request item.now)) }
+    ensures ready { D.ready desk.new }
+    ensures answered { Answered D.called D.rests D.full desk.old desk.new
+        (O.held output.old) (O.held output.new) (items.Request item.now) result }
+    ensures cause { HasStopCause (O.faults output.old) (O.faults output.new) result }
+{
+    match subtype_of(item) {
+        Ok(subtype) => match raised(alloc, desk, subtype) {
+            Ok(body) => stopped(session.reply(item.call, item.context, body.as_slice(), output)),
+            Err(lacks) => Err(stop_at(lacks)),
+        },
+        Err(status) => stopped(session.fault(item.call, item.context, status, output)),
     }
 }
 
 /// Answers a request.
-fn answer_request<D: Desk, O: Sink>(
+fn answer_request<D: RequestHandler, O: Sink>(
     alloc: Global,
     desk: &mut D,
     session: &Session,
@@ -143,20 +192,14 @@ fn answer_request<D: Desk, O: Sink>(
         (O.held output.old) (O.held output.new) (items.Request item.now) result }
     ensures cause { HasStopCause (O.faults output.old) (O.faults output.new) result }
 {
-    let Ok(asked) = asked(alloc, item) else {
-        return Err(Stop::OutOfMemory);
-    };
-    match asked {
-        Err(status) => stopped(session.fault(item.call, item.context, status, output)),
-        Ok(request) => match made(alloc, desk, request) {
-            Ok(body) => stopped(session.reply(item.call, item.context, body.as_slice(), output)),
-            Err(lacks) => Err(stop_at(lacks)),
-        },
+    match item.interface {
+        Interface::Svcctl => answer_call(alloc, desk, session, item, output),
+        Interface::Trigger => answer_raise(alloc, desk, session, item, output),
     }
 }
 
 /// Answers an item.
-pub fn answer<D: Desk, O: Sink>(
+pub fn answer<D: RequestHandler, O: Sink>(
     alloc: Global,
     desk: &mut D,
     session: &Session,

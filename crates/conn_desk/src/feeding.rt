@@ -3,7 +3,7 @@ ghost use Rattle.conn_desk.specs.Along.{FedOn, HasStopCause, stop_of};
 ghost use Rattle.conn_desk.specs.Serves.{fed};
 
 use super::answering::answer;
-use super::desk::Desk;
+use super::desk::RequestHandler;
 use super::stop::Stop;
 use outside::Sink;
 use rpc_session::{Session, SessionFault};
@@ -21,7 +21,7 @@ fn stop_of(fault: SessionFault) -> Stop
 }
 
 /// Answers the items that are whole.
-fn drain<D: Desk, O: Sink>(
+fn drain<D: RequestHandler, O: Sink>(
     alloc: Global,
     desk: &mut D,
     session: &mut Session,
@@ -48,7 +48,7 @@ fn drain<D: Desk, O: Sink>(
 }
 
 /// Takes a piece, and answers the items that it makes whole.
-pub fn feed<D: Desk, O: Sink>(
+pub fn feed<D: RequestHandler, O: Sink>(
     alloc: Global,
     desk: &mut D,
     session: &mut Session,

@@ -11,8 +11,8 @@ mod serving;
 mod stop;
 mod talker;
 
-pub use asked::Asked;
-pub use desk::{Desk, Lacks};
+pub use asked::DecodedRequest;
+pub use desk::{HandlerError, RequestHandler};
 pub use served::Served;
 pub use serving::serve;
 pub use stop::Stop;

@@ -1,22 +1,22 @@
 // A connection's session as what eats the pieces of a source.
-use super::desk::Desk;
+use super::desk::RequestHandler;
 use super::feeding::feed;
 use super::stop::Stop;
-use feed_loop::Eater;
+use feed_loop::ByteConsumer;
 use outside::Sink;
 use rpc_session::Session;
 use std::alloc::Global;
 
 /// Takes the pieces of a connection, and answers the items that they make whole, at a desk.
-pub struct Talker {
+pub struct ConnectionReader {
     pub alloc: Global,
     pub session: Session,
 }
 
 /// A drop of its own: a function that owns one drops it by a call, which is proved once.
-impl Drop for Talker {
+impl Drop for ConnectionReader {
     fn drop(self) {
-        let Talker {
+        let ConnectionReader {
             alloc: _alloc,
             session,
         } = self;
@@ -24,7 +24,7 @@ impl Drop for Talker {
     }
 }
 
-impl<D: Desk, O: Sink> Eater<D, O> for Talker {
+impl<D: RequestHandler, O: Sink> ByteConsumer<D, O> for ConnectionReader {
     ghost use Rattle.conn_desk.specs.Along.{point_of};
     ghost use Rattle.conn_desk.specs.Serves.{Eaten, Stopped};
 
@@ -38,7 +38,7 @@ impl<D: Desk, O: Sink> Eater<D, O> for Talker {
     ghost stops = { λ a b piece why. Stopped D.called D.rests D.full (point_of O.held a)
         (point_of O.held b) (O.faults a.output) (O.faults b.output) piece why };
 
-    fn eat(&mut self, desk: &mut D, output: &mut O, piece: &[u8]) -> Result<(), Stop> {
+    fn consume(&mut self, desk: &mut D, output: &mut O, piece: &[u8]) -> Result<(), Stop> {
         feed(self.alloc, desk, &mut self.session, piece, output)
     }
 }

@@ -21,13 +21,14 @@ use Rattle.book_rule.specs.declared.view.Opening.{Opening}
 use Rattle.scm_book.specs.Called.{AnsweredSo, RaiseWants, RaisedSo, WantsMemory, called, is_start, raised_by}
 use Rattle.scm_book.specs.Holds.{Opens}
 use Rattle.scm_book.specs.Passes.{FindsNoRoom, Known, Made, MadeSo, room_behind}
-use Rattle.conn_desk.specs.declared.asked.Asked.TheVariants as asks
+use Rattle.conn_desk.specs.declared.asked.DecodedRequest.TheVariants as asks
 use Rattle.conn_desk.specs.Desks.{CallAnswered}
 use Rattle.conn_worker.specs.Serving.{IsCode, IsServed}
 use Rattle.conn_worker.specs.Waiting.{WaitsAndEnds}
 use Rattle.conn_worker.proofs.Waiting.{waits_caller}
 
-for_start : (asked : Request) (reply : Reply) → is_start asked ≡ true → ((handle : ℕ) (words : Option (List (List ℕ))) → Answers (request.Start handle words) reply) → Answers asked reply
+for_start : (asked : Request) (reply : Reply) → is_start asked ≡ true →
+    ((handle : ℕ) (words : Option (List (List ℕ))) → Answers (request.Start handle words) reply) → Answers asked reply
 for_start (request.Start handle words) reply start answers = answers handle words
 for_start asked reply start answers = absurd cc
 
@@ -35,18 +36,23 @@ module _ (o : Opening) (opens : Opens o) where
   rightly : (k k' : Known) (moment : ℕ) (step : Step) (told : Answer) → Made o k moment step told k' → RepliesRightly step told
   rightly k k' moment step told made =
       at_entry LawOfAnswering o.limits o.first k'.seen
-      (along Sound LawOfAnswering o.limits (keeps o.limits) (gives o.limits) o.first k'.seen (begun o.limits o.first opens.begins) (legal_made o.limits o.first k'.seen made.legal))
+      (along Sound LawOfAnswering o.limits (keeps o.limits) (gives o.limits) o.first k'.seen (begun o.limits o.first opens.begins)
+      (legal_made o.limits o.first k'.seen made.legal))
       made.before (moment, step) [] told made.seen made.answer
 
-  of_reply : (k k' : Known) (moment : ℕ) (asked : Request) (reply : Reply) → MadeSo o k moment (called k asked) (answers.Reply reply) k' → Answers asked reply
+  of_reply : (k k' : Known) (moment : ℕ) (asked : Request) (reply : Reply) → MadeSo o k moment (called k asked) (answers.Reply reply) k'
+      → Answers asked reply
   of_reply k k' moment asked reply made = rightly k k' moment (Call k.caller asked made.append) (answers.Reply reply) made.made
 
-  of_end : (k k' : Known) (moment caller plan : ℕ) (asked : Request) (reply : Reply) → is_start asked ≡ true → Made o k moment (EndStart caller plan) (answers.Reply reply) k' → Answers asked reply
-  of_end k k' moment caller plan asked reply start made = for_start asked reply start (rightly k k' moment (EndStart caller plan) (answers.Reply reply) made)
+  of_end : (k k' : Known) (moment caller plan : ℕ) (asked : Request) (reply : Reply) → is_start asked ≡ true
+      → Made o k moment (EndStart caller plan) (answers.Reply reply) k' → Answers asked reply
+  of_end k k' moment caller plan asked reply start made = for_start asked reply start
+      (rightly k k' moment (EndStart caller plan) (answers.Reply reply) made)
 
   module _ (silent : Bool) (tells : ℕ → Type 0) (k : Known) (moment : ℕ) (told : tells moment) (asked : Request) where
     -- a request that was answered at once
-    pub at_once : (k' : Known) (reply : Reply) → AnsweredSo o k moment asked reply k' → CallAnswered (IsServed silent tells o) k k' (asks.Call asked) reply
+    pub at_once : (k' : Known) (reply : Reply) → AnsweredSo o k moment asked reply k'
+        → CallAnswered (IsServed silent tells o) k k' (asks.Call asked) reply
     at_once k' reply (inl made) = record {
       heard = Some reply;
       made = inl (record { moment = moment; told = told; made = made });
@@ -61,7 +67,8 @@ module _ (o : Opening) (opens : Opens o) where
     }
 
     -- a start that waited
-    pub waited_for : (begun k' : Known) (plan : ℕ) (reply : Reply) → is_start asked ≡ true → MadeSo o k moment (called k asked) (answers.Begun plan) begun → WaitsAndEnds silent tells o plan begun reply k'
+    pub waited_for : (begun k' : Known) (plan : ℕ) (reply : Reply) → is_start asked ≡ true
+        → MadeSo o k moment (called k asked) (answers.Begun plan) begun → WaitsAndEnds silent tells o plan begun reply k'
         → CallAnswered (IsServed silent tells o) k k' (asks.Call asked) reply
     waited_for begun k' plan reply start made ends = record {
       heard = Some reply;
@@ -73,12 +80,14 @@ module _ (o : Opening) (opens : Opens o) where
 -- ## Raises
 
 -- what a raise was told is a code
-pub a_code : (o : Opening) (k k' : Known) (moment : ℕ) (subtype : List ℕ) (reply : Reply) → RaisedSo o k moment subtype reply k' ⊎ RaiseWants o k moment subtype reply k' → IsCode reply
+pub a_code : (o : Opening) (k k' : Known) (moment : ℕ) (subtype : List ℕ) (reply : Reply) → RaisedSo o k moment subtype reply k'
+    ⊎ RaiseWants o k moment subtype reply k' → IsCode reply
 a_code o k k' moment subtype reply (inl made) = (made.code, made.is)
 a_code o k k' moment subtype reply (inr wants) = (8, wants.refused)
 
 raise_at_once : (tells : ℕ → Type 0) (o : Opening) (k k' : Known) (moment : ℕ) → tells moment → (subtype : List ℕ) (code : ℕ)
-    → RaisedSo o k moment subtype (replies.Code code) k' ⊎ RaiseWants o k moment subtype (replies.Code code) k' → CallAnswered (IsServed true tells o) k k' (asks.Raise subtype) (replies.Code code)
+    → RaisedSo o k moment subtype (replies.Code code) k' ⊎ RaiseWants o k moment subtype (replies.Code code) k'
+    → CallAnswered (IsServed true tells o) k k' (asks.Raise subtype) (replies.Code code)
 raise_at_once tells o k k' moment told subtype code (inl made) = record {
   heard = Some (replies.Code code);
   made = record { moment = moment; told = told; made = made };
@@ -93,31 +102,39 @@ raise_at_once tells o k k' moment told subtype code (inr wants) = record {
 }
 
 -- a raise, whose reply is this code
-pub raise_answered : (tells : ℕ → Type 0) (o : Opening) (k k' : Known) (moment : ℕ) → tells moment → (subtype : List ℕ) (reply : Reply) (code : ℕ) → reply ≡ replies.Code code
-    → RaisedSo o k moment subtype reply k' ⊎ RaiseWants o k moment subtype reply k' → CallAnswered (IsServed true tells o) k k' (asks.Raise subtype) (replies.Code code)
+pub raise_answered : (tells : ℕ → Type 0) (o : Opening) (k k' : Known) (moment : ℕ) → tells moment
+    → (subtype : List ℕ) (reply : Reply) (code : ℕ) → reply ≡ replies.Code code
+    → RaisedSo o k moment subtype reply k' ⊎ RaiseWants o k moment subtype reply k'
+    → CallAnswered (IsServed true tells o) k k' (asks.Raise subtype) (replies.Code code)
 raise_answered tells o k k' moment told subtype reply code is raised =
     raise_at_once tells o k k' moment told subtype code
     (subst (λ (r : Reply). RaisedSo o k moment subtype r k' ⊎ RaiseWants o k moment subtype r k') is raised)
 
-pub raised_caller : (o : Opening) (k k' : Known) (moment : ℕ) (subtype : List ℕ) (reply : Reply) → RaisedSo o k moment subtype reply k' ⊎ RaiseWants o k moment subtype reply k' → k'.caller ≡ k.caller
+pub raised_caller : (o : Opening) (k k' : Known) (moment : ℕ) (subtype : List ℕ) (reply : Reply) → RaisedSo o k moment subtype reply k'
+    ⊎ RaiseWants o k moment subtype reply k' → k'.caller ≡ k.caller
 raised_caller o k k' moment subtype reply (inl raised) = raised.made.made.caller
 raised_caller o k k' moment subtype reply (inr wants) = wants.made.made.caller
 
 -- there is no room for the raise as the pass is now
-pub raise_full : (o : Opening) (k k' : Known) (subtype : List ℕ) → FindsNoRoom o k (raised_by k subtype) k' → room_behind o k'.seen (raised_by k' subtype) ≡ false
+pub raise_full : (o : Opening) (k k' : Known) (subtype : List ℕ) → FindsNoRoom o k (raised_by k subtype) k'
+    → room_behind o k'.seen (raised_by k' subtype) ≡ false
 raise_full o k k' subtype finds = subst (λ (c : ℕ). room_behind o k'.seen (Raised c subtype) ≡ false) (sym finds.learnt.caller) finds.full
 
 -- ## The caller stays
 
-pub answered_caller : (o : Opening) (k k' : Known) (moment : ℕ) (asked : Request) (reply : Reply) → AnsweredSo o k moment asked reply k' → k'.caller ≡ k.caller
+pub answered_caller : (o : Opening) (k k' : Known) (moment : ℕ) (asked : Request) (reply : Reply) → AnsweredSo o k moment asked reply k'
+    → k'.caller ≡ k.caller
 answered_caller o k k' moment asked reply (inl made) = made.made.caller
 answered_caller o k k' moment asked reply (inr wants) = wants.made.made.caller
 
-pub ended_caller : (silent : Bool) (tells : ℕ → Type 0) (o : Opening) (plan : ℕ) (k : Known) (reply : Reply) (k' : Known) → WaitsAndEnds silent tells o plan k reply k' → k'.caller ≡ k.caller
+pub ended_caller : (silent : Bool) (tells : ℕ → Type 0) (o : Opening) (plan : ℕ) (k : Known) (reply : Reply) (k' : Known)
+    → WaitsAndEnds silent tells o plan k reply k' → k'.caller ≡ k.caller
 ended_caller silent tells o plan k reply k' ends = ends.ends.made.caller ∙ waits_caller silent o plan ends.turns k ends.waited ends.waits
 
 -- ## Full
 
 -- there is no room for the call as the pass is now
-pub full_now : (o : Opening) (k k' : Known) (asked : Request) → FindsNoRoom o k (called k asked) k' → room_behind o k'.seen (called k' asked) ≡ false
-full_now o k k' asked finds = subst (λ (c : ℕ). room_behind o k'.seen (Call c asked appended.NotAsked) ≡ false) (sym finds.learnt.caller) finds.full
+pub full_now : (o : Opening) (k k' : Known) (asked : Request) → FindsNoRoom o k (called k asked) k'
+    → room_behind o k'.seen (called k' asked) ≡ false
+full_now o k k' asked finds = subst (λ (c : ℕ). room_behind o k'.seen (Call c asked appended.NotAsked) ≡ false)
+    (sym finds.learnt.caller) finds.full

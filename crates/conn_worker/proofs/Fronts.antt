@@ -20,28 +20,33 @@ all : (xs : List Incoming) → Begins [] xs
 all xs = (xs, refl)
 
 -- behind one PDU, whatever it does
-after : (place : ℕ) (xs ys : State → Told) → ((s : State) → IsFrontOf (xs s) (ys s)) → (move : Move) → IsFrontOf (told_after xs place move) (told_after ys place move)
+after : (place : ℕ) (xs ys : State → Told) → ((s : State) → IsFrontOf (xs s) (ys s)) → (move : Move)
+    → IsFrontOf (told_after xs place move) (told_after ys place move)
 after place xs ys fronts (Gives item s) = let more = fronts s in (more.0, ap (λ (is : List Incoming). item ∷ is) more.1)
 after place xs ys fronts (Joins s) = fronts s
 after place xs ys fronts OutOfOrder = all []
 after place xs ys fronts (Passes length) = all []
 
 -- behind what was read first
-read_first : (place : ℕ) (xs ys : ℕ → Cut) → ((used : ℕ) (s : State) → IsFrontOf (told_of (xs used) s) (told_of (ys used) s)) → (read now : PduRead (List ℕ)) → (IsSettled read → now ≡ read)
+read_first : (place : ℕ) (xs ys : ℕ → Cut) → ((used : ℕ) (s : State) → IsFrontOf (told_of (xs used) s) (told_of (ys used) s))
+    → (read now : PduRead (List ℕ)) → (IsSettled read → now ≡ read)
     → (s : State) → IsFrontOf (told_of (by_read xs place read) s) (told_of (by_read ys place now) s)
 unfolding told_of_pdus
 read_first place xs ys fronts (Short needed) now stays s = all (told_of (by_read ys place now) s).items
 read_first place xs ys fronts (Bad _) now stays s = all (told_of (by_read ys place now) s).items
 read_first place xs ys fronts (Whole pdu used) now stays s =
-    subst (λ (r : PduRead (List ℕ)). IsFrontOf (told_of (by_read xs place (Whole pdu used)) s) (told_of (by_read ys place r) s)) (sym (stays tt))
+    subst (λ (r : PduRead (List ℕ)). IsFrontOf (told_of (by_read xs place (Whole pdu used)) s) (told_of (by_read ys place r) s))
+    (sym (stays tt))
     (after place (told_of (xs used)) (told_of (ys used)) (fronts used) (session_move s pdu))
 
-front_behind : (skip place : ℕ) (bytes more : List ℕ) (s : State) → IsFrontOf (told_of (pdus_behind Server skip place bytes) s) (told_of (pdus_behind Server skip place (bytes ++ more)) s)
+front_behind : (skip place : ℕ) (bytes more : List ℕ) (s : State) → IsFrontOf (told_of (pdus_behind Server skip place bytes) s)
+    (told_of (pdus_behind Server skip place (bytes ++ more)) s)
 unfolding told_of_pdus pdus_behind
 front_behind skip place [] more s = all (told_of (pdus_behind Server skip place more) s).items
 front_behind (suc skip) place (b ∷ bytes) more s = front_behind skip (place + 1) bytes more s
 front_behind zero place (b ∷ bytes) more s =
-    read_first place (λ used. pdus_behind Server (used - 1) (place + 1) bytes) (λ used. pdus_behind Server (used - 1) (place + 1) (bytes ++ more))
+    read_first place (λ used. pdus_behind Server (used - 1) (place + 1) bytes)
+    (λ used. pdus_behind Server (used - 1) (place + 1) (bytes ++ more))
     (λ used t. front_behind (used - 1) (place + 1) bytes more t) (pdu_at Server (b ∷ bytes)) (pdu_at Server (b ∷ (bytes ++ more)))
     (λ is. settled Server (b ∷ bytes) more is) s
 
@@ -50,7 +55,11 @@ unfolding items
 front_of_more bytes more = front_behind 0 0 bytes more unbound
 
 -- a front of the items of what was read is one of the items of all
-pub front_of_all : (read bytes : List ℕ) (given : List Incoming) → Begins read bytes → Begins given (items read).items → Begins given (items bytes).items
+pub front_of_all : (read bytes : List ℕ) (given : List Incoming) → Begins read bytes → Begins given (items read).items
+    → Begins given (items bytes).items
 front_of_all read bytes given begins first =
-    let more = front_of_more read begins.0 in
-    (first.0 ++ more.0, ap (λ (x : Told). x.items) (ap items begins.1) ∙ more.1 ∙ ap (λ (is : List Incoming). is ++ more.0) first.1 ∙ append_assoc given first.0 more.0)
+    let more = front_of_more read begins.0 in (
+      first.0 ++ more.0,
+      ap (λ (x : Told). x.items) (ap items begins.1) ∙ more.1 ∙ ap (λ (is : List Incoming). is ++ more.0) first.1
+          ∙ append_assoc given first.0 more.0,
+    )

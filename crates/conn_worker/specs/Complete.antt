@@ -1,5 +1,6 @@
--- A connection at which nothing failed ends as its input does, unless room or memory is wanting.
-use Rattle.std.specs.Prelude.{ℕ, Bool, ◌≡◌, ◌⊎◌, ◌<◌, ◌^◌, ◌++◌, true, List, [], ◌∷◌, length, Option, Some, IfSome}
+-- A connection at which nothing failed ends as its input does, unless a request found no room, or memory ran out.
+use Rattle.std.specs.Prelude.{ℕ, Bool, ◌≡◌, ◌≢◌, ◌⊎◌, ◌<◌, ◌^◌, ◌++◌, true, List, [], ◌∷◌, length, Option, Some, IfSome}
+use Rattle.std.specs.Io.KnownBytes.{Appends}
 use Rattle.outside.specs.Causes.{Rose}
 use Rattle.outside.specs.Written.{Begins}
 use Rattle.scm_model.specs.declared.calls.Reply.{Reply}
@@ -7,10 +8,10 @@ use Rattle.rpc_session.specs.declared.state.Incoming.{Incoming}
 use Rattle.rpc_session.specs.Items.{StreamEnd, AtRest, Unfinished, BadPdu, TooLong, items}
 use Rattle.book_rule.specs.declared.view.Opening.{Opening}
 use Rattle.scm_book.specs.Passes.{Known, Learnt, room_behind}
-use Rattle.conn_desk.specs.declared.asked.Asked.{Asked}
+use Rattle.conn_desk.specs.declared.asked.DecodedRequest.{DecodedRequest}
 use Rattle.conn_desk.specs.declared.served.Served.{Served}
 use Rattle.conn_desk.specs.declared.served.Served.TheVariants as served
-use Rattle.conn_desk.specs.Bodies.{asked, asked_by}
+use Rattle.conn_desk.specs.Bodies.{asked, asked_by, spoken}
 use Rattle.conn_desk.specs.Connection.{IsOpenEnd}
 use Rattle.conn_desk.specs.Desks.{Chain}
 use Rattle.conn_worker.specs.Serving.{IsServed, step_for}
@@ -33,16 +34,36 @@ pub record EndsAs (bytes : List ℕ) (how : Served) : Type 0 where
   pub whole : length bytes < 2 ^ 40 → IsOrLacks (end_of (items bytes).ending) how
   pub worn : (front : List ℕ) → Begins front bytes → length front ≡ 2 ^ 40 → IsOpenEnd (items front).ending → IsOrLacks served.Worn how
 
--- Where no count rose, the input is told, and there is room for each of its requests, the connection ends as the input does.
-abbrev pub IsComplete : (room : List ℕ → Type 0) → (left : Option (List ℕ)) → (source source_now sink sink_now : ℕ) → Served → Type 0
-IsComplete room left source source_now sink sink_now how =
-    IfSome left (λ bytes. (Rose source source_now → ⊥) → (Rose sink sink_now → ⊥) → room bytes → EndsAs bytes how)
+-- Where no count rose, the input is told, and the connection isn't full, it ends as the input does, whoever else is at the book.
+abbrev pub IsComplete : (left : Option (List ℕ)) → (source source_now sink sink_now : ℕ) → Served → Type 0
+IsComplete left source source_now sink sink_now how =
+    IfSome left (λ bytes. (Rose source source_now → ⊥) → (Rose sink sink_now → ⊥) → how ≢ served.Full → EndsAs bytes how)
+
+-- ## Replies
+
+-- each item of these bytes is answered: what the sink holds more is their whole text, by what was heard of their requests
+pub record AllAnswered (silent : Bool) (tells : ℕ → Type 0) (o : Opening) (k : Known) (bytes : List ℕ)
+    (held held_now : Option (List ℕ)) : Type 0 where
+  pub heard : List (Option Reply)
+  pub last : Known
+  pub chain : Chain (IsServed silent tells o) k last (asked (items bytes).items) heard
+  pub written : Appends held held_now (spoken (items bytes).items heard)
+
+-- where the connection ended as its input does, and that is told, each item of it is answered
+abbrev pub AnswersAll : (silent : Bool) → (tells : ℕ → Type 0) → Opening → Known → (left held held_now : Option (List ℕ)) → Served → Type 0
+AnswersAll silent tells o k left held held_now how =
+    IfSome left (λ bytes. how ≡ end_of (items bytes).ending → AllAnswered silent tells o k bytes held held_now)
 
 -- ## Room
+
+-- where there is room for each request of an input that is told, the connection isn't full
+abbrev pub FindsRoom : (room : List ℕ → Type 0) → (left : Option (List ℕ)) → Served → Type 0
+FindsRoom room left how = IfSome left (λ bytes. room bytes → how ≢ served.Full)
 
 -- behind whatever a pass may come to by the first requests of these bytes, the limits have room for the next one
 abbrev pub HasRoomForAll : (silent : Bool) → (tells : ℕ → Type 0) → Opening → Known → List ℕ → Type 0
 HasRoomForAll silent tells o k bytes =
-    (done : List Incoming) (next : Incoming) (request : Asked) → Begins (done ++ next ∷ []) (items bytes).items → asked_by next ≡ Some request
+    (done : List Incoming) (next : Incoming) (request : DecodedRequest) → Begins (done ++ next ∷ []) (items bytes).items
+    → asked_by next ≡ Some request
     → (heard : List (Option Reply)) (last now : Known) → Chain (IsServed silent tells o) k last (asked done) heard → Learnt o last now
     → room_behind o now.seen (step_for now.caller request) ≡ true

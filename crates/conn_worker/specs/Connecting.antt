@@ -8,7 +8,7 @@ use Rattle.scm_history.specs.Owned.{Made as Told, made_of}
 use Rattle.rpc_session.specs.declared.state.Incoming.{Incoming}
 use Rattle.book_rule.specs.declared.view.Opening.{Opening}
 use Rattle.scm_book.specs.Passes.{Known, Learnt, Made, room_behind}
-use Rattle.conn_desk.specs.declared.asked.Asked.{Asked}
+use Rattle.conn_desk.specs.declared.asked.DecodedRequest.{DecodedRequest}
 use Rattle.conn_desk.specs.declared.served.Served.{Served}
 use Rattle.conn_desk.specs.Bodies.{asked}
 use Rattle.conn_desk.specs.Connection.{Reached}
@@ -18,10 +18,11 @@ use Rattle.conn_worker.specs.Owning.{Adds, AreOfAll, AreTold, FoundRoom, unowed_
 use Rattle.conn_worker.specs.Serving.{IsServed, step_for}
 
 -- the limits have no room for a request behind what the pass has seen
-abbrev pub HasNoRoomFor : Opening → Known → Asked → Type 0
+abbrev pub HasNoRoomFor : Opening → Known → DecodedRequest → Type 0
 HasNoRoomFor o k asked = room_behind o k.seen (step_for k.caller asked) ≡ false
 
-pub record Connects (silent : Bool) (tells : ℕ → Type 0) (o : Opening) (k k' : Known) (left left_now held held_now : Option (List ℕ)) (how : Served) : Type 0 where
+pub record Connects (silent : Bool) (tells : ℕ → Type 0) (o : Opening) (k k' : Known) (left left_now held held_now : Option (List ℕ))
+    (how : Served) : Type 0 where
   -- what was read and written, the items that were answered, and what was heard of their requests
   pub read : List ℕ
   pub done : List Incoming

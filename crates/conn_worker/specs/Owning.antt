@@ -17,8 +17,8 @@ use Rattle.scm_rules.specs.Room.{is_owed}
 use Rattle.scm_history.specs.Owned.{Made as Told, made_of}
 use Rattle.book_rule.specs.declared.view.Opening.{Opening}
 use Rattle.scm_book.specs.Passes.{IsSame, Known, room_behind}
-use Rattle.conn_desk.specs.declared.asked.Asked.{Asked}
-use Rattle.conn_desk.specs.declared.asked.Asked.TheVariants as asks
+use Rattle.conn_desk.specs.declared.asked.DecodedRequest.{DecodedRequest}
+use Rattle.conn_desk.specs.declared.asked.DecodedRequest.TheVariants as asks
 
 -- ## Places
 
@@ -122,19 +122,21 @@ pub record IsRaise (caller : ℕ) (subtype : List ℕ) (reply : Reply) (entries 
   pub is : entries ≡ made_of (moment, Raised caller subtype) (answers.Reply reply) ∷ []
 
 -- the entries of a request that was told a reply
-abbrev pub AreOfTold : (silent : Bool) → ℕ → Asked → Reply → List Told → Type 0
-AreOfTold silent caller (asks.Call request) reply entries = IsAtOnce caller request reply entries ⊎ HasWaited silent caller request reply entries
+abbrev pub AreOfTold : (silent : Bool) → ℕ → DecodedRequest → Reply → List Told → Type 0
+AreOfTold silent caller (asks.Call request) reply entries = IsAtOnce caller request reply entries
+    ⊎ HasWaited silent caller request reply entries
 AreOfTold silent caller (asks.Raise subtype) reply entries = IsRaise caller subtype reply entries
 
 -- the entries of a caller's request, by what was heard of it
-abbrev pub AreOf : (silent : Bool) → ℕ → Asked → Option Reply → List Told → Type 0
+abbrev pub AreOf : (silent : Bool) → ℕ → DecodedRequest → Option Reply → List Told → Type 0
 AreOf silent caller asked (Some reply) entries = AreOfTold silent caller asked reply entries
 AreOf silent caller asked None entries = (moment : ℕ) × (entries ≡ made_of (moment, NoMemory caller) answers.Done ∷ [])
 
 -- those of its requests, one after another
-abbrev pub AreOfAll : (silent : Bool) → ℕ → List Asked → List (Option Reply) → List Told → Type 0
+abbrev pub AreOfAll : (silent : Bool) → ℕ → List DecodedRequest → List (Option Reply) → List Told → Type 0
 AreOfAll silent caller [] [] entries = entries ≡ []
 AreOfAll silent caller (asked ∷ more) (heard ∷ others) entries =
-    (first : List Told) × (rest : List Told) × (entries ≡ first ++ rest) × AreOf silent caller asked heard first × AreOfAll silent caller more others rest
+    (first : List Told) × (rest : List Told) × (entries ≡ first ++ rest) × AreOf silent caller asked heard first
+    × AreOfAll silent caller more others rest
 AreOfAll silent caller [] (heard ∷ others) entries = ⊥
 AreOfAll silent caller (asked ∷ more) [] entries = ⊥

@@ -12,12 +12,12 @@ use Rattle.scm_model.specs.Refused.{refused}
 use Rattle.book_rule.specs.declared.view.Opening.{Opening}
 use Rattle.scm_book.specs.Called.{RaiseWants, RaisedSo, WantsMemory, called}
 use Rattle.scm_book.specs.Passes.{Known, MadeSo}
-use Rattle.conn_desk.specs.declared.asked.Asked.{Asked}
-use Rattle.conn_desk.specs.declared.asked.Asked.TheVariants as asks
+use Rattle.conn_desk.specs.declared.asked.DecodedRequest.{DecodedRequest}
+use Rattle.conn_desk.specs.declared.asked.DecodedRequest.TheVariants as asks
 use Rattle.conn_worker.specs.Waiting.{WaitsAndEnds}
 
 -- the step of a caller's request, as it is asked for
-abbrev pub step_for : (caller : ℕ) → Asked → Step
+abbrev pub step_for : (caller : ℕ) → DecodedRequest → Step
 step_for caller (asks.Call request) = Call caller request NotAsked
 step_for caller (asks.Raise subtype) = Raised caller subtype
 
@@ -28,7 +28,8 @@ pub record IsTold (tells : ℕ → Type 0) (o : Opening) (k : Known) (asked : Re
   pub made : MadeSo o k moment (called k asked) (answers.Reply reply) k'
 
 -- its call began a start, which waited behind turns and then was told the reply
-pub record IsWaitedFor (silent : Bool) (tells : ℕ → Type 0) (o : Opening) (k : Known) (asked : Request) (reply : Reply) (k' : Known) : Type 0 where
+pub record IsWaitedFor (silent : Bool) (tells : ℕ → Type 0) (o : Opening) (k : Known) (asked : Request) (reply : Reply)
+    (k' : Known) : Type 0 where
   pub moment : ℕ
   pub told : tells moment
   pub plan : ℕ
@@ -47,21 +48,21 @@ pub record IsRaised (tells : ℕ → Type 0) (o : Opening) (k : Known) (subtype 
   pub made : RaisedSo o k moment subtype reply k'
 
 -- what became of a request that was told a reply
-abbrev pub IsAnswered : (silent : Bool) → (tells : ℕ → Type 0) → Opening → Known → Known → Asked → Reply → Type 0
+abbrev pub IsAnswered : (silent : Bool) → (tells : ℕ → Type 0) → Opening → Known → Known → DecodedRequest → Reply → Type 0
 IsAnswered silent tells o k k' (asks.Call request) reply = IsTold tells o k request reply k' ⊎ IsWaitedFor silent tells o k request reply k'
 IsAnswered silent tells o k k' (asks.Raise subtype) reply = IsRaised tells o k subtype reply k'
 
 -- there was no memory for it: that stands in its place, and it is refused with 8
-abbrev pub Wants : Opening → Known → (moment : ℕ) → Asked → Known → Type 0
+abbrev pub Wants : Opening → Known → (moment : ℕ) → DecodedRequest → Known → Type 0
 Wants o k moment (asks.Call request) k' = WantsMemory o k moment request (refused request ERROR_NOT_ENOUGH_MEMORY) k'
 Wants o k moment (asks.Raise subtype) k' = RaiseWants o k moment subtype (replies.Code ERROR_NOT_ENOUGH_MEMORY) k'
 
-pub record IsRefused (tells : ℕ → Type 0) (o : Opening) (k : Known) (asked : Asked) (k' : Known) : Type 0 where
+pub record IsRefused (tells : ℕ → Type 0) (o : Opening) (k : Known) (asked : DecodedRequest) (k' : Known) : Type 0 where
   pub moment : ℕ
   pub told : tells moment
   pub wants : Wants o k moment asked k'
 
 -- what became of a request, by what was heard of it: a reply, or that there was no memory for one
-abbrev pub IsServed : (silent : Bool) → (tells : ℕ → Type 0) → Opening → Known → Known → Asked → Option Reply → Type 0
+abbrev pub IsServed : (silent : Bool) → (tells : ℕ → Type 0) → Opening → Known → Known → DecodedRequest → Option Reply → Type 0
 IsServed silent tells o k k' asked (Some reply) = IsAnswered silent tells o k k' asked reply
 IsServed silent tells o k k' asked None = IsRefused tells o k asked k'

@@ -69,7 +69,8 @@ Looks silent tells o plan k k' (Some reply) = Ends tells o plan k reply k'
 Looks silent tells o plan k k' None = StillWaits silent tells o plan k k'
 
 -- the start waited behind turns, and then was answered
-pub record WaitsAndEnds (silent : Bool) (tells : ℕ → Type 0) (o : Opening) (plan : ℕ) (k : Known) (reply : Reply) (k' : Known) : Type 0 where
+pub record WaitsAndEnds (silent : Bool) (tells : ℕ → Type 0) (o : Opening) (plan : ℕ) (k : Known) (reply : Reply)
+    (k' : Known) : Type 0 where
   pub turns : List ℕ
   pub told : All tells turns
   pub waited : Known

@@ -3,14 +3,14 @@ ghost use Rattle.std.specs.Prelude.{◌≡◌, ◌≢◌, IfOk, IsErrOf, IsTrue,
 ghost use Rattle.scm_model.specs.Ranges.{in_range};
 ghost use Rattle.scm_book.specs.Called.{is_start};
 ghost use Rattle.scm_book.specs.Passes.{HasPlan, IsOf, Learnt};
-ghost use Rattle.conn_desk.specs.declared.asked.Asked.TheVariants.{Call};
+ghost use Rattle.conn_desk.specs.declared.asked.DecodedRequest.TheVariants.{Call};
 ghost use Rattle.conn_desk.specs.Desks.{CallAnswered};
 ghost use Rattle.conn_worker.specs.Connecting.{HasNoRoomFor};
 ghost use Rattle.conn_worker.specs.Serving.{IsServed};
 ghost use Rattle.conn_worker.specs.Waiting.{KeepsPlans, Looks, WaitsAndEnds};
 
 use crate::waiter::Waiter;
-use conn_desk::Lacks;
+use conn_desk::HandlerError;
 use outside::Clock;
 use record_journal::Keeper;
 use scm_book::{Book, CallEnd, EndLook, Pass, StartEnd};
@@ -86,7 +86,7 @@ pub fn ask<R: Wait, K: Keeper, C: Clock, W: Waiter<K>>(
     clock: &C,
     waiter: &mut W,
     request: Request,
-) -> Result<Reply, Lacks>
+) -> Result<Reply, HandlerError>
     requires book { IsOf book.now pass.old }
     requires caller { pass.old.caller ≢ 0 }
     requires ranged { IsTrue (in_range request) }
@@ -96,7 +96,7 @@ pub fn ask<R: Wait, K: Keeper, C: Clock, W: Waiter<K>>(
         CallAnswered (IsServed W.silent (C.tells clock.now) book.now.opening) pass.old pass.new
         (Call request) reply) }
     ensures left { OnErr result (Learnt book.now.opening pass.old pass.new) }
-    ensures full { IsErrOf result Lacks.Full →
+    ensures full { IsErrOf result HandlerError.Full →
         HasNoRoomFor book.now.opening pass.new (Call request) }
 {
     book.opens();
@@ -105,14 +105,14 @@ pub fn ask<R: Wait, K: Keeper, C: Clock, W: Waiter<K>>(
         match book.begin_start(rt, pass, moment, request) {
             StartEnd::Answered(reply) => Ok(reply),
             StartEnd::Waiting(plan) => Ok(wait(rt, book, pass, clock, waiter, plan)),
-            StartEnd::Full => Err(Lacks::Full),
-            StartEnd::OutOfMemory => Err(Lacks::OutOfMemory),
+            StartEnd::Full => Err(HandlerError::Full),
+            StartEnd::OutOfMemory => Err(HandlerError::OutOfMemory),
         }
     } else {
         match book.call(rt, pass, moment, request) {
             CallEnd::Answered(reply) => Ok(reply),
-            CallEnd::Full => Err(Lacks::Full),
-            CallEnd::OutOfMemory => Err(Lacks::OutOfMemory),
+            CallEnd::Full => Err(HandlerError::Full),
+            CallEnd::OutOfMemory => Err(HandlerError::OutOfMemory),
         }
     }
 }

@@ -1,7 +1,7 @@
 ghost use Rattle.std.specs.Prelude.{◌≡◌, ◌≢◌, ◌≤◌};
 ghost use Rattle.scm_book.specs.Passes.{IsOf};
 ghost use Rattle.conn_desk.specs.Connection.{IsServedFor};
-ghost use Rattle.conn_worker.specs.Complete.{HasRoomForAll, IsComplete};
+ghost use Rattle.conn_worker.specs.Complete.{AnswersAll, FindsRoom, HasRoomForAll, IsComplete};
 ghost use Rattle.conn_worker.specs.Connecting.{Connects};
 
 use crate::desk::BookDesk;
@@ -41,10 +41,15 @@ pub fn serve_connection<R: Wait, K: Keeper, I: Source, O: Sink, C: Clock, W: Wai
     ensures output { O.faults output.old ≤ O.faults output.new }
     ensures cause { IsServedFor result.how (I.faults input.old) (I.faults input.new)
         (O.faults output.old) (O.faults output.new) }
-    // Nothing else ends a connection without faults.
-    ensures complete { IsComplete (HasRoomForAll W.silent (C.tells clock.now) book.now.opening pass)
-        (I.left input.old) (I.faults input.old) (I.faults input.new)
+    // Nothing else ends a connection without faults, but that a request found no room.
+    ensures complete { IsComplete (I.left input.old) (I.faults input.old) (I.faults input.new)
         (O.faults output.old) (O.faults output.new) result.how }
+    // Where it ends as its input does, each item of that is answered.
+    ensures answers { AnswersAll W.silent (C.tells clock.now) book.now.opening pass
+        (I.left input.old) (O.held output.old) (O.held output.new) result.how }
+    // Where there is room for each request, it isn't full.
+    ensures room { FindsRoom (HasRoomForAll W.silent (C.tells clock.now) book.now.opening pass)
+        (I.left input.old) result.how }
 {
     let mut desk = BookDesk {
         rt,

@@ -2,7 +2,7 @@
 use crate::asking::ask;
 use crate::raising::raise;
 use crate::waiter::Waiter;
-use conn_desk::{Desk, Lacks};
+use conn_desk::{HandlerError, RequestHandler};
 use outside::Clock;
 use record_journal::Keeper;
 use scm_book::{Book, Pass};
@@ -20,7 +20,7 @@ pub struct BookDesk<'a, R: Wait, K: Keeper, C: Clock, W: Waiter<K>> {
     pub waiter: &'a mut W,
 }
 
-impl<'a, R: Wait, K: Keeper, C: Clock, W: Waiter<K>> Desk for BookDesk<'a, R, K, C, W> {
+impl<'a, R: Wait, K: Keeper, C: Clock, W: Waiter<K>> RequestHandler for BookDesk<'a, R, K, C, W> {
     ghost use Rattle.std.specs.Prelude.{◌≡◌, ◌≢◌};
     ghost use Rattle.scm_book.specs.Passes.{IsOf, Learnt};
     ghost use Rattle.conn_worker.specs.Connecting.{HasNoRoomFor};
@@ -36,7 +36,7 @@ impl<'a, R: Wait, K: Keeper, C: Clock, W: Waiter<K>> Desk for BookDesk<'a, R, K,
 
     ghost full = { λ d asked. HasNoRoomFor d.book.now.opening d.pass asked };
 
-    fn call(&mut self, request: Request) -> Result<Reply, Lacks> {
+    fn call(&mut self, request: Request) -> Result<Reply, HandlerError> {
         ask(
             self.rt,
             self.book,
@@ -47,7 +47,7 @@ impl<'a, R: Wait, K: Keeper, C: Clock, W: Waiter<K>> Desk for BookDesk<'a, R, K,
         )
     }
 
-    fn raise(&mut self, subtype: [u8; 16]) -> Result<u32, Lacks> {
+    fn raise(&mut self, subtype: [u8; 16]) -> Result<u32, HandlerError> {
         raise(self.rt, self.book, &mut self.pass, self.clock, subtype)
     }
 }

@@ -2,12 +2,12 @@
 ghost use Rattle.std.specs.Prelude.{◌≡◌, ◌≢◌, IfOk, IsErrOf, OnErr, true};
 ghost use Rattle.scm_model.specs.declared.calls.Reply.TheVariants.{Code};
 ghost use Rattle.scm_book.specs.Passes.{IsOf, Learnt};
-ghost use Rattle.conn_desk.specs.declared.asked.Asked.TheVariants.{Raise};
+ghost use Rattle.conn_desk.specs.declared.asked.DecodedRequest.TheVariants.{Raise};
 ghost use Rattle.conn_desk.specs.Desks.{CallAnswered};
 ghost use Rattle.conn_worker.specs.Connecting.{HasNoRoomFor};
 ghost use Rattle.conn_worker.specs.Serving.{IsCode, IsServed};
 
-use conn_desk::Lacks;
+use conn_desk::HandlerError;
 use outside::Clock;
 use record_journal::Keeper;
 use scm_book::{Book, CallEnd, Pass};
@@ -32,7 +32,7 @@ pub fn raise<R: Wait, K: Keeper, C: Clock>(
     pass: &mut Pass,
     clock: &C,
     subtype: [u8; 16],
-) -> Result<u32, Lacks>
+) -> Result<u32, HandlerError>
     requires book { IsOf book.now pass.old }
     requires caller { pass.old.caller ≢ 0 }
     ensures book { IsOf book.now pass.new }
@@ -41,13 +41,13 @@ pub fn raise<R: Wait, K: Keeper, C: Clock>(
         CallAnswered (IsServed true (C.tells clock.now) book.now.opening) pass.old pass.new
         (Raise subtype) (Code code)) }
     ensures left { OnErr result (Learnt book.now.opening pass.old pass.new) }
-    ensures full { IsErrOf result Lacks.Full →
+    ensures full { IsErrOf result HandlerError.Full →
         HasNoRoomFor book.now.opening pass.new (Raise subtype) }
 {
     let moment = clock.now();
     match book.raise(rt, pass, moment, subtype) {
         CallEnd::Answered(told) => Ok(code_of(told)),
-        CallEnd::Full => Err(Lacks::Full),
-        CallEnd::OutOfMemory => Err(Lacks::OutOfMemory),
+        CallEnd::Full => Err(HandlerError::Full),
+        CallEnd::OutOfMemory => Err(HandlerError::OutOfMemory),
     }
 }

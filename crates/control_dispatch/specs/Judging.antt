@@ -1,8 +1,18 @@
 -- Whether a service gets a control, and with what code it is refused.
-use Rattle.std.specs.Prelude.{ℕ, Bool, true, not, ◌&&◌, ◌||◌, ◌==◌, nat_le, nat_lt, List, [], ◌∷◌, Option, None, Some, find, is_none, option_map, bit_and, if◌then◌else◌}
+use Rattle.std.specs.Prelude.{ℕ, Bool, true, not, ◌&&◌, ◌||◌, ◌==◌, nat_le, nat_lt, List, [], ◌∷◌, Option, None, Some, find, is_none}
+use Rattle.std.specs.Prelude.{option_map, bit_and, if◌then◌else◌}
 use Rattle.scm_model.specs.Refused.{first_refusal}
 use Rattle.scm_model.specs.declared.flat.Status.{Status}
-use Rattle.scm_model.specs.declared.codes.TheConstants.{ERROR_ACCESS_DENIED, ERROR_DEPENDENT_SERVICES_RUNNING, ERROR_INVALID_HANDLE, ERROR_INVALID_PARAMETER, ERROR_INVALID_SERVICE_CONTROL, ERROR_SERVICE_CANNOT_ACCEPT_CTRL, ERROR_SERVICE_NOT_ACTIVE, FIRST_USER_CONTROL, LAST_USER_CONTROL, SERVICE_ACCEPT_NETBINDCHANGE, SERVICE_ACCEPT_PARAMCHANGE, SERVICE_ACCEPT_PAUSE_CONTINUE, SERVICE_ACCEPT_STOP, SERVICE_CONTROL_CONTINUE, SERVICE_CONTROL_INTERROGATE, SERVICE_CONTROL_NETBINDADD, SERVICE_CONTROL_NETBINDDISABLE, SERVICE_CONTROL_PARAMCHANGE, SERVICE_CONTROL_PAUSE, SERVICE_CONTROL_STOP, SERVICE_INTERROGATE, SERVICE_PAUSE_CONTINUE, SERVICE_START_PENDING, SERVICE_STOP, SERVICE_STOPPED, SERVICE_STOP_PENDING, SERVICE_USER_DEFINED_CONTROL}
+use Rattle.scm_model.specs.declared.codes.TheConstants.{ERROR_ACCESS_DENIED, ERROR_DEPENDENT_SERVICES_RUNNING, ERROR_INVALID_HANDLE}
+use Rattle.scm_model.specs.declared.codes.TheConstants.{ERROR_INVALID_PARAMETER, ERROR_INVALID_SERVICE_CONTROL}
+use Rattle.scm_model.specs.declared.codes.TheConstants.{ERROR_SERVICE_CANNOT_ACCEPT_CTRL, ERROR_SERVICE_NOT_ACTIVE, FIRST_USER_CONTROL}
+use Rattle.scm_model.specs.declared.codes.TheConstants.{LAST_USER_CONTROL, SERVICE_ACCEPT_NETBINDCHANGE, SERVICE_ACCEPT_PARAMCHANGE}
+use Rattle.scm_model.specs.declared.codes.TheConstants.{SERVICE_ACCEPT_PAUSE_CONTINUE, SERVICE_ACCEPT_STOP, SERVICE_CONTROL_CONTINUE}
+use Rattle.scm_model.specs.declared.codes.TheConstants.{SERVICE_CONTROL_INTERROGATE, SERVICE_CONTROL_NETBINDADD}
+use Rattle.scm_model.specs.declared.codes.TheConstants.{SERVICE_CONTROL_NETBINDDISABLE, SERVICE_CONTROL_PARAMCHANGE, SERVICE_CONTROL_PAUSE}
+use Rattle.scm_model.specs.declared.codes.TheConstants.{SERVICE_CONTROL_STOP, SERVICE_INTERROGATE, SERVICE_PAUSE_CONTINUE}
+use Rattle.scm_model.specs.declared.codes.TheConstants.{SERVICE_START_PENDING, SERVICE_STOP, SERVICE_STOPPED, SERVICE_STOP_PENDING}
+use Rattle.scm_model.specs.declared.codes.TheConstants.{SERVICE_USER_DEFINED_CONTROL}
 use Rattle.control_dispatch.specs.declared.judging.Control.{Control}
 
 abbrev pub control_rule : ℕ → ℕ → Control

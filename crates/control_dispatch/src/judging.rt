@@ -49,10 +49,11 @@ fn lacks(mask: u32, bits: u32) -> bool
     mask & bits != bits
 }
 
-/// The code of a control of a service, or 0 where it is to be sent. `granted` are the rights of the handle, none where the handle is
-/// not one of a service; `active` services name this one and aren't stopped; `waiting` controls wait of the `limit` that may. The codes
-/// are those of MS-ERREF. That a service that is starting or stopping gets no control, STOP included, and the order of the codes are
-/// this manager's own. It takes no memory.
+/// The code of a control of a service, or 0 where it is to be sent. `granted` are the rights of the
+/// handle, none where the handle is not one of a service; `active` services name this one and
+/// aren't stopped; `waiting` controls wait of the `limit` that may. The codes are those of
+/// MS-ERREF. That a service that is starting or stopping gets no control, STOP included, and the
+/// order of the codes are this manager's own. It takes no memory.
 pub fn judge(
     granted: Option<u32>,
     code: u32,

@@ -1,4 +1,5 @@
-//! Which controls a service gets, as `RControlService` sends them, and those that wait for its process.
+//! Which controls a service gets, as `RControlService` sends them, and those that wait for its
+//! process.
 #![tactic(auto)]
 
 mod judging;

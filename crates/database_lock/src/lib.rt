@@ -1,14 +1,17 @@
-//! The lock of the service database, as `RLockServiceDatabase` takes it and `RUnlockServiceDatabase` gives it back.
+//! The lock of the service database, as `RLockServiceDatabase` takes it and
+//! `RUnlockServiceDatabase` gives it back.
 #![tactic(auto)]
 
 ghost use Rattle.std.specs.Prelude.{◌≡◌, None};
-ghost use Rattle.database_lock.specs.Locking.{is_held_by, lock_answer, locked, unlock_answer, unlocked};
+ghost use Rattle.database_lock.specs.Locking.{is_held_by, lock_answer, locked, unlock_answer};
+ghost use Rattle.database_lock.specs.Locking.{unlocked};
 
 use scm_model::LockRow;
 use scm_model::codes::{ERROR_INVALID_SERVICE_LOCK, ERROR_SERVICE_DATABASE_LOCKED};
 use std::marker::Model;
 
-/// The lock, which at most one handle holds. Contracts see the row of its holder. No call takes memory.
+/// The lock, which at most one handle holds. Contracts see the row of its holder. No call takes
+/// memory.
 #[derive(Debug, Drop)]
 pub struct DatabaseLock {
     row: Option<LockRow>,
@@ -41,7 +44,8 @@ impl DatabaseLock {
         DatabaseLock { row: None }
     }
 
-    /// Takes the lock for a handle, from a moment on; `ERROR_SERVICE_DATABASE_LOCKED` where it is held, by the same handle too.
+    /// Takes the lock for a handle, from a moment on; `ERROR_SERVICE_DATABASE_LOCKED` where it is
+    /// held, by the same handle too.
     pub fn lock(&mut self, handle: u64, moment: u64) -> Result<(), u32>
         ensures answer { result ≡ lock_answer self.old }
         ensures row { self.new ≡ locked self.old handle moment }

@@ -1,5 +1,6 @@
 -- Decimal forms.
-use Rattle.std.proofs.Common.{ℕ, ◌≡◌, ◌<◌, ◌≤◌, ◌*◌, ◌+◌, ◌^◌, Bool, true, false, cond, List, None, Some, Option, take, get_or, length, zero, suc, inl, inr, refl, sym, ap, ◌∙◌, subst, arith}
+use Rattle.std.proofs.Common.{ℕ, ◌≡◌, ◌<◌, ◌≤◌, ◌*◌, ◌+◌, ◌^◌, Bool, true, false, cond, List, None, Some, Option, take, get_or, length}
+use Rattle.std.proofs.Common.{zero, suc, inl, inr, refl, sym, ap, ◌∙◌, subst, arith}
 use Rattle.std.specs.Prelude.{◌&&◌, ◌⊎◌, nat_lt, slice_index, bytes_eq, decimal, IfNone, IfSome}
 use Rattle.std.specs.Char.{digit_value}
 use Rattle.std.specs.Str.Parse.{AllDigits, digits_value}
@@ -38,7 +39,8 @@ number_begun text h = number_none text (λ n small e. begun n small (ap length e
     begun : (n : ℕ) → n < 2 ^ 64 → length text ≡ length (decimal n) → slice_index text 0 ≡ slice_index (decimal n) 0
         → (length text ≡ 0) ⊎ ((slice_index text 0 ≡ 48) × (1 < length text)) → ⊥
     begun n small size first (inl none) = omega (arith, (decimal_is_IsNumeral n small).0.0, size)
-    begun zero small size first (inr led) = let one : length (decimal 0) ≡ 1 = ap length (decimal_digit 0 (omega arith)) in omega (arith, size, one, led.1)
+    begun zero small size first (inr led) = let one : length (decimal 0) ≡ 1 = ap length (decimal_digit 0 (omega arith)) in
+        omega (arith, size, one, led.1)
     begun (suc n) small size first (inr led) = omega (arith, first_decimal (suc n) (omega arith) small, first, led.0)
 
 -- digits that no zero leads are the decimal form of what they write; what can't be read so is none
@@ -47,7 +49,8 @@ pub number_told : (text : List ℕ) (read : Option ℕ) → 0 < length text → 
     → IfNone read (AllDigits 10 text → 2 ^ 64 ≤ digits_value 10 text) → read ≡ number_at text
 number_told text (Some n) some lead (all, is, small) other =
     sym (number_is text n small
-    (sym (decimal-digits_value (numerals_by_value (AllDigits 10) tells_digits) text all some lead (omega (arith, is))) ∙ ap decimal (sym is)))
+    (sym (decimal-digits_value (numerals_by_value (AllDigits 10) tells_digits) text all some lead (omega (arith, is)))
+    ∙ ap decimal (sym is)))
 number_told text None some lead is other = sym (number_none text (λ n small e.
     let k = decimal_is_IsNumeral n small in
     omega (arith, other (subst (AllDigits 10) (sym e) k.0.1), ap (digits_value 10) e ∙ k.1)))

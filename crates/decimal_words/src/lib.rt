@@ -1,7 +1,8 @@
 //! Numbers that are read from the decimal form in which they are written.
 #![tactic(auto)]
 
-ghost use Rattle.std.specs.Prelude.{◌≡◌, ◌*◌, ◌+◌, ◌<◌, ◌≤◌, ◌^◌, ◌⊎◌, false, length, slice_index, IfNone, IfSome, IsTrue};
+ghost use Rattle.std.specs.Prelude.{◌≡◌, ◌*◌, ◌+◌, ◌<◌, ◌≤◌, ◌^◌, ◌⊎◌, false, length, slice_index};
+ghost use Rattle.std.specs.Prelude.{IfNone, IfSome, IsTrue};
 ghost use Rattle.std.specs.Char.{digit_value};
 ghost use Rattle.std.specs.Str.Parse.{AllDigits, digits_value};
 ghost use Rattle.decimal_words.specs.Numbers.{number_at, number_below};
@@ -10,7 +11,8 @@ ghost use Rattle.decimal_words.specs.Numbers.{number_at, number_below};
 fn with_digit(number: u64, digit: u8) -> Option<u64>
     ensures some { IfSome result (λ n. (digit_value digit < 10)
         × (n ≡ number * 10 + digit_value digit) × (n < 2 ^ 64)) }
-    ensures none { IfNone result (digit_value digit < 10 → 2 ^ 64 ≤ number * 10 + digit_value digit) }
+    ensures none { IfNone result (digit_value digit < 10 → 2 ^ 64 ≤ number * 10
+        + digit_value digit) }
 {
     if digit < b'0' || b'9' < digit {
         return None;

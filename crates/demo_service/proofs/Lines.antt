@@ -1,5 +1,6 @@
 -- A line that is read byte by byte.
-use Rattle.std.proofs.Common.{arith, inl, inr, ℕ, ◌≡◌, ◌<◌, ◌≤◌, ◌⊎◌, Bool, true, false, List, [], ◌∷◌, ◌++◌, length, Option, Result, Ok, Err, sym, ap, ◌∙◌, subst}
+use Rattle.std.proofs.Common.{arith, inl, inr, ℕ, ◌≡◌, ◌<◌, ◌≤◌, ◌⊎◌, Bool, true, false, List, [], ◌∷◌, ◌++◌, length, Option, Result, Ok}
+use Rattle.std.proofs.Common.{Err, sym, ap, ◌∙◌, subst}
 use Rattle.std.specs.Prelude.{IfOk, OnOk}
 use Rattle.std.specs.Io.KnownBytes.{Appends}
 use Rattle.std.proofs.lemmas.Bool.{cases_lt}
@@ -13,7 +14,8 @@ use Rattle.demo_service.specs.Doing.{Hears, HearsOne, Point, ReadsLine, answer_t
 pub kept_short : (front : List ℕ) → length (kept front) ≤ 4096
 kept_short front = omega (arith, length-take 4096 front)
 
-more_kept : (front : List ℕ) (byte : ℕ) → (4096 < length front) ⊎ (length front ≤ 4096) → kept (kept front ++ byte ∷ []) ≡ kept (front ++ byte ∷ [])
+more_kept : (front : List ℕ) (byte : ℕ) → (4096 < length front) ⊎ (length front ≤ 4096)
+    → kept (kept front ++ byte ∷ []) ≡ kept (front ++ byte ∷ [])
 more_kept front byte (inr few) = ap (λ f. kept (f ++ byte ∷ [])) (take_all 4096 front few)
 more_kept front byte (inl many) =
     take-append-le 4096 (kept front) (byte ∷ []) (omega (arith, many, length-take 4096 front))
@@ -29,7 +31,8 @@ heard_so true a front b h = (front, h)
 heard_so false a front b h = inl (front, h)
 
 -- a line that was read is heard as what is kept of it is
-pub heard : (on : Bool) (a b : Point) (line : List ℕ) (control : Option ℕ) → ReadsLine a.left b.left line true → control ≡ handed_on line → on ≡ goes_on control
+pub heard : (on : Bool) (a b : Point) (line : List ℕ) (control : Option ℕ) → ReadsLine a.left b.left line true → control ≡ handed_on line
+    → on ≡ goes_on control
     → Appends a.held b.held (answer_to control) → HearsOne a on b
 heard on a b line control reads is goes told =
     let same : handed_on line ≡ handed_on (reads.0 ++ 10 ∷ []) = ap handed_on reads.3 ∙ kept_control reads.0 in
@@ -42,7 +45,9 @@ heard on a b line control reads is goes told =
     })
 
 -- the same where the answer may have failed
-pub heard_if : (a b : Point) (line : List ℕ) (control : Option ℕ) (result : Result Bool DemoFault) → ReadsLine a.left b.left line true → control ≡ handed_on line
-    → IfOk result (λ on. on ≡ goes_on control) → OnOk result (Appends a.held b.held (answer_to control)) → IfOk result (λ on. HearsOne a on b)
+pub heard_if : (a b : Point) (line : List ℕ) (control : Option ℕ) (result : Result Bool DemoFault) → ReadsLine a.left b.left line true
+    → control ≡ handed_on line
+    → IfOk result (λ on. on ≡ goes_on control) → OnOk result (Appends a.held b.held (answer_to control))
+    → IfOk result (λ on. HearsOne a on b)
 heard_if a b line control (Ok on) reads is goes told = heard on a b line control reads is goes told
 heard_if a b line control (Err fault) reads is goes told = tt

@@ -1,10 +1,14 @@
 -- What the program does of its words.
-use Rattle.std.specs.Prelude.{ℕ, ◌≡◌, ◌<◌, ◌^◌, ◌==◌, ◌||◌, ◌⊎◌, not, Bool, true, false, codes, is_none, List, [], ◌∷◌, ◌++◌, length, All, Option, None, Some, Result, Ok, Err, nat_eq, bit_or, if◌then◌else◌}
+use Rattle.std.specs.Prelude.{ℕ, ◌≡◌, ◌<◌, ◌^◌, ◌==◌, ◌||◌, ◌⊎◌, not, Bool, true, false, codes, is_none, List, [], ◌∷◌, ◌++◌, length, All}
+use Rattle.std.specs.Prelude.{Option, None, Some, Result, Ok, Err, nat_eq, bit_or, if◌then◌else◌}
 use Rattle.std.specs.Cmp.Lexicographic.{pointwise}
 use Rattle.std.specs.Io.KnownBytes.{Appends, Consumes, IsAtEnd}
 use Rattle.std.specs.List.{FoldsTo, list_any}
 use Rattle.outside.specs.Causes.{Rose}
-use Rattle.scm_model.specs.declared.codes.TheConstants.{SERVICE_ACCEPT_PAUSE_CONTINUE, SERVICE_ACCEPT_STOP, SERVICE_CONTROL_CONTINUE, SERVICE_CONTROL_PAUSE, SERVICE_CONTROL_STOP, SERVICE_PAUSED, SERVICE_RUNNING, SERVICE_START_PENDING, SERVICE_STOPPED, SERVICE_STOP_PENDING, SERVICE_WIN32_OWN_PROCESS}
+use Rattle.scm_model.specs.declared.codes.TheConstants.{SERVICE_ACCEPT_PAUSE_CONTINUE, SERVICE_ACCEPT_STOP, SERVICE_CONTROL_CONTINUE}
+use Rattle.scm_model.specs.declared.codes.TheConstants.{SERVICE_CONTROL_PAUSE, SERVICE_CONTROL_STOP, SERVICE_PAUSED, SERVICE_RUNNING}
+use Rattle.scm_model.specs.declared.codes.TheConstants.{SERVICE_START_PENDING, SERVICE_STOPPED, SERVICE_STOP_PENDING}
+use Rattle.scm_model.specs.declared.codes.TheConstants.{SERVICE_WIN32_OWN_PROCESS}
 use Rattle.scm_model.specs.declared.flat.Status.{Status}
 use Rattle.child_link.specs.Cutting.{kept, kept_line}
 use Rattle.child_link.specs.Lines.{handed_on, report_text}
@@ -38,11 +42,20 @@ is_unknown text = is_none (word_at text)
 
 -- STOP, PAUSE and CONTINUE are taken in RUNNING and PAUSED
 abbrev pub accepted_in : ℕ → ℕ
-accepted_in state = if state == SERVICE_RUNNING || state == SERVICE_PAUSED then bit_or SERVICE_ACCEPT_STOP SERVICE_ACCEPT_PAUSE_CONTINUE else 0
+accepted_in state = if state == SERVICE_RUNNING || state == SERVICE_PAUSED then bit_or SERVICE_ACCEPT_STOP SERVICE_ACCEPT_PAUSE_CONTINUE
+    else 0
 
 abbrev pub status_in : ℕ → Status
 status_in state =
-    record { kind = SERVICE_WIN32_OWN_PROCESS; state = state; accepted = accepted_in state; win32 = 0; specific = 0; checkpoint = 0; hint = 0 }
+    record {
+      kind = SERVICE_WIN32_OWN_PROCESS;
+      state = state;
+      accepted = accepted_in state;
+      win32 = 0;
+      specific = 0;
+      checkpoint = 0;
+      hint = 0;
+    }
 
 -- the line that reports a state
 abbrev pub report_of : ℕ → List ℕ
@@ -68,7 +81,8 @@ goes_on (Some code) = not (code == SERVICE_CONTROL_STOP)
 -- what is reported of it
 abbrev pub answer_to : Option ℕ → List ℕ
 answer_to None = []
-answer_to (Some code) = if code == SERVICE_CONTROL_PAUSE then report_of SERVICE_PAUSED else if code == SERVICE_CONTROL_CONTINUE then report_of SERVICE_RUNNING else []
+answer_to (Some code) = if code == SERVICE_CONTROL_PAUSE then report_of SERVICE_PAUSED else if code == SERVICE_CONTROL_CONTINUE
+    then report_of SERVICE_RUNNING else []
 
 -- no line feed stands in it
 abbrev pub IsWholeLine : List ℕ → Type 0
@@ -157,12 +171,14 @@ pub record WearsIn (a : Point) (texts : List (List ℕ)) (b : Point) : Type 0 wh
 
 -- the bytes of a line up to its feed were read, and these of them are kept; or the input ended before a feed came
 abbrev pub ReadsLine : Option (List ℕ) → Option (List ℕ) → (line : List ℕ) → Bool → Type 0
-ReadsLine left left' line true = (front : List ℕ) × IsWholeLine front × Consumes left left' (front ++ 10 ∷ []) × (line ≡ kept_line front) × IsBelowMost front
+ReadsLine left left' line true = (front : List ℕ) × IsWholeLine front × Consumes left left' (front ++ 10 ∷ []) × (line ≡ kept_line front)
+    × IsBelowMost front
 ReadsLine left left' line false = (rest : List ℕ) × IsWholeLine rest × Consumes left left' rest × IsAtEnd left' × IsBelowMost rest
 
 -- a byte of a line was read, or its feed; or the input was at its end
 abbrev pub ReadsByte : Option (List ℕ) → Option (List ℕ) → (line line' : List ℕ) → Came → Type 0
-ReadsByte left left' line line' Byte = (byte : ℕ) × ((byte == 10) ≡ false) × Consumes left left' (byte ∷ []) × (line' ≡ kept (line ++ byte ∷ []))
+ReadsByte left left' line line' Byte = (byte : ℕ) × ((byte == 10) ≡ false) × Consumes left left' (byte ∷ [])
+    × (line' ≡ kept (line ++ byte ∷ []))
 ReadsByte left left' line line' Feed = Consumes left left' (10 ∷ []) × (line' ≡ line ++ 10 ∷ [])
 ReadsByte left left' line line' End = Consumes left left' [] × IsAtEnd left'
 

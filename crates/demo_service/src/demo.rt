@@ -1,6 +1,7 @@
 ghost use Rattle.std.specs.Prelude.{◌≡◌, ◌≤◌, true, Err, IfErr, OnOk, Some};
 ghost use Rattle.std.specs.List.{FoldsTo, list_any};
-ghost use Rattle.demo_service.specs.Doing.{Does, DoesWord, IsCaused, IsCausedAt, IsCausedIn, WearsAt, WearsIn, WearsOut, is_unknown, point};
+ghost use Rattle.demo_service.specs.Doing.{Does, DoesWord, IsCaused, IsCausedAt, IsCausedIn};
+ghost use Rattle.demo_service.specs.Doing.{WearsAt, WearsIn, WearsOut, is_unknown, point};
 ghost use Rattle.demo_service.specs.declared.fault.DemoFault.TheVariants as faults;
 ghost use Rattle.demo_service.specs.declared.word.Word.TheVariants as words;
 
@@ -66,7 +67,8 @@ pub fn demo<I: Source, O: Sink>(
     input: &mut I,
     output: &mut O,
 ) -> Result<(), DemoFault>
-    ensures does { OnOk result (FoldsTo Does (point (I.left input.old) (O.held output.old)) texts.now
+    ensures does { OnOk result (FoldsTo Does (point (I.left input.old) (O.held output.old))
+        texts.now
         (point (I.left input.new) (O.held output.new))) }
     ensures worn { result ≡ Err faults.Worn → WearsIn
         (point (I.left input.old) (O.held output.old)) texts.now

@@ -1,6 +1,8 @@
 ghost use Rattle.std.specs.Prelude.{◌≡◌, ◌≤◌, [], Err, IfErr, IfOk, OnOk, length};
 ghost use Rattle.std.specs.Io.KnownBytes.{Appends};
-ghost use Rattle.demo_service.specs.Doing.{HearsOne, IsCaused, IsOfByte, IsOfInput, IsOfOutput, ReadsByte, ReadsLine, Waits, WearsLine, WearsOut, answer_to, goes_on, point};
+ghost use Rattle.demo_service.specs.Doing.{HearsOne, IsCaused, IsOfByte, IsOfInput, IsOfOutput};
+ghost use Rattle.demo_service.specs.Doing.{ReadsByte, ReadsLine, Waits, WearsLine, WearsOut};
+ghost use Rattle.demo_service.specs.Doing.{answer_to, goes_on, point};
 ghost use Rattle.demo_service.specs.declared.fault.DemoFault.TheVariants as faults;
 
 use super::fault::DemoFault;
@@ -119,7 +121,8 @@ pub fn wait<I: Source, O: Sink>(
 ) -> Result<(), DemoFault>
     ensures waits { OnOk result (Waits (point (I.left input.old) (O.held output.old))
         (point (I.left input.new) (O.held output.new))) }
-    ensures worn { result ≡ Err faults.Worn → WearsOut (point (I.left input.old) (O.held output.old))
+    ensures worn { result ≡ Err faults.Worn → WearsOut
+        (point (I.left input.old) (O.held output.old))
         (point (I.left input.new) (O.held output.new)) }
     ensures cause { IfErr result (IsCaused (I.faults input.old) (I.faults input.new)
         (O.faults output.old) (O.faults output.new)) }

@@ -1,5 +1,6 @@
 -- Rows in order of number: where the one with a number stands.
-use Rattle.std.proofs.Common.{ℕ, ◌≡◌, ◌≢◌, ◌<◌, ◌≤◌, ◌∙◌, inl, inr, zero, suc, true, false, ◌||◌, List, [], ◌∷◌, Option, None, Some, Result, Ok, Err, cond, eqb, find, refl, ap, sym, subst, length, get_or, arith, eq-eqb}
+use Rattle.std.proofs.Common.{ℕ, ◌≡◌, ◌≢◌, ◌<◌, ◌≤◌, ◌∙◌, inl, inr, zero, suc, true, false, ◌||◌, List, [], ◌∷◌, Option, None, Some, Result}
+use Rattle.std.proofs.Common.{Ok, Err, cond, eqb, find, refl, ap, sym, subst, length, get_or, arith, eq-eqb}
 use Rattle.std.specs.Prelude.{IfSome, IfNone, is_some, slice_get}
 use Rattle.std.specs.List.{AllByRecursion}
 use Rattle.std.specs.List.Sorted.{IsSearchInRange, IsBinarySearchResult, IsNonDecreasingBy}
@@ -19,7 +20,8 @@ all_at P [] k d all lt = absurd (omega arith)
 all_at P (row ∷ rows) zero d all lt = all.0
 all_at P (row ∷ rows) (suc k) d all lt = all_at P rows k d all.1 (omega arith)
 
-pub rises : (rows : List NeedRow) (i j : ℕ) (d : NeedRow) → AreRisingBy number_of rows → i < j → j < length rows → (get_or rows i d).number < (get_or rows j d).number
+pub rises : (rows : List NeedRow) (i j : ℕ) (d : NeedRow) → AreRisingBy number_of rows → i < j → j < length rows
+    → (get_or rows i d).number < (get_or rows j d).number
 rises [] i j d rising lt within = absurd (omega arith)
 rises (row ∷ rows) zero zero d rising lt within = absurd (omega arith)
 rises (row ∷ rows) (suc i) zero d rising lt within = absurd (omega arith)
@@ -34,11 +36,14 @@ pub record IsPlace (rows : List NeedRow) (n : ℕ) (place : Option ℕ) : Type 0
   pub found : IfSome place (λ (i : ℕ). IfSome (slice_get rows i) (λ (row : NeedRow). row.number ≡ n))
   pub none : IfNone place (has (numbers_of rows) n ≡ false)
 
-number_here : (rows : List NeedRow) (i n : ℕ) → i < length rows → ((d : NeedRow) → (get_or rows i d).number ≡ n) → IfSome (slice_get rows i) (λ (row : NeedRow). row.number ≡ n)
+number_here : (rows : List NeedRow) (i n : ℕ) → i < length rows → ((d : NeedRow) → (get_or rows i d).number ≡ n)
+    → IfSome (slice_get rows i) (λ (row : NeedRow). row.number ≡ n)
 number_here [] i n within is = absurd (omega arith)
-number_here (row ∷ rows) i n within is = subst (λ (o : Option NeedRow). IfSome o (λ (r : NeedRow). r.number ≡ n)) (sym (slice_get-get_or (row ∷ rows) i row within)) (is row)
+number_here (row ∷ rows) i n within is = subst (λ (o : Option NeedRow). IfSome o (λ (r : NeedRow). r.number ≡ n))
+    (sym (slice_get-get_or (row ∷ rows) i row within)) (is row)
 
-none_has : (rows : List NeedRow) (n : ℕ) → ((k : ℕ) (d : NeedRow) → k < length rows → (get_or rows k d).number ≢ n) → has (numbers_of rows) n ≡ false
+none_has : (rows : List NeedRow) (n : ℕ) → ((k : ℕ) (d : NeedRow) → k < length rows → (get_or rows k d).number ≢ n)
+    → has (numbers_of rows) n ≡ false
 none_has [] n others = refl
 none_has (row ∷ rows) n others =
     ap (λ b. b || has (numbers_of rows) n) (ne_eqb n row.number (λ same. others 0 row (omega arith) (sym same)))
@@ -56,7 +61,8 @@ module _ (rows : List NeedRow) (n : ℕ) (rising : AreRisingBy number_of rows) w
       ] in
       grind (arith, nat_tests)
 
-  pub placed : (r : Result ℕ ℕ) → IsSearchInRange r (length rows) → IsBinarySearchResult (λ (row : NeedRow). nat_cmp row.number n) rows r → IsPlace rows n (result_ok r)
+  pub placed : (r : Result ℕ ℕ) → IsSearchInRange r (length rows) → IsBinarySearchResult (λ (row : NeedRow). nat_cmp row.number n) rows r
+      → IsPlace rows n (result_ok r)
   placed (Ok i) within equal = record {
     within = within;
     found = number_here rows i n within (λ (d : NeedRow). ranked _ n _ (sym (equal d)));
@@ -80,13 +86,17 @@ pub found_here : (rows : List NeedRow) (i n : ℕ) (d : NeedRow) → AreRisingBy
 found_here [] i n d rising lt is = absurd (omega arith)
 found_here (row ∷ rows) zero n d rising lt is = ap (λ b. cond b (Some row) (find (has_number n) rows)) (eq-eqb row.number n is)
 found_here (row ∷ rows) (suc i) n d rising lt is =
-    ap (λ b. cond b (Some row) (find (has_number n) rows)) (ne_eqb row.number n (omega (arith, rises (row ∷ rows) 0 (suc i) d rising (omega arith) lt, is)))
+    ap (λ b. cond b (Some row) (find (has_number n) rows)) (ne_eqb row.number n
+    (omega (arith, rises (row ∷ rows) 0 (suc i) d rising (omega arith) lt, is)))
     ∙ found_here rows i n d rising.1 (omega arith) is
 
-pub number_at : (rows : List NeedRow) (n i : ℕ) (d : NeedRow) → i < length rows → IfSome (slice_get rows i) (λ (row : NeedRow). row.number ≡ n) → (get_or rows i d).number ≡ n
-number_at rows n i d within found = subst (λ (o : Option NeedRow). IfSome o (λ (row : NeedRow). row.number ≡ n)) (slice_get-get_or rows i d within) found
+pub number_at : (rows : List NeedRow) (n i : ℕ) (d : NeedRow) → i < length rows
+    → IfSome (slice_get rows i) (λ (row : NeedRow). row.number ≡ n) → (get_or rows i d).number ≡ n
+number_at rows n i d within found = subst (λ (o : Option NeedRow). IfSome o (λ (row : NeedRow). row.number ≡ n))
+    (slice_get-get_or rows i d within) found
 
-has_at : (rows : List NeedRow) (i n : ℕ) (o : Option NeedRow) → slice_get rows i ≡ o → IfSome o (λ (row : NeedRow). row.number ≡ n) → i < length rows → has (numbers_of rows) n ≡ true
+has_at : (rows : List NeedRow) (i n : ℕ) (o : Option NeedRow) → slice_get rows i ≡ o → IfSome o (λ (row : NeedRow). row.number ≡ n)
+    → i < length rows → has (numbers_of rows) n ≡ true
 has_at [] i n o e is lt = absurd (omega arith)
 has_at (row ∷ rows) zero n o e is lt =
     let here : row.number ≡ n = subst (λ (p : Option NeedRow). IfSome p (λ (r : NeedRow). r.number ≡ n)) (sym e) is in
@@ -97,7 +107,8 @@ has_at (row ∷ rows) (suc i) n o e is lt =
       | false ↦ has_at rows i n o e is (omega arith)
     ]
 
-pub listed_is : (rows : List NeedRow) (n : ℕ) (place : Option ℕ) → IfSome place (λ (i : ℕ). i < length rows) → IfSome place (λ (i : ℕ). IfSome (slice_get rows i) (λ (row : NeedRow). row.number ≡ n))
+pub listed_is : (rows : List NeedRow) (n : ℕ) (place : Option ℕ) → IfSome place (λ (i : ℕ). i < length rows)
+    → IfSome place (λ (i : ℕ). IfSome (slice_get rows i) (λ (row : NeedRow). row.number ≡ n))
     → IfNone place (has (numbers_of rows) n ≡ false) → is_some place ≡ has (numbers_of rows) n
 listed_is rows n (Some i) within found none = sym (has_at rows i n (slice_get rows i) refl found within)
 listed_is rows n None within found none = sym none

@@ -17,3 +17,4 @@ pub mod Listing
 pub mod Shelves
 pub mod Splitting
 pub mod Bisecting
+pub mod Staying

@@ -4,7 +4,7 @@ use Rattle.std.specs.List.{list_any, IsDistinct, AllByRecursion}
 use Rattle.std.specs.Prelude.{eqb}
 use Rattle.scm_text.specs.Fold.{same_text}
 use Rattle.scm_model.specs.declared.flat.Need.{Need}
-use Rattle.number_lists.specs.Under.{Under, at, room}
+use Rattle.number_lists.specs.UnderName.{UnderName, at, room}
 use Rattle.row_slab.specs.Rowed.{AreRisingBy}
 use Rattle.scm_model.specs.declared.flat.NeedRow.{NeedRow}
 use Rattle.dependency_index.specs.declared.keeping.KeptLists.{KeptLists}
@@ -42,16 +42,16 @@ abbrev pub members_of : List NeedRow → List ℕ → List ℕ
 members_of rows group = numbers_of (filter (is_member group) rows)
 
 -- there is room for a number more under each name that the needs have
-abbrev pub IsReady : Under → List Need → Type 0
+abbrev pub IsReady : UnderName → List Need → Type 0
 IsReady lists needs = (name : List ℕ) → name_it name needs ≡ true → 1 ≤ room lists name
 
-abbrev pub TellsCalled : Under → List NeedRow → Type 0
+abbrev pub TellsCalled : UnderName → List NeedRow → Type 0
 TellsCalled lists rows = (name : List ℕ) → at lists name ≡ called_of rows name
 
-abbrev pub TellsNaming : Under → List NeedRow → Type 0
+abbrev pub TellsNaming : UnderName → List NeedRow → Type 0
 TellsNaming lists rows = (name : List ℕ) → at lists name ≡ naming_of rows name
 
-abbrev pub TellsMembers : Under → List NeedRow → Type 0
+abbrev pub TellsMembers : UnderName → List NeedRow → Type 0
 TellsMembers lists rows = (group : List ℕ) → at lists group ≡ members_of rows group
 
 -- the lists are those of the rows
@@ -100,9 +100,10 @@ pub record HasRoom (index : Inside) (row : Spare) : Type 0 where
   pub rows : vec_len index.rows < vec_capacity index.rows
   pub texts : HasTexts index.lists row
 
--- rows stand in order of number, and the lists are theirs
+-- rows stand in order of number, and the lists are theirs; there is room for the rows that it was made for
 pub record IsKept (index : Inside) : Type 0 where
   pub once : IsDistinct eqb (numbers_of index.rows.items)
   pub rising : AreRisingBy number_of index.rows.items
   pub lists : AreOf index.lists index.rows.items
   pub room : IfSome index.spare (HasRoom index)
+  pub next : IfSome index.next (HasRoom index)

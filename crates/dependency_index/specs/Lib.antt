@@ -4,4 +4,4 @@ pub mod Indexed
 pub mod Naming
 pub mod Dependents
 pub mod Kept
-pub mod Met
+pub mod Resolved

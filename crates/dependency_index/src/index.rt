@@ -1,8 +1,12 @@
-ghost use Rattle.std.specs.Prelude.{ℕ, List, ◌≡◌, ◌+◌, ◌≤◌, ◌<◌, ◌==◌, true, false, not, [], eqb, filter, length, slice_get, vec_len, vec_capacity, IfSome, IfOk, OnOk, OnErr, IsTrue, IsFalse, None, Some, Ok};
+ghost use Rattle.std.specs.Prelude.{ℕ, List, ◌≡◌, ◌+◌, ◌≤◌, ◌<◌, ◌==◌, true, false, not, [], eqb};
+ghost use Rattle.std.specs.Prelude.{filter, length, slice_get, vec_len, vec_capacity, IfSome, IfOk};
+ghost use Rattle.std.specs.Prelude.{OnOk, OnErr, IsTrue, IsFalse, None, Some, Ok};
 ghost use Rattle.std.specs.List.{AllByRecursion, IsDistinct};
 ghost use Rattle.dependency_index.specs.Dependents.{dependents_in};
-ghost use Rattle.dependency_index.specs.Indexed.{Indexed, empty, reserved, row_with, spare_of, with_needs, without_service};
-ghost use Rattle.dependency_index.specs.Kept.{number_of, HasTexts, IsNext, KeepsRoom, SameNumbers, called_of, members_of, naming_of};
+ghost use Rattle.dependency_index.specs.Indexed.{Indexed, committed, discarded, empty, prepared};
+ghost use Rattle.dependency_index.specs.Indexed.{row_with, spare_of, with_needs, without_service};
+ghost use Rattle.dependency_index.specs.Kept.{number_of, HasTexts, IsNext, SameNumbers};
+ghost use Rattle.dependency_index.specs.Kept.{called_of, members_of, naming_of};
 ghost use Rattle.dependency_index.specs.Naming.{active_in, naming_in, row_of};
 ghost use Rattle.scm_model.specs.Needs.{has, needs_of, numbers_of, with_row};
 ghost use Rattle.scm_model.specs.Order.{is_cyclic, order_in};
@@ -12,25 +16,27 @@ ghost use Rattle.row_slab.specs.Rowed.{AreRisingBy};
 
 use super::graph::{NeedRows, NewRow};
 use super::keeping::{
-    KeptLists, Spare, enter_lists, forget_texts, leave_lists, reserve_texts, tidy_texts,
+    KeptLists, Spare, enter_lists, forget_room, forget_texts, leave_lists, reserve_texts,
 };
 use super::naming::{StateLook, active_among};
 use super::rows::{is_listed, met_at, needs_in, number_at, place_of, row_of};
 use super::steps::Steps;
 use super::visit::StateOf;
 use super::{dependents, order};
-use scm_model::{Need, NeedRow, copy_needs};
+use scm_model::{Need, NeedRow};
 use scm_text::{Buffer, Items, OutOfMemory, WText};
 use std::alloc::Global;
 use std::marker::Model;
 use std::sync::ledger::Ledger;
 
-/// Which service needs which. Contracts see the rows, a service each, and the row that there is room for.
+/// Which service needs which. Contracts see the rows, a service each, the row that there is room
+/// for, and the row whose room is prepared to take its place.
 #[derive(Drop)]
 pub struct DependencyIndex {
     rows: Vec<NeedRow>,
     lists: KeptLists,
     spare: Option<Spare>,
+    next: Option<Spare>,
 }
 
 impl Model for DependencyIndex {
@@ -39,7 +45,7 @@ impl Model for DependencyIndex {
 
     ghost Value = { Indexed };
 
-    ghost view = { λ i. record { rows = i.rows.items; spare = i.spare } };
+    ghost view = { λ i. record { rows = i.rows.items; spare = i.spare; next = i.next } };
 
     ghost invariant = { IsKept };
 }
@@ -67,28 +73,32 @@ fn take_out(rows: &mut Vec<NeedRow>, number: u64)
     rows.retain(|row| !(row.number == number));
 }
 
-/// Makes room for a row.
+/// Makes room for a row. The room for one that may be kept stays.
 fn make_room(
     rows: &mut Vec<NeedRow>,
     lists: &mut KeptLists,
     alloc: Global,
-    spare: &Spare,
+    row: &Spare,
+    kept: &Option<Spare>,
 ) -> Result<(), OutOfMemory>
     ensures rows { rows.new.items ≡ rows.old.items }
-    ensures more_rows { vec_len rows.old < vec_capacity rows.old → vec_len rows.new < vec_capacity rows.new }
+    ensures more_rows { vec_len rows.old < vec_capacity rows.old
+        → vec_len rows.new < vec_capacity rows.new }
     ensures numbers { SameNumbers lists.old lists.new }
-    ensures more_texts { KeepsRoom lists.old lists.new }
-    ensures ok { OnOk result ((vec_len rows.new < vec_capacity rows.new) × HasTexts lists.new spare.now) }
+    ensures kept { IfSome kept.now (HasTexts lists.old) → IfSome kept.now (HasTexts lists.new) }
+    ensures ok { OnOk result ((vec_len rows.new < vec_capacity rows.new)
+        × HasTexts lists.new row.now) }
 {
     if rows.reserve(1).is_err() {
         return Err(OutOfMemory);
     }
-    reserve_texts(lists, alloc, spare)
+    reserve_texts(lists, alloc, row, kept)
 }
 
 /// Whether the numbers of all rows are below this one.
 fn are_below(rows: &[NeedRow], number: u64) -> bool
-    ensures { IsTrue result → AllByRecursion (λ row. row.number < number) rows.now }
+    ensures yes { IsTrue result → AllByRecursion (λ row. row.number < number) rows.now }
+    ensures no { IsFalse result → AllByRecursion (λ row. row.number < number) rows.now → ⊥ }
 {
     for row in rows {
         if row.number >= number {
@@ -107,6 +117,7 @@ impl DependencyIndex {
             rows: Vec::new(alloc),
             lists: KeptLists::new(alloc),
             spare: None,
+            next: None,
         })
     }
 
@@ -134,47 +145,53 @@ impl DependencyIndex {
 
     /// Whether a service has a row, or comes after all that have one.
     pub fn is_next(&self, service: u64) -> bool
-        ensures { IsTrue result → IsNext self.now.rows service }
+        ensures yes { IsTrue result → IsNext self.now.rows service }
+        ensures no { IsFalse result → IsNext self.now.rows service → ⊥ }
     {
         self.is_listed(service) || are_below(self.rows.as_slice(), service)
     }
 
-    /// Makes room for a row with this name, group and needs.
-    pub fn reserve(
+    /// Prepares room for a row with this name, group and needs, beside the room that there is. What
+    /// was prepared before goes first.
+    pub fn prepare(
         &mut self,
         alloc: Global,
         name: &WText,
         group: &WText,
         needs: &Items<Need>,
     ) -> Result<(), OutOfMemory>
-        ensures ok { OnOk result (self.new ≡ reserved self.old name.now group.now needs.now) }
-        ensures err { OnErr result (self.new ≡ self.old) }
+        ensures ok { OnOk result (self.new ≡ prepared self.old name.now group.now needs.now) }
+        ensures err { OnErr result (self.new ≡ discarded self.old) }
     {
-        let spare = Spare {
-            name: name.copy(alloc)?,
-            group: group.copy(alloc)?,
-            needs: copy_needs(needs.as_slice(), alloc)?,
-        };
-        make_room(&mut self.rows, &mut self.lists, alloc, &spare)?;
-        self.spare = Some(spare);
+        self.discard();
+        let row = Spare::of(alloc, name, group, needs)?;
+        if make_room(&mut self.rows, &mut self.lists, alloc, &row, &self.spare).is_err() {
+            drop(row);
+            return Err(OutOfMemory);
+        }
+        self.next = Some(row);
         Ok(())
     }
 
-    /// Lets the room for a row go. Texts under which no number is are forgotten with it.
-    pub fn forget_spare(&mut self)
-        ensures { self.new ≡ record self.old { spare = None } }
+    /// What was prepared takes the place of the room that there is. It takes no memory.
+    pub fn commit(&mut self)
+        ensures { self.new ≡ committed self.old }
     {
-        if let Some(spare) = self.spare.take() {
-            tidy_texts(
-                &mut self.lists,
-                &spare.name,
-                &spare.group,
-                spare.needs.as_slice(),
-            );
+        if self.next.is_some() {
+            forget_room(&mut self.lists, self.spare.take(), &self.next);
+            self.spare = self.next.take();
         }
     }
 
-    /// Puts a service's row in, for which room was made, in place of the one that it had or at the end. It takes no memory.
+    /// Lets what was prepared go. Texts under which no number is are forgotten with it.
+    pub fn discard(&mut self)
+        ensures { self.new ≡ discarded self.old }
+    {
+        forget_room(&mut self.lists, self.next.take(), &self.spare);
+    }
+
+    /// Puts a service's row in, for which room was made, in place of the one that it had or at the
+    /// end. It takes no memory.
     pub fn set_needs(&mut self, service: u64, name: &WText, group: &WText, needs: &Items<Need>)
         requires spare { self.old.spare ≡ Some (spare_of name.now group.now needs.now) }
         requires next { IsNext self.old.rows service }
@@ -186,6 +203,7 @@ impl DependencyIndex {
         leave_lists(&mut self.lists, self.rows.as_slice(), service);
         enter_lists(&mut self.lists, &spare, service);
         forget_texts(&mut self.lists, self.rows.as_slice(), service);
+        forget_room(&mut self.lists, self.next.take(), &None);
         let row = NeedRow {
             number: service,
             name: spare.name,
@@ -199,15 +217,16 @@ impl DependencyIndex {
     pub fn drop_service(&mut self, service: u64)
         ensures { self.new ≡ without_service self.old service }
     {
-        self.spare = None;
+        forget_room(&mut self.lists, self.spare.take(), &None);
+        forget_room(&mut self.lists, self.next.take(), &None);
         leave_lists(&mut self.lists, self.rows.as_slice(), service);
         forget_texts(&mut self.lists, self.rows.as_slice(), service);
         take_out(&mut self.rows, service);
     }
 
     #[tactic(auto, using(crate::proofs::Cycles::free, crate::proofs::Cycles::looped))]
-    /// Whether the need graph with this row put in has a cycle: a service that needs its own group is one. The list is used as
-    /// room. It takes no memory.
+    /// Whether the need graph with this row put in has a cycle: a service that needs its own group
+    /// is one. The list is used as room. It takes no memory.
     pub fn would_cycle(
         &self,
         service: u64,
@@ -218,9 +237,12 @@ impl DependencyIndex {
     ) -> bool
         requires empty { room.old.items ≡ [] }
         requires room { length self.now.rows < room.old.room }
-        ensures no { IsFalse result → IsAcyclic (needs_of (with_row self.now.rows (row_with service name.now group.now needs.now))) }
-        ensures yes { IsTrue result → IsAcyclic (needs_of (with_row self.now.rows (row_with service name.now group.now needs.now))) → ⊥ }
-        ensures value { result ≡ is_cyclic (with_row self.now.rows (row_with service name.now group.now needs.now)) }
+        ensures no { IsFalse result → IsAcyclic (needs_of
+            (with_row self.now.rows (row_with service name.now group.now needs.now))) }
+        ensures yes { IsTrue result → IsAcyclic (needs_of
+            (with_row self.now.rows (row_with service name.now group.now needs.now))) → ⊥ }
+        ensures value { result ≡ is_cyclic (with_row self.now.rows
+            (row_with service name.now group.now needs.now)) }
     {
         let new = NewRow {
             number: service,
@@ -242,8 +264,8 @@ impl DependencyIndex {
         order::order_of(self, target, states, room);
     }
 
-    /// Writes the order in which the services are stopped that need a service by name, directly or through named needs: each before
-    /// what it names. It takes no memory.
+    /// Writes the order in which the services are stopped that need a service by name, directly or
+    /// through named needs: each before what it names. It takes no memory.
     pub fn dependents(&self, service: u64, room: &mut Buffer<u64>)
         requires acyclic { IsAcyclic (needs_of self.now.rows) }
         requires empty { room.old.items ≡ [] }
@@ -278,16 +300,18 @@ impl DependencyIndex {
         self.lists.grouped.at(group)
     }
 
-    /// How many services name this one and aren't stopped. A state is looked at by `state_of` alone, and of those services alone.
-    /// It takes no memory.
+    /// How many services name this one and aren't stopped. A state is looked at by `state_of`
+    /// alone, and of those services alone. It takes no memory.
     pub fn active_dependents<S: StateLook, L: Ledger>(
         &self,
         service: u64,
         states: &S,
         steps: &mut Steps<L>,
     ) -> u32
-        ensures active { result ≡ active_in self.now.rows (S.state_of states.now) (row_of self.now.rows service) }
-        ensures looks { steps.new ≡ steps.old + naming_in self.now.rows (row_of self.now.rows service) }
+        ensures active { result ≡ active_in self.now.rows (S.state_of states.now)
+            (row_of self.now.rows service) }
+        ensures looks { steps.new ≡ steps.old + naming_in self.now.rows
+            (row_of self.now.rows service) }
     {
         match row_of(self.rows.as_slice(), service) {
             Some(row) => active_among(self.lists.named.at(&row.name), states, steps),

@@ -1,10 +1,12 @@
-ghost use Rattle.std.specs.Prelude.{ℕ, ◌≡◌, ◌+◌, ◌-◌, ◌^◌, ◌==◌, Bool, true, false, not, filter, length, min, if◌then◌else◌};
-ghost use Rattle.dependency_index.specs.Naming.{is_named, names};
+ghost use Rattle.std.specs.Prelude.{ℕ, ◌≡◌, ◌+◌, ◌-◌, ◌^◌, ◌==◌, Bool, true, false, not, filter};
+ghost use Rattle.std.specs.Prelude.{length, min, if◌then◌else◌};
+ghost use Rattle.dependency_index.specs.Kept.{name_it};
+ghost use Rattle.dependency_index.specs.Naming.{is_named};
 ghost use Rattle.scm_model.specs.declared.codes.TheConstants.{SERVICE_STOPPED};
 
 use super::steps::Steps;
+use scm_model::Need;
 use scm_model::codes::SERVICE_STOPPED;
-use scm_model::{Need, NeedRow};
 use scm_text::{WText, same};
 use std::sync::ledger::Ledger;
 
@@ -27,11 +29,11 @@ pub fn is_named(name: &WText, need: &Need) -> bool
     }
 }
 
-/// Whether a service names the one of this name.
-pub fn names(name: &WText, row: &NeedRow) -> bool
-    ensures { result ≡ names name.now row.now }
+/// Whether one of some needs names the service of this name.
+pub fn name_it(name: &WText, needs: &[Need]) -> bool
+    ensures { result ≡ name_it name.now needs.now }
 {
-    for need in row.needs.as_slice() {
+    for need in needs {
         if is_named(name, need) {
             return true;
         }
@@ -52,7 +54,8 @@ pub fn active_among<S: StateLook, L: Ledger>(
     states: &S,
     steps: &mut Steps<L>,
 ) -> u32
-    ensures active { result ≡ min (length (filter (λ service. not (S.state_of states.now service == SERVICE_STOPPED)) services.now)) (2 ^ 32 - 1) }
+    ensures active { result ≡ min (length (filter (λ service. not
+        (S.state_of states.now service == SERVICE_STOPPED)) services.now)) (2 ^ 32 - 1) }
     ensures looks { steps.new ≡ steps.old + length services.now }
 {
     let mut count = 0;

@@ -1,4 +1,4 @@
-use conn_desk::{Desk, Lacks};
+use conn_desk::{HandlerError, RequestHandler};
 use scm_model::{Reply, Request, refused};
 use std::alloc::Global;
 
@@ -10,7 +10,7 @@ pub struct Counter {
     pub room: u32,
 }
 
-impl Desk for Counter {
+impl RequestHandler for Counter {
     ghost use Rattle.std.specs.Prelude.{◌≡◌, ◌≤◌};
     ghost use Rattle.desk_tests.specs.Counting.{Counted};
 
@@ -22,18 +22,18 @@ impl Desk for Counter {
 
     ghost full = { λ d request. d.room ≤ d.asked };
 
-    fn call(&mut self, request: Request) -> Result<Reply, Lacks> {
+    fn call(&mut self, request: Request) -> Result<Reply, HandlerError> {
         if self.room <= self.asked {
-            return Err(Lacks::Full);
+            return Err(HandlerError::Full);
         }
         let reply = refused(self.alloc, &request, self.asked);
         self.asked += 1;
         Ok(reply)
     }
 
-    fn raise(&mut self, _subtype: [u8; 16]) -> Result<u32, Lacks> {
+    fn raise(&mut self, _subtype: [u8; 16]) -> Result<u32, HandlerError> {
         if self.room <= self.asked {
-            return Err(Lacks::Full);
+            return Err(HandlerError::Full);
         }
         let code = self.asked;
         self.asked += 1;

@@ -1,4 +1,5 @@
-//! What becomes due: the row that is due first stands first, and contracts see the rows in order of number.
+//! What becomes due: the row that is due first stands first, and contracts see the rows in order of
+//! number.
 #![tactic(auto)]
 
 mod dues;

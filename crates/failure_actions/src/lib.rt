@@ -3,7 +3,8 @@
 #![tactic(auto)]
 
 ghost use Rattle.std.specs.Prelude.{◌≡◌, ◌↔◌, IsNone};
-ghost use Rattle.failure_actions.specs.Failing.{action_at, counted, due_action, is_forgotten, on_failure};
+ghost use Rattle.failure_actions.specs.Failing.{action_at, counted, due_action, is_forgotten};
+ghost use Rattle.failure_actions.specs.Failing.{on_failure};
 
 use scm_model::codes::{INFINITE, SC_ACTION_NONE, SC_ACTION_REBOOT, SC_ACTION_RESTART};
 use scm_model::{Action, Config, DueKind};

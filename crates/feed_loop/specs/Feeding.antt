@@ -2,8 +2,8 @@
 use Rattle.std.specs.Prelude.{ℕ, ◌≡◌, ◌<◌, ◌≤◌, ◌+◌, ◌^◌, ◌++◌, List, [], ◌∷◌, length, Option, Result, Ok, Err}
 use Rattle.std.specs.Io.KnownBytes.{Consumes, IsAtEnd}
 use Rattle.outside.specs.Causes.{Rose}
-use Rattle.feed_loop.specs.declared.fed.Fed.{Fed}
-use Rattle.feed_loop.specs.declared.fed.Fed.TheVariants as fed
+use Rattle.feed_loop.specs.declared.fed.ReadEnd.{ReadEnd}
+use Rattle.feed_loop.specs.declared.fed.ReadEnd.TheVariants as fed
 
 -- where a feeding stands: what eats, and the two objects that it works at
 pub record At (E P O : Type 0) : Type 0 where
@@ -30,7 +30,8 @@ abbrev pub MayGoOn : {D : Type 0} → (D → ℕ → Type 0) → D → D → (pi
 MayGoOn ready a b piece = (most : ℕ) → ready a (length piece + most) → ready b most
 
 -- the last piece was read, and stopped it
-pub record StopsIn {D S : Type 0} (stops : D → D → List ℕ → S → Type 0) (last b : D) (left left_now : Option (List ℕ)) (count count_now : ℕ) (read : List ℕ) (why : S) : Type 0 where
+pub record StopsIn {D S : Type 0} (stops : D → D → List ℕ → S → Type 0) (last b : D) (left left_now : Option (List ℕ)) (count count_now : ℕ)
+    (read : List ℕ) (why : S) : Type 0 where
   pub piece : List ℕ
   pub some : 0 < length piece
   pub short : length piece ≤ 4096
@@ -45,14 +46,18 @@ pub record AllEaten {D : Type 0} (last b : D) (left left_now : Option (List ℕ)
   pub counted : count_now ≡ count + length read
 
 -- How it ended: the source did, or a read failed, before 2^40 bytes were read; or so many were; or a piece stopped it.
-abbrev pub EndsSo : {D S : Type 0} → (D → D → List ℕ → S → Type 0) → (last b : D) → (left left_now : Option (List ℕ)) → (count count_now : ℕ) → (read : List ℕ) → Fed S → Type 0
-EndsSo stops last b left left_now count count_now read fed.Ended = AllEaten last b left left_now count count_now read × IsAtEnd left_now × (count_now < 2 ^ 40)
-EndsSo stops last b left left_now count count_now read fed.ReadFault = AllEaten last b left left_now count count_now read × (count_now < 2 ^ 40)
+abbrev pub EndsSo : {D S : Type 0} → (D → D → List ℕ → S → Type 0) → (last b : D) → (left left_now : Option (List ℕ))
+    → (count count_now : ℕ) → (read : List ℕ) → ReadEnd S → Type 0
+EndsSo stops last b left left_now count count_now read fed.Ended = AllEaten last b left left_now count count_now read × IsAtEnd left_now
+    × (count_now < 2 ^ 40)
+EndsSo stops last b left left_now count count_now read fed.ReadFault = AllEaten last b left left_now count count_now read
+    × (count_now < 2 ^ 40)
 EndsSo stops last b left left_now count count_now read fed.Worn = AllEaten last b left left_now count count_now read × (count_now ≡ 2 ^ 40)
 EndsSo stops last b left left_now count count_now read (fed.Stopped why) = StopsIn stops last b left left_now count count_now read why
 
 -- Pieces were read and eaten, one after another, and led from a to last; there it ended so.
-pub record Feeds {D S : Type 0} (eats : D → D → List ℕ → Type 0) (stops : D → D → List ℕ → S → Type 0) (a b : D) (left left_now : Option (List ℕ)) (count count_now : ℕ) (how : Fed S) : Type 0 where
+pub record Feeds {D S : Type 0} (eats : D → D → List ℕ → Type 0) (stops : D → D → List ℕ → S → Type 0) (a b : D)
+    (left left_now : Option (List ℕ)) (count count_now : ℕ) (how : ReadEnd S) : Type 0 where
   pub pieces : List (List ℕ)
   pub last : D
   pub chain : Chain eats a last pieces
@@ -61,7 +66,8 @@ pub record Feeds {D S : Type 0} (eats : D → D → List ℕ → Type 0) (stops 
 -- ## One read
 
 -- some bytes were read and eaten, or it ended at them
-abbrev pub FedOnce : {D T S : Type 0} → (D → D → List ℕ → Type 0) → (D → D → List ℕ → S → Type 0) → (a b : D) → (left left_now : Option (List ℕ)) → (count count_now : ℕ) → Result T (Fed S) → Type 0
+abbrev pub FedOnce : {D T S : Type 0} → (D → D → List ℕ → Type 0) → (D → D → List ℕ → S → Type 0) → (a b : D)
+    → (left left_now : Option (List ℕ)) → (count count_now : ℕ) → Result T (ReadEnd S) → Type 0
 FedOnce eats stops a b left left_now count count_now (Ok done) =
     (piece : List ℕ) × (0 < length piece) × Consumes left left_now piece × (count_now ≡ count + length piece) × eats a b piece
 FedOnce eats stops a b left left_now count count_now (Err how) = EndsSo stops a b left left_now count count_now [] how
@@ -69,6 +75,6 @@ FedOnce eats stops a b left left_now count count_now (Err how) = EndsSo stops a 
 -- ## Causes
 
 -- the source's count of faults rose where a read failed, and is the same elsewhere
-abbrev pub IsFedFor : {S : Type 0} → Fed S → (faults faults_now : ℕ) → Type 0
+abbrev pub IsFedFor : {S : Type 0} → ReadEnd S → (faults faults_now : ℕ) → Type 0
 IsFedFor fed.ReadFault faults faults_now = Rose faults faults_now
 IsFedFor how faults faults_now = faults_now ≡ faults

@@ -2,7 +2,7 @@ ghost use Rattle.std.specs.Prelude.{ℕ, List, IfErr, OnOk};
 ghost use Rattle.feed_loop.specs.Feeding.{At, MayEat, MayGoOn};
 
 /// Takes the bytes of a source piece by piece, and works with them at a place and an output.
-pub trait Eater<P, O> {
+pub trait ByteConsumer<P, O> {
     /// Why it takes no further piece.
     type Stop;
 
@@ -16,7 +16,7 @@ pub trait Eater<P, O> {
     ghost stops: { At Self P O → At Self P O → List ℕ → Self.Stop → Type 0 };
 
     /// Takes a piece.
-    fn eat(&mut self, place: &mut P, output: &mut O, piece: &[u8]) -> Result<(), Self::Stop>
+    fn consume(&mut self, place: &mut P, output: &mut O, piece: &[u8]) -> Result<(), Self::Stop>
         requires { MayEat ready
             (record { eater = self.old; place = place.old; output = output.old }) piece.now }
         ensures ready { MayGoOn ready

@@ -1,6 +1,6 @@
 /// How a feeding ended.
 #[derive(Drop)]
-pub enum Fed<S> {
+pub enum ReadEnd<S> {
     /// The source ended.
     Ended,
     /// The source failed.

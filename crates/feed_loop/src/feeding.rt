@@ -1,8 +1,8 @@
 ghost use Rattle.std.specs.Prelude.{◌≡◌, ◌≤◌, ◌<◌, ◌^◌, ◌+◌, ◌-◌, length, IfErr, OnOk};
 ghost use Rattle.feed_loop.specs.Feeding.{Feeds, FedOnce, IsFedFor};
 
-use super::eater::Eater;
-use super::fed::Fed;
+use super::eater::ByteConsumer;
+use super::fed::ReadEnd;
 use outside::Source;
 
 /// How many bytes are read.
@@ -12,14 +12,14 @@ const WORN: u64 = 1 << 40;
 const PIECE: u64 = 4096;
 
 /// Reads a piece and lets it be eaten. An `Err` says how the feeding ends.
-fn feed_once<P, O, E: Eater<P, O>, I: Source>(
+fn feed_once<P, O, E: ByteConsumer<P, O>, I: Source>(
     eater: &mut E,
     place: &mut P,
     output: &mut O,
     input: &mut I,
     count: &mut u64,
     into: &mut [u8],
-) -> Result<(), Fed<E::Stop>>
+) -> Result<(), ReadEnd<E::Stop>>
     requires nonempty { 0 < length into.old }
     requires short { length into.old ≤ 4096 }
     requires most { count.old + length into.old ≤ 2 ^ 40 }
@@ -37,29 +37,29 @@ fn feed_once<P, O, E: Eater<P, O>, I: Source>(
     ensures unfailed { OnOk result (I.faults input.new ≡ I.faults input.old) }
 {
     let Ok(n) = input.read(into) else {
-        return Err(Fed::ReadFault);
+        return Err(ReadEnd::ReadFault);
     };
     if n == 0 {
-        return Err(Fed::Ended);
+        return Err(ReadEnd::Ended);
     }
     *count += n as u64;
     let (piece, _) = into.split_at(n);
-    match eater.eat(place, output, piece) {
+    match eater.consume(place, output, piece) {
         Ok(()) => Ok(()),
-        Err(why) => Err(Fed::Stopped(why)),
+        Err(why) => Err(ReadEnd::Stopped(why)),
     }
 }
 
 /// Reads a source piece by piece, of 4,096 bytes at most, and lets each be eaten before the next
 /// read, until the source ends or fails, a piece stops it, or 2^40 bytes were read. `count` bytes
 /// were read before, and it counts on.
-pub fn feed_all<P, O, E: Eater<P, O>, I: Source>(
+pub fn feed_all<P, O, E: ByteConsumer<P, O>, I: Source>(
     eater: &mut E,
     place: &mut P,
     output: &mut O,
     input: &mut I,
     count: &mut u64,
-) -> Fed<E::Stop>
+) -> ReadEnd<E::Stop>
     requires most { count.old ≤ 2 ^ 40 }
     requires ready { E.ready (record { eater = eater.old; place = place.old; output = output.old })
         (2 ^ 40 - count.old) }
@@ -82,5 +82,5 @@ pub fn feed_all<P, O, E: Eater<P, O>, I: Source>(
             Err(how) => return how,
         }
     }
-    Fed::Worn
+    ReadEnd::Worn
 }

@@ -5,6 +5,6 @@ mod eater;
 mod fed;
 mod feeding;
 
-pub use eater::Eater;
-pub use fed::Fed;
+pub use eater::ByteConsumer;
+pub use fed::ReadEnd;
 pub use feeding::feed_all;

@@ -1,10 +1,12 @@
 -- Numbers come to chains and leave them.
-use Rattle.std.proofs.Common.{ℕ, ◌≡◌, ◌≢◌, ◌⊎◌, ◌<◌, ◌≤◌, ◌+◌, ◌∙◌, zero, suc, Bool, true, false, not, cond, ◌&&◌, ◌||◌, List, [], ◌∷◌, Option, Some, None, is_some, refl, sym, ap, eqb, arith, inl, inr}
+use Rattle.std.proofs.Common.{ℕ, ◌≡◌, ◌≢◌, ◌⊎◌, ◌<◌, ◌≤◌, ◌+◌, ◌∙◌, zero, suc, Bool, true, false, not, cond, ◌&&◌, ◌||◌, List, [], ◌∷◌}
+use Rattle.std.proofs.Common.{Option, Some, None, is_some, refl, sym, ap, eqb, arith, inl, inr}
 use Rattle.std.specs.Prelude.{option_and_then, option_map, is_none, IfSome, IfNone, IsSome, IsOk, OnOk, Result, Ok, Err}
 use Rattle.std.specs.Map.{lookup}
 use Rattle.std.proofs.lemmas.Bool.{eq-eqb, ne_eqb, eqb-true, cases_Bool, cases_eq}
 use Rattle.handle_table.specs.declared.by_caller.Link.{Link}
-use Rattle.handle_table.specs.Linked.{AreLinked, IsChain, caller_of, has, is_first, is_number, is_of, link_at, newer_of, older_of, with_newer, with_older}
+use Rattle.handle_table.specs.Linked.{AreLinked, IsChain, caller_of, has, is_first, is_number, is_of, link_at, newer_of, older_of}
+use Rattle.handle_table.specs.Linked.{with_newer, with_older}
 
 clash : {a : ℕ} → None ≡ Some a → ⊥
 clash e = absurd (cc e)
@@ -64,7 +66,8 @@ module _ (caller older newer newest caller' older' newer' newest' : ℕ → Opti
         | inr other ↦
             let was_older = sym (g.older_n m other) ∙ e in
             let next = was.forth n m was_older in
-            g.newer_n n (λ same. omega (arith, same, newer_one n m was_older, was.order n m was_older)) (λ last. clash (sym (was.first c n last).1 ∙ next)) ∙ next
+            g.newer_n n (λ same. omega (arith, same, newer_one n m was_older, was.order n m was_older))
+            (λ last. clash (sym (was.first c n last).1 ∙ next)) ∙ next
       ]
 
   grown_order : (n m : ℕ) → older' m ≡ Some n → n < m
@@ -82,7 +85,8 @@ module _ (caller older newer newest caller' older' newer' newest' : ℕ → Opti
             g.caller_n n (last_one n last) ∙ (was.first c n last).0 ∙ sym g.caller_k ∙ ap caller' (sym same)
         | inr other ↦
             let was_older = sym (g.older_n m other) ∙ e in
-            g.caller_n n (λ same. omega (arith, same, newer_one n m was_older, was.order n m was_older)) ∙ was.alike n m was_older ∙ sym (g.caller_n m other)
+            g.caller_n n (λ same. omega (arith, same, newer_one n m was_older, was.order n m was_older)) ∙ was.alike n m was_older
+            ∙ sym (g.caller_n m other)
       ]
 
   grown_first : (x n : ℕ) → newest' x ≡ Some n → (caller' n ≡ Some x) × (newer' n ≡ None)
@@ -136,7 +140,8 @@ record Shrinks (caller older newer newest caller' older' newer' newest' : ℕ �
   newest_c : newer k ≡ None → newest' c ≡ older k
   newest_x : (x : ℕ) → (newer k ≡ None → x ≡ c → ⊥) → newest' x ≡ newest x
 
-module _ (caller older newer newest caller' older' newer' newest' : ℕ → Option ℕ) (k c : ℕ) (was : IsChain caller older newer newest) (its : caller k ≡ Some c)
+module _ (caller older newer newest caller' older' newer' newest' : ℕ → Option ℕ) (k c : ℕ) (was : IsChain caller older newer newest)
+    (its : caller k ≡ Some c)
     (s : Shrinks caller older newer newest caller' older' newer' newest' k c) where
   abbrev not_k : (f : ℕ → Option ℕ) (n m : ℕ) → f k ≡ None → f n ≡ Some m → n ≢ k
   not_k f n m none e same = clash (sym none ∙ ap f (sym same) ∙ e)
@@ -156,7 +161,8 @@ module _ (caller older newer newest caller' older' newer' newest' : ℕ → Opti
             s.older_next m (newer_than m next) next ∙ before
         | inr isnt ↦
             let was_older = was.back n m (sym (s.newer_n n other isnt) ∙ e) in
-            s.older_n m (λ same. isnt (ap older (sym same) ∙ was_older)) (λ next. other (same_some (sym was_older ∙ was.back k m next))) ∙ was_older
+            s.older_n m (λ same. isnt (ap older (sym same) ∙ was_older)) (λ next. other (same_some (sym was_older ∙ was.back k m next)))
+            ∙ was_older
       ]
 
   shrunk_forth : (n m : ℕ) → older' m ≡ Some n → newer' n ≡ Some m
@@ -168,7 +174,8 @@ module _ (caller older newer newest caller' older' newer' newest' : ℕ → Opti
             s.newer_next n (older_than n before) before ∙ after
         | inr isnt ↦
             let was_newer = was.forth n m (sym (s.older_n m other isnt) ∙ e) in
-            s.newer_n n (λ same. isnt (ap newer (sym same) ∙ was_newer)) (λ before. other (same_some (sym was_newer ∙ was.forth n k before))) ∙ was_newer
+            s.newer_n n (λ same. isnt (ap newer (sym same) ∙ was_newer))
+            (λ before. other (same_some (sym was_newer ∙ was.forth n k before))) ∙ was_newer
       ]
 
   shrunk_order : (n m : ℕ) → older' m ≡ Some n → n < m
@@ -273,7 +280,8 @@ has_its links c n = by (link_at links n)
     by (Some link) e = eq-eqb link.caller c (same_some e)
 
 -- a number that has a newer one leads up to the newest
-climb : (links : Links) (newest : List (ℕ × ℕ)) (c : ℕ) → AreLinked links newest → lookup (eqb c) newest ≡ None → (fuel m : ℕ) → bound links ≤ m + fuel → caller_of links m ≡ Some c → ⊥
+climb : (links : Links) (newest : List (ℕ × ℕ)) (c : ℕ) → AreLinked links newest → lookup (eqb c) newest ≡ None → (fuel m : ℕ)
+    → bound links ≤ m + fuel → caller_of links m ≡ Some c → ⊥
 climb links newest c kept none zero m le its = omega (arith, le, bounded links m (there links m c its))
 climb links newest c kept none (suc fuel) m le its = by (newer_of links m) refl (λ next up. climb links newest c kept none fuel next up)
   where
@@ -284,18 +292,21 @@ climb links newest c kept none (suc fuel) m le its = by (newer_of links m) refl 
         rest next (omega (arith, le, kept.order m next older)) (sym (kept.alike m next older) ∙ its)
 
 -- who has a number has a newest one
-pub none_has : (links : Links) (newest : List (ℕ × ℕ)) (c : ℕ) → AreLinked links newest → lookup (eqb c) newest ≡ None → (n : ℕ) → has links c n ≡ false
+pub none_has : (links : Links) (newest : List (ℕ × ℕ)) (c : ℕ) → AreLinked links newest → lookup (eqb c) newest ≡ None → (n : ℕ)
+    → has links c n ≡ false
 none_has links newest c kept none n =
     elim (cases_Bool (has links c n)) [
       | inl is ↦ absurd (climb links newest c kept none (bound links) n (omega arith) (its_caller links c n is))
       | inr isnt ↦ isnt
     ]
 
-pub newest_has : (links : Links) (newest : List (ℕ × ℕ)) (c : ℕ) (o : Option ℕ) → AreLinked links newest → o ≡ lookup (eqb c) newest → IfSome o (λ n. has links c n ≡ true)
+pub newest_has : (links : Links) (newest : List (ℕ × ℕ)) (c : ℕ) (o : Option ℕ) → AreLinked links newest → o ≡ lookup (eqb c) newest
+    → IfSome o (λ n. has links c n ≡ true)
 newest_has links newest c None kept e = tt
 newest_has links newest c (Some n) kept e = has_its links c n (kept.first c n (sym e)).0
 
-pub no_newest_has : (links : Links) (newest : List (ℕ × ℕ)) (c : ℕ) (o : Option ℕ) → AreLinked links newest → o ≡ lookup (eqb c) newest → IfNone o ((n : ℕ) → has links c n ≡ false)
+pub no_newest_has : (links : Links) (newest : List (ℕ × ℕ)) (c : ℕ) (o : Option ℕ) → AreLinked links newest → o ≡ lookup (eqb c) newest
+    → IfNone o ((n : ℕ) → has links c n ≡ false)
 no_newest_has links newest c None kept e = none_has links newest c kept (sym e)
 no_newest_has links newest c (Some n) kept e = tt
 
@@ -313,12 +324,14 @@ abbrev set_to : Bool → (Link → Link) → Option Link → Option Link
 set_to b change o = cond b (option_map change o) o
 
 -- what a change of a link leaves alone
-same_of : {T : Type 0} (part : Link → T) (change : Link → Link) → ((link : Link) → part (change link) ≡ part link) → (b : Bool) (o : Option Link) → option_map part (set_to b change o) ≡ option_map part o
+same_of : {T : Type 0} (part : Link → T) (change : Link → Link) → ((link : Link) → part (change link) ≡ part link)
+    → (b : Bool) (o : Option Link) → option_map part (set_to b change o) ≡ option_map part o
 same_of part change same true None = refl
 same_of part change same true (Some link) = ap Some (same link)
 same_of part change same false o = refl
 
-same_next : (part : Link → Option ℕ) (change : Link → Link) → ((link : Link) → part (change link) ≡ part link) → (b : Bool) (o : Option Link) → option_and_then part (set_to b change o) ≡ option_and_then part o
+same_next : (part : Link → Option ℕ) (change : Link → Link) → ((link : Link) → part (change link) ≡ part link)
+    → (b : Bool) (o : Option Link) → option_and_then part (set_to b change o) ≡ option_and_then part o
 same_next part change same true None = refl
 same_next part change same true (Some link) = same link
 same_next part change same false o = refl
@@ -332,11 +345,13 @@ still_some b change None e = absurd (cc e)
 still_some true change (Some link) e = refl
 still_some false change (Some link) e = refl
 
-newer_set : (o : Option Link) (newer : Option ℕ) → is_some o ≡ true → option_and_then (λ (link : Link). link.newer) (option_map (with_newer newer) o) ≡ newer
+newer_set : (o : Option Link) (newer : Option ℕ) → is_some o ≡ true → option_and_then (λ (link : Link). link.newer)
+    (option_map (with_newer newer) o) ≡ newer
 newer_set None newer e = absurd (cc e)
 newer_set (Some link) newer e = refl
 
-older_set : (o : Option Link) (older : Option ℕ) → is_some o ≡ true → option_and_then (λ (link : Link). link.older) (option_map (with_older older) o) ≡ older
+older_set : (o : Option Link) (older : Option ℕ) → is_some o ≡ true → option_and_then (λ (link : Link). link.older)
+    (option_map (with_older older) o) ≡ older
 older_set None older e = absurd (cc e)
 older_set (Some link) older e = refl
 
@@ -357,7 +372,8 @@ some_newer links n m = by (link_at links n)
 owned_by : (links : Links) (n m : ℕ) → older_of links m ≡ Some n → (x : ℕ) × (caller_of links m ≡ Some x)
 owned_by links n m = by (link_at links m)
   where
-    by : (o : Option Link) → option_and_then (λ (link : Link). link.older) o ≡ Some n → (x : ℕ) × (option_map (λ (link : Link). link.caller) o ≡ Some x)
+    by : (o : Option Link) → option_and_then (λ (link : Link). link.older) o ≡ Some n → (x : ℕ)
+        × (option_map (λ (link : Link). link.caller) o ≡ Some x)
     by None e = absurd (cc e)
     by (Some link) e = (link.caller, refl)
 
@@ -369,37 +385,45 @@ newest_in newest c = lookup (eqb c) newest
 abbrev IsAbove : Links → ℕ → Type 0
 IsAbove links k = (x n : ℕ) → has links x n ≡ true → n < k
 
-module _ (links mid new : Links) (newest newest' : List (ℕ × ℕ)) (c k : ℕ) (last : Option ℕ) (kept : AreLinked links newest) (above : IsAbove links k) (is : last ≡ newest_in newest c)
+module _ (links mid new : Links) (newest newest' : List (ℕ × ℕ)) (c k : ℕ) (last : Option ℕ) (kept : AreLinked links newest)
+    (above : IsAbove links k) (is : last ≡ newest_in newest c)
     (set : (n : ℕ) → link_at mid n ≡ set_to (is_number n last) (with_newer (Some k)) (link_at links n))
     (put : (n : ℕ) → link_at new n ≡ cond (eqb k n) (Some (record { caller = c; older = last; newer = None })) (link_at mid n)) where
   here : link_at new k ≡ Some (record { caller = c; older = last; newer = None })
   here = put k ∙ ap (λ (b : Bool). cond b (Some (record { caller = c; older = last; newer = None })) (link_at mid k)) (eq-eqb k k refl)
 
   apart : (n : ℕ) → n ≢ k → link_at new n ≡ set_to (is_number n last) (with_newer (Some k)) (link_at links n)
-  apart n other = put n ∙ ap (λ (b : Bool). cond b (Some (record { caller = c; older = last; newer = None })) (link_at mid n)) (ne_eqb k n (λ same. other (sym same))) ∙ set n
+  apart n other = put n ∙ ap (λ (b : Bool). cond b (Some (record { caller = c; older = last; newer = None })) (link_at mid n))
+      (ne_eqb k n (λ same. other (sym same))) ∙ set n
 
   added_grows : ((x : ℕ) → newest_in newest' x ≡ cond (eqb c x) (Some k) (newest_in newest x))
-      → Grows (caller_of links) (older_of links) (newer_of links) (newest_in newest) (caller_of new) (older_of new) (newer_of new) (newest_in newest') k c
+      → Grows (caller_of links) (older_of links) (newer_of links) (newest_in newest) (caller_of new) (older_of new) (newer_of new)
+      (newest_in newest') k c
   added_grows renewed = record {
     caller_k = ap (option_map (λ (link : Link). link.caller)) here;
     caller_n = λ n other.
-        ap (option_map (λ (link : Link). link.caller)) (apart n other) ∙ same_of (λ (link : Link). link.caller) (with_newer (Some k)) (λ link. refl) (is_number n last) (link_at links n);
+        ap (option_map (λ (link : Link). link.caller)) (apart n other) ∙ same_of (λ (link : Link). link.caller) (with_newer (Some k))
+        (λ link. refl) (is_number n last) (link_at links n);
     older_k = ap (option_and_then (λ (link : Link). link.older)) here ∙ is;
     older_n = λ n other.
-        ap (option_and_then (λ (link : Link). link.older)) (apart n other) ∙ same_next (λ (link : Link). link.older) (with_newer (Some k)) (λ link. refl) (is_number n last) (link_at links n);
+        ap (option_and_then (λ (link : Link). link.older)) (apart n other)
+        ∙ same_next (λ (link : Link). link.older) (with_newer (Some k)) (λ link. refl) (is_number n last) (link_at links n);
     newer_k = ap (option_and_then (λ (link : Link). link.newer)) here;
     newer_last = λ n other e.
-        ap (option_and_then (λ (link : Link). link.newer)) (apart n other ∙ ap (λ (b : Bool). set_to b (with_newer (Some k)) (link_at links n)) (is_it_number last n (is ∙ e)))
+        ap (option_and_then (λ (link : Link). link.newer)) (apart n other
+        ∙ ap (λ (b : Bool). set_to b (with_newer (Some k)) (link_at links n)) (is_it_number last n (is ∙ e)))
         ∙ newer_set (link_at links n) (Some k) (there links n c (kept.first c n e).0);
     newer_n = λ n other isnt.
-        ap (option_and_then (λ (link : Link). link.newer)) (apart n other ∙ ap (λ (b : Bool). set_to b (with_newer (Some k)) (link_at links n)) (isnt_number last n (λ e. isnt (sym is ∙ e))));
+        ap (option_and_then (λ (link : Link). link.newer)) (apart n other
+        ∙ ap (λ (b : Bool). set_to b (with_newer (Some k)) (link_at links n)) (isnt_number last n (λ e. isnt (sym is ∙ e))));
     newest_c = renewed c ∙ ap (λ (b : Bool). cond b (Some k) (newest_in newest c)) (eq-eqb c c refl);
     newest_x = λ x other. renewed x ∙ ap (λ (b : Bool). cond b (Some k) (newest_in newest x)) (ne_eqb c x (λ same. other (sym same)));
   }
 
   pub added : ((x : ℕ) → newest_in newest' x ≡ cond (eqb c x) (Some k) (newest_in newest x)) → AreLinked new newest'
   added renewed =
-      grown (caller_of links) (older_of links) (newer_of links) (newest_in newest) (caller_of new) (older_of new) (newer_of new) (newest_in newest') k c kept (owned_by links)
+      grown (caller_of links) (older_of links) (newer_of links) (newest_in newest) (caller_of new) (older_of new) (newer_of new)
+      (newest_in newest') k c kept (owned_by links)
       (λ n x e. above x n (has_its links x n e)) (added_grows renewed)
 
   pub has_added : (x n : ℕ) → has new x n ≡ (eqb c x && eqb k n || has links x n)
@@ -409,7 +433,8 @@ module _ (links mid new : Links) (newest newest' : List (ℕ × ℕ)) (c k : ℕ
             rw (same, here, eq-eqb k k refl, gone) (elim (eqb c x) as (λ b. b ≡ (b && true || false)) [ true ↦ refl | false ↦ refl ])
         | inr other ↦
             rw (apart n other, ne_eqb k n (λ same. other (sym same)))
-            (unset (is_number n last) (link_at links n) ∙ elim (eqb c x) as (λ b. has links x n ≡ (b && false || has links x n)) [ true ↦ refl | false ↦ refl ])
+            (unset (is_number n last) (link_at links n) ∙ elim (eqb c x) as (λ b. has links x n ≡ (b && false || has links x n))
+            [ true ↦ refl | false ↦ refl ])
       ]
     where
       gone : has links x k ≡ false
@@ -420,7 +445,8 @@ module _ (links mid new : Links) (newest newest' : List (ℕ × ℕ)) (c k : ℕ
       unset true (Some link) = refl
       unset false o = refl
 
-module _ (links one two new : Links) (newest : List (ℕ × ℕ)) (k : ℕ) (link : Link) (kept : AreLinked links newest) (found : link_at links k ≡ Some link)
+module _ (links one two new : Links) (newest : List (ℕ × ℕ)) (k : ℕ) (link : Link) (kept : AreLinked links newest)
+    (found : link_at links k ≡ Some link)
     (cut : (n : ℕ) → link_at one n ≡ cond (eqb k n) None (link_at links n))
     (joined : (n : ℕ) → link_at two n ≡ set_to (is_number n link.older) (with_newer link.newer) (link_at one n))
     (closed : (n : ℕ) → link_at new n ≡ set_to (is_number n link.newer) (with_older link.older) (link_at two n)) where
@@ -435,7 +461,9 @@ module _ (links one two new : Links) (newest : List (ℕ × ℕ)) (k : ℕ) (lin
 
   gone : link_at new k ≡ None
   gone =
-      closed k ∙ ap (set_to (is_number k link.newer) (with_older link.older)) (joined k ∙ ap (set_to (is_number k link.older) (with_newer link.newer)) (cut k ∙ ap (λ (b : Bool). cond b None (link_at links k)) (eq-eqb k k refl))
+      closed k ∙ ap (set_to (is_number k link.newer) (with_older link.older)) (joined k
+      ∙ ap (set_to (is_number k link.older) (with_newer link.newer)) (cut k
+      ∙ ap (λ (b : Bool). cond b None (link_at links k)) (eq-eqb k k refl))
       ∙ still_none (is_number k link.older) (with_newer link.newer)) ∙ still_none (is_number k link.newer) (with_older link.older)
 
   stays : (n : ℕ) → n ≢ k → link_at one n ≡ link_at links n
@@ -443,23 +471,28 @@ module _ (links one two new : Links) (newest : List (ℕ × ℕ)) (k : ℕ) (lin
 
   same_caller : (n : ℕ) → n ≢ k → caller_of new n ≡ caller_of links n
   same_caller n other =
-      ap (option_map (λ (l : Link). l.caller)) (closed n) ∙ same_of (λ (l : Link). l.caller) (with_older link.older) (λ l. refl) (is_number n link.newer) (link_at two n)
-      ∙ ap (option_map (λ (l : Link). l.caller)) (joined n) ∙ same_of (λ (l : Link). l.caller) (with_newer link.newer) (λ l. refl) (is_number n link.older) (link_at one n)
+      ap (option_map (λ (l : Link). l.caller)) (closed n) ∙ same_of (λ (l : Link). l.caller) (with_older link.older) (λ l. refl)
+      (is_number n link.newer) (link_at two n)
+      ∙ ap (option_map (λ (l : Link). l.caller)) (joined n) ∙ same_of (λ (l : Link). l.caller) (with_newer link.newer) (λ l. refl)
+      (is_number n link.older) (link_at one n)
       ∙ ap (option_map (λ (l : Link). l.caller)) (stays n other)
 
   older_two : (n : ℕ) → n ≢ k → older_of two n ≡ older_of links n
   older_two n other =
-      ap (option_and_then (λ (l : Link). l.older)) (joined n) ∙ same_next (λ (l : Link). l.older) (with_newer link.newer) (λ l. refl) (is_number n link.older) (link_at one n)
+      ap (option_and_then (λ (l : Link). l.older)) (joined n) ∙ same_next (λ (l : Link). l.older) (with_newer link.newer) (λ l. refl)
+      (is_number n link.older) (link_at one n)
       ∙ ap (option_and_then (λ (l : Link). l.older)) (stays n other)
 
   newer_new : (n : ℕ) → newer_of new n ≡ newer_of two n
-  newer_new n = ap (option_and_then (λ (l : Link). l.newer)) (closed n) ∙ same_next (λ (l : Link). l.newer) (with_older link.older) (λ l. refl) (is_number n link.newer) (link_at two n)
+  newer_new n = ap (option_and_then (λ (l : Link). l.newer)) (closed n)
+      ∙ same_next (λ (l : Link). l.newer) (with_older link.older) (λ l. refl) (is_number n link.newer) (link_at two n)
 
   some_one : (n : ℕ) → n ≢ k → is_some (link_at links n) ≡ true → is_some (link_at one n) ≡ true
   some_one n other some = ap is_some (stays n other) ∙ some
 
   some_two : (n : ℕ) → n ≢ k → is_some (link_at links n) ≡ true → is_some (link_at two n) ≡ true
-  some_two n other some = ap is_some (joined n) ∙ still_some (is_number n link.older) (with_newer link.newer) (link_at one n) (some_one n other some)
+  some_two n other some = ap is_some (joined n) ∙ still_some (is_number n link.older) (with_newer link.newer) (link_at one n)
+      (some_one n other some)
 
   pub has_newest : is_first link ≡ true → IsSome (newest_in newest link.caller)
   has_newest none = by (newest_in newest link.caller) (kept.is_newest link.caller k its_link (its_newer ∙ is_none_of link.newer none))
@@ -478,7 +511,8 @@ module _ (links one two new : Links) (newest : List (ℕ × ℕ)) (k : ℕ) (lin
         | inl same ↦ rw (same, gone, eq-eqb k k refl) refl
         | inr other ↦
             rw (ne_eqb k n (λ same. other (sym same)))
-            (ap (is_of x) (closed n) ∙ older_unset (is_number n link.newer) (link_at two n) ∙ ap (is_of x) (joined n) ∙ newer_unset (is_number n link.older) (link_at one n) ∙ ap (is_of x) (stays n other))
+            (ap (is_of x) (closed n) ∙ older_unset (is_number n link.newer) (link_at two n) ∙ ap (is_of x) (joined n)
+            ∙ newer_unset (is_number n link.older) (link_at one n) ∙ ap (is_of x) (stays n other))
       ]
     where
       older_unset : (b : Bool) (o : Option Link) → is_of x (set_to b (with_older link.older) o) ≡ is_of x o
@@ -491,26 +525,34 @@ module _ (links one two new : Links) (newest : List (ℕ × ℕ)) (k : ℕ) (lin
       newer_unset true (Some l) = refl
       newer_unset false o = refl
 
-  module _ (newest' : List (ℕ × ℕ)) (renewed : (x : ℕ) → newest_in newest' x ≡ cond (is_first link && eqb link.caller x) link.older (newest_in newest x)) where
-    removed_shrinks : Shrinks (caller_of links) (older_of links) (newer_of links) (newest_in newest) (caller_of new) (older_of new) (newer_of new) (newest_in newest') k link.caller
+  module _ (newest' : List (ℕ × ℕ)) (renewed : (x : ℕ) → newest_in newest' x ≡ cond (is_first link && eqb link.caller x) link.older
+      (newest_in newest x)) where
+    removed_shrinks : Shrinks (caller_of links) (older_of links) (newer_of links) (newest_in newest) (caller_of new) (older_of new)
+        (newer_of new) (newest_in newest') k link.caller
     removed_shrinks = record {
       caller_k = ap (option_map (λ (l : Link). l.caller)) gone;
       caller_n = same_caller;
       older_k = ap (option_and_then (λ (l : Link). l.older)) gone;
       older_next = λ n other next.
-          ap (option_and_then (λ (l : Link). l.older)) (closed n ∙ ap (λ (b : Bool). set_to b (with_older link.older) (link_at two n)) (is_it_number link.newer n (sym its_newer ∙ next)))
+          ap (option_and_then (λ (l : Link). l.older)) (closed n ∙ ap (λ (b : Bool). set_to b (with_older link.older) (link_at two n))
+          (is_it_number link.newer n (sym its_newer ∙ next)))
           ∙ older_set (link_at two n) link.older (some_two n other (some_older links n k (kept.back k n next))) ∙ sym its_older;
       older_n = λ n other isnt.
-          ap (option_and_then (λ (l : Link). l.older)) (closed n ∙ ap (λ (b : Bool). set_to b (with_older link.older) (link_at two n)) (isnt_number link.newer n (λ e. isnt (its_newer ∙ e))))
+          ap (option_and_then (λ (l : Link). l.older)) (closed n ∙ ap (λ (b : Bool). set_to b (with_older link.older) (link_at two n))
+          (isnt_number link.newer n (λ e. isnt (its_newer ∙ e))))
           ∙ older_two n other;
       newer_k = ap (option_and_then (λ (l : Link). l.newer)) gone;
       newer_next = λ n other before.
-          newer_new n ∙ ap (option_and_then (λ (l : Link). l.newer)) (joined n ∙ ap (λ (b : Bool). set_to b (with_newer link.newer) (link_at one n)) (is_it_number link.older n (sym its_older ∙ before)))
+          newer_new n ∙ ap (option_and_then (λ (l : Link). l.newer)) (joined n
+          ∙ ap (λ (b : Bool). set_to b (with_newer link.newer) (link_at one n)) (is_it_number link.older n (sym its_older ∙ before)))
           ∙ newer_set (link_at one n) link.newer (some_one n other (some_newer links n k (kept.forth n k before))) ∙ sym its_newer;
       newer_n = λ n other isnt.
-          newer_new n ∙ ap (option_and_then (λ (l : Link). l.newer)) (joined n ∙ ap (λ (b : Bool). set_to b (with_newer link.newer) (link_at one n)) (isnt_number link.older n (λ e. isnt (its_older ∙ e))) ∙ stays n other);
+          newer_new n ∙ ap (option_and_then (λ (l : Link). l.newer)) (joined n
+          ∙ ap (λ (b : Bool). set_to b (with_newer link.newer) (link_at one n)) (isnt_number link.older n (λ e. isnt (its_older ∙ e)))
+          ∙ stays n other);
       newest_c = λ none.
-          renewed link.caller ∙ ap (λ (b : Bool). cond b link.older (newest_in newest link.caller)) (both (ap is_none (sym its_newer ∙ none)) (eq-eqb link.caller link.caller refl)) ∙ sym its_older;
+          renewed link.caller ∙ ap (λ (b : Bool). cond b link.older (newest_in newest link.caller))
+          (both (ap is_none (sym its_newer ∙ none)) (eq-eqb link.caller link.caller refl)) ∙ sym its_older;
       newest_x = λ x other. renewed x ∙ ap (λ (b : Bool). cond b link.older (newest_in newest x)) (neither x other);
     }
       where
@@ -526,7 +568,8 @@ module _ (links one two new : Links) (newest : List (ℕ × ℕ)) (k : ℕ) (lin
 
     pub removed : AreLinked new newest'
     removed =
-        shrunk (caller_of links) (older_of links) (newer_of links) (newest_in newest) (caller_of new) (older_of new) (newer_of new) (newest_in newest') k link.caller kept its_link removed_shrinks
+        shrunk (caller_of links) (older_of links) (newer_of links) (newest_in newest) (caller_of new) (older_of new) (newer_of new)
+        (newest_in newest') k link.caller kept its_link removed_shrinks
 
 -- what holds where there is a value
 pub when_ok : {T E P : Type 0} (r : Result T E) → OnOk r P → IsOk r → P

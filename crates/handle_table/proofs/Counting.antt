@@ -1,5 +1,6 @@
 -- Counts of handles, as handles come and go.
-use Rattle.std.proofs.Common.{ℕ, ◌≡◌, ◌<◌, ◌≤◌, ◌+◌, ◌-◌, ◌∙◌, suc, Bool, true, false, not, cond, ◌&&◌, ◌||◌, List, [], ◌∷◌, ◌++◌, Option, Some, None, is_some, refl, sym, ap, subst, eqb, length, filter, find, arith, inl, inr}
+use Rattle.std.proofs.Common.{ℕ, ◌≡◌, ◌<◌, ◌≤◌, ◌+◌, ◌-◌, ◌∙◌, suc, Bool, true, false, not, cond, ◌&&◌, ◌||◌, List, [], ◌∷◌, ◌++◌, Option}
+use Rattle.std.proofs.Common.{Some, None, is_some, refl, sym, ap, subst, eqb, length, filter, find, arith, inl, inr}
 use Rattle.std.specs.List.{AllByRecursion, list_any}
 use Rattle.std.proofs.lemmas.Bool.{eq-eqb, ne_eqb, eqb-true, cases_Bool}
 use Rattle.scm_model.specs.declared.flat.HandleRow.{HandleRow}
@@ -9,11 +10,14 @@ use Rattle.handle_table.specs.Handled.{has_number, is_handle}
 abbrev pub number_of : HandleRow → ℕ
 number_of row = row.number
 
-pub raised : (p : HandleRow → Bool) (rows : List HandleRow) (new : HandleRow) → length (filter p (rows ++ new ∷ [])) ≡ cond (p new) (length (filter p rows) + 1) (length (filter p rows))
+pub raised : (p : HandleRow → Bool) (rows : List HandleRow) (new : HandleRow)
+    → length (filter p (rows ++ new ∷ [])) ≡ cond (p new) (length (filter p rows) + 1) (length (filter p rows))
 raised p [] new = elim (p new) as (λ b. length (cond b (new ∷ []) []) ≡ cond b (0 + 1) 0) [ true ↦ refl | false ↦ refl ]
 raised p (row ∷ rows) new =
-    elim (p row) as (λ b. length (cond b (row ∷ filter p (rows ++ new ∷ [])) (filter p (rows ++ new ∷ []))) ≡ cond (p new) (length (cond b (row ∷ filter p rows) (filter p rows)) + 1) (length (cond b (row ∷ filter p rows) (filter p rows)))) [
-      | true ↦ ap suc (raised p rows new) ∙ elim (p new) as (λ b. suc (cond b (length (filter p rows) + 1) (length (filter p rows))) ≡ cond b (suc (length (filter p rows)) + 1) (suc (length (filter p rows)))) [ true ↦ omega arith | false ↦ refl ]
+    elim (p row) as (λ b. length (cond b (row ∷ filter p (rows ++ new ∷ [])) (filter p (rows ++ new ∷ []))) ≡ cond (p new)
+    (length (cond b (row ∷ filter p rows) (filter p rows)) + 1) (length (cond b (row ∷ filter p rows) (filter p rows)))) [
+      | true ↦ ap suc (raised p rows new) ∙ elim (p new) as (λ b. suc (cond b (length (filter p rows) + 1) (length (filter p rows))) ≡ cond
+          b (suc (length (filter p rows)) + 1) (suc (length (filter p rows)))) [ true ↦ omega arith | false ↦ refl ]
       | false ↦ raised p rows new
     ]
 
@@ -33,20 +37,25 @@ some_counted p (row ∷ rows) =
       | false ↦ some_counted p rows
     ]
 
-stays_all : (n : ℕ) (rows : List HandleRow) → AllByRecursion (λ (row : HandleRow). n < row.number) rows → filter (λ (row : HandleRow). not (has_number n row)) rows ≡ rows
+stays_all : (n : ℕ) (rows : List HandleRow) → AllByRecursion (λ (row : HandleRow). n < row.number) rows
+    → filter (λ (row : HandleRow). not (has_number n row)) rows ≡ rows
 stays_all n [] all = refl
 stays_all n (row ∷ rows) all = rw (ne_eqb row.number n (omega (arith, all.0))) (ap (λ rest. row ∷ rest) (stays_all n rows all.1))
 
-later : (n : ℕ) (row : HandleRow) (rows : List HandleRow) → AreRisingBy number_of (row ∷ rows) → has_number n row ≡ true → AllByRecursion (λ (other : HandleRow). n < other.number) rows
+later : (n : ℕ) (row : HandleRow) (rows : List HandleRow) → AreRisingBy number_of (row ∷ rows) → has_number n row ≡ true
+    → AllByRecursion (λ (other : HandleRow). n < other.number) rows
 later n row rows rising is = subst (λ m. AllByRecursion (λ (other : HandleRow). m < other.number) rows) (eqb-true row.number n is) rising.0
 
-same_row : (n : ℕ) (row gone : HandleRow) (rows : List HandleRow) → has_number n row ≡ true → find (has_number n) (row ∷ rows) ≡ Some gone → row ≡ gone
+same_row : (n : ℕ) (row gone : HandleRow) (rows : List HandleRow) → has_number n row ≡ true → find (has_number n) (row ∷ rows) ≡ Some gone
+    → row ≡ gone
 same_row n row gone rows is found = cc (sym (ap (λ b. cond b (Some row) (find (has_number n) rows)) is) ∙ found)
 
-next_row : (n : ℕ) (row gone : HandleRow) (rows : List HandleRow) → has_number n row ≡ false → find (has_number n) (row ∷ rows) ≡ Some gone → find (has_number n) rows ≡ Some gone
+next_row : (n : ℕ) (row gone : HandleRow) (rows : List HandleRow) → has_number n row ≡ false → find (has_number n) (row ∷ rows) ≡ Some gone
+    → find (has_number n) rows ≡ Some gone
 next_row n row gone rows other found = sym (ap (λ b. cond b (Some row) (find (has_number n) rows)) other) ∙ found
 
-pub one_at_least : (p : HandleRow → Bool) (rows : List HandleRow) (gone : HandleRow) (n : ℕ) → find (has_number n) rows ≡ Some gone → p gone ≡ true → 1 ≤ length (filter p rows)
+pub one_at_least : (p : HandleRow → Bool) (rows : List HandleRow) (gone : HandleRow) (n : ℕ) → find (has_number n) rows ≡ Some gone
+    → p gone ≡ true → 1 ≤ length (filter p rows)
 one_at_least p [] gone n found passes = absurd (cc found)
 one_at_least p (row ∷ rows) gone n found passes =
     elim (cases_Bool (has_number n row)) [
@@ -56,25 +65,31 @@ one_at_least p (row ∷ rows) gone n found passes =
           elim (p row) as (λ b. 1 ≤ length (cond b (row ∷ filter p rows) (filter p rows))) [ true ↦ omega arith | false ↦ rest ]
     ]
 
-pub lowered : (p : HandleRow → Bool) (rows : List HandleRow) (gone : HandleRow) (n : ℕ) → AreRisingBy number_of rows → find (has_number n) rows ≡ Some gone
-    → length (filter p (filter (λ (row : HandleRow). not (has_number n row)) rows)) ≡ cond (p gone) (length (filter p rows) - 1) (length (filter p rows))
+pub lowered : (p : HandleRow → Bool) (rows : List HandleRow) (gone : HandleRow) (n : ℕ) → AreRisingBy number_of rows
+    → find (has_number n) rows ≡ Some gone
+    → length (filter p (filter (λ (row : HandleRow). not (has_number n row)) rows)) ≡ cond (p gone) (length (filter p rows) - 1)
+    (length (filter p rows))
 lowered p [] gone n rising found = absurd (cc found)
 lowered p (row ∷ rows) gone n rising found =
     elim (cases_Bool (has_number n row)) [
       | inl is ↦
           rw (is, stays_all n rows (later n row rows rising is), ← same_row n row gone rows is found)
-          (elim (p row) as (λ b. length (filter p rows) ≡ cond b (length (cond b (row ∷ filter p rows) (filter p rows)) - 1) (length (cond b (row ∷ filter p rows) (filter p rows)))) [ true ↦ omega arith | false ↦ refl ])
+          (elim (p row) as (λ b. length (filter p rows) ≡ cond b (length (cond b (row ∷ filter p rows) (filter p rows)) - 1)
+          (length (cond b (row ∷ filter p rows) (filter p rows)))) [ true ↦ omega arith | false ↦ refl ])
       | inr other ↦
           let next = next_row n row gone rows other found in
           let step = lowered p rows gone n rising.1 next in
-          rw other (elim (p row) as (λ b. length (cond b (row ∷ filter p (filter (λ (r : HandleRow). not (has_number n r)) rows)) (filter p (filter (λ (r : HandleRow). not (has_number n r)) rows)))
-          ≡ cond (p gone) (length (cond b (row ∷ filter p rows) (filter p rows)) - 1) (length (cond b (row ∷ filter p rows) (filter p rows)))) [
+          rw other (elim (p row) as (λ b. length (cond b (row ∷ filter p (filter (λ (r : HandleRow). not (has_number n r)) rows))
+          (filter p (filter (λ (r : HandleRow). not (has_number n r)) rows)))
+          ≡ cond (p gone) (length (cond b (row ∷ filter p rows) (filter p rows)) - 1)
+          (length (cond b (row ∷ filter p rows) (filter p rows)))) [
             | true ↦ ap suc step ∙ by (p gone) (one_at_least p rows gone n next)
             | false ↦ step
           ])
     ]
   where
-    by : (b : Bool) → (b ≡ true → 1 ≤ length (filter p rows)) → suc (cond b (length (filter p rows) - 1) (length (filter p rows))) ≡ cond b (suc (length (filter p rows)) - 1) (suc (length (filter p rows)))
+    by : (b : Bool) → (b ≡ true → 1 ≤ length (filter p rows)) → suc (cond b (length (filter p rows) - 1) (length (filter p rows))) ≡ cond b
+        (suc (length (filter p rows)) - 1) (suc (length (filter p rows)))
     by true some = omega (arith, some refl)
     by false some = refl
 
@@ -110,24 +125,35 @@ none_of caller n rows none = by rows (none_passes (has_number n) rows none)
     by [] all = refl
     by (row ∷ rs) all = rw (both_false (eqb row.caller caller) (eqb row.number n) all.0) (by rs all.1)
 
-none_later : (caller n : ℕ) (rows : List HandleRow) → AllByRecursion (λ (row : HandleRow). n < row.number) rows → find (is_handle caller n) rows ≡ None
+none_later : (caller n : ℕ) (rows : List HandleRow) → AllByRecursion (λ (row : HandleRow). n < row.number) rows
+    → find (is_handle caller n) rows ≡ None
 none_later caller n [] all = refl
-none_later caller n (row ∷ rows) all = rw (both_false (eqb row.caller caller) (eqb row.number n) (ne_eqb row.number n (omega (arith, all.0)))) (none_later caller n rows all.1)
+none_later caller n (row ∷ rows) all = rw (both_false (eqb row.caller caller) (eqb row.number n)
+    (ne_eqb row.number n (omega (arith, all.0)))) (none_later caller n rows all.1)
 
-pub found_of : (caller n : ℕ) (rows : List HandleRow) (gone : HandleRow) → AreRisingBy number_of rows → find (has_number n) rows ≡ Some gone → find (is_handle caller n) rows ≡ cond (eqb gone.caller caller) (Some gone) None
+pub found_of : (caller n : ℕ) (rows : List HandleRow) (gone : HandleRow) → AreRisingBy number_of rows → find (has_number n) rows ≡ Some gone
+    → find (is_handle caller n) rows ≡ cond (eqb gone.caller caller) (Some gone) None
 found_of caller n [] gone rising found = absurd (cc found)
 found_of caller n (row ∷ rows) gone rising found =
     elim (cases_Bool (has_number n row)) [
-      | inl is ↦ rw (both_true (eqb row.caller caller) (eqb row.number n) is, none_later caller n rows (later n row rows rising is), same_row n row gone rows is found) refl
-      | inr other ↦ rw (both_false (eqb row.caller caller) (eqb row.number n) other) (found_of caller n rows gone rising.1 (next_row n row gone rows other found))
+      | inl is ↦ rw (
+        both_true (eqb row.caller caller) (eqb row.number n) is,
+        none_later caller n rows (later n row rows rising is),
+        same_row n row gone rows is found,
+      ) refl
+      | inr other ↦ rw (both_false (eqb row.caller caller) (eqb row.number n) other)
+          (found_of caller n rows gone rising.1 (next_row n row gone rows other found))
     ]
 
-same_kept : (caller n : ℕ) (rows : List HandleRow) → AllByRecursion (λ (row : HandleRow). n < row.number) rows → filter (λ (row : HandleRow). not (is_handle caller n row)) rows ≡ rows
+same_kept : (caller n : ℕ) (rows : List HandleRow) → AllByRecursion (λ (row : HandleRow). n < row.number) rows
+    → filter (λ (row : HandleRow). not (is_handle caller n row)) rows ≡ rows
 same_kept caller n [] all = refl
-same_kept caller n (row ∷ rows) all = rw (both_false (eqb row.caller caller) (eqb row.number n) (ne_eqb row.number n (omega (arith, all.0)))) (ap (λ rest. row ∷ rest) (same_kept caller n rows all.1))
+same_kept caller n (row ∷ rows) all = rw (both_false (eqb row.caller caller) (eqb row.number n)
+    (ne_eqb row.number n (omega (arith, all.0)))) (ap (λ rest. row ∷ rest) (same_kept caller n rows all.1))
 
 -- where the caller has the handle with the number, it is the one that leaves
-pub leaves_of : (caller n : ℕ) (rows : List HandleRow) (gone : HandleRow) → AreRisingBy number_of rows → find (has_number n) rows ≡ Some gone → eqb gone.caller caller ≡ true
+pub leaves_of : (caller n : ℕ) (rows : List HandleRow) (gone : HandleRow) → AreRisingBy number_of rows
+    → find (has_number n) rows ≡ Some gone → eqb gone.caller caller ≡ true
     → filter (λ (row : HandleRow). not (is_handle caller n row)) rows ≡ filter (λ (row : HandleRow). not (has_number n row)) rows
 leaves_of caller n [] gone rising found his = refl
 leaves_of caller n (row ∷ rows) gone rising found his =
@@ -135,10 +161,12 @@ leaves_of caller n (row ∷ rows) gone rising found his =
       | inl is ↦
           let mine : eqb row.caller caller ≡ true = ap (λ (r : HandleRow). eqb r.caller caller) (same_row n row gone rows is found) ∙ his in
           rw (mine, is, same_kept caller n rows (later n row rows rising is), stays_all n rows (later n row rows rising is)) refl
-      | inr other ↦ rw (both_false (eqb row.caller caller) (eqb row.number n) other, other) (ap (λ rest. row ∷ rest) (leaves_of caller n rows gone rising.1 (next_row n row gone rows other found) his))
+      | inr other ↦ rw (both_false (eqb row.caller caller) (eqb row.number n) other, other)
+          (ap (λ rest. row ∷ rest) (leaves_of caller n rows gone rising.1 (next_row n row gone rows other found) his))
     ]
 
-all_filter : (P : HandleRow → Type 0) (p : HandleRow → Bool) (rows : List HandleRow) → AllByRecursion P rows → AllByRecursion P (filter p rows)
+all_filter : (P : HandleRow → Type 0) (p : HandleRow → Bool) (rows : List HandleRow) → AllByRecursion P rows
+    → AllByRecursion P (filter p rows)
 all_filter P p [] all = tt
 all_filter P p (row ∷ rows) all =
     elim (p row) as (λ b. AllByRecursion P (cond b (row ∷ filter p rows) (filter p rows))) [
@@ -146,20 +174,24 @@ all_filter P p (row ∷ rows) all =
       | false ↦ all_filter P p rows all.1
     ]
 
-pub below_filter : (next : ℕ) (p : HandleRow → Bool) (rows : List HandleRow) → AllByRecursion (λ (row : HandleRow). row.number < next) rows → AllByRecursion (λ (row : HandleRow). row.number < next) (filter p rows)
+pub below_filter : (next : ℕ) (p : HandleRow → Bool) (rows : List HandleRow) → AllByRecursion (λ (row : HandleRow). row.number < next) rows
+    → AllByRecursion (λ (row : HandleRow). row.number < next) (filter p rows)
 below_filter next p rows all = all_filter (λ (row : HandleRow). row.number < next) p rows all
 
-pub below_pushed : (next : ℕ) (rows : List HandleRow) (new : HandleRow) → AllByRecursion (λ (row : HandleRow). row.number < next) rows → new.number ≡ next → AllByRecursion (λ (row : HandleRow). row.number < next + 1) (rows ++ new ∷ [])
+pub below_pushed : (next : ℕ) (rows : List HandleRow) (new : HandleRow) → AllByRecursion (λ (row : HandleRow). row.number < next) rows
+    → new.number ≡ next → AllByRecursion (λ (row : HandleRow). row.number < next + 1) (rows ++ new ∷ [])
 below_pushed next [] new all is = (omega (arith, is), tt)
 below_pushed next (row ∷ rows) new all is = (omega (arith, all.0), below_pushed next rows new all.1 is)
 
 -- where the caller has the handle, it is the one with the number
 pub his_row : (caller n : ℕ) (rows : List HandleRow) → AreRisingBy number_of rows → is_some (find (is_handle caller n) rows) ≡ true
-    → (find (has_number n) rows ≡ find (is_handle caller n) rows) × (filter (λ (row : HandleRow). not (has_number n row)) rows ≡ filter (λ (row : HandleRow). not (is_handle caller n row)) rows)
+    → (find (has_number n) rows ≡ find (is_handle caller n) rows) × (filter (λ (row : HandleRow). not (has_number n row)) rows ≡ filter
+    (λ (row : HandleRow). not (is_handle caller n row)) rows)
 his_row caller n rows rising some = by (find (has_number n) rows) refl
   where
     by : (o : Option HandleRow) → find (has_number n) rows ≡ o
-        → (find (has_number n) rows ≡ find (is_handle caller n) rows) × (filter (λ (row : HandleRow). not (has_number n row)) rows ≡ filter (λ (row : HandleRow). not (is_handle caller n row)) rows)
+        → (find (has_number n) rows ≡ find (is_handle caller n) rows) ×
+        (filter (λ (row : HandleRow). not (has_number n row)) rows ≡ filter (λ (row : HandleRow). not (is_handle caller n row)) rows)
     by None e = absurd (cc (sym some ∙ ap is_some (none_of caller n rows e)))
     by (Some gone) e =
         let his = found_of caller n rows gone rising e in
@@ -174,8 +206,10 @@ is_none_of (Some row) e = absurd (cc e)
 
 -- ## All handles of a caller
 
-pub others_stay : (p : HandleRow → Bool) (rows : List HandleRow) (gone : HandleRow) (n : ℕ) → AreRisingBy number_of rows → find (has_number n) rows ≡ Some gone → p gone ≡ true
-    → filter (λ (row : HandleRow). not (p row)) (filter (λ (row : HandleRow). not (has_number n row)) rows) ≡ filter (λ (row : HandleRow). not (p row)) rows
+pub others_stay : (p : HandleRow → Bool) (rows : List HandleRow) (gone : HandleRow) (n : ℕ) → AreRisingBy number_of rows
+    → find (has_number n) rows ≡ Some gone → p gone ≡ true
+    → filter (λ (row : HandleRow). not (p row)) (filter (λ (row : HandleRow). not (has_number n row)) rows) ≡ filter
+    (λ (row : HandleRow). not (p row)) rows
 others_stay p [] gone n rising found passes = refl
 others_stay p (row ∷ rows) gone n rising found passes =
     elim (cases_Bool (has_number n row)) [
@@ -184,14 +218,17 @@ others_stay p (row ∷ rows) gone n rising found passes =
           rw (is, stays_all n rows (later n row rows rising is), mine) refl
       | inr other ↦
           let step = others_stay p rows gone n rising.1 (next_row n row gone rows other found) passes in
-          rw other (elim (p row) as (λ b. cond (not b) (row ∷ filter (λ (r : HandleRow). not (p r)) (filter (λ (r : HandleRow). not (has_number n r)) rows)) (filter (λ (r : HandleRow). not (p r)) (filter (λ (r : HandleRow). not (has_number n r)) rows))
+          rw other (elim (p row) as (λ b. cond (not b) (row ∷ filter (λ (r : HandleRow). not (p r))
+          (filter (λ (r : HandleRow). not (has_number n r)) rows)) (filter (λ (r : HandleRow). not (p r))
+          (filter (λ (r : HandleRow). not (has_number n r)) rows))
           ≡ cond (not b) (row ∷ filter (λ (r : HandleRow). not (p r)) rows) (filter (λ (r : HandleRow). not (p r)) rows)) [
             | true ↦ step
             | false ↦ ap (λ rest. row ∷ rest) step
           ])
     ]
 
-pub fewer : (rows : List HandleRow) (gone : HandleRow) (n : ℕ) → AreRisingBy number_of rows → find (has_number n) rows ≡ Some gone → length (filter (λ (row : HandleRow). not (has_number n row)) rows) < length rows
+pub fewer : (rows : List HandleRow) (gone : HandleRow) (n : ℕ) → AreRisingBy number_of rows → find (has_number n) rows ≡ Some gone
+    → length (filter (λ (row : HandleRow). not (has_number n row)) rows) < length rows
 fewer [] gone n rising found = absurd (cc found)
 fewer (row ∷ rows) gone n rising found =
     elim (cases_Bool (has_number n row)) [
@@ -201,7 +238,8 @@ fewer (row ∷ rows) gone n rising found =
 
 -- ## Numbers under their callers
 
-pub any_pushed : (p : HandleRow → Bool) (rows : List HandleRow) (new : HandleRow) → list_any p (rows ++ new ∷ []) ≡ (p new || list_any p rows)
+pub any_pushed : (p : HandleRow → Bool) (rows : List HandleRow) (new : HandleRow)
+    → list_any p (rows ++ new ∷ []) ≡ (p new || list_any p rows)
 any_pushed p [] new = refl
 any_pushed p (row ∷ rows) new = ap (λ b. p row || b) (any_pushed p rows new) ∙ swap (p row) (p new) (list_any p rows)
   where
@@ -210,10 +248,12 @@ any_pushed p (row ∷ rows) new = ap (λ b. p row || b) (any_pushed p rows new) 
     swap true false c = refl
     swap false b c = refl
 
-any_later : (caller m n : ℕ) (rows : List HandleRow) → m ≤ n → AllByRecursion (λ (row : HandleRow). n < row.number) rows → list_any (is_handle caller m) rows ≡ false
+any_later : (caller m n : ℕ) (rows : List HandleRow) → m ≤ n → AllByRecursion (λ (row : HandleRow). n < row.number) rows
+    → list_any (is_handle caller m) rows ≡ false
 any_later caller m n [] le all = refl
 any_later caller m n (row ∷ rows) le all =
-    rw (both_false (eqb row.caller caller) (eqb row.number m) (ne_eqb row.number m (omega (arith, all.0, le)))) (any_later caller m n rows le all.1)
+    rw (both_false (eqb row.caller caller) (eqb row.number m) (ne_eqb row.number m (omega (arith, all.0, le))))
+    (any_later caller m n rows le all.1)
 
 its_number : (caller m : ℕ) (row : HandleRow) → is_handle caller m row ≡ true → row.number ≡ m
 its_number caller m row is = eqb-true row.number m (right (eqb row.caller caller) (eqb row.number m) is)
@@ -223,24 +263,34 @@ its_number caller m row is = eqb-true row.number m (right (eqb row.caller caller
     right false b e = absurd (cc e)
 
 -- with the handle with a number gone, the others are there still
-pub one_gone : (n : ℕ) (rows : List HandleRow) (caller m : ℕ) → list_any (is_handle caller m) (filter (λ (row : HandleRow). not (has_number n row)) rows) ≡ (not (eqb n m) && list_any (is_handle caller m) rows)
+pub one_gone : (n : ℕ) (rows : List HandleRow) (caller m : ℕ) → list_any (is_handle caller m)
+    (filter (λ (row : HandleRow). not (has_number n row)) rows) ≡ (not (eqb n m) && list_any (is_handle caller m) rows)
 one_gone n [] caller m = elim (eqb n m) as (λ b. false ≡ (not b && false)) [ true ↦ refl | false ↦ refl ]
 one_gone n (row ∷ rows) caller m =
     elim (cases_Bool (has_number n row)) [
       | inl is ↦
           rw is (one_gone n rows caller m ∙ elim (cases_Bool (eqb n m)) [
             | inl same ↦ rw same refl
-            | inr apart ↦ rw (apart, both_false (eqb row.caller caller) (eqb row.number m) (ap (λ k. eqb k m) (eqb-true row.number n is) ∙ apart)) refl
+            | inr apart ↦ rw (
+              apart,
+              both_false (eqb row.caller caller) (eqb row.number m) (ap (λ k. eqb k m) (eqb-true row.number n is)
+                  ∙ apart),
+            ) refl
           ])
       | inr isnt ↦
           rw (isnt, one_gone n rows caller m) (elim (cases_Bool (eqb n m)) [
-            | inl same ↦ rw (same, both_false (eqb row.caller caller) (eqb row.number m) (ap (eqb row.number) (sym (eqb-true n m same)) ∙ isnt)) refl
+            | inl same ↦ rw (
+              same,
+              both_false (eqb row.caller caller) (eqb row.number m) (ap (eqb row.number) (sym (eqb-true n m same))
+                  ∙ isnt),
+            ) refl
             | inr apart ↦ rw apart refl
           ])
     ]
 
 -- a handle that is there has a number below those to come
-pub any_below : (caller n next : ℕ) (rows : List HandleRow) → AllByRecursion (λ (row : HandleRow). row.number < next) rows → list_any (is_handle caller n) rows ≡ true → n < next
+pub any_below : (caller n next : ℕ) (rows : List HandleRow) → AllByRecursion (λ (row : HandleRow). row.number < next) rows
+    → list_any (is_handle caller n) rows ≡ true → n < next
 any_below caller n next [] all some = absurd (cc some)
 any_below caller n next (row ∷ rows) all some =
     elim (cases_Bool (is_handle caller n row)) [
@@ -259,20 +309,24 @@ held_row caller n (row ∷ rows) rising some =
         rw is refl,
         elim (cases_Bool (eqb row.caller caller)) [
           | inl mine ↦ mine
-          | inr other ↦ absurd (cc (sym some ∙ ap (λ b. b || list_any (is_handle caller n) rows) (ap (λ b. b && eqb row.number n) other) ∙ any_later caller n n rows (omega arith) (later n row rows rising is)))
+          | inr other ↦ absurd (cc (sym some ∙ ap (λ b. b || list_any (is_handle caller n) rows) (ap (λ b. b && eqb row.number n) other)
+              ∙ any_later caller n n rows (omega arith) (later n row rows rising is)))
         ],
       )
       | inr other ↦
-          let rest = held_row caller n rows rising.1 (sym (ap (λ b. b || list_any (is_handle caller n) rows) (both_false (eqb row.caller caller) (eqb row.number n) other)) ∙ some) in
+          let rest = held_row caller n rows rising.1 (sym (ap (λ b. b || list_any (is_handle caller n) rows)
+          (both_false (eqb row.caller caller) (eqb row.number n) other)) ∙ some) in
           (rest.0, (ap (λ b. cond b (Some row) (find (has_number n) rows)) other ∙ rest.1), rest.2)
     ]
 
 -- who has no number has no handle
-pub none_his : (caller : ℕ) (rows : List HandleRow) → ((n : ℕ) → list_any (is_handle caller n) rows ≡ false) → find (λ (row : HandleRow). eqb row.caller caller) rows ≡ None
+pub none_his : (caller : ℕ) (rows : List HandleRow) → ((n : ℕ) → list_any (is_handle caller n) rows ≡ false)
+    → find (λ (row : HandleRow). eqb row.caller caller) rows ≡ None
 none_his caller [] none = refl
 none_his caller (row ∷ rows) none =
     elim (cases_Bool (eqb row.caller caller)) [
-      | inl mine ↦ absurd (cc (sym (none row.number) ∙ ap (λ b. b || list_any (is_handle caller row.number) rows) (both_true (eqb row.caller caller) (eqb row.number row.number) (eq-eqb row.number row.number refl) ∙ mine)))
+      | inl mine ↦ absurd (cc (sym (none row.number) ∙ ap (λ b. b || list_any (is_handle caller row.number) rows)
+          (both_true (eqb row.caller caller) (eqb row.number row.number) (eq-eqb row.number row.number refl) ∙ mine)))
       | inr other ↦ rw other (none_his caller rows (λ n. right (is_handle caller n row) (list_any (is_handle caller n) rows) (none n)))
     ]
   where

@@ -1,5 +1,6 @@
 -- Handles under their numbers, in order.
-use Rattle.std.proofs.Common.{ℕ, ◌≡◌, ◌<◌, ◌∙◌, suc, Bool, true, false, not, cond, List, [], ◌∷◌, ◌++◌, Option, Some, None, refl, sym, ap, subst, eqb, length, filter, find, arith, inl, inr}
+use Rattle.std.proofs.Common.{ℕ, ◌≡◌, ◌<◌, ◌∙◌, suc, Bool, true, false, not, cond, List, [], ◌∷◌, ◌++◌, Option, Some, None, refl, sym, ap}
+use Rattle.std.proofs.Common.{subst, eqb, length, filter, find, arith, inl, inr}
 use Rattle.std.specs.Prelude.{nat_le}
 use Rattle.std.specs.List.{AllByRecursion, IsDistinct}
 use Rattle.std.specs.Map.{keys_of, lookup}
@@ -18,14 +19,24 @@ Entries = List (ℕ × HandleRow)
 
 -- ## A handle is found
 
-found_put : (n : ℕ) (row : HandleRow) (rows : List HandleRow) → find (has_number n) (put_in row rows) ≡ cond (eqb row.number n) (Some row) (find (has_number n) rows)
+found_put : (n : ℕ) (row : HandleRow) (rows : List HandleRow) → find (has_number n) (put_in row rows) ≡ cond (eqb row.number n) (Some row)
+    (find (has_number n) rows)
 found_put n row [] = refl
 found_put n row (other ∷ rows) =
     elim (nat_le row.number other.number) as (λ b. nat_le row.number other.number ≡ b
-    → find (has_number n) (cond b (row ∷ other ∷ rows) (other ∷ put_in row rows)) ≡ cond (eqb row.number n) (Some row) (find (has_number n) (other ∷ rows))) [
+    → find (has_number n) (cond b (row ∷ other ∷ rows) (other ∷ put_in row rows)) ≡ cond (eqb row.number n) (Some row)
+    (find (has_number n) (other ∷ rows))) [
       | true ↦ λ e. refl
       | false ↦ λ e. elim (cases_Bool (eqb other.number n)) [
-        | inl is ↦ rw (is, ne_eqb row.number n (λ same. omega (arith, same, eqb-true other.number n is, leb-false row.number other.number e))) refl
+        | inl is ↦ rw (
+          is,
+          ne_eqb row.number n (λ same. omega (
+            arith,
+            same,
+            eqb-true other.number n is,
+            leb-false row.number other.number e,
+          )),
+        ) refl
         | inr isnt ↦ rw isnt (found_put n row rows)
       ]
     ] refl
@@ -65,7 +76,8 @@ found_is (e ∷ es) n kept =
 
 -- ## In order
 
-all_put : (P : HandleRow → Type 0) (row : HandleRow) (rows : List HandleRow) → P row → AllByRecursion P rows → AllByRecursion P (put_in row rows)
+all_put : (P : HandleRow → Type 0) (row : HandleRow) (rows : List HandleRow) → P row → AllByRecursion P rows
+    → AllByRecursion P (put_in row rows)
 all_put P row [] one all = (one, tt)
 all_put P row (other ∷ rows) one all =
     elim (nat_le row.number other.number) as (λ b. AllByRecursion P (cond b (row ∷ other ∷ rows) (other ∷ put_in row rows))) [
@@ -73,24 +85,32 @@ all_put P row (other ∷ rows) one all =
       | false ↦ (all.0, all_put P row rows one all.1)
     ]
 
-all_above : (n m : ℕ) (rows : List HandleRow) → n < m → AllByRecursion (λ (row : HandleRow). m < row.number) rows → AllByRecursion (λ (row : HandleRow). n < row.number) rows
+all_above : (n m : ℕ) (rows : List HandleRow) → n < m → AllByRecursion (λ (row : HandleRow). m < row.number) rows
+    → AllByRecursion (λ (row : HandleRow). n < row.number) rows
 all_above n m [] less all = tt
 all_above n m (row ∷ rows) less all = (omega (arith, less, all.0), all_above n m rows less all.1)
 
-not_first : (n : ℕ) (row : HandleRow) (rows : List HandleRow) → find (has_number n) (row ∷ rows) ≡ None → (eqb row.number n ≡ false) × (find (has_number n) rows ≡ None)
+not_first : (n : ℕ) (row : HandleRow) (rows : List HandleRow) → find (has_number n) (row ∷ rows) ≡ None → (eqb row.number n ≡ false)
+    × (find (has_number n) rows ≡ None)
 not_first n row rows none =
     elim (eqb row.number n) as (λ b. cond b (Some row) (find (has_number n) rows) ≡ None → (b ≡ false) × (find (has_number n) rows ≡ None)) [
       | true ↦ λ h. absurd (cc h)
       | false ↦ λ h. (refl, h)
     ] none
 
-rising_put : (row : HandleRow) (rows : List HandleRow) → AreRisingBy number_of rows → find (has_number row.number) rows ≡ None → AreRisingBy number_of (put_in row rows)
+rising_put : (row : HandleRow) (rows : List HandleRow) → AreRisingBy number_of rows → find (has_number row.number) rows ≡ None
+    → AreRisingBy number_of (put_in row rows)
 rising_put row [] rising none = (tt, tt)
 rising_put row (other ∷ rows) rising none =
     let apart = not_first row.number other rows none in
-    elim (nat_le row.number other.number) as (λ b. nat_le row.number other.number ≡ b → AreRisingBy number_of (cond b (row ∷ other ∷ rows) (other ∷ put_in row rows))) [
+    elim (nat_le row.number other.number) as (λ b. nat_le row.number other.number ≡ b
+    → AreRisingBy number_of (cond b (row ∷ other ∷ rows) (other ∷ put_in row rows))) [
       | true ↦ λ e.
-          let less : row.number < other.number = omega (arith, leb-true row.number other.number e, eqb-false other.number row.number apart.0) in
+          let less : row.number < other.number = omega (
+            arith,
+            leb-true row.number other.number e,
+            eqb-false other.number row.number apart.0,
+          ) in
           ((less, all_above row.number other.number rows less rising.0), rising)
       | false ↦ λ e. (
         all_put (λ (r : HandleRow). other.number < r.number) row rows (omega (arith, leb-false row.number other.number e)) rising.0,
@@ -126,24 +146,30 @@ none_below n (row ∷ rows) all = rw (ne_eqb row.number n (omega (arith, all.0))
 found_first : (row : HandleRow) (rows : List HandleRow) → find (has_number row.number) (row ∷ rows) ≡ Some row
 found_first row rows = rw (eq-eqb row.number row.number refl) refl
 
-same_rows : (xs ys : List HandleRow) → AreRisingBy number_of xs → AreRisingBy number_of ys → ((n : ℕ) → find (has_number n) xs ≡ find (has_number n) ys) → xs ≡ ys
+same_rows : (xs ys : List HandleRow) → AreRisingBy number_of xs → AreRisingBy number_of ys
+    → ((n : ℕ) → find (has_number n) xs ≡ find (has_number n) ys) → xs ≡ ys
 same_rows [] [] ra rb same = refl
 same_rows [] (b ∷ ys) ra rb same = absurd (cc (same b.number ∙ found_first b ys))
 same_rows (a ∷ xs) [] ra rb same = absurd (cc (sym (same a.number) ∙ found_first a xs))
 same_rows (a ∷ xs) (b ∷ ys) ra rb same =
     elim (cases_order a.number b.number) [
       | inl e ↦
-          let first : a ≡ b = cc (sym (found_first a xs) ∙ same a.number ∙ ap (λ (k : ℕ). find (has_number k) (b ∷ ys)) e ∙ found_first b ys) in
+          let first : a ≡ b = cc (sym (found_first a xs) ∙ same a.number ∙ ap (λ (k : ℕ). find (has_number k) (b ∷ ys)) e
+          ∙ found_first b ys) in
           rw (same_rows xs ys ra.1 rb.1 (λ n. elim (cases_Bool (eqb a.number n)) [
             | inl is ↦
                 none_below n xs (subst (λ (m : ℕ). AllByRecursion (λ (row : HandleRow). m < row.number) xs) (eqb-true a.number n is) ra.0)
-                ∙ sym (none_below n ys (subst (λ (m : ℕ). AllByRecursion (λ (row : HandleRow). m < row.number) ys) (sym e ∙ eqb-true a.number n is) rb.0))
+                ∙ sym (none_below n ys (subst (λ (m : ℕ). AllByRecursion (λ (row : HandleRow). m < row.number) ys) (sym e
+                ∙ eqb-true a.number n is) rb.0))
             | inr isnt ↦
                 sym (ap (λ (c : Bool). cond c (Some a) (find (has_number n) xs)) isnt) ∙ same n
-                ∙ ap (λ (c : Bool). cond c (Some b) (find (has_number n) ys)) (ap (λ (row : HandleRow). eqb row.number n) (sym first) ∙ isnt)
+                ∙ ap (λ (c : Bool). cond c (Some b) (find (has_number n) ys)) (ap (λ (row : HandleRow). eqb row.number n) (sym first)
+                ∙ isnt)
           ])) (ap (λ (row : HandleRow). row ∷ ys) first)
-      | inr (inl less) ↦ absurd (cc (sym (found_first a xs) ∙ same a.number ∙ none_below a.number (b ∷ ys) (less, all_above a.number b.number ys less rb.0)))
-      | inr (inr more) ↦ absurd (cc (sym (found_first b ys) ∙ sym (same b.number) ∙ none_below b.number (a ∷ xs) (more, all_above b.number a.number xs more ra.0)))
+      | inr (inl less) ↦ absurd (cc (sym (found_first a xs) ∙ same a.number
+          ∙ none_below a.number (b ∷ ys) (less, all_above a.number b.number ys less rb.0)))
+      | inr (inr more) ↦ absurd (cc (sym (found_first b ys) ∙ sym (same b.number)
+          ∙ none_below b.number (a ∷ xs) (more, all_above b.number a.number xs more ra.0)))
     ]
 
 -- ## A handle more
@@ -157,18 +183,21 @@ found_pushed n row (other ∷ rows) below =
       | inr isnt ↦ rw isnt (found_pushed n row rows below.1)
     ]
 
-rising_pushed : (row : HandleRow) (rows : List HandleRow) → AllByRecursion (λ (other : HandleRow). other.number < row.number) rows → AreRisingBy number_of rows → AreRisingBy number_of (rows ++ row ∷ [])
+rising_pushed : (row : HandleRow) (rows : List HandleRow) → AllByRecursion (λ (other : HandleRow). other.number < row.number) rows
+    → AreRisingBy number_of rows → AreRisingBy number_of (rows ++ row ∷ [])
 rising_pushed row [] below rising = (tt, tt)
 rising_pushed row (other ∷ rows) below rising = (all_pushed rows rising.0, rising_pushed row rows below.1 rising.1)
   where
-    all_pushed : (rs : List HandleRow) → AllByRecursion (λ (r : HandleRow). other.number < r.number) rs → AllByRecursion (λ (r : HandleRow). other.number < r.number) (rs ++ row ∷ [])
+    all_pushed : (rs : List HandleRow) → AllByRecursion (λ (r : HandleRow). other.number < r.number) rs
+        → AllByRecursion (λ (r : HandleRow). other.number < r.number) (rs ++ row ∷ [])
     all_pushed [] all = (below.0, tt)
     all_pushed (r ∷ rs) all = (all.0, all_pushed rs all.1)
 
 abbrev pub Puts : Entries → Entries → HandleRow → Type 0
 Puts old new row = (n : ℕ) → lookup (eqb n) new ≡ cond (eqb row.number n) (Some row) (lookup (eqb n) old)
 
-pub pushed_numbered : (old new : Entries) (row : HandleRow) → AreNumbered old → IsDistinct eqb (keys_of new) → Puts old new row → AreNumbered new
+pub pushed_numbered : (old new : Entries) (row : HandleRow) → AreNumbered old → IsDistinct eqb (keys_of new) → Puts old new row
+    → AreNumbered new
 pushed_numbered old new row kept once puts = record {
   once = once;
   own = by;
@@ -182,15 +211,18 @@ pushed_numbered old new row kept once puts = record {
       | inr other ↦ kept.own n found (sym (puts n ∙ ap (λ (b : Bool). cond b (Some row) (lookup (eqb n) old)) other) ∙ is)
     ]
 
-pub pushed_is : (old new : Entries) (row : HandleRow) → AreNumbered old → AreNumbered new → Puts old new row → AllByRecursion (λ (other : HandleRow). other.number < row.number) (by_number old)
+pub pushed_is : (old new : Entries) (row : HandleRow) → AreNumbered old → AreNumbered new → Puts old new row
+    → AllByRecursion (λ (other : HandleRow). other.number < row.number) (by_number old)
     → by_number new ≡ by_number old ++ row ∷ []
 pushed_is old new row was now puts below =
     same_rows (by_number new) (by_number old ++ row ∷ []) (rising_is new now) (rising_pushed row (by_number old) below (rising_is old was))
-    (λ n. found_is new n now ∙ puts n ∙ ap (cond (eqb row.number n) (Some row)) (sym (found_is old n was)) ∙ sym (found_pushed n row (by_number old) below))
+    (λ n. found_is new n now ∙ puts n ∙ ap (cond (eqb row.number n) (Some row)) (sym (found_is old n was))
+    ∙ sym (found_pushed n row (by_number old) below))
 
 -- ## A handle less
 
-found_without : (n k : ℕ) (rows : List HandleRow) → find (has_number n) (filter (λ (row : HandleRow). not (has_number k row)) rows) ≡ cond (eqb k n) None (find (has_number n) rows)
+found_without : (n k : ℕ) (rows : List HandleRow) → find (has_number n) (filter (λ (row : HandleRow). not (has_number k row)) rows) ≡ cond
+    (eqb k n) None (find (has_number n) rows)
 found_without n k [] = either (eqb k n) None
   where
     either : (b : Bool) (o : Option HandleRow) → o ≡ cond b o o
@@ -208,7 +240,8 @@ found_without n k (row ∷ rows) =
       ])
     ]
 
-all_without : (P : HandleRow → Type 0) (p : HandleRow → Bool) (rows : List HandleRow) → AllByRecursion P rows → AllByRecursion P (filter p rows)
+all_without : (P : HandleRow → Type 0) (p : HandleRow → Bool) (rows : List HandleRow) → AllByRecursion P rows
+    → AllByRecursion P (filter p rows)
 all_without P p [] all = tt
 all_without P p (row ∷ rows) all =
     elim (p row) as (λ b. AllByRecursion P (cond b (row ∷ filter p rows) (filter p rows))) [
@@ -236,7 +269,8 @@ removed_numbered old new k kept once takes = record {
   ];
 }
 
-pub removed_is : (old new : Entries) (k : ℕ) → AreNumbered old → AreNumbered new → Takes old new k → by_number new ≡ filter (λ (row : HandleRow). not (has_number k row)) (by_number old)
+pub removed_is : (old new : Entries) (k : ℕ) → AreNumbered old → AreNumbered new → Takes old new k
+    → by_number new ≡ filter (λ (row : HandleRow). not (has_number k row)) (by_number old)
 removed_is old new k was now takes =
     same_rows (by_number new) (filter (λ (row : HandleRow). not (has_number k row)) (by_number old)) (rising_is new now)
     (rising_without (λ (row : HandleRow). not (has_number k row)) (by_number old) (rising_is old was))

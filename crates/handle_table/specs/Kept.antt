@@ -25,4 +25,9 @@ pub record IsKept (table : Inside) : Type 0 where
   pub below : AllByRecursion (λ (row : HandleRow). row.number < table.next) table.rows.items
 
 abbrev pub handled : Inside → Handled
-handled table = record { rows = table.rows.items; next = table.next; spare = min table.rows.room (min table.services.room (min table.callers.room table.held.room)) }
+handled table = record {
+  rows = table.rows.items;
+  next = table.next;
+  spare =
+      min table.rows.room (min table.services.room (min table.callers.room table.held.room));
+}

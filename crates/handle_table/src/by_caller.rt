@@ -1,6 +1,9 @@
-ghost use Rattle.std.specs.Prelude.{ℕ, ◌≡◌, ◌<◌, ◌≤◌, ◌==◌, ◌||◌, ◌&&◌, not, true, false, [], None, OnOk, OnErr, IfSome, IfNone, IsSome, option_map, nat_eq, if◌then◌else◌};
+ghost use Rattle.std.specs.Prelude.{ℕ, ◌≡◌, ◌<◌, ◌≤◌, ◌==◌, ◌||◌, ◌&&◌, not, true, false, [], None};
+ghost use Rattle.std.specs.Prelude.{OnOk, OnErr, IfSome, IfNone, IsSome, option_map, nat_eq};
+ghost use Rattle.std.specs.Prelude.{if◌then◌else◌};
 ghost use Rattle.indexmap.specs.IndexMap.{get, spare};
-ghost use Rattle.handle_table.specs.Linked.{has, is_first, is_number, link_at, with_newer, with_older};
+ghost use Rattle.handle_table.specs.Linked.{has, is_first, is_number, link_at, with_newer};
+ghost use Rattle.handle_table.specs.Linked.{with_older};
 
 use indexmap::IndexMap;
 use scm_text::OutOfMemory;
@@ -33,14 +36,19 @@ impl Model for ByCaller {
 
     ghost Value = { Roomed (ℕ × Link) };
 
-    ghost view = { λ b. record { items = b.links.entries; room = min (spare b.links) (spare b.newest) } };
+    ghost view = { λ b. record {
+      items = b.links.entries;
+      room = min (spare b.links) (spare b.newest);
+    } };
 
     ghost invariant = { λ b. AreLinked b.links.entries b.newest.entries };
 }
 
 /// Sets which number came before another.
 fn set_older(links: &mut IndexMap<u64, Link>, of: Option<u64>, older: Option<u64>)
-    ensures links { (n : ℕ) → link_at links.new.entries n ≡ (if is_number n of then option_map (with_older older) (link_at links.old.entries n) else link_at links.old.entries n) }
+    ensures links { (n : ℕ) → link_at links.new.entries n ≡ (if is_number n of
+        then option_map (with_older older) (link_at links.old.entries n)
+        else link_at links.old.entries n) }
     ensures room { spare links.new ≡ spare links.old }
 {
     let Some(number) = of else {
@@ -53,7 +61,9 @@ fn set_older(links: &mut IndexMap<u64, Link>, of: Option<u64>, older: Option<u64
 
 /// Sets which number came after another.
 fn set_newer(links: &mut IndexMap<u64, Link>, of: Option<u64>, newer: Option<u64>)
-    ensures links { (n : ℕ) → link_at links.new.entries n ≡ (if is_number n of then option_map (with_newer newer) (link_at links.old.entries n) else link_at links.old.entries n) }
+    ensures links { (n : ℕ) → link_at links.new.entries n ≡ (if is_number n of
+        then option_map (with_newer newer) (link_at links.old.entries n)
+        else link_at links.old.entries n) }
     ensures room { spare links.new ≡ spare links.old }
 {
     let Some(number) = of else {
@@ -67,7 +77,8 @@ fn set_newer(links: &mut IndexMap<u64, Link>, of: Option<u64>, newer: Option<u64
 /// Sets the newest number of a caller that has one.
 fn set_newest(newest: &mut IndexMap<u64, u64>, caller: u64, number: Option<u64>)
     requires { IsSome (get nat_eq newest.old caller) }
-    ensures { (c : ℕ) → get nat_eq newest.new c ≡ (if caller == c then number else get nat_eq newest.old c) }
+    ensures { (c : ℕ) → get nat_eq newest.new c ≡ (if caller == c then number
+        else get nat_eq newest.old c) }
 {
     match number {
         Some(number) => {
@@ -82,7 +93,8 @@ fn set_newest(newest: &mut IndexMap<u64, u64>, caller: u64, number: Option<u64>)
 /// A number leaves: where it was its caller's newest, the one before it is that now.
 fn leave_newest(newest: &mut IndexMap<u64, u64>, link: Link)
     requires { is_first link ≡ true → IsSome (get nat_eq newest.old link.caller) }
-    ensures { (c : ℕ) → get nat_eq newest.new c ≡ (if is_first link && link.caller == c then link.older else get nat_eq newest.old c) }
+    ensures { (c : ℕ) → get nat_eq newest.new c ≡ (if is_first link && link.caller == c
+        then link.older else get nat_eq newest.old c) }
 {
     if link.newer.is_none() {
         set_newest(newest, link.caller, link.older);
@@ -128,7 +140,8 @@ impl ByCaller {
     pub fn add(&mut self, caller: u64, number: u64)
         requires room { 1 ≤ self.old.room }
         requires above { (c n : ℕ) → has self.old.items c n ≡ true → n < number }
-        ensures { (c n : ℕ) → has self.new.items c n ≡ (caller == c && number == n || has self.old.items c n) }
+        ensures { (c n : ℕ) → has self.new.items c n ≡ (caller == c && number == n
+            || has self.old.items c n) }
     {
         let older = self.newest.get(&caller).copied();
         set_newer(&mut self.links, older, Some(number));
@@ -145,7 +158,8 @@ impl ByCaller {
 
     /// Takes a number out.
     pub fn remove(&mut self, number: u64)
-        ensures { (c n : ℕ) → has self.new.items c n ≡ (not (number == n) && has self.old.items c n) }
+        ensures { (c n : ℕ) → has self.new.items c n ≡ (not (number == n)
+            && has self.old.items c n) }
     {
         if let Some(link) = self.links.swap_remove(&number) {
             set_newer(&mut self.links, link.older, link.newer);

@@ -1,4 +1,6 @@
-ghost use Rattle.std.specs.Prelude.{ℕ, ◌≡◌, ◌+◌, ◌<◌, ◌≤◌, ◌^◌, ◌++◌, ◌∷◌, [], not, filter, find, length, option_copied, option_map, OnOk, OnErr, IfSome, IfNone, true, false, ◌-◌, if◌then◌else◌};
+ghost use Rattle.std.specs.Prelude.{ℕ, ◌≡◌, ◌+◌, ◌<◌, ◌≤◌, ◌^◌, ◌++◌, ◌∷◌, [], not, filter, find};
+ghost use Rattle.std.specs.Prelude.{length, option_copied, option_map, OnOk, OnErr, IfSome, IfNone};
+ghost use Rattle.std.specs.Prelude.{true, false, ◌-◌, if◌then◌else◌};
 ghost use Rattle.std.specs.List.{list_any};
 ghost use Rattle.handle_table.specs.Counted.{count};
 ghost use Rattle.scm_model.specs.Rows.{is_of_service};
@@ -39,7 +41,8 @@ impl Model for HandleTable {
 fn raise_kind(services: &mut Counts, kind: HandleKind)
     requires room { 1 ≤ services.old.room }
     requires fits { (service : ℕ) → count services.old service + 1 < 2 ^ 64 }
-    ensures { (service : ℕ) → count services.new service ≡ (if is_of_service service kind then count services.old service + 1 else count services.old service) }
+    ensures { (service : ℕ) → count services.new service ≡ (if is_of_service service kind
+        then count services.old service + 1 else count services.old service) }
 {
     if let HandleKind::Service(service) = kind {
         services.raise(service);
@@ -49,7 +52,8 @@ fn raise_kind(services: &mut Counts, kind: HandleKind)
 /// One handle less of a service, if it is of one.
 fn lower_kind(services: &mut Counts, kind: HandleKind)
     requires { (service : ℕ) → is_of_service service kind ≡ true → 1 ≤ count services.old service }
-    ensures { (service : ℕ) → count services.new service ≡ (if is_of_service service kind then count services.old service - 1 else count services.old service) }
+    ensures { (service : ℕ) → count services.new service ≡ (if is_of_service service kind
+        then count services.old service - 1 else count services.old service) }
 {
     if let HandleKind::Service(service) = kind {
         services.lower(service);
@@ -78,8 +82,8 @@ impl HandleTable {
         self.next
     }
 
-    /// Makes room for one handle more. Where there is room it isn't refused, and what is refused takes
-    /// no room away.
+    /// Makes room for one handle more. Where there is room it isn't refused, and what is refused
+    /// takes no room away.
     pub fn reserve(&mut self) -> Result<(), OutOfMemory>
         ensures rows { self.new.rows ≡ self.old.rows }
         ensures next { self.new.next ≡ self.old.next }
@@ -98,7 +102,9 @@ impl HandleTable {
         requires room { 1 ≤ self.old.spare }
         requires next { self.old.next < 2 ^ 63 }
         ensures number { result ≡ self.old.next }
-        ensures rows { self.new.rows ≡ self.old.rows ++ record { number = self.old.next; caller = caller; kind = kind; granted = granted } ∷ [] }
+        ensures rows { self.new.rows ≡ self.old.rows
+            ++ record { number = self.old.next; caller = caller; kind = kind; granted = granted } ∷
+            [] }
         ensures next { self.new.next ≡ self.old.next + 1 }
     {
         let _len = self.rows.len();
@@ -178,7 +184,8 @@ impl HandleTable {
     /// Takes a caller's handle out.
     pub fn close(&mut self, caller: u64, number: u64) -> Option<HandleRow>
         ensures row { result ≡ find (is_handle caller number) self.old.rows }
-        ensures rows { self.new.rows ≡ filter (λ row. not (is_handle caller number row)) self.old.rows }
+        ensures rows { self.new.rows ≡ filter (λ row. not (is_handle caller number row))
+            self.old.rows }
         ensures next { self.new.next ≡ self.old.next }
     {
         if self.find(caller, number).is_some() {
@@ -200,8 +207,10 @@ impl HandleTable {
 
     /// The newest of a caller's handles.
     fn newest_of(&self, caller: u64) -> Option<u64>
-        ensures some { IfSome result (λ number. list_any (is_handle caller number) self.now.rows ≡ true) }
-        ensures none { IfNone result ((number : ℕ) → list_any (is_handle caller number) self.now.rows ≡ false) }
+        ensures some { IfSome result (λ number. list_any
+            (is_handle caller number) self.now.rows ≡ true) }
+        ensures none { IfNone result ((number : ℕ) →
+            list_any (is_handle caller number) self.now.rows ≡ false) }
         ensures rising { AreRisingBy (λ row. row.number) self.now.rows }
     {
         let _len = self.rows.len();

@@ -1,5 +1,6 @@
 -- What the calls of a disk in memory tell.
-use Rattle.std.proofs.Common.{◌≡◌, inl, inr, ⊎_elim, ◌⊎◌, ℕ, ◌≤◌, Bool, true, false, List, [], ◌∷◌, ◌++◌, length, Result, Ok, Err, Some, refl, sym, ap, subst, arith}
+use Rattle.std.proofs.Common.{◌≡◌, inl, inr, ⊎_elim, ◌⊎◌, ℕ, ◌≤◌, Bool, true, false, List, [], ◌∷◌, ◌++◌, length, Result, Ok, Err, Some}
+use Rattle.std.proofs.Common.{refl, sym, ap, subst, arith}
 use Rattle.std.specs.Prelude.{OnOk, is_err}
 use Rattle.std.proofs.lemmas.List.{length-take}
 use Rattle.std.proofs.lemmas.Result.{on_ok_weaker}
@@ -72,7 +73,12 @@ wrote_more f p n at bytes fate r within all = record {
   told = tt;
   leaves = λ c left.
       ⊎_elim
-      (λ is. (now_of f p, now_left f p, subst (λ d. TornFile n at (length bytes) (now_of f p) d) (sym is) (torn_piece n at (length bytes) (reached fate bytes) (now_of f p) within (reached_short fate bytes))))
+      (λ is. (
+        now_of f p,
+        now_left f p,
+        subst (λ d. TornFile n at (length bytes) (now_of f p) d) (sym is)
+            (torn_piece n at (length bytes) (reached fate bytes) (now_of f p) within (reached_short fate bytes)),
+      ))
       (λ was. was) left;
   ok = on_ok_weaker r (λ e. ap (λ (fate : DiskFate). Some (written n at (reached fate bytes) (now_of f p))) e) all;
 }
@@ -119,8 +125,10 @@ pub synced : {E : Type 0} (a b : InMemory) (r : Result (Unit {0}) E) → IsTaken
     → Syncs (disk_state a.first a.past) (disk_state b.first b.past) r
 synced a b r taken =
     ⊎_elim
-    (λ h. at_disk (λ d. Syncs (disk_state a.first a.past) d r) a.first b.first (Synced (next_fate a.fates) ∷ a.past) b.past taken.first h.0 (synced_more a.first a.past (next_fate a.fates) r h.1))
-    (λ h. at_disk (λ d. Syncs (disk_state a.first a.past) d r) a.first b.first a.past b.past taken.first h.0 (synced_none a.first a.past r h.1))
+    (λ h. at_disk (λ d. Syncs (disk_state a.first a.past) d r) a.first b.first (Synced (next_fate a.fates) ∷ a.past) b.past taken.first h.0
+    (synced_more a.first a.past (next_fate a.fates) r h.1))
+    (λ h. at_disk (λ d. Syncs (disk_state a.first a.past) d r) a.first b.first a.past b.past taken.first h.0
+    (synced_none a.first a.past r h.1))
     taken.recorded
 
 -- ## Openings
@@ -179,6 +187,8 @@ pub opened : {E : Type 0} (a b : InMemory) (path : Bool) (r : Result (Unit {0}) 
     → Opens path (disk_state a.first a.past) (disk_state b.first b.past) r
 opened a b path r taken =
     ⊎_elim
-    (λ h. at_disk (λ d. Opens path (disk_state a.first a.past) d r) a.first b.first (Opened path (next_fate a.fates) ∷ a.past) b.past taken.first h.0 (opened_more a.first a.past path (next_fate a.fates) r h.1))
-    (λ h. at_disk (λ d. Opens path (disk_state a.first a.past) d r) a.first b.first a.past b.past taken.first h.0 (opened_none a.first a.past path r h.1))
+    (λ h. at_disk (λ d. Opens path (disk_state a.first a.past) d r) a.first b.first
+    (Opened path (next_fate a.fates) ∷ a.past) b.past taken.first h.0 (opened_more a.first a.past path (next_fate a.fates) r h.1))
+    (λ h. at_disk (λ d. Opens path (disk_state a.first a.past) d r) a.first b.first a.past b.past taken.first h.0
+    (opened_none a.first a.past path r h.1))
     taken.recorded

@@ -49,4 +49,5 @@ pub record IsTaken (call : DiskFate → Call) (old new : InMemory) (failed : Boo
   pub first : new.first ≡ old.first
   pub fates : new.fates ≡ later old.fates
   pub counted : new.faults ≡ (if failed then one_more old.faults else old.faults)
-  pub recorded : (new.past ≡ call (next_fate old.fates) ∷ old.past) × (failed ≡ is_to_fail (next_fate old.fates)) ⊎ (new.past ≡ old.past) × (failed ≡ true)
+  pub recorded : (new.past ≡ call (next_fate old.fates) ∷ old.past) × (failed ≡ is_to_fail (next_fate old.fates)) ⊎ (new.past ≡ old.past)
+      × (failed ≡ true)

@@ -1,5 +1,6 @@
 -- An image that a crash may leave, by a choice of how each open write is torn.
-use Rattle.std.specs.Prelude.{ℕ, ◌+◌, ◌-◌, min, nat_lt, false, List, [], ◌∷◌, ◌++◌, length, take, drop, replicate, slice_index_or, if◌then◌else◌}
+use Rattle.std.specs.Prelude.{ℕ, ◌+◌, ◌-◌, min, nat_lt, false, List, [], ◌∷◌, ◌++◌, length, take, drop, replicate, slice_index_or}
+use Rattle.std.specs.Prelude.{if◌then◌else◌}
 use Rattle.journal_disk.specs.Files.{Files, file, no_files, written}
 use Rattle.journal_disk.specs.Past.{Call, Opened, Wrote, Synced, now_of}
 use Rattle.journal_disk.specs.declared.calls.DiskFate.TheVariants.{Succeeds}

@@ -1,6 +1,7 @@
 ghost use Rattle.std.specs.Prelude.{◌+◌, ◌≤◌, ◌^◌, ℕ, IfOk, OnOk, length};
 ghost use Rattle.outside.specs.Causes.{HasCause};
-ghost use Rattle.journal_disk.specs.Images.{DiskState, HasSize, IsDisk, IsWithin, Looks, Opens, Reads, Syncs, Writes};
+ghost use Rattle.journal_disk.specs.Images.{DiskState, HasSize, IsDisk, IsWithin, Looks, Opens};
+ghost use Rattle.journal_disk.specs.Images.{Reads, Syncs, Writes};
 ghost use Rattle.journal_disk.specs.Images.{has_path};
 
 use outside::Failed;

@@ -1,4 +1,5 @@
-ghost use Rattle.std.specs.Prelude.{◌≡◌, ◌++◌, IfOk, OnOk, replicate, slice_index_or, length, nat_lt, ◌^◌, ◌-◌, ◌<◌, if◌then◌else◌};
+ghost use Rattle.std.specs.Prelude.{◌≡◌, ◌++◌, IfOk, OnOk, replicate, slice_index_or, length};
+ghost use Rattle.std.specs.Prelude.{nat_lt, ◌^◌, ◌-◌, ◌<◌, if◌then◌else◌};
 ghost use Rattle.journal_disk.specs.Files.{file, written};
 ghost use Rattle.journal_disk.specs.Calls.{call_of, past_of};
 ghost use Rattle.journal_disk.specs.Past.{now_after, reached};

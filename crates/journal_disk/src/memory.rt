@@ -1,10 +1,13 @@
-ghost use Rattle.std.specs.Prelude.{◌≡◌, ◌≤◌, ◌+◌, ◌^◌, ◌∷◌, [], false, IfOk, IsTrue, OnErr, OnOk, Some, is_err, length, take, drop};
+ghost use Rattle.std.specs.Prelude.{◌≡◌, ◌≤◌, ◌+◌, ◌^◌, ◌∷◌, [], false, IfOk, IsTrue, OnErr, OnOk};
+ghost use Rattle.std.specs.Prelude.{Some, is_err, length, take, drop};
 ghost use Rattle.outside.specs.Causes.{HasCause};
 ghost use Rattle.outside.specs.Fates.{later, one_more};
 ghost use Rattle.journal_disk.specs.Files.{Files, file, no_files};
-ghost use Rattle.journal_disk.specs.Images.{HasSize, IsWithin, Looks, Opens, Reads, Syncs, Writes, has_path};
+ghost use Rattle.journal_disk.specs.Images.{HasSize, IsWithin, Looks, Opens, Reads, Syncs, Writes};
+ghost use Rattle.journal_disk.specs.Images.{has_path};
 ghost use Rattle.journal_disk.specs.Calls.{IsTaken, call_of, next_fate, past_of, with_fate};
-ghost use Rattle.journal_disk.specs.Past.{Opened, Read, Sized, Synced, Wrote, disk_state, leaves, now_after, now_of};
+ghost use Rattle.journal_disk.specs.Past.{Opened, Read, Sized, Synced, Wrote, disk_state, leaves};
+ghost use Rattle.journal_disk.specs.Past.{now_after, now_of};
 ghost use Rattle.journal_disk.specs.Tears.{image_of, past_at};
 ghost use Rattle.journal_disk.specs.declared.calls.DiskFate.{DiskFate};
 

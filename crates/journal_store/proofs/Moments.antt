@@ -22,7 +22,8 @@ pub goes_on : (a b c : DiskState) (P : Files → Type 0) → Leaves P a b → El
 goes_on a b c P so_far time here = record {
   later = omega (arith, so_far.later, time.later);
   between =
-      λ t f le left. ⊎_elim (so_far.between t f le) (λ now. inr (here f now)) (time.nothing_else t f (omega (arith, le, so_far.later)) left);
+      λ t f le left. ⊎_elim (so_far.between t f le) (λ now. inr (here f now))
+      (time.nothing_else t f (omega (arith, le, so_far.later)) left);
   now = here;
 }
 
@@ -32,7 +33,8 @@ pub joins : (a b c : DiskState) (P Q R : Files → Type 0) → Leaves P a b → 
 joins a b c P Q R first second p q = record {
   later = omega (arith, first.later, second.later);
   between =
-      λ t f le left. ⊎_elim (λ was. ⊎_elim inl (λ h. inr (p f h)) (first.between t f le was)) (λ h. inr (q f h)) (second.between t f (omega (arith, le, first.later)) left);
+      λ t f le left. ⊎_elim (λ was. ⊎_elim inl (λ h. inr (p f h)) (first.between t f le was)) (λ h. inr (q f h))
+      (second.between t f (omega (arith, le, first.later)) left);
   now = λ f now. q f (second.now f now);
 }
 

@@ -1,5 +1,7 @@
 -- What records stand for, in whatever front of a log they stand.
-use Rattle.std.proofs.Common.{◌≡◌, ◌≢◌, inr, ⊎_elim, ℕ, zero, suc, ◌+◌, ◌<◌, ◌≤◌, ◌==◌, Bool, true, false, not, nat_lt, cond, List, [], ◌∷◌, ◌++◌, length, take, drop, Option, Some, None, refl, sym, ◌∙◌, ap, subst, arith, append_assoc, length-append, length-drop, take-append-drop}
+use Rattle.std.proofs.Common.{◌≡◌, ◌≢◌, inr, ⊎_elim, ℕ, zero, suc, ◌+◌, ◌<◌, ◌≤◌, ◌==◌, Bool, true, false, not, nat_lt, cond, List, [], ◌∷◌}
+use Rattle.std.proofs.Common.{◌++◌, length, take, drop, Option, Some, None, refl, sym, ◌∙◌, ap, subst, arith, append_assoc, length-append}
+use Rattle.std.proofs.Common.{length-drop, take-append-drop}
 use Rattle.std.proofs.lemmas.List.{append-nil, take_at, drop_at, drop-drop, take-take, take-append-le, length-take-le}
 use Rattle.std.proofs.lemmas.Bool.Decides.{nat_tests}
 use Rattle.std.specs.Int.{w64, from_le_bytes}
@@ -157,7 +159,8 @@ fronts_more bytes place n fronts is = more (drop place bytes) refl is
         let size : from_le_bytes w64 (take 8 (take (8 + n) rest)) ≡ n =
         ap (λ (l : List ℕ). from_le_bytes w64 l) (take-take 8 (8 + n) rest (omega arith)) ∙ is.1 in
         let whole : Whole (take place bytes ++ gate ∷ take (8 + n) rest) (fronts.x ++ drop 8 (take (8 + n) rest)) =
-        whole_more (take place bytes) fronts.x (take (8 + n) rest) gate n fronts.whole is.0 size (length-take-le (8 + n) rest (omega arith)) in (
+        whole_more (take place bytes) fronts.x (take (8 + n) rest) gate n fronts.whole is.0 size
+        (length-take-le (8 + n) rest (omega arith)) in (
           record {
             within = omega (arith, length-drop place bytes);
             x = fronts.x ++ drop 8 (take (8 + n) rest);

@@ -1,5 +1,7 @@
 -- A log that was written becomes the one that is read.
-use Rattle.std.proofs.Common.{◌≡◌, ◌⊎◌, inl, inr, ⊎_elim, ℕ, ◌+◌, ◌-◌, ◌^◌, ◌<◌, ◌≤◌, ◌==◌, Bool, true, false, not, cond, List, [], ◌∷◌, ◌++◌, length, take, drop, Some, refl, sym, ◌∙◌, ap, subst, arith, IfSome, append_assoc, length-append, length-drop, take-append-drop}
+use Rattle.std.proofs.Common.{◌≡◌, ◌⊎◌, inl, inr, ⊎_elim, ℕ, ◌+◌, ◌-◌, ◌^◌, ◌<◌, ◌≤◌, ◌==◌, Bool, true, false, not, cond, List, [], ◌∷◌}
+use Rattle.std.proofs.Common.{◌++◌, length, take, drop, Some, refl, sym, ◌∙◌, ap, subst, arith, IfSome, append_assoc, length-append}
+use Rattle.std.proofs.Common.{length-drop, take-append-drop}
 use Rattle.std.proofs.lemmas.List.{take_at, drop_at, length-take-le}
 use Rattle.std.proofs.lemmas.Nat.{from_le_bytes-to_le_bytes_8}
 use Rattle.std.specs.Int.{w64, from_le_bytes}
@@ -211,7 +213,8 @@ module _ (a b : DiskState) (to : ℕ) (x : Files → List ℕ) (to_is : (to ≡ 
           let was = was_told a.seen b.seen mid.0 first mid.1 in
           let s = is_sealed was.0 was.1 in
           let shut : IsShut to (9 + length (x was.0)) g =
-          subst (λ (h : Files). IsShut to (9 + length (x was.0)) h) (after_is c switched was.0 g was.1 at) (after_shut was.0 to (x was.0) s.0 to_is s.2 (short was.0 was.1)) in (
+          subst (λ (h : Files). IsShut to (9 + length (x was.0)) h) (after_is c switched was.0 g was.1 at)
+          (after_shut was.0 to (x was.0) s.0 to_is s.2 (short was.0 was.1)) in (
             subst (λ (n : ℕ). IsShut to (9 + n) g) (size was.0 was.1) shut,
             told (λ h. Only h c.leaves) c.seen g at synced,
           )
@@ -257,7 +260,8 @@ module _ (a d : DiskState) (log place to : ℕ) (x : Files → List ℕ) (ready 
         let p = only.now c now in
         let same : p.0 ≡ was.0 = s.1 p.0 p.1 in
         other
-        (sym s.0.guarded.log_is ∙ sym (stays was.0 to p.2 to_is) ∙ ap selected (ap (λ (e : Files). with_file e to p.2) (sym same) ∙ sym p.3) ∙ selects)
+        (sym s.0.guarded.log_is ∙ sym (stays was.0 to p.2 to_is) ∙ ap selected (ap (λ (e : Files). with_file e to p.2) (sym same) ∙ sym p.3)
+        ∙ selects)
       where
         stays : (f : Files) (n : ℕ) (bytes : List ℕ) → (n ≡ 1) ⊎ (n ≡ 2) → selected (with_file f n bytes) ≡ selected f
         stays f n bytes (inl e) = ap (λ (k : ℕ). selected (with_file f k bytes)) e
@@ -294,7 +298,8 @@ module _ (a d : DiskState) (log place to : ℕ) (x : Files → List ℕ) (ready 
             let mid = still_told a.seen d.seen f alike is in
             joins a d e (HasEitherContent (content f) (x f)) (IsOldOr d (take count (drop 9 (file mid.0 to))))
             (HasEitherContent (content f) (x f)) (copied_moments f is) (shown mid.0 mid.1) (λ c p. p)
-            (λ c p. ⊎_elim (λ (h : CanLeave d (content c)). inl (sym h.2 ∙ but_content f h.0 is (only.now h.0 h.1))) (λ (h : content c ≡ take count (drop 9 (file mid.0 to))). inr (h ∙ body_is f mid.0 is mid.1)) p)
+            (λ c p. ⊎_elim (λ (h : CanLeave d (content c)). inl (sym h.2 ∙ but_content f h.0 is (only.now h.0 h.1)))
+            (λ (h : content c ≡ take count (drop 9 (file mid.0 to))). inr (h ∙ body_is f mid.0 is mid.1)) p)
 
 pub log_le : (to : ℕ) → (to ≡ 1) ⊎ (to ≡ 2) → to ≤ 2
 log_le to (inl e) = omega (arith, e)

@@ -1,5 +1,6 @@
 -- The steps of an append, over plain disks.
-use Rattle.std.proofs.Common.{◌≡◌, ⊎_elim, inl, inr, ℕ, ◌+◌, ◌^◌, ◌<◌, ◌≤◌, List, [], ◌∷◌, ◌++◌, length, Some, Result, refl, sym, ◌∙◌, ap, subst}
+use Rattle.std.proofs.Common.{◌≡◌, ⊎_elim, inl, inr, ℕ, ◌+◌, ◌^◌, ◌<◌, ◌≤◌, List, [], ◌∷◌, ◌++◌, length, Some, Result, refl, sym, ◌∙◌, ap}
+use Rattle.std.proofs.Common.{subst}
 use Rattle.journal_disk.specs.Files.{Files, TornFile, file, written}
 use Rattle.journal_disk.specs.Images.{DiskState, HasWritten, IsDisk, IsSynced, IsToldAlike, IsWithin, Looks, Only, Writes}
 use Rattle.std.proofs.Common.{false, true}
@@ -7,7 +8,8 @@ use Rattle.journal_store.specs.Content.{content, number}
 use Rattle.journal_store.specs.Ends.{Found, Guarded, IsShut, Staged}
 use Rattle.journal_store.specs.Kept.{HasContent, HasEitherContent, IsOldOr, IsReady, IsSettled, IsStaged, Leaves, Looked, CanLeave}
 use Rattle.journal_store.proofs.Moments.{if_told, joins, now_seen, same_file, started, stayed, still_told, told, was_told, weaker, wrote}
-use Rattle.journal_store.proofs.Writing.{fits_gate, fits_one, fits_three, fits_two, gate_torn, guarded_content, guarded_torn, is_shut, is_staged, found_shut, shut_torn, opened_content, opened_shut, staged_content}
+use Rattle.journal_store.proofs.Writing.{fits_gate, fits_one, fits_three, fits_two, gate_torn, guarded_content, guarded_torn, is_shut}
+use Rattle.journal_store.proofs.Writing.{is_staged, found_shut, shut_torn, opened_content, opened_shut, staged_content}
 
 module _ (log place : ℕ) (bytes : List ℕ) where
   -- ## Behind the gate
@@ -168,11 +170,13 @@ or_old a b x so_far = weaker a b (λ c. CanLeave a (content c)) (IsOldOr a x) so
 pub or_added : (a b c : DiskState) (f : Files) (bytes : List ℕ) → a.seen ≡ Some f → IsToldAlike a.seen b.seen → IsDisk b
     → Leaves (λ c. CanLeave a (content c)) a b
     → ((f g : Files) → a.seen ≡ Some f → b.seen ≡ Some g → content g ≡ content f)
-    → ((g : Files) → b.seen ≡ Some g → Leaves (HasEitherContent (content g) (content g ++ bytes)) b c) → Leaves (IsOldOr a (content f ++ bytes)) a c
+    → ((g : Files) → b.seen ≡ Some g → Leaves (HasEitherContent (content g) (content g ++ bytes)) b c)
+    → Leaves (IsOldOr a (content f ++ bytes)) a c
 or_added a b c f bytes is alike disk so_far same added =
     let g = still_told a.seen b.seen f alike is in
     let eq = same f g.0 is g.1 in
     let stood : CanLeave a (content g.0) = so_far.now g.0 (told b.leaves b.seen g.0 g.1 disk.seen) in
     joins a b c (λ c. CanLeave a (content c)) (HasEitherContent (content g.0) (content g.0 ++ bytes)) (IsOldOr a (content f ++ bytes))
     so_far (added g.0 g.1) (λ e p. inl p)
-    (λ e p. ⊎_elim (λ (h : content e ≡ content g.0). inl (stood.0, stood.1, stood.2 ∙ sym h)) (λ (h : content e ≡ content g.0 ++ bytes). inr (h ∙ ap (λ (x : List ℕ). x ++ bytes) eq)) p)
+    (λ e p. ⊎_elim (λ (h : content e ≡ content g.0). inl (stood.0, stood.1, stood.2 ∙ sym h))
+    (λ (h : content e ≡ content g.0 ++ bytes). inr (h ∙ ap (λ (x : List ℕ). x ++ bytes) eq)) p)

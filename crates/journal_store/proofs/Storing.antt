@@ -1,5 +1,6 @@
 -- What the calls of a store do, from what their parts do.
-use Rattle.std.proofs.Common.{◌≡◌, ◌⊎◌, inl, inr, ⊎_elim, ℕ, Bool, true, false, List, [], Option, Some, None, Result, Ok, Err, refl, sym, ◌∙◌, ap}
+use Rattle.std.proofs.Common.{◌≡◌, ◌⊎◌, inl, inr, ⊎_elim, ℕ, Bool, true, false, List, [], Option, Some, None, Result, Ok, Err, refl, sym}
+use Rattle.std.proofs.Common.{◌∙◌, ap}
 use Rattle.journal_disk.specs.Files.{Files, no_files}
 use Rattle.journal_disk.specs.Images.{DiskState, IsDisk, IsEmptied, IsToldAlike, Opens}
 use Rattle.journal_store.specs.Content.{content}
@@ -36,7 +37,8 @@ module _ (a b : DiskState) (alike : IsToldAlike a.seen b.seen)
         let stood : CanLeave a (content mid.0) = (moments f is).now mid.0 (told b.leaves b.seen mid.0 mid.1 disk.seen) in
         joins a b c (λ c. CanLeave a (content c)) (HasEitherContent (content mid.0) (made (content mid.0))) (IsOldOr a (made (content f)))
         (moments f is) (step mid.0 mid.1) (λ e p. inl p)
-        (λ e p. ⊎_elim (λ (h : content e ≡ content mid.0). inl (stood.0, stood.1, stood.2 ∙ sym h)) (λ (h : content e ≡ made (content mid.0)). inr (h ∙ ap made eq)) p)
+        (λ e p. ⊎_elim (λ (h : content e ≡ content mid.0). inl (stood.0, stood.1, stood.2 ∙ sym h))
+        (λ (h : content e ≡ made (content mid.0)). inr (h ∙ ap made eq)) p)
 
     pub not_changed : {E : Type 0} (d : E) → Changes made a c (Err d)
     not_changed d = record {

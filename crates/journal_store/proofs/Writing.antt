@@ -1,5 +1,7 @@
 -- What a write leaves, whole and torn.
-use Rattle.std.proofs.Common.{◌≡◌, inl, inr, ⊎_elim, ℕ, zero, suc, ◌+◌, ◌-◌, ◌^◌, ◌<◌, ◌≤◌, ◌==◌, ◌⊎◌, max, Bool, true, false, not, cond, List, [], ◌∷◌, ◌++◌, length, take, drop, None, refl, sym, ◌∙◌, ap, subst, arith, append_assoc, length-append, length-drop, take-append-drop}
+use Rattle.std.proofs.Common.{◌≡◌, inl, inr, ⊎_elim, ℕ, zero, suc, ◌+◌, ◌-◌, ◌^◌, ◌<◌, ◌≤◌, ◌==◌, ◌⊎◌, max, Bool, true, false, not, cond}
+use Rattle.std.proofs.Common.{List, [], ◌∷◌, ◌++◌, length, take, drop, None, refl, sym, ◌∙◌, ap, subst, arith, append_assoc, length-append}
+use Rattle.std.proofs.Common.{length-drop, take-append-drop}
 use Rattle.std.proofs.lemmas.List.{take_at, drop_at, drop-drop, length-take-le}
 use Rattle.std.proofs.lemmas.Nat.{from_le_bytes-to_le_bytes_8}
 use Rattle.std.specs.Int.{w64, from_le_bytes}
@@ -60,7 +62,8 @@ torn_after front rest new at size le torn =
 
 -- one byte after a front
 pub torn_byte : (front rest new : List ℕ) (at : ℕ) → length front ≡ at → Torn at 1 (front ++ rest) new
-    → (tail : List ℕ) × (new ≡ front ++ tail) × (drop 1 tail ≡ drop 1 rest) × (length rest ≤ length tail) × (length tail ≤ max (length rest) 1)
+    → (tail : List ℕ) × (new ≡ front ++ tail) × (drop 1 tail ≡ drop 1 rest) × (length rest ≤ length tail)
+    × (length tail ≤ max (length rest) 1)
 torn_byte front rest new at e torn =
     let front_is : take at new ≡ front = torn.before ∙ take_at front rest at e in
     let whole : new ≡ front ++ drop at new = sym (take-append-drop at new) ∙ ap (λ (l : List ℕ). l ++ drop at new) front_is in
@@ -223,16 +226,19 @@ module _ (f : Files) (log place : ℕ) (bytes : List ℕ) (s : IsShut log place 
   -- how long the log is at each write
   pub fits_one : place + 1 ≤ length (file f log)
   fits_one =
-      let long : length (file f log) ≡ length (s.front ++ 0 ∷ s.guarded.following) = ap length s.guarded.is in omega (arith, long, length-append s.front (0 ∷ s.guarded.following), s.place_is)
+      let long : length (file f log) ≡ length (s.front ++ 0 ∷ s.guarded.following) = ap length s.guarded.is in
+      omega (arith, long, length-append s.front (0 ∷ s.guarded.following), s.place_is)
 
   pub fits_two : place + 9 ≤ length (file one log)
   fits_two =
-      let long : length (file one log) ≡ length (second ++ drop 8 s.guarded.following) = ap length (one_is ∙ sym (append_assoc first (number n) (drop 8 s.guarded.following))) in
+      let long : length (file one log) ≡ length (second ++ drop 8 s.guarded.following) =
+      ap length (one_is ∙ sym (append_assoc first (number n) (drop 8 s.guarded.following))) in
       omega (arith, long, length-append second (drop 8 s.guarded.following), length_second)
 
   pub fits_three : place + 9 + n ≤ length (file two log)
   fits_three =
-      let long : length (file two log) ≡ length (third ++ drop n (drop 8 s.guarded.following)) = ap length (two_is ∙ sym (append_assoc second bytes (drop n (drop 8 s.guarded.following)))) in
+      let long : length (file two log) ≡ length (third ++ drop n (drop 8 s.guarded.following)) =
+      ap length (two_is ∙ sym (append_assoc second bytes (drop n (drop 8 s.guarded.following)))) in
       omega (arith, long, length-append third (drop n (drop 8 s.guarded.following)), length_third)
 
   pub is_staged : Staged log place bytes (content f) three
@@ -241,7 +247,8 @@ module _ (f : Files) (log place : ℕ) (bytes : List ℕ) (s : IsShut log place 
       record {
         log_is =
             selected_with two log (put (place + 9 + n) (0 ∷ []) (file two log))
-            (selected_with one log (put (place + 9) bytes (file one log)) (selected_with f log (put (place + 1) (number n) (file f log)) s.guarded.log_is));
+            (selected_with one log (put (place + 9) bytes (file one log))
+            (selected_with f log (put (place + 1) (number n) (file f log)) s.guarded.log_is));
         front = s.front;
         place_is = s.place_is;
         whole = s.whole;
@@ -282,7 +289,8 @@ module _ (f : Files) (log place : ℕ) (bytes x : List ℕ) (short : length byte
     | inr opened ↦
         let is : not (g == 0) ≡ true = grind (arith, nat_tests) in
         inr
-        (ap log_content (sym (append_assoc s.front (g ∷ text) (0 ∷ s.following))) ∙ whole_ends (s.front ++ g ∷ text) (x ++ bytes) (0 ∷ s.following) (text_more g is) (omega arith) (shut_none 0 s.following refl))
+        (ap log_content (sym (append_assoc s.front (g ∷ text) (0 ∷ s.following)))
+        ∙ whole_ends (s.front ++ g ∷ text) (x ++ bytes) (0 ∷ s.following) (text_more g is) (omega arith) (shut_none 0 s.following refl))
   ]
 
   torn_gate : (new tail : List ℕ) → new ≡ s.front ++ tail → drop 1 tail ≡ text_rest → 0 < length tail
@@ -327,7 +335,8 @@ module _ (f : Files) (log place : ℕ) (bytes x : List ℕ) (short : length byte
 
   pub fits_gate : place ≤ length (file f log)
   fits_gate =
-      let is : length (file f log) ≡ length (s.front ++ 0 ∷ text_rest) = ap length s.is in omega (arith, is, length-append s.front (0 ∷ text_rest), s.place_is)
+      let is : length (file f log) ≡ length (s.front ++ 0 ∷ text_rest) = ap length s.is in
+      omega (arith, is, length-append s.front (0 ∷ text_rest), s.place_is)
 
 -- a record whose gate is closed isn't in the content
 pub staged_content : (f : Files) (log place : ℕ) (bytes x : List ℕ) → Staged log place bytes x f → content f ≡ x

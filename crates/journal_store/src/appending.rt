@@ -1,11 +1,13 @@
 //! What is written, and what a crash leaves on the way.
-ghost use Rattle.std.specs.Prelude.{◌≡◌, ◌+◌, ◌≤◌, ◌^◌, ◌++◌, List, ℕ, IfOk, OnOk, Some, false, length};
+ghost use Rattle.std.specs.Prelude.{◌≡◌, ◌+◌, ◌≤◌, ◌^◌, ◌++◌, List, ℕ, IfOk, OnOk, Some, false};
+ghost use Rattle.std.specs.Prelude.{length};
 ghost use Rattle.outside.specs.Causes.{HasCause};
 ghost use Rattle.journal_disk.specs.Files.{Files, file};
 ghost use Rattle.journal_disk.specs.Images.{IsSynced, IsToldAlike, Looks};
 ghost use Rattle.journal_store.specs.Content.{content};
 ghost use Rattle.journal_store.specs.Ends.{Found};
-ghost use Rattle.journal_store.specs.Kept.{HasContent, HasEitherContent, IsOldOr, IsReady, IsStaged, Leaves, Settled, CanLeave};
+ghost use Rattle.journal_store.specs.Kept.{HasContent, HasEitherContent, IsOldOr, IsReady, IsStaged};
+ghost use Rattle.journal_store.specs.Kept.{Leaves, Settled, CanLeave};
 
 use crate::reading::{LogPlace, look};
 use journal_disk::Disk;

@@ -1,5 +1,6 @@
 //! Reads the bytes of the records of a log.
-ghost use Rattle.std.specs.Prelude.{◌≡◌, ◌+◌, ◌≤◌, ◌<◌, ◌++◌, ◌^◌, [], List, ℕ, IfOk, IfSome, OnOk, Some, drop, take};
+ghost use Rattle.std.specs.Prelude.{◌≡◌, ◌+◌, ◌≤◌, ◌<◌, ◌++◌, ◌^◌, [], List, ℕ, IfOk, IfSome, OnOk};
+ghost use Rattle.std.specs.Prelude.{Some, drop, take};
 ghost use Rattle.journal_disk.specs.Files.{Files, file};
 ghost use Rattle.journal_disk.specs.Images.{HasSize, IsWithin};
 ghost use Rattle.journal_store.specs.Compacting.{HasKeepCause};

@@ -1,5 +1,6 @@
 //! Makes the other log the one that is read.
-ghost use Rattle.std.specs.Prelude.{◌≡◌, ◌⊎◌, ◌+◌, ◌-◌, ◌≤◌, ◌^◌, ◌∷◌, ◌++◌, [], Bool, List, ℕ, IfOk, IfSome, OnOk, Some, drop, length, take, true};
+ghost use Rattle.std.specs.Prelude.{◌≡◌, ◌⊎◌, ◌+◌, ◌-◌, ◌≤◌, ◌^◌, ◌∷◌, ◌++◌, [], Bool, List, ℕ};
+ghost use Rattle.std.specs.Prelude.{IfOk, IfSome, OnOk, Some, drop, length, take, true};
 ghost use Rattle.outside.specs.Causes.{HasCause};
 ghost use Rattle.journal_disk.specs.Files.{Files, file, with_file};
 ghost use Rattle.journal_disk.specs.Images.{HasWritten, IsSynced, IsToldAlike, IsWithin};

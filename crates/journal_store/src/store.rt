@@ -4,7 +4,8 @@ ghost use Rattle.journal_disk.specs.Files.{Files};
 ghost use Rattle.journal_disk.specs.Images.{IsToldAlike, has_path};
 ghost use Rattle.journal_store.specs.Compacting.{HasKeepCause};
 ghost use Rattle.journal_store.specs.Content.{content};
-ghost use Rattle.journal_store.specs.Kept.{AtEachMoment, Changes, IsReady, IsSettled, IsStored, Leaves, CanLeave, opened};
+ghost use Rattle.journal_store.specs.Kept.{AtEachMoment, Changes, IsReady, IsSettled, IsStored};
+ghost use Rattle.journal_store.specs.Kept.{Leaves, CanLeave, opened};
 
 use crate::appending::{append, open};
 use crate::gathering::read_content;

@@ -1,6 +1,7 @@
-ghost use Rattle.std.specs.Prelude.{ℕ, Bool, ◌≡◌, ◌+◌, ◌≤◌, [], true, false, find, length, OnOk, Ok, Err, if◌then◌else◌};
+ghost use Rattle.std.specs.Prelude.{ℕ, Bool, ◌≡◌, ◌+◌, ◌≤◌, [], true, false, find, length, OnOk, Ok};
+ghost use Rattle.std.specs.Prelude.{Err, if◌then◌else◌};
 ghost use Rattle.number_lists.specs.Rising.{AreRising, with_number};
-ghost use Rattle.number_lists.specs.Under.{has};
+ghost use Rattle.number_lists.specs.UnderName.{has};
 ghost use Rattle.marked_delete.specs.Left.{left};
 ghost use Rattle.scm_model.specs.declared.codes.TheConstants.{ERROR_SERVICE_MARKED_FOR_DELETE};
 
@@ -80,9 +81,11 @@ impl Leaving {
     /// Marks a service, or answers that it is marked. It takes no memory.
     pub fn mark(&mut self, service: u64) -> Result<(), u32>
         requires { has self.old.items service ≡ false → 1 ≤ self.old.room }
-        ensures told { result ≡ (if has self.old.items service then Err ERROR_SERVICE_MARKED_FOR_DELETE else Ok tt) }
+        ensures told { result ≡ (if has self.old.items service
+            then Err ERROR_SERVICE_MARKED_FOR_DELETE else Ok tt) }
         ensures items { self.new.items ≡ with_number self.old.items service }
-        ensures held { length self.old.items + self.old.room ≤ length self.new.items + self.new.room }
+        ensures held { length self.old.items + self.old.room ≤ length self.new.items
+            + self.new.room }
     {
         let told = if self.marked.contains(service) {
             Err(ERROR_SERVICE_MARKED_FOR_DELETE)
@@ -98,7 +101,8 @@ impl Leaving {
         requires { F.ready who.now }
         ensures first { result ≡ find (F.free who.now) self.old.items }
         ensures items { self.new.items ≡ left result self.old.items }
-        ensures held { length self.old.items + self.old.room ≤ length self.new.items + self.new.room }
+        ensures held { length self.old.items + self.old.room ≤ length self.new.items
+            + self.new.room }
     {
         let service = first_free(self.marked.as_slice(), who)?;
         self.marked.remove(service);

@@ -10,8 +10,8 @@ use std::alloc::Global;
 use std::marker::Model;
 use std::mem::replace;
 
-/// The registrations, in the order of their services, and those of one service in the order in which they came. Contracts see
-/// them, and for how many more there is room.
+/// The registrations, in the order of their services, and those of one service in the order in
+/// which they came. Contracts see them, and for how many more there is room.
 #[derive(Drop)]
 pub struct NotifyQueue {
     rows: Vec<NotifyRow>,
@@ -41,7 +41,8 @@ impl NotifyQueue {
         }
     }
 
-    /// Makes room for a registration more, and for the name that it will be told, unless there is room.
+    /// Makes room for a registration more, and for the name that it will be told, unless there is
+    /// room.
     pub fn reserve(&mut self, alloc: Global) -> Result<(), OutOfMemory>
         ensures rows { self.new.rows ≡ self.old.rows }
         ensures room { OnOk result (1 ≤ self.new.spare) }
@@ -69,7 +70,8 @@ impl NotifyQueue {
         );
     }
 
-    /// Adds a registration, which is told of an event of a service at once, where it waits for it. It takes no memory.
+    /// Adds a registration, which is told of an event of a service at once, where it waits for it.
+    /// It takes no memory.
     pub fn register_told(
         &mut self,
         number: u64,
@@ -83,7 +85,13 @@ impl NotifyQueue {
     )
         requires room { 1 ≤ self.old.spare }
         requires short { length name.now ≤ 256 }
-        ensures { self.new.rows ≡ put_in (notified (record { service = of; bit = bit; status = status; name = name.now }) (new_registration number caller service mask)) self.old.rows }
+        ensures { self.new.rows ≡ put_in (notified (record {
+          service = of;
+          bit = bit;
+          status = status;
+          name = name.now;
+        }) (new_registration number caller service mask))
+            self.old.rows }
     {
         let made = replace(&mut self.made, None).unwrap();
         let mut row = NotifyRow::new(number, caller, service, mask, made);
@@ -91,17 +99,23 @@ impl NotifyQueue {
         put_in(&mut self.rows, row);
     }
 
-    /// Tells the registrations that wait for an event of it. It looks only at those of the service, where 0 stands for the
-    /// manager, and takes no memory.
+    /// Tells the registrations that wait for an event of it. It looks only at those of the service,
+    /// where 0 stands for the manager, and takes no memory.
     pub fn note(&mut self, service: u64, bit: u32, status: ProcessStatus, name: &WText)
         requires { length name.now ≤ 256 }
-        ensures rows { self.new.rows ≡ noted (record { service = service; bit = bit; status = status; name = name.now }) self.old.rows }
+        ensures rows { self.new.rows ≡ noted (record {
+          service = service;
+          bit = bit;
+          status = status;
+          name = name.now;
+        }) self.old.rows }
         ensures spare { self.new.spare ≡ self.old.spare }
     {
         note_in(&mut self.rows, service, bit, status, name);
     }
 
-    /// Takes the event that a registration was told of; none where it was told of none, or is absent. It takes no memory.
+    /// Takes the event that a registration was told of; none where it was told of none, or is
+    /// absent. It takes no memory.
     pub fn take_results(&mut self, number: u64) -> Option<Notice>
         ensures notice { result ≡ notice_of number self.old.rows }
         ensures rows { self.new.rows ≡ map (taken_if number) self.old.rows }

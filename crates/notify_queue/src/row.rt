@@ -115,7 +115,12 @@ impl NotifyRow {
     /// Tells of an event, where it waits for it. It takes no memory.
     pub fn note(&mut self, service: u64, bit: u32, status: ProcessStatus, name: &WText)
         requires { length name.now ≤ 256 }
-        ensures { self.new ≡ notified (record { service = service; bit = bit; status = status; name = name.now }) self.old }
+        ensures { self.new ≡ notified (record {
+          service = service;
+          bit = bit;
+          status = status;
+          name = name.now;
+        }) self.old }
     {
         if self.service == service && self.fired == 0 && !self.spent && self.mask & bit != 0 {
             self.fired = bit;
@@ -124,7 +129,8 @@ impl NotifyRow {
         }
     }
 
-    /// Takes the event that it was told of, if it has this number, and else gives what was taken before. No second event comes.
+    /// Takes the event that it was told of, if it has this number, and else gives what was taken
+    /// before. No second event comes.
     pub fn take(&mut self, number: u64, before: Option<Notice>) -> Option<Notice>
         ensures notice { result ≡ if self.old.number == number then notice_at self.old else before }
         ensures row { self.new ≡ taken_if number self.old }

@@ -1,4 +1,5 @@
-ghost use Rattle.std.specs.Prelude.{◌≡◌, ◌==◌, ◌≤◌, ◌<◌, not, filter, length, map, vec_capacity, vec_len};
+ghost use Rattle.std.specs.Prelude.{◌≡◌, ◌==◌, ◌≤◌, ◌<◌, not, filter, length, map, vec_capacity};
+ghost use Rattle.std.specs.Prelude.{vec_len};
 ghost use Rattle.std.specs.List.Sorted.{IsNonDecreasingBy, IsPartitionPoint};
 ghost use Rattle.scm_model.specs.Notices.{noted, put_in, taken_if};
 ghost use Rattle.notify_queue.specs.Queued.{notice_of};
@@ -10,7 +11,8 @@ use scm_text::WText;
 /// Where the rows begin whose services are no longer below one.
 fn begin_of(rows: &[NotifyRow], service: u64) -> usize
     requires { IsNonDecreasingBy (λ row. row.service) rows.now }
-    ensures begins { IsPartitionPoint (λ row. row.service < service) (λ row. service ≤ row.service) rows.now result }
+    ensures begins { IsPartitionPoint (λ row. row.service < service)
+        (λ row. service ≤ row.service) rows.now result }
     ensures within { result ≤ length rows.now }
 {
     rows.partition_point(|row| row.service() < service)
@@ -19,7 +21,8 @@ fn begin_of(rows: &[NotifyRow], service: u64) -> usize
 /// Where the rows end whose services are not yet above one.
 fn end_of(rows: &[NotifyRow], service: u64) -> usize
     requires { IsNonDecreasingBy (λ row. row.service) rows.now }
-    ensures ends { IsPartitionPoint (λ row. row.service ≤ service) (λ row. service < row.service) rows.now result }
+    ensures ends { IsPartitionPoint (λ row. row.service ≤ service)
+        (λ row. service < row.service) rows.now result }
     ensures within { result ≤ length rows.now }
 {
     rows.partition_point(|row| row.service() <= service)
@@ -35,7 +38,12 @@ pub fn note_in(
 )
     requires sorted { IsNonDecreasingBy (λ row. row.service) rows.old.items }
     requires short { length name.now ≤ 256 }
-    ensures rows { rows.new.items ≡ noted (record { service = service; bit = bit; status = status; name = name.now }) rows.old.items }
+    ensures rows { rows.new.items ≡ noted (record {
+      service = service;
+      bit = bit;
+      status = status;
+      name = name.now;
+    }) rows.old.items }
     ensures capacity { vec_capacity rows.new ≡ vec_capacity rows.old }
     ensures len { vec_len rows.new ≡ vec_len rows.old }
 {

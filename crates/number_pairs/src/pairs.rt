@@ -1,7 +1,9 @@
-ghost use Rattle.std.specs.Prelude.{◌≡◌, ◌+◌, ◌<◌, ◌≤◌, [], true, false, IsOk, OnErr, OnOk, filter, length, vec_capacity, vec_len};
+ghost use Rattle.std.specs.Prelude.{◌≡◌, ◌+◌, ◌<◌, ◌≤◌, [], true, false, IsOk, OnErr, OnOk, filter};
+ghost use Rattle.std.specs.Prelude.{length, vec_capacity, vec_len};
 ghost use Rattle.number_lists.specs.Rising.{with_number, without_number};
 ghost use Rattle.number_lists.specs.Rising as numbers;
-ghost use Rattle.number_pairs.specs.Keyed.{AreRising, ChangesUnder, has_key, has_pair, numbers_under, with_pair, without_pair};
+ghost use Rattle.number_pairs.specs.Keyed.{AreRising, ChangesUnder, has_key, has_pair};
+ghost use Rattle.number_pairs.specs.Keyed.{numbers_under, with_pair, without_pair};
 
 use scm_text::OutOfMemory;
 use std::alloc::Global;

@@ -25,7 +25,8 @@ impl Clock for FixedClock {
     }
 }
 
-/// The system's clock, in milliseconds since some moment before the start. It tells nothing of its moments.
+/// The system's clock, in milliseconds since some moment before the start. It tells nothing of its
+/// moments.
 #[derive(Drop)]
 pub struct SystemClock<R: time::Clock> {
     clock: R,

@@ -1,5 +1,5 @@
-//! What stands outside: where bytes come from and go to, and what tells moments. An object that can fail counts its faults,
-//! and a call that fails has raised the count.
+//! What stands outside: where bytes come from and go to, and what tells moments. An object that can
+//! fail counts its faults, and a call that fails has raised the count.
 #![tactic(auto)]
 
 mod clock;

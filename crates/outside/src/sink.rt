@@ -1,4 +1,5 @@
-ghost use Rattle.std.specs.Prelude.{◌≡◌, ◌≤◌, ◌<◌, ◌+◌, ◌-◌, ◌^◌, ℕ, List, [], length, max, min, Option, Some, None, IfOk, is_err, vec_capacity, vec_len};
+ghost use Rattle.std.specs.Prelude.{◌≡◌, ◌≤◌, ◌<◌, ◌+◌, ◌-◌, ◌^◌, ℕ, List, [], length, max, min};
+ghost use Rattle.std.specs.Prelude.{Option, Some, None, IfOk, is_err, vec_capacity, vec_len};
 ghost use Rattle.std.specs.Io.KnownBytes.{WriteAppends, Keeps};
 ghost use Rattle.outside.specs.Causes.{HasCause};
 ghost use Rattle.outside.specs.Fates.{IsTold, fails_next};
@@ -49,8 +50,8 @@ pub fn write_all<T: Sink>(sink: &mut T, bytes: &[u8]) -> Result<(), Failed>
     Ok(())
 }
 
-/// Bytes that were written, in memory, in pieces of one size at most. Each `true` of `fails`, taken from its end, is a
-/// call that fails; no other does, but a write that finds no memory.
+/// Bytes that were written, in memory, in pieces of one size at most. Each `true` of `fails`, taken
+/// from its end, is a call that fails; no other does, but a write that finds no memory.
 #[derive(Drop)]
 pub struct MemorySink {
     bytes: Vec<u8>,
@@ -95,8 +96,8 @@ impl MemorySink {
         MemorySink::behind(Vec::new(alloc), piece, fails)
     }
 
-    /// Holds these bytes at first, and finds room in their vector. It takes so many bytes at a time at most, and one at
-    /// least.
+    /// Holds these bytes at first, and finds room in their vector. It takes so many bytes at a time
+    /// at most, and one at least.
     pub fn behind(bytes: Vec<u8>, piece: usize, fails: Vec<bool>) -> Self
         ensures held { result.held ≡ bytes.items }
         ensures room { result.room ≡ vec_capacity bytes - vec_len bytes }

@@ -1,4 +1,5 @@
-ghost use Rattle.std.specs.Prelude.{◌≡◌, ◌≤◌, ◌-◌, ◌^◌, ℕ, List, Option, Some, None, IfOk, IsOk, is_err, length, max, min, take};
+ghost use Rattle.std.specs.Prelude.{◌≡◌, ◌≤◌, ◌-◌, ◌^◌, ℕ, List, Option, Some, None, IfOk, IsOk};
+ghost use Rattle.std.specs.Prelude.{is_err, length, max, min, take};
 ghost use Rattle.std.specs.Io.KnownBytes.{ReadConsumes};
 ghost use Rattle.outside.specs.Causes.{HasCause};
 ghost use Rattle.outside.specs.Fates.{IsTold, fails_next};
@@ -34,8 +35,8 @@ fn give(rest: &[u8], piece: usize, into: &mut [u8]) -> usize
     count
 }
 
-/// Bytes in memory, given in pieces of one size at most. Each `true` of `fails`, taken from its end, is a call that fails;
-/// no other does.
+/// Bytes in memory, given in pieces of one size at most. Each `true` of `fails`, taken from its
+/// end, is a call that fails; no other does.
 #[derive(Drop)]
 pub struct MemorySource {
     bytes: Vec<u8>,
@@ -138,7 +139,8 @@ impl<'a> Source for SliceSource<'a> {
 
     fn read(&mut self, into: &mut [u8]) -> Result<usize, Failed>
         ensures bound { IfOk result (λ n. n ≤ length into.new) }
-        ensures bytes { ReadConsumes (Some self.old.rest.now) (Some self.new.rest.now) result into.new }
+        ensures bytes { ReadConsumes (Some self.old.rest.now)
+            (Some self.new.rest.now) result into.new }
         ensures cause { HasCause 0 0 result }
         ensures no_fault { IsOk result }
     {

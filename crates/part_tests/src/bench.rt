@@ -94,7 +94,8 @@ fn is_up(service: Option<&Service>) -> bool
 
 /// Whether a group has a RUNNING member.
 fn has_running(rows: &[Service], group: &WText) -> bool
-    ensures { result ≡ list_any is_running (filter (λ row. same_text row.config.group group.now) rows.now) }
+    ensures { result ≡ list_any is_running (filter (λ row. same_text row.config.group group.now)
+        rows.now) }
 {
     rows.iter()
         .filter(|row| same(&row.config.group, group))
@@ -121,7 +122,15 @@ fn start_in(rows: &mut Vec<Service>, number: u64, process: u64)
 
 /// A status of this type in a state.
 pub fn status(kind: u32, state: u32) -> Status
-    ensures { result ≡ record { kind = kind; state = state; accepted = 0; win32 = 0; specific = 0; checkpoint = 0; hint = 0 } }
+    ensures { result ≡ record {
+      kind = kind;
+      state = state;
+      accepted = 0;
+      win32 = 0;
+      specific = 0;
+      checkpoint = 0;
+      hint = 0;
+    } }
 {
     Status {
         kind,
@@ -215,7 +224,8 @@ impl Bench {
     }
 
     fn entering(&self, row: &Service) -> Entering
-        ensures { result ≡ entering_at (cause_at self.now.1 self.now.0 false (Some row.now)) (is_some self.now.0.lock) }
+        ensures { result ≡ entering_at (cause_at self.now.1 self.now.0 false (Some row.now))
+            (is_some self.now.0.lock) }
     {
         if row.marked {
             return Entering::No(1072);

@@ -63,7 +63,8 @@ fn put_parts(
     requires room { room.old.room ≡ 8 }
     ensures { OnOk result (IsAcyclic (needs_of index.new.rows)) }
 {
-    index.reserve(alloc, &parts.name, &parts.group, &parts.needs)?;
+    index.prepare(alloc, &parts.name, &parts.group, &parts.needs)?;
+    index.commit();
     if 7 < index.len() || index.would_cycle(number, &parts.name, &parts.group, &parts.needs, room) {
         return Err("a cycle".into());
     }

@@ -1,5 +1,6 @@
 -- The first word of a line that has one.
-use Rattle.std.proofs.Common.{ℕ, ◌≡◌, ◌==◌, ◌&&◌, not, Bool, true, false, cond, List, [], ◌∷◌, ◌++◌, refl, sym, ap, ◌∙◌, subst, append_assoc, append-nil, true≢false}
+use Rattle.std.proofs.Common.{ℕ, ◌≡◌, ◌==◌, ◌&&◌, not, Bool, true, false, cond, List, [], ◌∷◌, ◌++◌, refl, sym, ap, ◌∙◌, subst}
+use Rattle.std.proofs.Common.{append_assoc, append-nil, true≢false}
 use Rattle.std.proofs.lemmas.Bool.{eqb-true}
 use Rattle.service_record.specs.Words.{word_from, first_word, has_word}
 use Rattle.process_runner.specs.Commands.{command_words}
@@ -16,10 +17,14 @@ GoesOn line = (word : List ℕ) (quoted : Bool) → BeginsWith (words_after true
 
 on_unit : (line : List ℕ) → GoesOn line → (word : List ℕ) (u : ℕ) (quoted quote space : Bool)
     → BeginsWith
-    (cond quote (words_after true word (not quoted) line) (cond space (begun_word true word ++ words_after false [] false line) (words_after true (word ++ u ∷ []) quoted line)))
+    (cond quote (words_after true word (not quoted) line) (cond space (begun_word true word ++ words_after false [] false line)
+    (words_after true (word ++ u ∷ []) quoted line)))
     (word ++ cond quote (word_from (not quoted) line) (cond space [] (u ∷ word_from quoted line)))
 on_unit line on word u quoted true space = on word (not quoted)
-on_unit line on word u quoted false true = (words_after false [] false line, ap (λ w. w ∷ words_after false [] false line) (sym (append-nil word)))
+on_unit line on word u quoted false true = (
+  words_after false [] false line,
+  ap (λ w. w ∷ words_after false [] false line) (sym (append-nil word)),
+)
 on_unit line on word u quoted false false =
     let h = on (word ++ u ∷ []) quoted in
     (h.0, h.1 ∙ ap (λ w. w ∷ h.0) (append_assoc word (u ∷ []) (word_from quoted line)))
@@ -45,13 +50,15 @@ unfolding words_after
 with_unit line u other =
     let h = word_on (u ∷ line) [] false in (
       h.0,
-      same_else (u == 34) (u == 32 && true) (words_after true [] true line) (words_after false [] false line) ([] ∷ words_after false [] false line) (words_after true (u ∷ []) false line)
+      same_else (u == 34) (u == 32 && true) (words_after true [] true line) (words_after false [] false line)
+          ([] ∷ words_after false [] false line) (words_after true (u ∷ []) false line)
           (ap (λ s. s && true) other) ∙ h.1,
     )
 
 at_unit : (line : List ℕ) (u : ℕ) → (u == 32) ≡ false → Begins (u ∷ line)
 unfolding first_word
-at_unit line u at h = subst (BeginsWith (words_after false [] false (u ∷ line))) (sym (ap (λ s. cond s (first_word line) (word_from false (u ∷ line))) at)) (with_unit line u at)
+at_unit line u at h = subst (BeginsWith (words_after false [] false (u ∷ line)))
+    (sym (ap (λ s. cond s (first_word line) (word_from false (u ∷ line))) at)) (with_unit line u at)
 
 by_first : (line : List ℕ) → Begins line → (u : ℕ) (space : Bool) → (u == 32) ≡ space → Begins (u ∷ line)
 by_first line first u true at = subst (λ c. Begins (c ∷ line)) (sym (eqb-true u 32 at)) (behind_space line first)

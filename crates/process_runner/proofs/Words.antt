@@ -1,5 +1,6 @@
 -- A command line that is read unit by unit gives its words.
-use Rattle.std.proofs.Common.{arith, ℕ, ◌≡◌, ◌≤◌, ◌==◌, ◌&&◌, not, Bool, true, false, cond, List, [], ◌∷◌, ◌++◌, map, filter, length, drop, refl, sym, ap, ap₂, ◌∙◌, subst, append_assoc, append-nil, true≢false}
+use Rattle.std.proofs.Common.{arith, ℕ, ◌≡◌, ◌≤◌, ◌==◌, ◌&&◌, not, Bool, true, false, cond, List, [], ◌∷◌, ◌++◌, map, filter, length, drop}
+use Rattle.std.proofs.Common.{refl, sym, ap, ap₂, ◌∙◌, subst, append_assoc, append-nil, true≢false}
 use Rattle.std.specs.List.{slice_split, onto_first}
 use Rattle.std.proofs.lemmas.Bool.{eqb-true, ne_eqb}
 use Rattle.std.proofs.lemmas.List.{map-append, length-append}
@@ -26,15 +27,18 @@ onto_run : (run : List Placed) (parts : List (List Placed)) → onto run ([] ∷
 onto_run [] parts = refl
 onto_run (placed ∷ run) parts = ap (onto_first placed) (onto_run run parts)
 
-onto_more : (run : List Placed) (placed : Placed) (parts : List (List Placed)) → onto (run ++ placed ∷ []) parts ≡ onto run (onto_first placed parts)
+onto_more : (run : List Placed) (placed : Placed) (parts : List (List Placed))
+    → onto (run ++ placed ∷ []) parts ≡ onto run (onto_first placed parts)
 onto_more [] placed parts = refl
 onto_more (first ∷ run) placed parts = ap (onto_first first) (onto_more run placed parts)
 
-keep_if : (b : Bool) (run : List Placed) (parts : List (List Placed)) → map unquoted (cond b (run ∷ parts) parts) ≡ begun_word b (unquoted run) ++ map unquoted parts
+keep_if : (b : Bool) (run : List Placed) (parts : List (List Placed)) →
+    map unquoted (cond b (run ∷ parts) parts) ≡ begun_word b (unquoted run) ++ map unquoted parts
 keep_if true run parts = refl
 keep_if false run parts = refl
 
-read_run : (run : List Placed) (parts : List (List Placed)) → read (onto run ([] ∷ parts)) ≡ begun_word (is_run run) (unquoted run) ++ read parts
+read_run : (run : List Placed) (parts : List (List Placed)) → read (onto run ([] ∷ parts)) ≡ begun_word (is_run run) (unquoted run)
+    ++ read parts
 read_run run parts = ap read (onto_run run parts) ∙ keep_if (is_run run) run (filter is_run parts)
 
 run_more : (run : List Placed) (placed : Placed) → is_run (run ++ placed ∷ []) ≡ true
@@ -57,21 +61,31 @@ closed false quoted e = absurd (true≢false (sym e))
 
 -- what is to be read of the rest of a line, behind any run
 abbrev Reads : List ℕ → Type 0
-Reads line = (run : List Placed) (quoted : Bool) → words_after (is_run run) (unquoted run) quoted line ≡ read (onto run (parts_from quoted line))
+Reads line = (run : List Placed) (quoted : Bool) → words_after (is_run run) (unquoted run) quoted line ≡ read
+    (onto run (parts_from quoted line))
 
 -- one unit more of a run
-goes_on : (line : List ℕ) → Reads line → (run : List Placed) (quoted : Bool) (placed : Placed) (word : List ℕ) → unquoted (placed ∷ []) ≡ word
+goes_on : (line : List ℕ) → Reads line → (run : List Placed) (quoted : Bool) (placed : Placed) (word : List ℕ)
+    → unquoted (placed ∷ []) ≡ word
     → words_after true (unquoted run ++ word) quoted line ≡ read (onto run (onto_first placed (parts_from quoted line)))
 goes_on line reads run quoted placed word is =
-    ap₂ (λ begun units. words_after begun units quoted line) (sym (run_more run placed)) (sym (unquoted_more run placed ∙ ap (λ units. unquoted run ++ units) is))
+    ap₂ (λ begun units. words_after begun units quoted line) (sym (run_more run placed))
+    (sym (unquoted_more run placed ∙ ap (λ units. unquoted run ++ units) is))
     ∙ reads (run ++ placed ∷ []) quoted
     ∙ ap read (onto_more run placed (parts_from quoted line))
 
-by_unit : (line : List ℕ) → Reads line → (run : List Placed) (quoted : Bool) (u : ℕ) (quote outer : Bool) → (u == 34) ≡ quote → (u == 32 && not quoted) ≡ outer
+by_unit : (line : List ℕ) → Reads line → (run : List Placed) (quoted : Bool) (u : ℕ) (quote outer : Bool) → (u == 34) ≡ quote
+    → (u == 32 && not quoted) ≡ outer
     → cond quote (words_after true (unquoted run) (not quoted) line)
-    (cond outer (begun_word (is_run run) (unquoted run) ++ words_after false [] false line) (words_after true (unquoted run ++ u ∷ []) quoted line))
-    ≡ read (onto run (slice_split (λ placed. placed.is_outer_space) (record { unit = u; is_outer_space = outer } ∷ placed_from (cond quote (not quoted) quoted) line)))
-by_unit line reads run quoted u true true at is = absurd (omega (arith, eqb-true u 34 at, eqb-true u 32 (left_is (u == 32) (not quoted) is)))
+    (cond outer (begun_word (is_run run) (unquoted run) ++ words_after false [] false line)
+    (words_after true (unquoted run ++ u ∷ []) quoted line))
+    ≡ read (onto run (slice_split (λ placed. placed.is_outer_space) (record { unit = u; is_outer_space = outer } ∷ placed_from
+    (cond quote (not quoted) quoted) line)))
+by_unit line reads run quoted u true true at is = absurd (omega (
+  arith,
+  eqb-true u 34 at,
+  eqb-true u 32 (left_is (u == 32) (not quoted) is),
+))
 by_unit line reads run quoted u true false at is =
     ap (λ units. words_after true units (not quoted) line) (sym (append-nil (unquoted run)))
     ∙ goes_on line reads run (not quoted) (record { unit = u; is_outer_space = false }) [] (ap (λ same. cond (not same) (u ∷ []) []) at)
@@ -92,7 +106,8 @@ pub words_are : (line : List ℕ) → words_after false [] false line ≡ comman
 words_are line = reads_all line [] false
 
 -- at the end of a line no word is to come but the one that has begun
-pub all_read : (s : Splitting) (line : List ℕ) (place : ℕ) → length line ≤ place → all_words s (drop place line) ≡ map utf8_of (words_after false [] false line)
+pub all_read : (s : Splitting) (line : List ℕ) (place : ℕ) → length line ≤ place
+    → all_words s (drop place line) ≡ map utf8_of (words_after false [] false line)
     → s.done ++ map utf8_of (begun_word s.begun s.word.items) ≡ map utf8_of (command_words line)
 unfolding words_after
 all_read s line place end told = ap (all_words s) (sym (drop_of_length-le line end)) ∙ told ∙ ap (map utf8_of) (words_are line)

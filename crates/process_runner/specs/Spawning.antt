@@ -37,7 +37,8 @@ started_after (Ok child) words started = started ++ words ∷ []
 started_after (Err fault) words started = started
 
 -- where the object tells what was started, it tells these words too
-abbrev pub Starts : {C : Type 0} → Option (List (List (List ℕ))) → Option (List (List (List ℕ))) → Result C SpawnFault → List (List ℕ) → Type 0
+abbrev pub Starts : {C : Type 0} → Option (List (List (List ℕ))) → Option (List (List (List ℕ))) → Result C SpawnFault → List (List ℕ)
+    → Type 0
 Starts None now result words = ⊤
 Starts (Some before) now result words = now ≡ Some (started_after result words before)
 

@@ -1,6 +1,7 @@
 ghost use Rattle.std.specs.Prelude.{◌≡◌, [], ◌∷◌, ◌++◌, IfOk, OnErr, OnOk, Some};
 ghost use Rattle.outside.specs.Fates.{later};
-ghost use Rattle.process_runner.specs.Spawning.{ComesTo, Starts, WillGive, faults_after, next_start, no_faults};
+ghost use Rattle.process_runner.specs.Spawning.{ComesTo, Starts, WillGive, faults_after, next_start};
+ghost use Rattle.process_runner.specs.Spawning.{no_faults};
 
 use super::spawning::{SpawnFault, SpawnFaults, Spawned, Spawner};
 use child_link::MemoryLink;
@@ -68,12 +69,6 @@ impl MemorySpawner {
         ensures { result.now ≡ self.now.started }
     {
         self.started.as_slice()
-    }
-
-    pub fn faults(&self) -> SpawnFaults
-        ensures { result ≡ self.now.faults }
-    {
-        self.faults
     }
 
     /// Keeps the words of a program that is started.

@@ -1,5 +1,6 @@
 -- What can be replayed leaves configurations that a manager can begin with.
-use Rattle.std.proofs.Common.{ℕ, zero, suc, ◌≡◌, ◌∙◌, ◌<◌, ◌≤◌, ◌==◌, ◌&&◌, ◌||◌, not, Bool, true, false, cond, List, [], ◌∷◌, ◌++◌, None, filter, map, get_or, length, length-append, refl, sym, ap, subst, arith, eqb-true, ltb-true, nat_lt}
+use Rattle.std.proofs.Common.{ℕ, zero, suc, ◌≡◌, ◌∙◌, ◌<◌, ◌≤◌, ◌==◌, ◌&&◌, ◌||◌, not, Bool, true, false, cond, List, [], ◌∷◌, ◌++◌, None}
+use Rattle.std.proofs.Common.{filter, map, get_or, length, length-append, refl, sym, ap, subst, arith, eqb-true, ltb-true, nat_lt}
 use Rattle.std.specs.Prelude.{All, AllPairs}
 use Rattle.std.specs.List.{list_any}
 use Rattle.std.proofs.lemmas.Bool.{and_parts}
@@ -81,19 +82,22 @@ fits configs config fit =
     record { checked = eqb-true (check_new config None) 0 p.0; shown = none_passes (shows_as config) configs (not_true _ p.1) }
 
 -- a display name that no other service has, under another name
-other_display : (config old : Config) → shows_as config old ≡ false → same_text old.name config.name ≡ false → same_text old.display config.display ≡ false
+other_display : (config old : Config) → shows_as config old ≡ false → same_text old.name config.name ≡ false
+    → same_text old.display config.display ≡ false
 other_display config old unshown other =
     elim (same_text old.display config.display) as (λ b. (b && not (same_text old.name config.name)) ≡ false → b ≡ false) [
       | true ↦ λ h. absurd (let t = ap not other in cc)
       | false ↦ λ h. refl
     ] unshown
 
-free : (configs : List Config) (change : Change) → stays_acyclic configs change ≡ true → is_cyclic (needs_in (after_change configs change)) ≡ false
+free : (configs : List Config) (change : Change) → stays_acyclic configs change ≡ true
+    → is_cyclic (needs_in (after_change configs change)) ≡ false
 free configs change h = not_true _ h
 
 -- ## Created
 
-created : (configs : List Config) (config : Config) → CanBegin configs → can_replay configs (Created config) ≡ true → CanBegin (configs ++ config ∷ [])
+created : (configs : List Config) (config : Config) → CanBegin configs → can_replay configs (Created config) ≡ true
+    → CanBegin (configs ++ config ∷ [])
 created configs config begins can = record {
   under = λ l many.
       let whole = and_parts _ (stays_acyclic configs (Created config)) can in
@@ -103,9 +107,11 @@ created configs config begins can = record {
       let others = none_passes (has_name config.name) configs (not_true _ place.0) in
       let old = begins.under l many in
       record {
-        few = let long = length-append configs (config ∷ []) in let lt = ltb-true (length configs) 512 place.1 in omega (arith, long, lt, many);
+        few = let long = length-append configs (config ∷ []) in let lt = ltb-true (length configs) 512 place.1 in
+            omega (arith, long, lt, many);
         names = all_pairs_push HasOtherName configs config old.names (λ k d lt. others k d lt);
-        displays = all_pairs_push HasOtherDisplay configs config old.displays (λ k d lt. other_display config (get_or configs k d) (ok.shown k d lt) (others k d lt));
+        displays = all_pairs_push HasOtherDisplay configs config old.displays
+            (λ k d lt. other_display config (get_or configs k d) (ok.shown k d lt) (others k d lt));
         checked = All-push (λ (c : Config). check_new c None ≡ 0) configs config old.checked ok.checked;
         acyclic = ends_acyclic (needs_in (configs ++ config ∷ [])) (free configs (Created config) whole.1);
       };
@@ -122,10 +128,12 @@ both_replaced config a b left right other =
     let same : same_text a.name b.name ≡ true = same_with a.name config.name b.name left ∙ same_swap config.name b.name ∙ right in cc
 
 apart : (text : Config → List ℕ) (config a b : Config) → HasOtherName a b → same_text (text a) (text b) ≡ false
-    → (same_text a.name config.name ≡ false → same_text (text a) (text config) ≡ false) → (same_text b.name config.name ≡ false → same_text (text b) (text config) ≡ false)
+    → (same_text a.name config.name ≡ false → same_text (text a) (text config) ≡ false)
+    → (same_text b.name config.name ≡ false → same_text (text b) (text config) ≡ false)
     → same_text (text (replaced_by config a)) (text (replaced_by config b)) ≡ false
 apart text config a b names other left right =
-    elim (same_text a.name config.name) as (λ s. same_text a.name config.name ≡ s → AreOther text config s a (same_text b.name config.name) b) [
+    elim (same_text a.name config.name) as (λ s. same_text a.name config.name ≡ s
+    → AreOther text config s a (same_text b.name config.name) b) [
       | true ↦ λ is. elim (same_text b.name config.name) as (λ t. same_text b.name config.name ≡ t → AreOther text config true a t b) [
         | true ↦ λ too. absurd (both_replaced config a b is too names)
         | false ↦ λ differs. same_swap (text config) (text b) ∙ right differs
@@ -136,17 +144,22 @@ apart text config a b names other left right =
       ] refl
     ] refl
 
-pairs_replaced : (text : Config → List ℕ) (config : Config) (configs : List Config) → AllPairs HasOtherName configs → AllPairs (λ a b. same_text (text a) (text b) ≡ false) configs
+pairs_replaced : (text : Config → List ℕ) (config : Config) (configs : List Config) → AllPairs HasOtherName configs
+    → AllPairs (λ a b. same_text (text a) (text b) ≡ false) configs
     → All (λ (a : Config). same_text a.name config.name ≡ false → same_text (text a) (text config) ≡ false) configs
     → AllPairs (λ a b. same_text (text a) (text b) ≡ false) (map (replaced_by config) configs)
 pairs_replaced text config configs names others each i j d lt within =
     let short : j < length configs = simp length-map at within in
     let shorter : i < length configs = omega (arith, lt, short) in
-    subst (λ (a : Config). same_text (text a) (text (get_or (map (replaced_by config) configs) j d)) ≡ false) (sym (get_or-map (replaced_by config) configs i d d shorter))
-    (subst (λ (b : Config). same_text (text (replaced_by config (get_or configs i d))) (text b) ≡ false) (sym (get_or-map (replaced_by config) configs j d d short))
-    (apart text config (get_or configs i d) (get_or configs j d) (names i j d lt short) (others i j d lt short) (each i d shorter) (each j d short)))
+    subst (λ (a : Config). same_text (text a) (text (get_or (map (replaced_by config) configs) j d)) ≡ false)
+    (sym (get_or-map (replaced_by config) configs i d d shorter))
+    (subst (λ (b : Config). same_text (text (replaced_by config (get_or configs i d))) (text b) ≡ false)
+    (sym (get_or-map (replaced_by config) configs j d d short))
+    (apart text config (get_or configs i d) (get_or configs j d) (names i j d lt short) (others i j d lt short) (each i d shorter)
+    (each j d short)))
 
-changed : (configs : List Config) (config : Config) → CanBegin configs → can_replay configs (Changed config) ≡ true → CanBegin (map (replaced_by config) configs)
+changed : (configs : List Config) (config : Config) → CanBegin configs → can_replay configs (Changed config) ≡ true
+    → CanBegin (map (replaced_by config) configs)
 changed configs config begins can = record {
   under = λ l many.
       let whole = and_parts _ (stays_acyclic configs (Changed config)) can in
@@ -156,9 +169,11 @@ changed configs config begins can = record {
       record {
         few = let long = length-map configs (replaced_by config) in let few = old.few in omega (arith, long, few);
         names = pairs_replaced (λ c. c.name) config configs old.names old.names (λ k d lt h. h);
-        displays = pairs_replaced (λ c. c.display) config configs old.names old.displays (λ k d lt h. other_display config (get_or configs k d) (ok.shown k d lt) h);
+        displays = pairs_replaced (λ c. c.display) config configs old.names old.displays
+            (λ k d lt h. other_display config (get_or configs k d) (ok.shown k d lt) h);
         checked = All-map (λ (c : Config). check_new c None ≡ 0) (replaced_by config) configs
-            (λ k d lt. elim (same_text (get_or configs k d).name config.name) as (λ s. check_new (cond s config (get_or configs k d)) None ≡ 0) [ true ↦ ok.checked | false ↦ old.checked k d lt ]);
+            (λ k d lt. elim (same_text (get_or configs k d).name config.name) as (λ s. check_new
+            (cond s config (get_or configs k d)) None ≡ 0) [ true ↦ ok.checked | false ↦ old.checked k d lt ]);
         acyclic = ends_acyclic (needs_in (map (replaced_by config) configs)) (free configs (Changed config) whole.1);
       };
 }
@@ -169,9 +184,13 @@ shorter : (p : Config → Bool) (configs : List Config) → length (filter p con
 shorter p [] = omega arith
 shorter p (c ∷ configs) =
     let rest = shorter p configs in
-    elim (p c) as (λ b. length (cond b (c ∷ filter p configs) (filter p configs)) ≤ suc (length configs)) [ true ↦ omega (arith, rest) | false ↦ omega (arith, rest) ]
+    elim (p c) as (λ b. length (cond b (c ∷ filter p configs) (filter p configs)) ≤ suc (length configs)) [
+      | true ↦ omega (arith, rest)
+      | false ↦ omega (arith, rest)
+    ]
 
-removed : (configs : List Config) (name : List ℕ) → CanBegin configs → CanBegin (filter (λ (old : Config). not (same_text old.name name)) configs)
+removed : (configs : List Config) (name : List ℕ) → CanBegin configs → CanBegin
+    (filter (λ (old : Config). not (same_text old.name name)) configs)
 removed configs name begins = record {
   under = λ l many.
       let p = λ (old : Config). not (same_text old.name name) in
@@ -185,7 +204,8 @@ removed configs name begins = record {
       };
 }
 
-pub begins_with : (configs : List Config) (change : Change) → CanBegin configs → can_replay configs change ≡ true → CanBegin (after_change configs change)
+pub begins_with : (configs : List Config) (change : Change) → CanBegin configs → can_replay configs change ≡ true
+    → CanBegin (after_change configs change)
 begins_with configs (Created config) begins can = created configs config begins can
 begins_with configs (Changed config) begins can = changed configs config begins can
 begins_with configs (Removed name) begins can = removed configs name begins

@@ -1,5 +1,6 @@
 -- A journal with a changed byte is read with all its bytes, or not at all.
-use Rattle.std.proofs.Common.{ℕ, zero, suc, ◌≡◌, ◌∙◌, ◌<◌, ◌≤◌, ◌-◌, not, true, false, cond, List, [], ◌∷◌, ◌++◌, Option, None, Some, Ok, Err, take, drop, set, length, append_assoc, refl, sym, ap, subst, arith, nat_lt, le-ltb, eqb, ⊎_elim}
+use Rattle.std.proofs.Common.{ℕ, zero, suc, ◌≡◌, ◌∙◌, ◌<◌, ◌≤◌, ◌-◌, not, true, false, cond, List, [], ◌∷◌, ◌++◌, Option, None, Some, Ok}
+use Rattle.std.proofs.Common.{Err, take, drop, set, length, append_assoc, refl, sym, ap, subst, arith, nat_lt, le-ltb, eqb, ⊎_elim}
 use Rattle.std.specs.Prelude.{Result, is_ok, option_and_then, option_map}
 use Rattle.std.specs.Int.{w32, from_le_bytes}
 use Rattle.std.specs.List.{flat_map, starts_with}
@@ -9,9 +10,11 @@ use Rattle.scm_model.specs.declared.flat.Config.{Config}
 use Rattle.scm_model.specs.declared.steps.Change.{Change}
 use Rattle.scm_model.specs.declared.steps.Change.TheVariants.{Created, Changed, Removed}
 use Rattle.service_record.specs.Reading.{Item, take_config, take_text, whole_of}
-use Rattle.service_record.specs.Spelling.{FitsNumber, number, spelling, text}
+use Rattle.service_record.specs.Spelling.{FitsNumber, number, encoding, text}
 use Rattle.service_record.proofs.Fields.{a_number, ok_is}
-use Rattle.record_journal.specs.Entries.{Entries, Whole, all_from, can_grow, change_in, entries_from, first_of, followed, if_read, is_unfinished, last_of, name_of, read_journal, replay_of, replayable, whole_entry, with_body, with_change}
+use Rattle.record_journal.specs.Entries.{Entries, Whole, all_from, can_grow, change_in, entries_from, first_of, followed, if_read}
+use Rattle.record_journal.specs.Entries.{is_unfinished, last_of, name_of, read_journal, replay_of, replayable, whole_entry, with_body}
+use Rattle.record_journal.specs.Entries.{with_change}
 use Rattle.record_journal.specs.Format.{HasEntry, body_of, entry_bytes, entry_kind, header}
 use Rattle.record_journal.specs.ReadBack.{AreReplayable, IsNotCut, held_change, written}
 use Rattle.record_journal.specs.Replay.{after_change}
@@ -119,10 +122,10 @@ body_same : (change : Change) → HasEntry change → (front after rest : List �
     → change_in (entry_kind change) front ≡ Some other → front ++ after ≡ body_of change ++ rest → after ≡ rest
 body_same (Created config) entry front after rest other is parts =
     let p = of_read Created (whole_of front) other is in
-    rest_same take_config config_reader front after (spelling config) rest parts (config_read front p.0 p.1) (config_ends config entry.body)
+    rest_same take_config config_reader front after (encoding config) rest parts (config_read front p.0 p.1) (config_ends config entry.body)
 body_same (Changed config) entry front after rest other is parts =
     let p = of_read Changed (whole_of front) other is in
-    rest_same take_config config_reader front after (spelling config) rest parts (config_read front p.0 p.1) (config_ends config entry.body)
+    rest_same take_config config_reader front after (encoding config) rest parts (config_read front p.0 p.1) (config_ends config entry.body)
 body_same (Removed name) entry front after rest other is parts =
     let p = of_read Removed (name_of front) other is in
     rest_same take_text text_reader front after (text name) rest parts (name_read front p.0 p.1) (name_ends name entry.body)
@@ -132,8 +135,8 @@ has_read : {A : Type 0} (read : List ℕ → Item A) → IsReader read → (body
 has_read {A} read one body rest y = ap (λ (r : Item A). is_ok r) (still read one body rest y.item y.is)
 
 body_grown : (change : Change) → HasEntry change → (rest : List ℕ) → can_grow (entry_kind change) (body_of change ++ rest) ≡ false
-body_grown (Created config) entry rest = ap not (has_read take_config config_reader (spelling config) rest (config_ends config entry.body))
-body_grown (Changed config) entry rest = ap not (has_read take_config config_reader (spelling config) rest (config_ends config entry.body))
+body_grown (Created config) entry rest = ap not (has_read take_config config_reader (encoding config) rest (config_ends config entry.body))
+body_grown (Changed config) entry rest = ap not (has_read take_config config_reader (encoding config) rest (config_ends config entry.body))
 body_grown (Removed name) entry rest = ap not (has_read take_text text_reader (text name) rest (name_ends name entry.body))
 
 -- ## An entry that is changed

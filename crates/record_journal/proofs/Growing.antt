@@ -13,7 +13,8 @@ is_long : (change : Change) (changes : List Change) → 0 < length (journal_byte
 unfolding entry_bytes
 is_long change changes = omega arith
 
-one : (old : List Change) (change : Change) → journal_bytes old ++ piece (length (journal_bytes old)) change ≡ journal_bytes (old ++ change ∷ [])
+one : (old : List Change) (change : Change) → journal_bytes old ++ piece (length (journal_bytes old)) change ≡ journal_bytes (old
+    ++ change ∷ [])
 unfolding piece
 one [] change = sym (append-nil (header ++ entry_bytes change))
 one (first ∷ old) change =

@@ -1,5 +1,6 @@
 -- What is less than an entry, and what is a part of one.
-use Rattle.std.proofs.Common.{◌≡◌, ℕ, ◌<◌, ◌≤◌, ◌-◌, ◌==◌, not, true, false, cond, List, [], ◌∷◌, ◌++◌, length, take, drop, None, Ok, Err, refl, sym, ap, subst, ◌∙◌, append_assoc, arith, lt-ltb, eqb-true, ne_eqb}
+use Rattle.std.proofs.Common.{◌≡◌, ℕ, ◌<◌, ◌≤◌, ◌-◌, ◌==◌, not, true, false, cond, List, [], ◌∷◌, ◌++◌, length, take, drop, None, Ok, Err}
+use Rattle.std.proofs.Common.{refl, sym, ap, subst, ◌∙◌, append_assoc, arith, lt-ltb, eqb-true, ne_eqb}
 use Rattle.std.specs.Prelude.{Result, is_ok}
 use Rattle.std.proofs.lemmas.List.{append-nil, drop_at, length-append, take-append-drop, take_at}
 use Rattle.scm_model.specs.declared.flat.Config.{Config}
@@ -8,7 +9,7 @@ use Rattle.scm_model.specs.declared.steps.Change.TheVariants.{Created, Changed, 
 use Rattle.service_record.specs.Reading.{◌>>=◌, Item, Tells, placed, record_of, take_config, take_front, take_number, take_text, whole_of}
 use Rattle.service_record.specs.declared.reading.RecordFault.{RecordFault}
 use Rattle.service_record.specs.declared.reading.RecordFault.TheVariants as faults
-use Rattle.service_record.specs.Spelling.{FitsNumber, FitsText, IsConfig, held, number, spelling, text}
+use Rattle.service_record.specs.Spelling.{FitsNumber, FitsText, IsConfig, held, number, encoding, text}
 use Rattle.service_record.proofs.Fields.{a_number, bind_ok, ok_is}
 use Rattle.service_record.proofs.Records.{record_again}
 use Rattle.service_record.proofs.Texts.{a_text}
@@ -142,10 +143,10 @@ ends_of read bytes y is =
     let b = bind_ok (read bytes) ended y is in
     record { item = b.0; is = b.1; end = all_read b.0 y b.2 }
 
-pub config_ends : (config : Config) → IsConfig config → Ends take_config (spelling config)
+pub config_ends : (config : Config) → IsConfig config → Ends take_config (encoding config)
 config_ends config fits =
-    let whole = placed_ok (length (spelling config)) (whole_of (spelling config)) (held config) (record_again config fits) in
-    ends_of take_config (spelling config) (held config) (sym (whole_is (spelling config)) ∙ whole)
+    let whole = placed_ok (length (encoding config)) (whole_of (encoding config)) (held config) (record_again config fits) in
+    ends_of take_config (encoding config) (held config) (sym (whole_is (encoding config)) ∙ whole)
 
 pub name_ends : (name : List ℕ) → FitsText name → Ends take_text (text name)
 name_ends name fits = record { item = (name, []); is = ap take_text (sym (append-nil (text name))) ∙ a_text.again name [] fits; end = refl }
@@ -159,9 +160,9 @@ not_read read one bytes front more y is some = not_yet read one front more y.ite
 body_grows : (change : Change) → HasEntry change → (front more : List ℕ) → body_of change ≡ front ++ more → 1 ≤ length more
     → can_grow (entry_kind change) front ≡ true
 body_grows (Created config) entry front more is some = ap not
-    (not_read take_config config_reader (spelling config) front more (config_ends config entry.body) is some)
+    (not_read take_config config_reader (encoding config) front more (config_ends config entry.body) is some)
 body_grows (Changed config) entry front more is some = ap not
-    (not_read take_config config_reader (spelling config) front more (config_ends config entry.body) is some)
+    (not_read take_config config_reader (encoding config) front more (config_ends config entry.body) is some)
 body_grows (Removed name) entry front more is some = ap not
     (not_read take_text text_reader (text name) front more (name_ends name entry.body) is some)
 

@@ -1,11 +1,13 @@
 -- What is read of a configuration or a name is read whatever stands after it.
-use Rattle.std.proofs.Common.{◌≡◌, ℕ, zero, suc, ◌*◌, ◌≤◌, ◌==◌, ◌||◌, true, false, List, [], ◌∷◌, ◌++◌, length, take, drop, Ok, Err, refl, sym, ap, subst, ◌∙◌, append_assoc, arith, nat_lt, cond}
+use Rattle.std.proofs.Common.{◌≡◌, ℕ, zero, suc, ◌*◌, ◌≤◌, ◌==◌, ◌||◌, true, false, List, [], ◌∷◌, ◌++◌, length, take, drop, Ok, Err, refl}
+use Rattle.std.proofs.Common.{sym, ap, subst, ◌∙◌, append_assoc, arith, nat_lt, cond}
 use Rattle.std.specs.Int.{w32, from_le_bytes}
 use Rattle.std.specs.List.{list_any}
 use Rattle.std.proofs.lemmas.Bool.{ltb-false, le-ltb, or_parts}
 use Rattle.std.proofs.lemmas.List.{drop_at, length-append, length-take-le, take-append-drop, take_at}
 use Rattle.ndr_body.specs.Units.{half, le_units}
-use Rattle.service_record.specs.Reading.{◌>>=◌, Item, take_action, take_back, take_config, take_counted, take_flag, take_front, take_items, take_middle, take_need, take_number, take_text}
+use Rattle.service_record.specs.Reading.{◌>>=◌, Item, take_action, take_back, take_config, take_counted, take_flag, take_front, take_items}
+use Rattle.service_record.specs.Reading.{take_middle, take_need, take_number, take_text}
 use Rattle.service_record.proofs.Fields.{bind_ok, guard_ok, ok_is}
 
 -- the front of some bytes that was read, and read again before anything else

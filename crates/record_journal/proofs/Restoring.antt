@@ -1,5 +1,6 @@
 -- What the opening of a journal leaves.
-use Rattle.std.proofs.Common.{ℕ, zero, suc, ◌≡◌, ◌∙◌, ⊎_elim, inr, Bool, true, false, List, [], Option, None, Some, Ok, Err, take, refl, subst}
+use Rattle.std.proofs.Common.{ℕ, zero, suc, ◌≡◌, ◌∙◌, ⊎_elim, inr, Bool, true, false, List, [], Option, None, Some, Ok, Err, take, refl}
+use Rattle.std.proofs.Common.{subst}
 use Rattle.outside.specs.declared.Failed.{Failed}
 use Rattle.std.specs.Prelude.{Result}
 use Rattle.std.specs.Io.KnownBytes.{Keeps}
@@ -23,9 +24,11 @@ nothing_left : (now : List ℕ) (result : Result Restored JournalFault) → Leav
 nothing_left now (Ok opened) leaves = leaves ∙ take_nothing opened.journal.good
 nothing_left now (Err (faults.Damaged place)) leaves = leaves
 nothing_left now (Err faults.OutOfMemory) leaves = leaves
-nothing_left now (Err faults.Failed) leaves = ⊎_elim (λ (same : now ≡ []). same) (λ (p : (replay : Replay) × (read_journal [] ≡ Ok replay) × (now ≡ take replay.kept [])). p.2 ∙ take_nothing p.0.kept) leaves
+nothing_left now (Err faults.Failed) leaves = ⊎_elim (λ (same : now ≡ []). same)
+    (λ (p : (replay : Replay) × (read_journal [] ≡ Ok replay) × (now ≡ take replay.kept [])). p.2 ∙ take_nothing p.0.kept) leaves
 
-emptied : (old opened now last : Told) (result : Result Restored JournalFault) → IsEmptied old opened → Keeps opened now → IsUntold opened now → LeavesAll now last result → IsUntold now last → IsEmptied old last
+emptied : (old opened now last : Told) (result : Result Restored JournalFault) → IsEmptied old opened → Keeps opened now
+    → IsUntold opened now → LeavesAll now last result → IsUntold now last → IsEmptied old last
 emptied old None None None result empty keeps untold leaves after = empty
 emptied old None None (Some last) result empty keeps untold leaves after = absurd after
 emptied old None (Some now) last result empty keeps untold leaves after = absurd untold
@@ -38,10 +41,13 @@ either_way : (old last : Told) (result : Result Restored JournalFault) → IsEmp
 either_way old last (Ok opened) empty = empty
 either_way old last (Err fault) empty = inr empty
 
-pub leaves_opened : (path : Bool) (old opened now last : Told) (result : Result Restored JournalFault) → Opens {E = Failed} path old opened (Ok tt) → Keeps opened now → IsUntold opened now
+pub leaves_opened : (path : Bool) (old opened now last : Told) (result : Result Restored JournalFault)
+    → Opens {E = Failed} path old opened (Ok tt) → Keeps opened now → IsUntold opened now
     → LeavesAll now last result → IsUntold now last → Leaves path old last result
 leaves_opened true None opened now last result opens keeps untold leaves after = tt
 leaves_opened true (Some held) None now last result opens keeps untold leaves after = absurd opens
 leaves_opened true (Some held) (Some bytes) None last result opens keeps untold leaves after = absurd keeps
-leaves_opened true (Some held) (Some bytes) (Some now) last result opens keeps untold leaves after = subst (λ (b : List ℕ). LeavesAll (Some b) last result) (keeps ∙ opens) leaves
-leaves_opened false old opened now last result opens keeps untold leaves after = either_way old last result (emptied old opened now last result opens keeps untold leaves after)
+leaves_opened true (Some held) (Some bytes) (Some now) last result opens keeps untold leaves after =
+    subst (λ (b : List ℕ). LeavesAll (Some b) last result) (keeps ∙ opens) leaves
+leaves_opened false old opened now last result opens keeps untold leaves after =
+    either_way old last result (emptied old opened now last result opens keeps untold leaves after)

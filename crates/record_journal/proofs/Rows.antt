@@ -1,5 +1,6 @@
 -- Services as the rows of their needs.
-use Rattle.std.proofs.Common.{Bor, ℕ, ◌≡◌, ◌∙◌, ◌<◌, ◌==◌, ◌||◌, true, false, cond, List, [], ◌∷◌, None, Some, is_some, filter, find, map, length, refl, sym, ap, eqb, eqb-true, eq-eqb, ne_eqb}
+use Rattle.std.proofs.Common.{Bor, ℕ, ◌≡◌, ◌∙◌, ◌<◌, ◌==◌, ◌||◌, true, false, cond, List, [], ◌∷◌, None, Some, is_some, filter, find, map}
+use Rattle.std.proofs.Common.{length, refl, sym, ap, eqb, eqb-true, eq-eqb, ne_eqb}
 use Rattle.std.specs.Prelude.{Bool, Option, option_and_then, option_copied, option_map, slice_get}
 use Rattle.std.specs.List.{AllByRecursion}
 use Rattle.std.proofs.lemmas.List.{length-map}
@@ -9,7 +10,7 @@ use Rattle.scm_model.specs.declared.flat.Need.TheVariants as kinds
 use Rattle.scm_model.specs.declared.flat.NeedRow.{NeedRow}
 use Rattle.scm_model.specs.declared.flat.Service.{Service}
 use Rattle.scm_model.specs.Needs.{has, is_met, numbers_of, row_needs}
-use Rattle.dependency_index.specs.Met.{IsListOf}
+use Rattle.dependency_index.specs.Resolved.{IsListOf}
 use Rattle.dependency_index.specs.Needs.{number_if_met}
 use Rattle.row_slab.specs.Rowed.{AreRisingBy}
 use Rattle.record_table.specs.Recorded.{has_number, is_member, is_named, number_of, numbers_with}

@@ -1,5 +1,6 @@
 -- What stands of a journal, whatever stood before.
-use Rattle.std.proofs.Common.{◌≡◌, ⊎_elim, ℕ, ◌+◌, Bool, true, false, List, [], ◌++◌, length, take, Option, None, Some, Ok, Err, refl, sym, ap, ◌∙◌, subst, append-nil, length-append}
+use Rattle.std.proofs.Common.{◌≡◌, ⊎_elim, ℕ, ◌+◌, Bool, true, false, List, [], ◌++◌, length, take, Option, None, Some, Ok, Err, refl, sym}
+use Rattle.std.proofs.Common.{ap, ◌∙◌, subst, append-nil, length-append}
 use Rattle.std.proofs.Math.Seq.{take-append_seam}
 use Rattle.outside.specs.Written.{Begins}
 use Rattle.outside.specs.declared.Failed.{Failed}
@@ -39,10 +40,18 @@ more change j (Some bytes) None puts (Some good) bears = absurd puts
 
 -- nothing is a front of any piece
 any_tail : (good tail : List ℕ) (dirty : Bool) (change : Change) → HasEntry change → Tail good dirty tail → Tail good true tail
-any_tail good tail false change fits part = (change, fits, (piece (length good) change, sym (ap (λ (t : List ℕ). t ++ piece (length good) change) part)))
+any_tail good tail false change fits part = (
+  change,
+  fits,
+  (
+    piece (length good) change,
+    sym (ap (λ (t : List ℕ). t ++ piece (length good) change) part),
+  ),
+)
 any_tail good tail true change fits part = part
 
-left : (good bytes now : List ℕ) (j : Journal) (change : Change) → HasEntry change → now ≡ bytes → Borne good j bytes → Borne good (broken j) now
+left : (good bytes now : List ℕ) (j : Journal) (change : Change) → HasEntry change → now ≡ bytes → Borne good j bytes
+    → Borne good (broken j) now
 left good bytes now j change fits is borne = record {
   tail = borne.tail;
   holds = is ∙ borne.holds;
@@ -51,7 +60,8 @@ left good bytes now j change fits is borne = record {
 }
 
 -- a front of a piece more stands behind what is kept
-part_more : (good bytes now front : List ℕ) (j : Journal) (change : Change) → HasEntry change → Begins front (piece j.good change) → now ≡ kept_of j bytes ++ front → Borne good j bytes
+part_more : (good bytes now front : List ℕ) (j : Journal) (change : Change) → HasEntry change → Begins front (piece j.good change)
+    → now ≡ kept_of j bytes ++ front → Borne good j bytes
     → Borne good (broken j) now
 part_more good bytes now front j change fits begins is borne = record {
   tail = front;
@@ -60,7 +70,8 @@ part_more good bytes now front j change fits begins is borne = record {
   long = borne.long;
 }
 
-pub same : (change : Change) (j : Journal) (told told' : Option (List ℕ)) (fault : Failed) → HasEntry change → Puts (piece j.good change) j told told' (Err fault)
+pub same : (change : Change) (j : Journal) (told told' : Option (List ℕ)) (fault : Failed) → HasEntry change
+    → Puts (piece j.good change) j told told' (Err fault)
     → BearsSame j told (broken j) told'
 unfolding BearsSame
 same change j told told' fault fits puts None bears = tt
@@ -78,7 +89,8 @@ unchanged j told good bears = bears
 
 -- ## For those that cite it
 
-pub bears_more : (change : Change) (j j' : Journal) (told told' good : Option (List ℕ)) → BearsMore change j told j' told' → Bears good j told
+pub bears_more : (change : Change) (j j' : Journal) (told told' good : Option (List ℕ)) → BearsMore change j told j' told'
+    → Bears good j told
     → Bears (and_change good change) j' told'
 unfolding BearsMore
 bears_more change j j' told told' good more bears = more good bears
@@ -89,5 +101,10 @@ bears_same j j' told told' good same bears = same good bears
 
 -- a keeper that was opened without a path bears the journal of nothing
 pub bears_empty : (old told : Option (List ℕ)) → IsEmptied old told → Bears told (record { good = 0; dirty = false }) told
-bears_empty old (Some now) is = record { tail = []; holds = sym (append-nil now); part = refl; long = sym (ap (λ (bytes : List ℕ). length bytes) is) }
+bears_empty old (Some now) is = record {
+  tail = [];
+  holds = sym (append-nil now);
+  part = refl;
+  long = sym (ap (λ (bytes : List ℕ). length bytes) is);
+}
 bears_empty old None is = tt

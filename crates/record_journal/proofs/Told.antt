@@ -1,5 +1,6 @@
 -- What is told of a change is whether it can be replayed.
-use Rattle.std.proofs.Common.{ℕ, ◌≡◌, ◌∙◌, ◌<◌, ◌&&◌, not, ◌==◌, Bool, true, false, cond, List, [], ◌∷◌, ◌++◌, Some, filter, map, length, refl, sym, ap, subst, nat_lt, lt-ltb}
+use Rattle.std.proofs.Common.{ℕ, ◌≡◌, ◌∙◌, ◌<◌, ◌&&◌, not, ◌==◌, Bool, true, false, cond, List, [], ◌∷◌, ◌++◌, Some, filter, map, length}
+use Rattle.std.proofs.Common.{refl, sym, ap, subst, nat_lt, lt-ltb}
 use Rattle.std.specs.List.{AllByRecursion, list_any}
 use Rattle.std.proofs.lemmas.List.{map-append}
 use Rattle.std.proofs.lemmas.List.Elements.{All-from_recursion}

@@ -1,5 +1,6 @@
 -- What a keeper holds of a journal, where it tells its bytes.
-use Rattle.std.specs.Prelude.{ℕ, ◌≡◌, ◌⊎◌, ◌+◌, Bool, true, false, List, [], ◌++◌, fold, length, take, Option, None, Some, Result, Ok, Err, if◌then◌else◌}
+use Rattle.std.specs.Prelude.{ℕ, ◌≡◌, ◌⊎◌, ◌+◌, Bool, true, false, List, [], ◌++◌, fold, length, take, Option, None, Some, Result, Ok, Err}
+use Rattle.std.specs.Prelude.{if◌then◌else◌}
 use Rattle.outside.specs.Written.{Begins}
 use Rattle.scm_model.specs.declared.steps.Change.{Change}
 use Rattle.record_journal.specs.Format.{HasEntry, piece}
@@ -31,7 +32,8 @@ abbrev pub Puts : {E : Type 0} → List ℕ → Journal → Option (List ℕ) �
 Puts piece j None now result = Unit {0}
 Puts piece j (Some bytes) None result = ⊥
 Puts piece j (Some bytes) (Some now) (Ok done) = now ≡ kept_of j bytes ++ piece
-Puts piece j (Some bytes) (Some now) (Err fault) = (now ≡ bytes) ⊎ ((front : List ℕ) × Begins front piece × (now ≡ kept_of j bytes ++ front))
+Puts piece j (Some bytes) (Some now) (Err fault) = (now ≡ bytes) ⊎ ((front : List ℕ) × Begins front piece
+    × (now ≡ kept_of j bytes ++ front))
 
 -- ## What is kept, call by call
 

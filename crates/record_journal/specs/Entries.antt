@@ -1,5 +1,6 @@
 -- The entries of a journal's bytes.
-use Rattle.std.specs.Prelude.{ℕ, zero, suc, ◌≡◌, Bool, true, false, not, ◌&&◌, ◌==◌, ◌-◌, eqb, nat_lt, List, [], ◌∷◌, take, drop, length, Option, None, Some, option_and_then, option_map, Result, Ok, Err, is_ok, ◌||◌, if◌then◌else◌}
+use Rattle.std.specs.Prelude.{ℕ, zero, suc, ◌≡◌, Bool, true, false, not, ◌&&◌, ◌==◌, ◌-◌, eqb, nat_lt, List, [], ◌∷◌, take, drop, length}
+use Rattle.std.specs.Prelude.{Option, None, Some, option_and_then, option_map, Result, Ok, Err, is_ok, ◌||◌, if◌then◌else◌}
 use Rattle.std.specs.List.{list_any, starts_with}
 use Rattle.scm_text.specs.Fold.{same_text}
 use Rattle.scm_model.specs.declared.flat.Config.{Config}

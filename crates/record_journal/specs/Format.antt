@@ -3,7 +3,7 @@ use Rattle.std.specs.Prelude.{ℕ, ◌==◌, List, [], ◌∷◌, ◌++◌, leng
 use Rattle.std.specs.List.{flat_map}
 use Rattle.scm_model.specs.declared.steps.Change.{Change}
 use Rattle.scm_model.specs.declared.steps.Change.TheVariants.{Created, Changed, Removed}
-use Rattle.service_record.specs.Spelling.{IsConfig, FitsNumber, FitsText, number, spelling, text}
+use Rattle.service_record.specs.Spelling.{IsConfig, FitsNumber, FitsText, number, encoding, text}
 
 -- `SCMJ`, and 1 for the form
 abbrev pub header : List ℕ
@@ -16,8 +16,8 @@ entry_kind (Removed name) = 3
 
 -- a configuration, or a name
 abbrev pub body_of : Change → List ℕ
-body_of (Created config) = spelling config
-body_of (Changed config) = spelling config
+body_of (Created config) = encoding config
+body_of (Changed config) = encoding config
 body_of (Removed name) = text name
 
 -- the kind, the length of the body, and the body

@@ -1,5 +1,6 @@
 -- A keeper in memory: its bytes, and what becomes of its calls.
-use Rattle.std.specs.Prelude.{ℕ, zero, suc, ◌≡◌, ◌-◌, Bool, true, false, IsTrue, List, length, take, Result, Err, slice_index_or, if◌then◌else◌}
+use Rattle.std.specs.Prelude.{ℕ, zero, suc, ◌≡◌, ◌-◌, Bool, true, false, IsTrue, List, length, take, Result, Err, slice_index_or}
+use Rattle.std.specs.Prelude.{if◌then◌else◌}
 use Rattle.outside.specs.Fates.{later, one_more}
 use Rattle.record_journal.specs.declared.memory.Fate.{Fate}
 use Rattle.record_journal.specs.declared.memory.Fate.TheVariants.{Succeeds, Fails}

@@ -1,5 +1,6 @@
 ghost use Rattle.std.specs.Prelude.{◌≡◌, ◌++◌, OnOk, IfOk, IsOk};
-ghost use Rattle.record_journal.specs.Format.{HasBody, HasEntry, body_of, entry_bytes, entry_kind, front_at, piece};
+ghost use Rattle.record_journal.specs.Format.{HasBody, HasEntry, body_of, entry_bytes, entry_kind};
+ghost use Rattle.record_journal.specs.Format.{front_at, piece};
 ghost use Rattle.service_record.specs.Spelling.{FitsText, text};
 
 use scm_model::Change;

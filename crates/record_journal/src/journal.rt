@@ -1,7 +1,9 @@
-ghost use Rattle.std.specs.Prelude.{◌≡◌, ◌≤◌, ◌<◌, ◌+◌, ◌^◌, [], Some, length, true, false, OnOk, OnErr, IsErrOf};
+ghost use Rattle.std.specs.Prelude.{◌≡◌, ◌≤◌, ◌<◌, ◌+◌, ◌^◌, [], Some, length, true, false, OnOk};
+ghost use Rattle.std.specs.Prelude.{OnErr, IsErrOf};
 ghost use Rattle.outside.specs.Causes.{HasCause, Rose};
 ghost use Rattle.outside.specs.Written.{Writes};
-ghost use Rattle.record_journal.specs.Bearing.{Bears, BearsMore, BearsSame, Mends, Puts, broken, journal_grown};
+ghost use Rattle.record_journal.specs.Bearing.{Bears, BearsMore, BearsSame, Mends, Puts, broken};
+ghost use Rattle.record_journal.specs.Bearing.{journal_grown};
 ghost use Rattle.record_journal.specs.Format.{HasEntry, piece};
 
 use crate::entry::piece;
@@ -87,7 +89,8 @@ impl Journal {
             (BearsSame self.old (K.held keeper.old) self.new (K.held keeper.new)) }
         ensures bytes { Puts (piece self.old.good change.now) self.old
             (K.held keeper.old) (K.held keeper.new) result }
-        ensures journal_grown { OnOk result (self.new ≡ journal_grown self.old (piece self.old.good change.now)) }
+        ensures journal_grown { OnOk result (self.new ≡ journal_grown self.old
+            (piece self.old.good change.now)) }
         ensures fits { OnOk result (HasEntry change.now) }
         ensures broken { IsErrOf result KeepFault.Failed → self.new ≡ broken self.old }
         ensures memory { IsErrOf result KeepFault.OutOfMemory → self.new ≡ self.old }

@@ -1,9 +1,11 @@
-ghost use Rattle.std.specs.Prelude.{◌≡◌, ◌≤◌, ◌+◌, ◌-◌, ◌++◌, Some, IsTrue, IfOk, OnOk, OnErr, IsErrOf, is_err, length, vec_capacity, vec_len};
+ghost use Rattle.std.specs.Prelude.{◌≡◌, ◌≤◌, ◌+◌, ◌-◌, ◌++◌, Some, IsTrue, IfOk, OnOk, OnErr};
+ghost use Rattle.std.specs.Prelude.{IsErrOf, is_err, length, vec_capacity, vec_len};
 ghost use Rattle.std.specs.Io.KnownBytes.{Keeps};
 ghost use Rattle.outside.specs.Causes.{HasCause, Rose};
 ghost use Rattle.outside.specs.Fates.{later, one_more};
 ghost use Rattle.outside.specs.Written.{Writes};
-ghost use Rattle.record_journal.specs.InMemory.{IsTold, cut_told, fails_next, front_told, has_failed, next_fate};
+ghost use Rattle.record_journal.specs.InMemory.{IsTold, cut_told, fails_next, front_told};
+ghost use Rattle.record_journal.specs.InMemory.{has_failed, next_fate};
 ghost use Rattle.record_journal.specs.Keepers.{Cuts, Opens, has_path};
 
 use super::keeper::{KeepFault, Keeper};

@@ -2,7 +2,7 @@
 ghost use Rattle.std.specs.Prelude.{◌≡◌, ◌<◌, ◌+◌, ◌^◌, ◌==◌, []};
 ghost use Rattle.std.specs.Prelude.{find, option_map, option_and_then, slice_get};
 ghost use Rattle.std.specs.Prelude.{IfOk, IfSome, OnOk};
-ghost use Rattle.dependency_index.specs.Met.{IsListOf};
+ghost use Rattle.dependency_index.specs.Resolved.{IsListOf};
 ghost use Rattle.dependency_index.specs.Needs.{number_if_met, new_need_row};
 ghost use Rattle.scm_model.specs.Needs.{has, needs_of, numbers_of, row_needs, with_row};
 ghost use Rattle.scm_model.specs.Order.{is_cyclic};

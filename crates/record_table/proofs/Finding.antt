@@ -1,5 +1,6 @@
 -- Services found by number.
-use Rattle.std.proofs.Common.{ℕ, ◌≡◌, ◌<◌, ◌∙◌, Bool, true, false, not, cond, List, [], ◌∷◌, Option, Some, None, refl, sym, ap, subst, eqb, filter, find, map, arith, inl, inr}
+use Rattle.std.proofs.Common.{ℕ, ◌≡◌, ◌<◌, ◌∙◌, Bool, true, false, not, cond, List, [], ◌∷◌, Option, Some, None, refl, sym, ap, subst, eqb}
+use Rattle.std.proofs.Common.{filter, find, map, arith, inl, inr}
 use Rattle.std.specs.Prelude.{option_map, slice_get}
 use Rattle.std.specs.List.{AllByRecursion}
 use Rattle.std.proofs.lemmas.Bool.{eq-eqb, eqb-true, ne_eqb, cases_Bool}
@@ -20,23 +21,29 @@ none_passes p (row ∷ rows) none =
     ] refl none
 
 -- where none has a number, none leaves and none changes
-pub none_leaves : (n : ℕ) (rows : List Service) → find (has_number n) rows ≡ None → filter (λ (row : Service). not (has_number n row)) rows ≡ rows
+pub none_leaves : (n : ℕ) (rows : List Service) → find (has_number n) rows ≡ None
+    → filter (λ (row : Service). not (has_number n row)) rows ≡ rows
 none_leaves n rows none = by rows (none_passes (has_number n) rows none)
   where
-    by : (rs : List Service) → AllByRecursion (λ (row : Service). has_number n row ≡ false) rs → filter (λ (row : Service). not (has_number n row)) rs ≡ rs
+    by : (rs : List Service) → AllByRecursion (λ (row : Service). has_number n row ≡ false) rs
+        → filter (λ (row : Service). not (has_number n row)) rs ≡ rs
     by [] all = refl
     by (row ∷ rs) all = rw all.0 (ap (λ rest. row ∷ rest) (by rs all.1))
 
-pub none_changes : (n : ℕ) (change : Service → Service) (rows : List Service) → find (has_number n) rows ≡ None → map (λ (row : Service). cond (has_number n row) (change row) row) rows ≡ rows
+pub none_changes : (n : ℕ) (change : Service → Service) (rows : List Service) → find (has_number n) rows ≡ None
+    → map (λ (row : Service). cond (has_number n row) (change row) row) rows ≡ rows
 none_changes n change rows none = by rows (none_passes (has_number n) rows none)
   where
-    by : (rs : List Service) → AllByRecursion (λ (row : Service). has_number n row ≡ false) rs → map (λ (row : Service). cond (has_number n row) (change row) row) rs ≡ rs
+    by : (rs : List Service) → AllByRecursion (λ (row : Service). has_number n row ≡ false) rs
+        → map (λ (row : Service). cond (has_number n row) (change row) row) rs ≡ rs
     by [] all = refl
     by (row ∷ rs) all = rw all.0 (ap (λ rest. row ∷ rest) (by rs all.1))
 
 -- one row is put in place of the one that has its number
-pub put_is : (n : ℕ) (change : Service → Service) (rows : List Service) (old : Service) → AreRisingBy number_of rows → find (has_number n) rows ≡ Some old
-    → map (λ (row : Service). cond (has_number n row) (change old) row) rows ≡ map (λ (row : Service). cond (has_number n row) (change row) row) rows
+pub put_is : (n : ℕ) (change : Service → Service) (rows : List Service) (old : Service) → AreRisingBy number_of rows
+    → find (has_number n) rows ≡ Some old
+    → map (λ (row : Service). cond (has_number n row) (change old) row) rows ≡ map
+    (λ (row : Service). cond (has_number n row) (change row) row) rows
 put_is n change [] old rising found = refl
 put_is n change (row ∷ rows) old rising found =
     elim (cases_Bool (has_number n row)) [
@@ -59,8 +66,10 @@ found_number n (row ∷ rows) old found =
       | inr other ↦ found_number n rows old (sym (ap (λ b. cond b (Some row) (find (has_number n) rows)) other) ∙ found)
     ]
 
-pub exchanged : (rows after : List Service) (row old : Service) (n : ℕ) (config : Config) → AreRisingBy number_of rows → find (has_number n) rows ≡ Some old → row ≡ record old { config = config }
-    → after ≡ map (altered_at number_of row.number (λ (other : Service). row)) rows → after ≡ map (altered_at number_of n (with_config config)) rows
+pub exchanged : (rows after : List Service) (row old : Service) (n : ℕ) (config : Config) → AreRisingBy number_of rows
+    → find (has_number n) rows ≡ Some old → row ≡ record old { config = config }
+    → after ≡ map (altered_at number_of row.number (λ (other : Service). row)) rows
+    → after ≡ map (altered_at number_of n (with_config config)) rows
 exchanged rows after row old n config rising found is changed =
     let change : Service → Service = λ (r : Service). record r { config = config } in
     let number : row.number ≡ n = ap number_of is ∙ found_number n rows old found in
@@ -73,16 +82,19 @@ pub none_configured : (o : Option Service) → None ≡ option_map (λ (row : Se
 none_configured None e = refl
 none_configured (Some row) e = absurd (cc e)
 
-pub some_configured : (o : Option Service) (config : Config) → Some config ≡ option_map (λ (row : Service). row.config) o → (row : Service) × (o ≡ Some row) × (row.config ≡ config)
+pub some_configured : (o : Option Service) (config : Config) → Some config ≡ option_map (λ (row : Service). row.config) o → (row : Service)
+    × (o ≡ Some row) × (row.config ≡ config)
 some_configured None config e = absurd (cc e)
 some_configured (Some row) config e = (row, refl, sym (same_Some config row.config e))
 
 -- one that is found has what all have
-found_after : (p : Service → Bool) (n : ℕ) (rows : List Service) (found : Service) → AllByRecursion (λ (row : Service). n < row.number) rows → find p rows ≡ Some found → n < found.number
+found_after : (p : Service → Bool) (n : ℕ) (rows : List Service) (found : Service) → AllByRecursion (λ (row : Service). n < row.number) rows
+    → find p rows ≡ Some found → n < found.number
 found_after p n [] found all e = absurd (cc e)
 found_after p n (row ∷ rows) found all e =
     elim (cases_Bool (p row)) [
-      | inl is ↦ let here : row ≡ found = cc (sym (ap (λ b. cond b (Some row) (find p rows)) is) ∙ e) in subst (λ (r : Service). n < r.number) here all.0
+      | inl is ↦ let here : row ≡ found = cc (sym (ap (λ b. cond b (Some row) (find p rows)) is) ∙ e) in
+          subst (λ (r : Service). n < r.number) here all.0
       | inr other ↦ found_after p n rows found all.1 (sym (ap (λ b. cond b (Some row) (find p rows)) other) ∙ e)
     ]
 
@@ -90,20 +102,25 @@ found_after p n (row ∷ rows) found all e =
 pub first_is : (p : Service → Bool) (rows : List Service) → slice_get (numbers_if p rows) 0 ≡ option_map number_of (find p rows)
 first_is p [] = refl
 first_is p (row ∷ rows) =
-    elim (p row) as (λ b. slice_get (map number_of (cond b (row ∷ filter p rows) (filter p rows))) 0 ≡ option_map number_of (cond b (Some row) (find p rows))) [
+    elim (p row) as (λ b. slice_get (map number_of (cond b (row ∷ filter p rows) (filter p rows))) 0 ≡ option_map number_of
+    (cond b (Some row) (find p rows))) [
       | true ↦ refl
       | false ↦ first_is p rows
     ]
 
 -- and its number finds it
-pub first_row : (p : Service → Bool) (rows : List Service) → AreRisingBy number_of rows → service_at rows (option_map number_of (find p rows)) ≡ find p rows
+pub first_row : (p : Service → Bool) (rows : List Service) → AreRisingBy number_of rows
+    → service_at rows (option_map number_of (find p rows)) ≡ find p rows
 first_row p [] rising = refl
 first_row p (row ∷ rows) rising =
-    elim (p row) as (λ b. service_at (row ∷ rows) (option_map number_of (cond b (Some row) (find p rows))) ≡ cond b (Some row) (find p rows)) [
+    elim (p row) as (λ b. service_at (row ∷ rows) (option_map number_of (cond b (Some row) (find p rows))) ≡ cond b (Some row)
+    (find p rows)) [
       | true ↦ rw (eq-eqb row.number row.number refl) refl
       | false ↦ later (find p rows) refl ∙ first_row p rows rising.1
     ]
   where
-    later : (o : Option Service) → find p rows ≡ o → service_at (row ∷ rows) (option_map number_of o) ≡ service_at rows (option_map number_of o)
+    later : (o : Option Service) → find p rows ≡ o → service_at (row ∷ rows) (option_map number_of o) ≡ service_at rows
+        (option_map number_of o)
     later None e = refl
-    later (Some found) e = let less = found_after p row.number rows found rising.0 e in rw (ne_eqb row.number found.number (omega (arith, less))) refl
+    later (Some found) e = let less = found_after p row.number rows found rising.0 e in
+        rw (ne_eqb row.number found.number (omega (arith, less))) refl

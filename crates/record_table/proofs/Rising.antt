@@ -5,15 +5,18 @@ use Rattle.scm_model.specs.declared.flat.Service.{Service}
 use Rattle.row_slab.specs.Rowed.{AreRisingBy, altered_at}
 use Rattle.record_table.specs.Recorded.{number_of, changed_to}
 
-pub rising_push : (rows : List Service) (new : Service) → AreRisingBy number_of rows → AllByRecursion (λ (row : Service). row.number < new.number) rows → AreRisingBy number_of (rows ++ new ∷ [])
+pub rising_push : (rows : List Service) (new : Service) → AreRisingBy number_of rows
+    → AllByRecursion (λ (row : Service). row.number < new.number) rows → AreRisingBy number_of (rows ++ new ∷ [])
 rising_push [] new rising below = (tt, tt)
 rising_push (row ∷ rows) new rising below = (by rows rising.0, rising_push rows new rising.1 below.1)
   where
-    by : (rs : List Service) → AllByRecursion (λ (other : Service). row.number < other.number) rs → AllByRecursion (λ (other : Service). row.number < other.number) (rs ++ new ∷ [])
+    by : (rs : List Service) → AllByRecursion (λ (other : Service). row.number < other.number) rs
+        → AllByRecursion (λ (other : Service). row.number < other.number) (rs ++ new ∷ [])
     by [] all = (below.0, tt)
     by (r ∷ rs) all = (all.0, by rs all.1)
 
-all_filter : (n : ℕ) (p : Service → Bool) (rows : List Service) → AllByRecursion (λ (row : Service). n < row.number) rows → AllByRecursion (λ (row : Service). n < row.number) (filter p rows)
+all_filter : (n : ℕ) (p : Service → Bool) (rows : List Service) → AllByRecursion (λ (row : Service). n < row.number) rows
+    → AllByRecursion (λ (row : Service). n < row.number) (filter p rows)
 all_filter n p [] all = tt
 all_filter n p (row ∷ rows) all =
     elim (p row) as (λ b. AllByRecursion (λ (r : Service). n < r.number) (cond b (row ∷ filter p rows) (filter p rows))) [
@@ -30,28 +33,37 @@ rising_filter p (row ∷ rows) rising =
     ]
 
 -- a change that leaves each number
-pub rising_map : (change : Service → Service) → ((row : Service) → (change row).number ≡ row.number) → (rows : List Service) → AreRisingBy number_of rows → AreRisingBy number_of (map change rows)
+pub rising_map : (change : Service → Service) → ((row : Service) → (change row).number ≡ row.number) → (rows : List Service)
+    → AreRisingBy number_of rows → AreRisingBy number_of (map change rows)
 rising_map change same [] rising = tt
 rising_map change same (row ∷ rows) rising = (by rows rising.0, rising_map change same rows rising.1)
   where
-    by : (rs : List Service) → AllByRecursion (λ (other : Service). row.number < other.number) rs → AllByRecursion (λ (other : Service). (change row).number < other.number) (map change rs)
+    by : (rs : List Service) → AllByRecursion (λ (other : Service). row.number < other.number) rs
+        → AllByRecursion (λ (other : Service). (change row).number < other.number) (map change rs)
     by [] all = tt
     by (r ∷ rs) all = (omega (arith, all.0, same row, same r), by rs all.1)
 
-pub altered_number : (n : ℕ) (change : Service → Service) → ((row : Service) → (change row).number ≡ row.number) → (row : Service) → (altered_at number_of n change row).number ≡ row.number
-altered_number n change same row = elim (eqb row.number n) as (λ b. (cond b (change row) row).number ≡ row.number) [ true ↦ same row | false ↦ refl ]
+pub altered_number : (n : ℕ) (change : Service → Service) → ((row : Service) → (change row).number ≡ row.number) → (row : Service)
+    → (altered_at number_of n change row).number ≡ row.number
+altered_number n change same row = elim (eqb row.number n) as (λ b. (cond b (change row) row).number ≡ row.number) [
+  | true ↦ same row
+  | false ↦ refl
+]
 
 -- as the first of the services are changed
-pub rising_to : (change : Service → Service) → ((row : Service) → (change row).number ≡ row.number) → (i : ℕ) (rows : List Service) → AreRisingBy number_of rows → AreRisingBy number_of (changed_to i change rows)
+pub rising_to : (change : Service → Service) → ((row : Service) → (change row).number ≡ row.number) → (i : ℕ) (rows : List Service)
+    → AreRisingBy number_of rows → AreRisingBy number_of (changed_to i change rows)
 rising_to change same zero rows rising = rising
 rising_to change same (suc i) [] rising = tt
 rising_to change same (suc i) (row ∷ rows) rising = (by i rows rising.0, rising_to change same i rows rising.1)
   where
-    kept : (rs : List Service) → AllByRecursion (λ (other : Service). row.number < other.number) rs → AllByRecursion (λ (other : Service). (change row).number < other.number) rs
+    kept : (rs : List Service) → AllByRecursion (λ (other : Service). row.number < other.number) rs
+        → AllByRecursion (λ (other : Service). (change row).number < other.number) rs
     kept [] all = tt
     kept (r ∷ rs) all = (omega (arith, all.0, same row), kept rs all.1)
 
-    by : (n : ℕ) (rs : List Service) → AllByRecursion (λ (other : Service). row.number < other.number) rs → AllByRecursion (λ (other : Service). (change row).number < other.number) (changed_to n change rs)
+    by : (n : ℕ) (rs : List Service) → AllByRecursion (λ (other : Service). row.number < other.number) rs
+        → AllByRecursion (λ (other : Service). (change row).number < other.number) (changed_to n change rs)
     by zero rs all = kept rs all
     by (suc n) [] all = tt
     by (suc n) (r ∷ rs) all = (omega (arith, all.0, same row, same r), by n rs all.1)

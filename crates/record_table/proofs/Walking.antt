@@ -1,5 +1,6 @@
 -- Services that are changed one behind the other.
-use Rattle.std.proofs.Common.{ℕ, ◌≡◌, ◌<◌, ◌+◌, ◌∙◌, zero, suc, List, [], ◌∷◌, Some, None, refl, sym, ap, subst, length, get_or, map, arith, inl, inr}
+use Rattle.std.proofs.Common.{ℕ, ◌≡◌, ◌<◌, ◌+◌, ◌∙◌, zero, suc, List, [], ◌∷◌, Some, None, refl, sym, ap, subst, length, get_or, map, arith}
+use Rattle.std.proofs.Common.{inl, inr}
 use Rattle.std.specs.Prelude.{slice_get}
 use Rattle.std.specs.List.{AllByRecursion}
 use Rattle.std.proofs.lemmas.Bool.{eq-eqb, ne_eqb}
@@ -9,12 +10,14 @@ use Rattle.row_slab.specs.Rowed.{AreRisingBy, altered_at}
 use Rattle.record_table.specs.Recorded.{number_of, changed_to}
 use Rattle.record_table.proofs.Groups.{unmapped}
 
-number_at : (n : ℕ) (rows : List Service) (i : ℕ) (d : Service) → AllByRecursion (λ (row : Service). n < row.number) rows → i < length rows → n < (get_or rows i d).number
+number_at : (n : ℕ) (rows : List Service) (i : ℕ) (d : Service) → AllByRecursion (λ (row : Service). n < row.number) rows → i < length rows
+    → n < (get_or rows i d).number
 number_at n [] i d all lt = absurd (omega arith)
 number_at n (row ∷ rows) zero d all lt = all.0
 number_at n (row ∷ rows) (suc i) d all lt = number_at n rows i d all.1 (omega arith)
 
-step : (change : Service → Service) (all : List Service) (i : ℕ) (row : Service) → AreRisingBy number_of (changed_to i change all) → i < length (changed_to i change all) → get_or (changed_to i change all) i row ≡ row
+step : (change : Service → Service) (all : List Service) (i : ℕ) (row : Service) → AreRisingBy number_of (changed_to i change all)
+    → i < length (changed_to i change all) → get_or (changed_to i change all) i row ≡ row
     → map (altered_at number_of row.number change) (changed_to i change all) ≡ changed_to (suc i) change all
 step change [] zero row rising lt is = absurd (omega arith)
 step change [] (suc i) row rising lt is = absurd (omega arith)
@@ -28,13 +31,15 @@ step change (x ∷ xs) (suc i) row rising lt is =
     (ap (λ rest. change x ∷ rest) (step change xs i row rising.1 (omega arith) is))
 
 -- the service at a place changes, which those before it did
-pub changed_next : (change : Service → Service) (now after all : List Service) (i : ℕ) (row : Service) → AreRisingBy number_of now → Some row ≡ slice_get now i
+pub changed_next : (change : Service → Service) (now after all : List Service) (i : ℕ) (row : Service) → AreRisingBy number_of now
+    → Some row ≡ slice_get now i
     → after ≡ map (altered_at number_of row.number change) now → now ≡ changed_to i change all → after ≡ changed_to (i + 1) change all
 changed_next change now after all i row rising found made was =
     let here : slice_get (changed_to i change all) i ≡ Some row = ap (λ (rows : List Service). slice_get rows i) (sym was) ∙ sym found in
     let next : suc i ≡ i + 1 = omega arith in
     made ∙ ap (map (altered_at number_of row.number change)) was
-    ∙ step change all i row (subst (AreRisingBy number_of) was rising) (slice_get_within _ i row here) (get_or_from_slice_get _ i row row here)
+    ∙ step change all i row (subst (AreRisingBy number_of) was rising) (slice_get_within _ i row here)
+    (get_or_from_slice_get _ i row row here)
     ∙ ap (λ n. changed_to n change all) next
 
 pub is_there : (rows : List Service) (i : ℕ) → i < length rows → None ≡ slice_get rows i → ⊥

@@ -2,7 +2,7 @@
 use Rattle.std.specs.Prelude.{ℕ, ◌≡◌, ◌≤◌, Bool, List, IfSome, if◌then◌else◌}
 use Rattle.scm_text.specs.Fold.{same_text}
 use Rattle.number_lists.specs.Rising.{with_number, without_number}
-use Rattle.number_lists.specs.Under.{Under, Changes, at, room}
+use Rattle.number_lists.specs.UnderName.{UnderName, Changes, at, room}
 use Rattle.scm_model.specs.declared.flat.Service.{Service}
 use Rattle.record_table.specs.declared.texts.KeptTexts.{KeptTexts}
 use Rattle.record_table.specs.declared.texts.Spare.{Spare}
@@ -13,11 +13,11 @@ use Rattle.record_table.specs.Recorded.{Recorded, is_displayed, is_member, is_na
 -- ## Lists under texts
 
 -- the list under each text is that of the services that have it
-abbrev pub Tells : (List ℕ → Service → Bool) → Under → List Service → Type 0
+abbrev pub Tells : (List ℕ → Service → Bool) → UnderName → List Service → Type 0
 Tells has_text lists rows = (text : List ℕ) → at lists text ≡ numbers_with (has_text text) rows
 
 -- each text has the same numbers under it
-abbrev pub Keeps : Under → Under → Type 0
+abbrev pub Keeps : UnderName → UnderName → Type 0
 Keeps old new = (text : List ℕ) → at new text ≡ at old text
 
 -- a number leaves the list of one text and comes into that of another
@@ -26,7 +26,7 @@ moved before after number text numbers =
     let less = if same_text before text then without_number numbers number else numbers in
     if same_text after text then with_number less number else less
 
-abbrev pub Moves : Under → Under → List ℕ → List ℕ → ℕ → Type 0
+abbrev pub Moves : UnderName → UnderName → List ℕ → List ℕ → ℕ → Type 0
 Moves old new before after number =
     (text : List ℕ) → at new text ≡ moved before after number text (at old text)
 

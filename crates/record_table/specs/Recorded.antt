@@ -1,5 +1,6 @@
 -- What contracts see of a table of services.
-use Rattle.std.specs.Prelude.{ℕ, zero, suc, Bool, not, ◌==◌, List, [], ◌∷◌, ◌++◌, Option, None, Some, filter, find, map, option_and_then, option_map}
+use Rattle.std.specs.Prelude.{ℕ, zero, suc, Bool, not, ◌==◌, List, [], ◌∷◌, ◌++◌, Option, None, Some, filter, find, map, option_and_then}
+use Rattle.std.specs.Prelude.{option_map}
 use Rattle.scm_text.specs.Fold.{same_text}
 use Rattle.scm_model.specs.declared.flat.Config.{Config}
 use Rattle.scm_model.specs.declared.flat.Service.{Service}
@@ -95,7 +96,10 @@ spare_where None spare = spare
 spare_where (Some row) spare = None
 
 abbrev pub removed : Recorded → ℕ → Recorded
-removed table number = record { services = without number table.services; spare = spare_where (find (has_number number) table.services) table.spare }
+removed table number = record {
+  services = without number table.services;
+  spare = spare_where (find (has_number number) table.services) table.spare;
+}
 
 abbrev pub replaced : Recorded → ℕ → Config → Recorded
 replaced table number config = record {

@@ -1,9 +1,14 @@
-ghost use Rattle.std.specs.Prelude.{◌≡◌, ◌+◌, ◌<◌, ◌^◌, List, find, length, map, option_copied, slice_get, is_some, Ok, OnOk, OnErr, Some};
+ghost use Rattle.std.specs.Prelude.{◌≡◌, ◌+◌, ◌<◌, ◌^◌, List, find, length, map, option_copied};
+ghost use Rattle.std.specs.Prelude.{slice_get, is_some, Ok, OnOk, OnErr, Some};
 ghost use Rattle.std.specs.List.{AllByRecursion};
 ghost use Rattle.number_lists.specs.Rising.{AreRising};
 ghost use Rattle.row_slab.specs.Rowed.{AreRisingBy, is_above};
 ghost use Rattle.scm_model.specs.declared.flat.Service.{Service};
-ghost use Rattle.record_table.specs.Recorded.{altered, altered_each, change_at, changed_to, config_at, empty, first_with, has_number, inserted, is_displayed, is_member, is_named, lived, number_of, numbers_with, removed, replaced, reserved, service_at, spare_of, unreserved, with_config};
+ghost use Rattle.record_table.specs.Recorded.{altered, altered_each, change_at, changed_to};
+ghost use Rattle.record_table.specs.Recorded.{config_at, empty, first_with, has_number, inserted};
+ghost use Rattle.record_table.specs.Recorded.{is_displayed, is_member, is_named, lived, number_of};
+ghost use Rattle.record_table.specs.Recorded.{numbers_with, removed, replaced, reserved, service_at};
+ghost use Rattle.record_table.specs.Recorded.{spare_of, unreserved, with_config};
 
 use super::iter::Services;
 use super::live::Live;
@@ -78,7 +83,8 @@ fn exchange(rows: &mut Rows<Service>, number: u64, config: Config) -> Option<Con
 fn change_next<C: Change<Service>>(rows: &mut Rows<Service>, place: usize, change: &C)
     requires place { place < length rows.old.items }
     requires rising { AreRisingBy number_of rows.old.items }
-    ensures items { (all : List Service) → rows.old.items ≡ changed_to place (C.changed change.now) all
+    ensures items { (all : List Service) → rows.old.items ≡ changed_to place
+        (C.changed change.now) all
         → rows.new.items ≡ changed_to (place + 1) (C.changed change.now) all }
     ensures room { rows.new.room ≡ rows.old.room }
 {
@@ -284,7 +290,8 @@ impl RecordTable {
     /// The number of the first service with the same name.
     pub fn by_name(&self, name: &WText) -> Option<u64>
         ensures number { result ≡ first_with (is_named name.now) self.now.services }
-        ensures row { service_at self.now.services result ≡ find (is_named name.now) self.now.services }
+        ensures row { service_at self.now.services result ≡ find
+            (is_named name.now) self.now.services }
     {
         self.texts.names.at(name).first().copied()
     }
@@ -292,7 +299,8 @@ impl RecordTable {
     /// The number of the first service with the same display name.
     pub fn by_display(&self, display: &WText) -> Option<u64>
         ensures number { result ≡ first_with (is_displayed display.now) self.now.services }
-        ensures row { service_at self.now.services result ≡ find (is_displayed display.now) self.now.services }
+        ensures row { service_at self.now.services result ≡ find
+            (is_displayed display.now) self.now.services }
     {
         self.texts.displays.at(display).first().copied()
     }

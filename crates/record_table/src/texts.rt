@@ -1,10 +1,11 @@
 ghost use Rattle.std.specs.Prelude.{◌≡◌, ◌≤◌, [], IfOk, IfSome, OnOk};
 ghost use Rattle.number_lists.specs.Rising.{without_number};
-ghost use Rattle.number_lists.specs.Under.{Changes, room};
-ghost use Rattle.record_table.specs.Kept.{AreOf, EnterEach, HasTexts, KeepEach, KeepRooms, Keeps, LeaveEach, MoveEach, Moves};
+ghost use Rattle.number_lists.specs.UnderName.{Changes, room};
+ghost use Rattle.record_table.specs.Kept.{AreOf, EnterEach, HasTexts, KeepEach, KeepRooms, Keeps};
+ghost use Rattle.record_table.specs.Kept.{LeaveEach, MoveEach, Moves};
 ghost use Rattle.record_table.specs.Recorded.{spare_of};
 
-use number_lists::TextLists;
+use number_lists::NameIndex;
 use scm_model::Config;
 use scm_text::{OutOfMemory, WText, same};
 use std::alloc::Global;
@@ -33,9 +34,9 @@ impl Spare {
 /// The numbers of services, rising, under their texts.
 #[derive(Drop)]
 pub struct KeptTexts {
-    pub names: TextLists,
-    pub displays: TextLists,
-    pub groups: TextLists,
+    pub names: NameIndex,
+    pub displays: NameIndex,
+    pub groups: NameIndex,
 }
 
 impl KeptTexts {
@@ -44,15 +45,15 @@ impl KeptTexts {
         ensures { AreOf result [] }
     {
         KeptTexts {
-            names: TextLists::new(alloc),
-            displays: TextLists::new(alloc),
-            groups: TextLists::new(alloc),
+            names: NameIndex::new(alloc),
+            displays: NameIndex::new(alloc),
+            groups: NameIndex::new(alloc),
         }
     }
 }
 
 /// Takes a number out under a text, and forgets the text if no number is left under it.
-fn unlist(lists: &mut TextLists, text: &WText, number: u64)
+fn unlist(lists: &mut NameIndex, text: &WText, number: u64)
     ensures { Changes lists.old lists.new text.now (λ numbers. without_number numbers number) }
 {
     lists.remove(text, number);
@@ -60,7 +61,7 @@ fn unlist(lists: &mut TextLists, text: &WText, number: u64)
 }
 
 /// Moves a number from a text to another, under which there is room for it.
-fn relist(lists: &mut TextLists, before: &WText, after: &WText, number: u64)
+fn relist(lists: &mut NameIndex, before: &WText, after: &WText, number: u64)
     requires { 1 ≤ room lists.old after.now }
     ensures { Moves lists.old lists.new before.now after.now number }
 {
@@ -81,7 +82,7 @@ fn reserve_each(texts: &mut KeptTexts, alloc: Global, row: &Spare) -> Result<(),
 }
 
 /// Forgets a text with no numbers under it, unless it is the same as one that is kept.
-fn tidy_unless_same(lists: &mut TextLists, text: &WText, kept: &WText)
+fn tidy_unless_same(lists: &mut NameIndex, text: &WText, kept: &WText)
     ensures numbers { Keeps lists.old lists.new }
     ensures room { room lists.old kept.now ≤ room lists.new kept.now }
 {

@@ -1,5 +1,6 @@
 -- One PDU at the front of some bytes.
-use Rattle.std.specs.Prelude.{ℕ, ◌+◌, ◌*◌, ◌%◌, Bool, true, false, not, ◌==◌, nat_lt, List, [], length, take, drop, slice_index, Option, Some, None, option_map, Result, Ok, Err, if◌then◌else◌}
+use Rattle.std.specs.Prelude.{ℕ, ◌+◌, ◌*◌, ◌%◌, Bool, true, false, not, ◌==◌, nat_lt, List, [], length, take, drop, slice_index, Option}
+use Rattle.std.specs.Prelude.{Some, None, option_map, Result, Ok, Err, if◌then◌else◌}
 use Rattle.std.specs.Borrow.{Bor}
 use Rattle.rpc_pdu.specs.declared.header.Header.{Header}
 use Rattle.rpc_pdu.specs.declared.pdu.End.{End}
@@ -152,16 +153,41 @@ IfWhole _ P = Unit {0}
 
 -- a PDU without where its bytes lie in memory
 abbrev pub seen_request : RequestPdu (Bor (List ℕ)) → RequestPdu (List ℕ)
-seen_request r = record { call = r.call; first = r.first; last = r.last; hint = r.hint; context = r.context; opnum = r.opnum; object = r.object; stub = r.stub.now }
+seen_request r = record {
+  call = r.call;
+  first = r.first;
+  last = r.last;
+  hint = r.hint;
+  context = r.context;
+  opnum = r.opnum;
+  object = r.object;
+  stub = r.stub.now;
+}
 
 abbrev pub seen_response : ResponsePdu (Bor (List ℕ)) → ResponsePdu (List ℕ)
 seen_response r = record { call = r.call; first = r.first; last = r.last; hint = r.hint; context = r.context; stub = r.stub.now }
 
 abbrev pub seen_bind : Bind (Bor (List ℕ)) → Bind (List ℕ)
-seen_bind b = record { call = b.call; auth = b.auth; transmit = b.transmit; receive = b.receive; group = b.group; count = b.count; contexts = b.contexts.now }
+seen_bind b = record {
+  call = b.call;
+  auth = b.auth;
+  transmit = b.transmit;
+  receive = b.receive;
+  group = b.group;
+  count = b.count;
+  contexts = b.contexts.now;
+}
 
 abbrev pub seen_ack : Ack (Bor (List ℕ)) → Ack (List ℕ)
-seen_ack a = record { call = a.call; transmit = a.transmit; receive = a.receive; group = a.group; address = a.address.now; count = a.count; results = a.results.now }
+seen_ack a = record {
+  call = a.call;
+  transmit = a.transmit;
+  receive = a.receive;
+  group = a.group;
+  address = a.address.now;
+  count = a.count;
+  results = a.results.now;
+}
 
 abbrev pub seen_pdu : Pdu (Bor (List ℕ)) → Pdu (List ℕ)
 seen_pdu (pdus.Request r) = pdus.Request (seen_request r)

@@ -49,7 +49,8 @@ pub enum PduKind {
     Order,
 }
 
-/// A fragment of a request. `hint` says how many stub bytes are still to come from this fragment on.
+/// A fragment of a request. `hint` says how many stub bytes are still to come from this fragment
+/// on.
 #[derive(Clone, Copy, Debug)]
 pub struct RequestPdu<B> {
     pub call: u32,
@@ -82,8 +83,9 @@ pub struct FaultPdu {
     pub status: u32,
 }
 
-/// A bind or an alter_context. `contexts` is the bytes of `count` whole contexts. Behind an authentication nothing is read:
-/// where `auth` isn't 0, the numbers after it are 0 and `contexts` is empty.
+/// A bind or an alter_context. `contexts` is the bytes of `count` whole contexts. Behind an
+/// authentication nothing is read: where `auth` isn't 0, the numbers after it are 0 and `contexts`
+/// is empty.
 #[derive(Clone, Copy, Debug)]
 pub struct Bind<B> {
     pub call: u32,

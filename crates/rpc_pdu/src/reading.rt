@@ -1,6 +1,9 @@
 ghost use Rattle.std.specs.Prelude.{List, ℕ, ◌++◌, ◌≡◌, ◌≤◌, ◌*◌, ◌+◌, length, option_map};
 ghost use Rattle.rpc_pdu.specs.declared.pdu.End.TheVariants.{Server, Client};
-ghost use Rattle.rpc_pdu.specs.Pdu.{header_of as header_of_front, request_pdu_at, response_at, fault_at, bind_at, ack_at, nak_at, pdu_body, whole_at, pdu_at, seen_request, seen_response, seen_bind, seen_ack, seen_pdu, seen_read, IsSettled, IfWhole};
+ghost use Rattle.rpc_pdu.specs.Pdu.{header_of as header_of_front, request_pdu_at, response_at};
+ghost use Rattle.rpc_pdu.specs.Pdu.{fault_at, bind_at, ack_at, nak_at, pdu_body, whole_at, pdu_at};
+ghost use Rattle.rpc_pdu.specs.Pdu.{seen_request, seen_response, seen_bind, seen_ack, seen_pdu};
+ghost use Rattle.rpc_pdu.specs.Pdu.{seen_read, IsSettled, IfWhole};
 
 use crate::context::{are_contexts, u16_at, u32_at};
 use crate::header::{HEADER_BYTES, Header, header_of};
@@ -199,7 +202,8 @@ fn pdu_of(end: End, bytes: &[u8]) -> PduRead<&[u8]>
 pub fn read_pdu(bytes: &[u8]) -> PduRead<&[u8]>
     ensures value { seen_read result ≡ pdu_at Server bytes.now }
     // More bytes change neither a whole PDU nor a bad one.
-    ensures settled { IsSettled (pdu_at Server bytes.now) → (more : List ℕ) → pdu_at Server (bytes.now ++ more) ≡ pdu_at Server bytes.now }
+    ensures settled { IsSettled (pdu_at Server bytes.now) → (more : List ℕ)
+        → pdu_at Server (bytes.now ++ more) ≡ pdu_at Server bytes.now }
     ensures used { IfWhole result (λ used. (16 ≤ used) × (used ≤ length bytes.now)) }
 {
     pdu_of(End::Server, bytes)
@@ -209,7 +213,8 @@ pub fn read_pdu(bytes: &[u8]) -> PduRead<&[u8]>
 pub fn read_reply_pdu(bytes: &[u8]) -> PduRead<&[u8]>
     ensures value { seen_read result ≡ pdu_at Client bytes.now }
     // More bytes change neither a whole PDU nor a bad one.
-    ensures settled { IsSettled (pdu_at Client bytes.now) → (more : List ℕ) → pdu_at Client (bytes.now ++ more) ≡ pdu_at Client bytes.now }
+    ensures settled { IsSettled (pdu_at Client bytes.now) → (more : List ℕ)
+        → pdu_at Client (bytes.now ++ more) ≡ pdu_at Client bytes.now }
     ensures used { IfWhole result (λ used. (16 ≤ used) × (used ≤ length bytes.now)) }
 {
     pdu_of(End::Client, bytes)

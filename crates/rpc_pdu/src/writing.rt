@@ -1,7 +1,11 @@
 ghost use Rattle.std.specs.Prelude.{ℕ, ◌≡◌, ◌++◌, ◌+◌, ◌<◌, ◌≤◌, ◌^◌, [], ◌∷◌, length, OnOk, OnErr};
 ghost use Rattle.rpc_pdu.specs.Pdu.{seen_request, seen_response, seen_bind, seen_ack, seen_pdu};
 ghost use Rattle.rpc_pdu.specs.ReadBack.{IsExactPdu, IsReadBack};
-ghost use Rattle.rpc_pdu.specs.Written.{flags_of, address_padding, zeros, object_bytes, object_flag, pdu_header, response_front, request_front, bind_front, ack_front, ack_size, request_pdu_bytes, response_bytes, fault_bytes, bind_bytes, ack_bytes, nak_bytes, result_count, written, IsWritable};
+ghost use Rattle.rpc_pdu.specs.Written.{flags_of, address_padding, zeros, object_bytes, object_flag};
+ghost use Rattle.rpc_pdu.specs.Written.{pdu_header, response_front, request_front, bind_front};
+ghost use Rattle.rpc_pdu.specs.Written.{ack_front, ack_size, request_pdu_bytes, response_bytes};
+ghost use Rattle.rpc_pdu.specs.Written.{fault_bytes, bind_bytes, ack_bytes, nak_bytes, result_count};
+ghost use Rattle.rpc_pdu.specs.Written.{written, IsWritable};
 
 use crate::pdu::{Ack, Bind, FaultPdu, Nak, Pdu, RequestPdu, ResponsePdu};
 use scm_text::{Items, OutOfMemory};
@@ -139,7 +143,8 @@ fn write_request(r: &RequestPdu<&[u8]>, out: &mut Items<u8>) -> Result<(), OutOf
 #[tactic(auto, unfolding(crate::specs::Written::result_count))]
 fn behind_padding(padded: &[u8; 7], address: usize) -> &[u8]
     requires { address < 2 ^ 16 }
-    ensures { (count : ℕ) → padded.now ≡ 0 ∷ 0 ∷ 0 ∷ count ∷ 0 ∷ 0 ∷ 0 ∷ [] → result.now ≡ result_count (address_padding address) count }
+    ensures { (count : ℕ) → padded.now ≡ 0 ∷ 0 ∷ 0 ∷ count ∷ 0 ∷ 0 ∷ 0 ∷ []
+        → result.now ≡ result_count (address_padding address) count }
 {
     match address % 4 {
         0 => &padded[1..],
@@ -186,7 +191,8 @@ fn append_pdu(pdu: &Pdu<&[u8]>, out: &mut Items<u8>) -> Result<(), OutOfMemory>
     }
 }
 
-/// Appends the bytes of a PDU (C706, chapter 12), or nothing. A bind with an authentication isn't written.
+/// Appends the bytes of a PDU (C706, chapter 12), or nothing. A bind with an authentication isn't
+/// written.
 pub fn write_pdu(pdu: &Pdu<&[u8]>, out: &mut Items<u8>) -> Result<(), OutOfMemory>
     requires { IsWritable (seen_pdu pdu.now) }
     ensures ok { OnOk result (out.new ≡ out.old ++ written (seen_pdu pdu.now)) }

@@ -1,5 +1,6 @@
 -- The items of a stream.
-use Rattle.std.specs.Prelude.{Bool, not, ◌&&◌, ◌==◌, length, ℕ, ◌≡◌, List, [], ◌∷◌, ◌++◌, Option, Some, None, is_some, IfSome, Result, Ok, Err, if◌then◌else◌}
+use Rattle.std.specs.Prelude.{Bool, not, ◌&&◌, ◌==◌, length, ℕ, ◌≡◌, List, [], ◌∷◌, ◌++◌, Option, Some, None, is_some, IfSome, Result, Ok}
+use Rattle.std.specs.Prelude.{Err, if◌then◌else◌}
 use Rattle.std.specs.FinMap as map
 use Rattle.rpc_pdu.specs.declared.pdu.End.TheVariants.{Server}
 use Rattle.rpc_pdu.specs.declared.pdu.Pdu.{Pdu}
@@ -110,8 +111,10 @@ given_by _ = []
 -- what the items of the stream so far are, after such an answer
 abbrev pub Says : List ℕ → List Incoming → Seen → Result (Option Incoming) SessionFault → Type 0
 Says stream given new (Ok None) = items stream ≡ record { items = given; ending = open_end new }
-Says stream given new (Err (faults.BadPdu place kind)) = (more : List ℕ) → items (stream ++ more) ≡ record { items = given; ending = BadPdu place kind }
-Says stream given new (Err (faults.TooLong length)) = (more : List ℕ) → items (stream ++ more) ≡ record { items = given; ending = TooLong length }
+Says stream given new (Err (faults.BadPdu place kind)) = (more : List ℕ)
+    → items (stream ++ more) ≡ record { items = given; ending = BadPdu place kind }
+Says stream given new (Err (faults.TooLong length)) = (more : List ℕ) →
+    items (stream ++ more) ≡ record { items = given; ending = TooLong length }
 Says stream given new _ = Unit {0}
 
 -- what one PDU at most did

@@ -1,5 +1,6 @@
 -- What one PDU does to a session.
-use Rattle.std.specs.Prelude.{ℕ, ◌≡◌, ◌≤◌, ◌<◌, min, max, Bool, true, false, not, ◌&&◌, ◌||◌, ◌==◌, nat_lt, nat_le, List, [], ◌∷◌, ◌++◌, length, take, Option, Some, None, is_some, IsSome, IfSome, Result, Ok, Err, if◌then◌else◌}
+use Rattle.std.specs.Prelude.{ℕ, ◌≡◌, ◌≤◌, ◌<◌, min, max, Bool, true, false, not, ◌&&◌, ◌||◌, ◌==◌, nat_lt, nat_le, List, [], ◌∷◌, ◌++◌}
+use Rattle.std.specs.Prelude.{length, take, Option, Some, None, is_some, IsSome, IfSome, Result, Ok, Err, if◌then◌else◌}
 use Rattle.std.specs.FinMap as map
 use Rattle.rpc_pdu.specs.declared.pdu.RequestPdu.{RequestPdu}
 use Rattle.rpc_pdu.specs.declared.pdu.Bind.{Bind}
@@ -58,7 +59,8 @@ with_contexts s terms b = record {
 
 -- what an accepted bind or alter_context does
 abbrev pub accepted : Bool → List ℕ → State → Terms → Bind (List ℕ) → Move
-accepted alter address s terms b = Gives (items.Local (ack_bytes (if alter then 15 else 12) (ack_to address terms b))) (with_contexts s terms b)
+accepted alter address s terms b = Gives (items.Local (ack_bytes (if alter then 15 else 12) (ack_to address terms b)))
+    (with_contexts s terms b)
 
 abbrev pub bind_move : State → Bind (List ℕ) → Move
 bind_move s b =
@@ -76,7 +78,8 @@ alter_move s b = alter_by s.terms (is_some s.unfinished) s b
 
 -- the calls that are served
 abbrev pub is_served : Interface → ℕ → Bool
-is_served Svcctl opnum = nat_le opnum 3 || (nat_le 6 opnum && nat_le opnum 8) || (nat_le 11 opnum && nat_le opnum 21) || opnum == 37 || opnum == 39 || opnum == 40 || (nat_le 47 opnum && nat_le opnum 49)
+is_served Svcctl opnum = nat_le opnum 3 || (nat_le 6 opnum && nat_le opnum 8) || (nat_le 11 opnum && nat_le opnum 21) || opnum == 37
+    || opnum == 39 || opnum == 40 || (nat_le 47 opnum && nat_le opnum 49)
 is_served Trigger opnum = opnum == 0
 
 abbrev pub by_interface : Option Interface → ℕ → Result Interface ℕ
@@ -92,7 +95,14 @@ transmit_of None = 0
 transmit_of (Some terms) = terms.transmit
 
 abbrev pub item_by : Result Interface ℕ → ℕ → Unfinished → Incoming
-item_by (Ok interface) transmit u = items.Request (record { call = u.call; context = u.context; interface = interface; opnum = u.opnum; transmit = transmit; body = u.body })
+item_by (Ok interface) transmit u = items.Request (record {
+  call = u.call;
+  context = u.context;
+  interface = interface;
+  opnum = u.opnum;
+  transmit = transmit;
+  body = u.body;
+})
 item_by (Err status) transmit u = items.Local (fault_bytes (record { call = u.call; hint = 0; context = u.context; status = status }))
 
 -- a request comes of a bound session alone, and its transmit size is the session's

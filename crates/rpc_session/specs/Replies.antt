@@ -1,5 +1,6 @@
 -- The bytes of a reply.
-use Rattle.std.specs.Prelude.{ℕ, zero, suc, ◌≤◌, ◌*◌, ◌-◌, ◌/◌, Bool, false, true, nat_le, List, [], ◌∷◌, ◌++◌, length, take, drop, Option, Some, None}
+use Rattle.std.specs.Prelude.{ℕ, zero, suc, ◌≤◌, ◌*◌, ◌-◌, ◌/◌, Bool, false, true, nat_le, List, [], ◌∷◌, ◌++◌, length, take, drop, Option}
+use Rattle.std.specs.Prelude.{Some, None}
 use Rattle.rpc_pdu.specs.Written.{response_bytes}
 use Rattle.rpc_session.specs.declared.state.Terms.{Terms}
 

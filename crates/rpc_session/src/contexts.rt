@@ -1,6 +1,7 @@
 ghost use Rattle.std.specs.Prelude.{◌/◌, ◌*◌, ◌≤◌, ◌<◌, ◌≡◌, length, IfOk, OnOk};
 ghost use Rattle.rpc_pdu.specs.Contexts.{contexts_of};
-ghost use Rattle.rpc_session.specs.Contexts.{same_syntax, interface_of, offers, context_answer, result_bytes, results_of, accepted_by, AreBelow, seen};
+ghost use Rattle.rpc_session.specs.Contexts.{same_syntax, interface_of, offers, context_answer};
+ghost use Rattle.rpc_session.specs.Contexts.{result_bytes, results_of, accepted_by, AreBelow, seen};
 
 use rpc_pdu::{Context, read_context};
 use scm_text::{Items, OutOfMemory};

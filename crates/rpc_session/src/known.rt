@@ -53,7 +53,8 @@ fn widen(table: &mut Vec<Option<Interface>>, room: usize) -> Result<(), OutOfMem
 /// Enters the answers to this many contexts, each in place of an earlier one.
 fn enter(table: &mut Vec<Option<Interface>>, count: u8, contexts: &[u8])
     requires { AreBelow (length table.old.items) (contexts_of count contexts.now) }
-    ensures { listed table.new.items ≡ known_after (listed table.old.items) (contexts_of count contexts.now) }
+    ensures { listed table.new.items ≡ known_after (listed table.old.items)
+        (contexts_of count contexts.now) }
 {
     let mut rest = contexts;
     for _ in 0..count {

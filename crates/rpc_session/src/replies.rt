@@ -88,7 +88,8 @@ fn write_fragment<T: Sink>(
     requires low { 1432 ≤ transmit }
     requires high { transmit ≤ 5840 }
     requires size { length rest.now < 2 ^ 32 }
-    ensures written { Writes (T.held sink.old) (T.held sink.new) result (fragment transmit call context first rest.now) }
+    ensures written { Writes (T.held sink.old) (T.held sink.new) result
+        (fragment transmit call context first rest.now) }
     ensures cause { HasCause (T.faults sink.old) (T.faults sink.new) result }
 {
     let room = room(transmit);
@@ -115,7 +116,8 @@ pub fn write_reply<T: Sink>(
     requires low { 1432 ≤ transmit }
     requires high { transmit ≤ 5840 }
     requires size { length body.now < 2 ^ 32 }
-    ensures written { Writes (T.held sink.old) (T.held sink.new) result (reply_fragments transmit call context body.now) }
+    ensures written { Writes (T.held sink.old) (T.held sink.new) result
+        (reply_fragments transmit call context body.now) }
     ensures cause { HasCause (T.faults sink.old) (T.faults sink.new) result }
 {
     let mut rest = body;
@@ -141,7 +143,8 @@ pub fn write_fault<T: Sink>(
     context: u16,
     status: u32,
 ) -> Result<(), Failed>
-    ensures written { Writes (T.held sink.old) (T.held sink.new) result (fault_bytes (record { call = call; hint = 0; context = context; status = status })) }
+    ensures written { Writes (T.held sink.old) (T.held sink.new) result
+        (fault_bytes (record { call = call; hint = 0; context = context; status = status })) }
     ensures cause { HasCause (T.faults sink.old) (T.faults sink.new) result }
 {
     let fault = FaultPdu {

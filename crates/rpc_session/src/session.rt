@@ -1,4 +1,5 @@
-ghost use Rattle.std.specs.Prelude.{◌≡◌, ◌<◌, ◌++◌, List, ℕ, [], length, OnOk, OnErr, IfOk, IfErr, IfSome, IsSome, Some, ◌≤◌, ◌+◌, ◌^◌};
+ghost use Rattle.std.specs.Prelude.{◌≡◌, ◌<◌, ◌++◌, List, ℕ, [], length, OnOk, OnErr, IfOk, IfErr};
+ghost use Rattle.std.specs.Prelude.{IfSome, IsSome, Some, ◌≤◌, ◌+◌, ◌^◌};
 ghost use Rattle.rpc_session.specs.declared.state.Incoming.{Incoming};
 ghost use Rattle.rpc_session.specs.declared.session.SessionFault.{SessionFault};
 ghost use Rattle.rpc_pdu.specs.Written.{fault_bytes};
@@ -7,7 +8,9 @@ ghost use Rattle.rpc_session.specs.Moves.{IsFor, HasJoined};
 ghost use Rattle.outside.specs.Causes.{HasCause};
 ghost use Rattle.outside.specs.Written.{Writes};
 ghost use Rattle.rpc_session.specs.Held.{with_more};
-ghost use Rattle.rpc_session.specs.Items.{Seen, unbound, OnWant, ahead_by, StepJoins, Comes, Gave, Says, given_by, StepComes, fault_by, is_at_rest, IsStuck, TellsAgain};
+ghost use Rattle.rpc_session.specs.Items.{Seen, unbound, OnWant, ahead_by, StepJoins, Comes, Gave};
+ghost use Rattle.rpc_session.specs.Items.{Says, given_by, StepComes, fault_by, is_at_rest, IsStuck};
+ghost use Rattle.rpc_session.specs.Items.{TellsAgain};
 
 use crate::known::Known;
 use crate::replies::{write_fault, write_reply};
@@ -43,7 +46,8 @@ fn fault_of(place: u64, refusal: Refusal) -> SessionFault
     }
 }
 
-/// Takes the PDU that stands some bytes ahead: `None` where none is whole, and else the item that it gives, if it gives one.
+/// Takes the PDU that stands some bytes ahead: `None` where none is whole, and else the item that
+/// it gives, if it gives one.
 fn take_pdu(
     alloc: Global,
     state: &mut State,
@@ -52,14 +56,16 @@ fn take_pdu(
 ) -> Result<Option<Option<Incoming>>, SessionFault>
     requires { ahead.old ≤ length stream.now.rest }
     ensures within { ahead.new ≤ length stream.now.rest }
-    ensures comes { StepComes (ahead_by state.old stream.now ahead.old) (ahead_by state.new stream.now ahead.new) result }
+    ensures comes { StepComes (ahead_by state.old stream.now ahead.old)
+        (ahead_by state.new stream.now ahead.new) result }
     ensures room { HasRoom state.old.terms → HasRoom state.new.terms }
     ensures transmit { IfOk result (λ taken. IfSome taken (IsFor state.new.terms)) }
     ensures kept { IfSome state.old.terms (λ terms. state.new.terms ≡ Some terms) }
     ensures further { IfOk result (λ taken. IfSome taken (λ _. ahead.old < ahead.new)) }
     ensures no_less { ahead.old ≤ ahead.new }
     ensures stuck { IfErr result (IsStuck (ahead_by state.new stream.now ahead.new)) }
-    ensures again { TellsAgain (ahead_by state.old stream.now ahead.old) (ahead_by state.new stream.now ahead.new) result }
+    ensures again { TellsAgain (ahead_by state.old stream.now ahead.old)
+        (ahead_by state.new stream.now ahead.new) result }
     ensures joins { StepJoins state.old state.new result }
 {
     let (pdu, used) = match read_pdu(stream.ahead(*ahead)) {
@@ -85,13 +91,15 @@ fn find_item(
 ) -> Result<Option<Incoming>, SessionFault>
     requires { ahead.old ≤ length stream.now.rest }
     ensures within { ahead.new ≤ length stream.now.rest }
-    ensures comes { Comes (ahead_by state.old stream.now ahead.old) (ahead_by state.new stream.now ahead.new) result }
+    ensures comes { Comes (ahead_by state.old stream.now ahead.old)
+        (ahead_by state.new stream.now ahead.new) result }
     ensures room { HasRoom state.old.terms → HasRoom state.new.terms }
     ensures transmit { IfOk result (IsFor state.new.terms) }
     ensures kept { IfSome state.old.terms (λ terms. state.new.terms ≡ Some terms) }
     ensures further { IfOk result (λ item. IfSome item (λ _. ahead.old < ahead.new)) }
     ensures stuck { IfErr result (IsStuck (ahead_by state.new stream.now ahead.new)) }
-    ensures again { TellsAgain (ahead_by state.old stream.now ahead.old) (ahead_by state.new stream.now ahead.new) result }
+    ensures again { TellsAgain (ahead_by state.old stream.now ahead.old)
+        (ahead_by state.new stream.now ahead.new) result }
     ensures joined { OnWant result (HasJoined state.old state.new) }
 {
     loop {
@@ -104,20 +112,24 @@ fn find_item(
     }
 }
 
-/// Takes PDUs up to the next item. Where there is no memory for one of them, those before it are given back.
+/// Takes PDUs up to the next item. Where there is no memory for one of them, those before it are
+/// given back.
 fn next_item(
     alloc: Global,
     state: &mut State,
     stream: &mut Stream,
 ) -> Result<Option<Incoming>, SessionFault>
-    ensures comes { Comes (record { state = state.old; held = stream.old }) (record { state = state.new; held = stream.new }) result }
+    ensures comes { Comes (record { state = state.old; held = stream.old })
+        (record { state = state.new; held = stream.new }) result }
     ensures room { HasRoom state.old.terms → HasRoom state.new.terms }
     ensures transmit { IfOk result (IsFor state.new.terms) }
     ensures kept { IfSome state.old.terms (λ terms. state.new.terms ≡ Some terms) }
-    ensures shorter { IfOk result (λ item. IfSome item (λ _. length stream.new.rest < length stream.old.rest)) }
+    ensures shorter { IfOk result (λ item. IfSome item
+        (λ _. length stream.new.rest < length stream.old.rest)) }
     ensures no_longer { length stream.new.rest ≤ length stream.old.rest }
     ensures stuck { IfErr result (IsStuck (record { state = state.new; held = stream.new })) }
-    ensures again { TellsAgain (record { state = state.old; held = stream.old }) (record { state = state.new; held = stream.new }) result }
+    ensures again { TellsAgain (record { state = state.old; held = stream.old })
+        (record { state = state.new; held = stream.new }) result }
     ensures state { OnWant result (state.new ≡ state.old) }
     ensures stream { OnWant result (stream.new ≡ stream.old) }
 {
@@ -169,7 +181,10 @@ impl Model for Session {
 impl Session {
     /// An unbound session. It takes no memory.
     pub fn new(alloc: Global) -> Self
-        ensures value { result ≡ record { state = unbound; held = record { place = 0; rest = [] } } }
+        ensures value { result ≡ record {
+          state = unbound;
+          held = record { place = 0; rest = [] };
+        } }
         // Nothing was fed, and nothing given.
         ensures gave { Gave [] [] result }
     {
@@ -183,12 +198,16 @@ impl Session {
         }
     }
 
-    /// Appends a piece to the stream. An `Err` leaves the session as it was. Where the stream would be longer than a `u64` can
-    /// say, this too is want of memory.
+    /// Appends a piece to the stream. An `Err` leaves the session as it was. Where the stream would
+    /// be longer than a `u64` can say, this too is want of memory.
     pub fn feed(&mut self, piece: &[u8]) -> Result<(), OutOfMemory>
-        ensures ok { OnOk result (self.new ≡ record { state = self.old.state; held = with_more self.old.held piece.now }) }
+        ensures ok { OnOk result (self.new ≡ record {
+          state = self.old.state;
+          held = with_more self.old.held piece.now;
+        }) }
         ensures err { OnErr result (self.new ≡ self.old) }
-        ensures gave { OnOk result ((stream : List ℕ) (given : List Incoming) → Gave stream given self.old → Gave (stream ++ piece.now) given self.new) }
+        ensures gave { OnOk result ((stream : List ℕ) (given : List Incoming)
+            → Gave stream given self.old → Gave (stream ++ piece.now) given self.new) }
         // A fault that was told is told whatever comes.
         ensures stuck { (fault : SessionFault) → IsStuck self.old fault → IsStuck self.new fault }
     {
@@ -199,21 +218,25 @@ impl Session {
     pub fn next(&mut self, alloc: Global) -> Result<Option<Incoming>, SessionFault>
         ensures comes { Comes self.old self.new result }
         // The items that were given are a prefix of the stream's.
-        ensures gave { (stream : List ℕ) (given : List Incoming) → Gave stream given self.old → Gave stream (given ++ given_by result) self.new }
-        // None comes where no further item is whole and the end is open, and `at_rest` then tells which it is. A fault comes where
-        // the items end with it, whatever follows.
-        ensures says { (stream : List ℕ) (given : List Incoming) → Gave stream given self.old → Says stream given self.new result }
+        ensures gave { (stream : List ℕ) (given : List Incoming) → Gave stream given self.old
+            → Gave stream (given ++ given_by result) self.new }
+        // None comes where no further item is whole and the end is open, and `at_rest` then tells
+        // which it is. A fault comes where the items end with it, whatever follows.
+        ensures says { (stream : List ℕ) (given : List Incoming) → Gave stream given self.old
+            → Says stream given self.new result }
         // A request comes of a bound session, and is answered by the transmit size that it tells.
         ensures transmit { IfOk result (IsFor self.new.state.terms) }
         // What a bind_ack settled stays.
         ensures kept { IfSome self.old.state.terms (λ terms. self.new.state.terms ≡ Some terms) }
         // An item takes bytes of those that are held.
-        ensures shorter { IfOk result (λ item. IfSome item (λ _. length self.new.held.rest < length self.old.held.rest)) }
+        ensures shorter { IfOk result (λ item. IfSome item
+            (λ _. length self.new.held.rest < length self.old.held.rest)) }
         ensures no_longer { length self.new.held.rest ≤ length self.old.held.rest }
         // A fault other than want of memory is told at each later call.
         ensures stuck { IfErr result (IsStuck self.new) }
         ensures again { TellsAgain self.old self.new result }
-        // Where there is no memory for the item, or for a fragment before it, the session is as it was.
+        // Where there is no memory for the item, or for a fragment before it, the session is as it
+        // was.
         ensures unchanged { OnWant result (self.new ≡ self.old) }
     {
         next_item(alloc, &mut self.state, &mut self.stream)
@@ -234,7 +257,8 @@ impl Session {
         status: u32,
         sink: &mut T,
     ) -> Result<(), Failed>
-        ensures written { Writes (T.held sink.old) (T.held sink.new) result (fault_bytes (record { call = call; hint = 0; context = context; status = status })) }
+        ensures written { Writes (T.held sink.old) (T.held sink.new) result
+            (fault_bytes (record { call = call; hint = 0; context = context; status = status })) }
         ensures cause { HasCause (T.faults sink.old) (T.faults sink.new) result }
     {
         write_fault(sink, call, context, status)
@@ -250,7 +274,9 @@ impl Session {
     ) -> Result<(), Failed>
         requires bound { IsSome self.now.state.terms }
         requires size { length body.now < 2 ^ 32 }
-        ensures written { IfSome self.now.state.terms (λ terms. Writes (T.held sink.old) (T.held sink.new) result (reply_fragments terms.transmit call context body.now)) }
+        ensures written { IfSome self.now.state.terms
+            (λ terms. Writes (T.held sink.old) (T.held sink.new) result
+            (reply_fragments terms.transmit call context body.now)) }
         ensures cause { HasCause (T.faults sink.old) (T.faults sink.new) result }
     {
         match self.state.terms {

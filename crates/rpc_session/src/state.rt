@@ -1,9 +1,14 @@
-ghost use Rattle.std.specs.Prelude.{◌≡◌, ◌++◌, IfErr, IsSome, ◌≤◌, ◌<◌, ◌+◌, ◌^◌, length, IfOk, IfSome, OnErr, OnOk, is_some, ◌==◌, Some, None, if◌then◌else◌};
+ghost use Rattle.std.specs.Prelude.{◌≡◌, ◌++◌, IfErr, IsSome, ◌≤◌, ◌<◌, ◌+◌, ◌^◌, length, IfOk};
+ghost use Rattle.std.specs.Prelude.{IfSome, OnErr, OnOk, is_some, ◌==◌, Some, None, if◌then◌else◌};
 ghost use Rattle.rpc_pdu.specs.Pdu.{seen_bind, seen_request, seen_pdu, seen_ack};
 ghost use Rattle.rpc_pdu.specs.Written.{nak_bytes, ack_bytes, fault_bytes, ack_size};
 ghost use Rattle.rpc_session.specs.Replies.{HasRoom};
 ghost use Rattle.rpc_session.specs.Contexts.{results_of};
-ghost use Rattle.rpc_session.specs.Moves.{held_size, terms_of, ack_to, bind_move, alter_move, request_move, session_move, is_served, verdict_of, item_by, transmit_of, IsFor, Moved, Grown, body_length, cut_to, with_unfinished, going_on, with_body, continues, joined, unfinished_of, accepted};
+ghost use Rattle.rpc_session.specs.Moves.{held_size, terms_of, ack_to, bind_move, alter_move};
+ghost use Rattle.rpc_session.specs.Moves.{request_move, session_move, is_served, verdict_of};
+ghost use Rattle.rpc_session.specs.Moves.{item_by, transmit_of, IsFor, Moved, Grown, body_length};
+ghost use Rattle.rpc_session.specs.Moves.{cut_to, with_unfinished, going_on, with_body, continues};
+ghost use Rattle.rpc_session.specs.Moves.{joined, unfinished_of, accepted};
 ghost use Rattle.rpc_session.specs.declared.state.Refusal.TheVariants.{OutOfMemory};
 
 use crate::contexts::{Interface, answer_all};
@@ -158,7 +163,8 @@ fn fault_item(alloc: Global, fault: &FaultPdu) -> Result<Items<u8>, OutOfMemory>
 /// The bytes of the answer to a bind, or to an alter_context.
 fn ack_item(alloc: Global, alter: bool, ack: Ack<&[u8]>) -> Result<Items<u8>, OutOfMemory>
     requires { ack_size (seen_ack ack) < 2 ^ 16 }
-    ensures { IfOk result (λ bytes. bytes ≡ ack_bytes (if alter then 15 else 12) (seen_ack ack.entry)) }
+    ensures { IfOk result (λ bytes. bytes ≡ ack_bytes (if alter then 15 else 12)
+        (seen_ack ack.entry)) }
 {
     let mut bytes = Items::new(alloc);
     let pdu = if alter {
@@ -191,7 +197,8 @@ fn transmit(terms: Option<Terms>) -> u16
 
 /// The item of a whole request, which is given back where there is no memory.
 fn item(alloc: Global, known: &Known, transmit: u16, u: Unfinished) -> Result<Incoming, Unfinished>
-    ensures ok { IfOk result (λ item. item ≡ item_by (verdict_of known.now u.context u.opnum) transmit u) }
+    ensures ok { IfOk result (λ item. item ≡ item_by
+        (verdict_of known.now u.context u.opnum) transmit u) }
     ensures err { IfErr result (λ back. back ≡ u) }
 {
     match verdict(known, u.context, u.opnum) {
@@ -242,7 +249,8 @@ impl State {
     ) -> Result<Option<Incoming>, Refusal>
         requires short { length address.now ≤ 1 }
         requires same { IfSome self.old.terms (λ old. old ≡ terms) }
-        ensures moved { Moved self.old self.new result (accepted alter address.now self.old terms (seen_bind bind.now)) }
+        ensures moved { Moved self.old self.new result
+            (accepted alter address.now self.old terms (seen_bind bind.now)) }
         ensures room { HasRoom (Some terms) → HasRoom self.old.terms → HasRoom self.new.terms }
         ensures kept { IfSome self.old.terms (λ terms. self.new.terms ≡ Some terms) }
         ensures transmit { IfOk result (IsFor self.new.terms) }
@@ -298,7 +306,8 @@ impl State {
     fn begin(&mut self, alloc: Global, r: &RequestPdu<&[u8]>) -> Result<Option<Incoming>, Refusal>
         requires bound { IsSome self.old.terms }
         requires free { self.old.unfinished ≡ None }
-        ensures moved { Moved self.old self.new result (joined self.old r.now.last (unfinished_of (seen_request r.now))) }
+        ensures moved { Moved self.old self.new result
+            (joined self.old r.now.last (unfinished_of (seen_request r.now))) }
         ensures room { HasRoom self.old.terms → HasRoom self.new.terms }
         ensures kept { IfSome self.old.terms (λ terms. self.new.terms ≡ Some terms) }
         ensures transmit { IfOk result (IsFor self.new.terms) }
@@ -358,7 +367,8 @@ impl State {
         alloc: Global,
         r: &RequestPdu<&[u8]>,
     ) -> Result<Option<Incoming>, Refusal>
-        ensures moved { Moved self.old self.new result (request_move self.old (seen_request r.now)) }
+        ensures moved { Moved self.old self.new result
+            (request_move self.old (seen_request r.now)) }
         ensures room { HasRoom self.old.terms → HasRoom self.new.terms }
         ensures kept { IfSome self.old.terms (λ terms. self.new.terms ≡ Some terms) }
         ensures transmit { IfOk result (IsFor self.new.terms) }
@@ -410,7 +420,8 @@ impl State {
         }
     }
 
-    /// Gives back what was joined since the unfinished request had this length, or what was begun since there was none.
+    /// Gives back what was joined since the unfinished request had this length, or what was begun
+    /// since there was none.
     pub fn give_back(&mut self, joined: Option<usize>)
         ensures { self.new ≡ with_unfinished self.old (cut_to joined self.old.unfinished) }
     {

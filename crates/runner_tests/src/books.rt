@@ -15,6 +15,9 @@ use std::sync::Wait;
 
 pub const CLOCK: FixedClock = FixedClock { moment: 0 };
 
+/// The moment that the clock of a server tells.
+pub const MOMENT: u64 = 7;
+
 pub type TestBook = Book<MemoryKeeper>;
 
 /// A book, its administrator's pass, and one that is nobody's.

@@ -1,4 +1,4 @@
-// Connections in memory of which the second is held.
+// Connections in memory that are held, and a listener that is.
 ghost use Rattle.std.specs.Prelude.{◌≡◌};
 ghost use Rattle.scm_listener.specs.Connections.{past_of};
 
@@ -27,17 +27,47 @@ impl<'a> Source for HeldIn<'a> {
     }
 }
 
+/// What a listener or its connections are held by.
+#[derive(Clone, Copy, PartialEq, Eq)]
+pub enum Held {
+    /// The second connection sends nothing before a child is launched.
+    Second,
+    /// A connection asks nothing after its start before its child reported.
+    Started,
+    /// The listener isn't closed before a child is launched.
+    Listener,
+}
+
 /// The end of a connection that is written. That the second one was answered four times tells that
 /// the status of `D` was told.
 #[derive(Drop)]
 pub struct HeldOut<'a> {
     sink: MemorySink,
     tells: bool,
+    waits: bool,
     events: &'a Events,
 }
 
 /// How many bytes the second connection is answered.
 const ANSWERED: usize = 208;
+
+/// How many bytes a connection is answered up to its start: to a bind, to the opening of the manager,
+/// to one creation and to the start.
+const STARTED: usize = 56 + 48 + 52 + 28;
+
+impl<'a> HeldOut<'a> {
+    /// Tells that it was answered, or is held, once so much was written.
+    fn cue(&self) {
+        let count = self.sink.bytes().len();
+        if self.tells && count >= ANSWERED {
+            self.events.set(Event::Told);
+            self.events.set(Event::Over);
+        }
+        if self.waits && count >= STARTED {
+            self.events.wait(Event::Read);
+        }
+    }
+}
 
 impl<'a> Sink for HeldOut<'a> {
     ghost held = { λ s. ⟦<MemorySink as Sink>⟧.held s.sink };
@@ -46,10 +76,7 @@ impl<'a> Sink for HeldOut<'a> {
 
     fn write(&mut self, from: &[u8]) -> Result<usize, Failed> {
         let written = self.sink.write(from);
-        if self.tells && self.sink.bytes().len() >= ANSWERED {
-            self.events.set(Event::Told);
-            self.events.set(Event::Over);
-        }
+        self.cue();
         written
     }
 
@@ -58,16 +85,20 @@ impl<'a> Sink for HeldOut<'a> {
     }
 }
 
-/// Hands out connections in memory, of which the second is held.
+/// Hands out connections in memory.
 #[derive(Drop)]
 pub struct HeldListener<'a> {
     pub listener: MemoryListener,
+    pub held: Held,
     pub events: &'a Events,
 }
 
 impl<'a> HeldListener<'a> {
-    pub fn new(listener: MemoryListener, events: &'a Events) -> Self {
-        HeldListener { listener, events }
+    /// Waits for what it is held by.
+    fn hold(&self) {
+        if self.held == Held::Listener {
+            self.events.wait(Event::Launched);
+        }
     }
 }
 
@@ -99,9 +130,10 @@ impl<'a> Listener for HeldListener<'a> {
     }
 
     fn accept(&mut self) -> Accepted<HeldIn<'a>, HeldOut<'a>> {
+        self.hold();
         match self.listener.accept() {
             Accepted::Conn(input, output) => {
-                let is_second = input.number == 1;
+                let is_second = self.held == Held::Second && input.number == 1;
                 Accepted::Conn(
                     Numbered {
                         number: input.number,
@@ -116,6 +148,7 @@ impl<'a> Listener for HeldListener<'a> {
                         end: HeldOut {
                             sink: output.end,
                             tells: is_second,
+                            waits: self.held == Held::Started,
                             events: self.events,
                         },
                     },
@@ -134,6 +167,7 @@ impl<'a> Listener for HeldListener<'a> {
             (⟦<MemoryIn as Source>⟧.faults input.entry.end.source)
             (⟦<MemorySink as Sink>⟧.faults output.entry.end.sink) }
     {
+        input.end.events.set(Event::Over);
         MemoryListener::end(
             Numbered {
                 number: input.number,

@@ -14,7 +14,7 @@ pub struct Events {
     is_told: AtomicBool,
     /// More of its output was asked for.
     is_read: AtomicBool,
-    /// The state was told again.
+    /// The state was told again, or a connection is over.
     is_over: AtomicBool,
     /// A wait gave up.
     gave_up: AtomicBool,

@@ -25,7 +25,8 @@ pub fn launch<R: Wait>(
     requires path { 2048 ≤ room.old.path.room }
     ensures book { IsOf book.now runner.new }
     ensures path { room.new.path.room ≡ room.old.path.room }
-    ensures held { IfSome result (λ process. HoldsProcess book.now.opening runner.new process phases.Launched) }
+    ensures held { IfSome result (λ process. HoldsProcess book.now.opening runner.new process
+        phases.Launched) }
 {
     match launch_one(rt, alloc, book, runner, room, spawner, &CLOCK) {
         LaunchEnd::Started {

@@ -21,6 +21,8 @@ mod fates;
 #[cfg(test)]
 mod held;
 #[cfg(test)]
+mod histories;
+#[cfg(test)]
 mod launcher;
 #[cfg(test)]
 mod launches;
@@ -34,3 +36,5 @@ mod quits;
 mod sessions;
 #[cfg(test)]
 mod side;
+#[cfg(test)]
+mod stored;

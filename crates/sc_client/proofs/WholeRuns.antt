@@ -1,5 +1,6 @@
 -- A whole run of a client.
-use Rattle.std.proofs.Common.{◌≡◌, ℕ, ◌+◌, ◌*◌, ◌≤◌, Bool, true, false, List, [], ◌∷◌, ◌++◌, length, refl, sym, ap, ◌∙◌, subst, append_assoc, append-nil}
+use Rattle.std.proofs.Common.{◌≡◌, ℕ, ◌+◌, ◌*◌, ◌≤◌, Bool, true, false, List, [], ◌∷◌, ◌++◌, length, refl, sym, ap, ◌∙◌, subst}
+use Rattle.std.proofs.Common.{append_assoc, append-nil}
 use Rattle.std.specs.Prelude.{Option, None, Some, Result, Ok, Err, is_err}
 use Rattle.std.proofs.lemmas.Bool.{true≢false}
 use Rattle.std.specs.Io.KnownBytes.{Appends, Consumes}
@@ -27,7 +28,8 @@ pub record SoFar (c : Command) (t : Talk) (h : Held) (left left_now held held_no
   pub same : (more : List ℕ) → followed c (read ++ more) ≡ told_with c t h text more
 
 -- the bind is written
-pub begun : (c : Command) (t : Talk) (h : Held) (left held held_now : Option (List ℕ)) → t ≡ not_bound → h ≡ record { bytes = []; place = 0 } → Appends held held_now bind_text
+pub begun : (c : Command) (t : Talk) (h : Held) (left held held_now : Option (List ℕ)) → t ≡ not_bound
+    → h ≡ record { bytes = []; place = 0 } → Appends held held_now bind_text
     → SoFar c t h left left held held_now
 unfolding followed told_with
 begun c t h left held held_now e f w = record {
@@ -35,10 +37,12 @@ begun c t h left held held_now e f w = record {
   text = bind_text;
   consumed = Consumes-nil left;
   written = w;
-  same = λ more. ap (λ v. told_with c v (record { bytes = []; place = 0 }) bind_text more) (sym e) ∙ ap (λ k. told_with c t k bind_text more) (sym f);
+  same = λ more. ap (λ v. told_with c v (record { bytes = []; place = 0 }) bind_text more) (sym e)
+      ∙ ap (λ k. told_with c t k bind_text more) (sym f);
 }
 
-module _ (c : Command) (t u : Talk) (h k : Held) (left mid left_now held between held_now : Option (List ℕ)) (s : SoFar c t h left mid held between) where
+module _ (c : Command) (t u : Talk) (h k : Held) (left mid left_now held between held_now : Option (List ℕ))
+    (s : SoFar c t h left mid held between) where
   -- one turn more
   pub turned : Turned c t u h k mid left_now between held_now → SoFar c u k left left_now held held_now
   turned x = record {
@@ -59,7 +63,8 @@ module _ (c : Command) (t u : Talk) (h k : Held) (left mid left_now held between
   open_now e = record { talk = t; told = ap (followed c) (sym (append-nil s.read)) ∙ s.same [] ∙ e s.text }
 
   -- a turn failed
-  pub failed : (fault : ClientFault) → Turn c t u h k mid left_now between held_now (Err fault) → IsRun c left left_now held held_now (Err fault)
+  pub failed : (fault : ClientFault) → Turn c t u h k mid left_now between held_now (Err fault)
+      → IsRun c left left_now held held_now (Err fault)
   failed (faults.BadReply place) x = record {
     read = s.read;
     text = s.text;
@@ -128,7 +133,8 @@ module _ (c : Command) (t u : Talk) (h k : Held) (left mid left_now held between
   }
 
 -- no memory for the bind
-pub no_bind : (c : Command) (left held : Option (List ℕ)) (fault : ClientFault) → fault ≡ faults.OutOfMemory → IsRun c left left held held (Err fault)
+pub no_bind : (c : Command) (left held : Option (List ℕ)) (fault : ClientFault) → fault ≡ faults.OutOfMemory
+    → IsRun c left left held held (Err fault)
 no_bind c left held fault e = subst (λ f. IsRun c left left held held (Err f)) (sym e) (record {
   read = [];
   text = [];
@@ -138,7 +144,8 @@ no_bind c left held fault e = subst (λ f. IsRun c left left held held (Err f)) 
 })
 
 -- the bind wasn't written
-pub unbound_yet : (c : Command) (left held held_now : Option (List ℕ)) → AppendsFront held held_now bind_text → IsRun c left left held held_now (Err faults.WriteFault)
+pub unbound_yet : (c : Command) (left held held_now : Option (List ℕ)) → AppendsFront held held_now bind_text
+    → IsRun c left left held held_now (Err faults.WriteFault)
 unbound_yet c left held held_now x = record {
   read = [];
   text = x.front;
@@ -151,11 +158,13 @@ unbound_yet c left held held_now x = record {
 
 -- ## What was written
 
-pub wrote : {E : Type 0} (old new : Option (List ℕ)) (r : Result (Unit {0}) E) (bytes all : List ℕ) → bytes ≡ all → Writes old new r bytes → is_err r ≡ false → Appends old new all
+pub wrote : {E : Type 0} (old new : Option (List ℕ)) (r : Result (Unit {0}) E) (bytes all : List ℕ) → bytes ≡ all → Writes old new r bytes
+    → is_err r ≡ false → Appends old new all
 wrote old new (Ok x) bytes all e w is = subst (Appends old new) e w
 wrote old new (Err x) bytes all e w is = absurd (true≢false is)
 
-pub wrote_front : {E : Type 0} (old new : Option (List ℕ)) (r : Result (Unit {0}) E) (bytes all : List ℕ) → bytes ≡ all → Writes old new r bytes → is_err r ≡ true → AppendsFront old new all
+pub wrote_front : {E : Type 0} (old new : Option (List ℕ)) (r : Result (Unit {0}) E) (bytes all : List ℕ) → bytes ≡ all
+    → Writes old new r bytes → is_err r ≡ true → AppendsFront old new all
 wrote_front old new (Ok x) bytes all e w is = absurd (true≢false (sym is))
 wrote_front old new (Err x) bytes all e w is = subst (AppendsFront old new) e w
 

@@ -31,7 +31,8 @@ read_so_far h = h.place + length h.bytes
 
 -- a piece was read, or nothing
 abbrev pub ReadsMore : (left left_now : Option (List ℕ)) → Held → Held → Result (Unit {0}) ClientFault → Type 0
-ReadsMore left left_now old new (Ok x) = (piece : List ℕ) × Consumes left left_now piece × (new ≡ record { bytes = old.bytes ++ piece; place = old.place }) × (length piece ≤ 4096)
+ReadsMore left left_now old new (Ok x) = (piece : List ℕ) × Consumes left left_now piece
+    × (new ≡ record { bytes = old.bytes ++ piece; place = old.place }) × (length piece ≤ 4096)
 ReadsMore left left_now old new (Err faults.ReadFault) = Consumes left left_now []
 ReadsMore left left_now old new (Err faults.Truncated) = Consumes left left_now [] × IsAtEnd left_now
 ReadsMore left left_now old new (Err faults.OutOfMemory) = (piece : List ℕ) × Consumes left left_now piece
@@ -39,9 +40,12 @@ ReadsMore left left_now old new (Err other) = ⊥
 
 -- one PDU was taken, or it isn't whole
 abbrev pub TakesPdu : Command → Talk → Talk → Held → Held → Result Bool ClientFault → Type 0
-TakesPdu c t u h k (Ok true) = ((text more : List ℕ) → told_with c t h text more ≡ told_with c u k (text ++ due c u) more) × (read_so_far k ≡ read_so_far h) × (u.bound ≡ true)
-TakesPdu c t u h k (Ok false) = (u ≡ t) × (k ≡ h) × ((text : List ℕ) → told_with c t h text [] ≡ record { talk = t; text = text; ending = Early })
-TakesPdu c t u h k (Err (faults.BadReply place)) = (text more : List ℕ) → told_with c t h text more ≡ record { talk = t; text = text; ending = Bad place }
+TakesPdu c t u h k (Ok true) = ((text more : List ℕ) → told_with c t h text more ≡ told_with c u k (text ++ due c u) more)
+    × (read_so_far k ≡ read_so_far h) × (u.bound ≡ true)
+TakesPdu c t u h k (Ok false) = (u ≡ t) × (k ≡ h) × ((text : List ℕ) → told_with c t h text [] ≡
+    record { talk = t; text = text; ending = Early })
+TakesPdu c t u h k (Err (faults.BadReply place)) = (text more : List ℕ)
+    → told_with c t h text more ≡ record { talk = t; text = text; ending = Bad place }
 TakesPdu c t u h k (Err faults.OutOfMemory) = Unit {0}
 TakesPdu c t u h k (Err other) = ⊥
 
@@ -76,10 +80,14 @@ abbrev pub Turn : Command → Talk → Talk → Held → Held → (left left_now
 Turn c t u h k left left_now held held_now (Ok true) = Turned c t u h k left left_now held held_now × (is_over c u ≡ false)
 Turn c t u h k left left_now held held_now (Ok false) = Turned c t u h k left left_now held held_now × (is_over c u ≡ true)
 Turn c t u h k left left_now held held_now (Err (faults.BadReply place)) =
-    Consumes left left_now [] × Appends held held_now [] × ((text more : List ℕ) → told_with c t h text more ≡ record { talk = t; text = text; ending = Bad place })
+    Consumes left left_now [] × Appends held held_now [] × ((text more : List ℕ)
+    → told_with c t h text more ≡ record { talk = t; text = text; ending = Bad place })
 Turn c t u h k left left_now held held_now (Err faults.Truncated) =
-    Consumes left left_now [] × IsAtEnd left_now × Appends held held_now [] × ((text : List ℕ) → told_with c t h text [] ≡ record { talk = t; text = text; ending = Early })
+    Consumes left left_now [] × IsAtEnd left_now × Appends held held_now []
+    × ((text : List ℕ) → told_with c t h text [] ≡ record { talk = t; text = text; ending = Early })
 Turn c t u h k left left_now held held_now (Err faults.ReadFault) =
-    Consumes left left_now [] × Appends held held_now [] × ((text : List ℕ) → told_with c t h text [] ≡ record { talk = t; text = text; ending = Early })
+    Consumes left left_now [] × Appends held held_now [] × ((text : List ℕ)
+    → told_with c t h text [] ≡ record { talk = t; text = text; ending = Early })
 Turn c t u h k left left_now held held_now (Err faults.WriteFault) = CutOff c t h left left_now held held_now
-Turn c t u h k left left_now held held_now (Err faults.OutOfMemory) = ((read : List ℕ) × Consumes left left_now read) × Appends held held_now []
+Turn c t u h k left left_now held held_now (Err faults.OutOfMemory) = ((read : List ℕ) × Consumes left left_now read)
+    × Appends held held_now []

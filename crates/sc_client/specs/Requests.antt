@@ -6,7 +6,14 @@ use Rattle.sc_client.specs.declared.requests.TheConstants.{SVCCTL, NDR}
 use Rattle.scm_bodies.specs.Requests.{request_bytes}
 use Rattle.scm_model.specs.declared.calls.Request.{Request}
 use Rattle.scm_model.specs.declared.calls.Request.TheVariants as request
-use Rattle.scm_model.specs.declared.codes.TheConstants.{R_CHANGE_SERVICE_CONFIG2_W, R_CHANGE_SERVICE_CONFIG_W, R_CLOSE_NOTIFY_HANDLE, R_CLOSE_SERVICE_HANDLE, R_ENUM_DEPENDENT_SERVICES_W, R_ENUM_SERVICES_STATUS_W, R_GET_NOTIFY_RESULTS, R_NOTIFY_SERVICE_STATUS_CHANGE, R_QUERY_SERVICE_STATUS_EX, R_CONTROL_SERVICE, R_CREATE_SERVICE_W, R_DELETE_SERVICE, R_GET_SERVICE_DISPLAY_NAME_W, R_GET_SERVICE_KEY_NAME_W, R_LOCK_SERVICE_DATABASE, R_OPEN_SC_MANAGER_W, R_OPEN_SERVICE_W, R_QUERY_SERVICE_CONFIG2_W, R_QUERY_SERVICE_CONFIG_W, R_QUERY_SERVICE_LOCK_STATUS_W, R_QUERY_SERVICE_STATUS, R_SET_SERVICE_STATUS, R_START_SERVICE_W, R_UNLOCK_SERVICE_DATABASE}
+use Rattle.scm_model.specs.declared.codes.TheConstants.{R_CHANGE_SERVICE_CONFIG2_W, R_CHANGE_SERVICE_CONFIG_W, R_CLOSE_NOTIFY_HANDLE}
+use Rattle.scm_model.specs.declared.codes.TheConstants.{R_CLOSE_SERVICE_HANDLE, R_ENUM_DEPENDENT_SERVICES_W, R_ENUM_SERVICES_STATUS_W}
+use Rattle.scm_model.specs.declared.codes.TheConstants.{R_GET_NOTIFY_RESULTS, R_NOTIFY_SERVICE_STATUS_CHANGE, R_QUERY_SERVICE_STATUS_EX}
+use Rattle.scm_model.specs.declared.codes.TheConstants.{R_CONTROL_SERVICE, R_CREATE_SERVICE_W, R_DELETE_SERVICE}
+use Rattle.scm_model.specs.declared.codes.TheConstants.{R_GET_SERVICE_DISPLAY_NAME_W, R_GET_SERVICE_KEY_NAME_W, R_LOCK_SERVICE_DATABASE}
+use Rattle.scm_model.specs.declared.codes.TheConstants.{R_OPEN_SC_MANAGER_W, R_OPEN_SERVICE_W, R_QUERY_SERVICE_CONFIG2_W}
+use Rattle.scm_model.specs.declared.codes.TheConstants.{R_QUERY_SERVICE_CONFIG_W, R_QUERY_SERVICE_LOCK_STATUS_W, R_QUERY_SERVICE_STATUS}
+use Rattle.scm_model.specs.declared.codes.TheConstants.{R_SET_SERVICE_STATUS, R_START_SERVICE_W, R_UNLOCK_SERVICE_DATABASE}
 
 -- ## The bind
 

@@ -1,5 +1,6 @@
 -- What the peer's PDUs tell a client, and what it writes meanwhile.
-use Rattle.std.specs.Prelude.{ℕ, ◌≡◌, ◌+◌, Bool, true, false, not, ◌&&◌, ◌==◌, nat_lt, List, [], ◌∷◌, ◌++◌, length, take, Option, None, Some, is_none, option_and_then, option_map, Result, Ok, Err, bytes_eq, if◌then◌else◌}
+use Rattle.std.specs.Prelude.{ℕ, ◌≡◌, ◌+◌, Bool, true, false, not, ◌&&◌, ◌==◌, nat_lt, List, [], ◌∷◌, ◌++◌, length, take, Option, None}
+use Rattle.std.specs.Prelude.{Some, is_none, option_and_then, option_map, Result, Ok, Err, bytes_eq, if◌then◌else◌}
 use Rattle.std.specs.Result.{result_ok}
 use Rattle.rpc_pdu.specs.declared.pdu.Ack.{Ack}
 use Rattle.rpc_pdu.specs.declared.pdu.End.TheVariants.{Client}
@@ -75,7 +76,8 @@ acceptance = (0 ∷ 0 ∷ 0 ∷ 0 ∷ []) ++ NDR
 -- the answer to the bind accepts its one context
 unfoldable pub ack_move : Talk → Ack (List ℕ) → Option Talk
 ack_move t a =
-    if not t.bound && (a.call == 1 && bytes_eq (take 24 a.results) acceptance) then Some (record { bound = true; heard = t.heard; part = t.part }) else None
+    if not t.bound && (a.call == 1 && bytes_eq (take 24 a.results) acceptance)
+    then Some (record { bound = true; heard = t.heard; part = t.part }) else None
 
 -- where a PDU leads, or none where it has no place
 unfoldable pub pdu_move : Command → Talk → Pdu (List ℕ) → Option Talk

@@ -1,5 +1,6 @@
 ghost use Rattle.std.specs.Prelude.{◌≡◌, ◌≤◌, ◌<◌, ◌^◌, ◌++◌, IfOk, OnOk, drop, length, take};
-ghost use Rattle.sc_client.specs.Requests.{bind_text, fragmented, opnum_of, request_fragment, request_fragments, request_text};
+ghost use Rattle.sc_client.specs.Requests.{bind_text, fragmented, opnum_of, request_fragment};
+ghost use Rattle.sc_client.specs.Requests.{request_fragments, request_text};
 
 use rpc_pdu::{Bind, Pdu, RequestPdu, write_pdu};
 use scm_bodies::write_request;

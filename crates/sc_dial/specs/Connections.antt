@@ -16,4 +16,5 @@ with_past past address left written = option_map (λ ps. ps ++ record { address 
 -- The connections that were given back are these and one more, to this address; where the dialer tells.
 abbrev pub IsGivenBack : (past past_now : Option (List PastConnection)) → (address : List ℕ) → (left written : Option (List ℕ)) → Type 0
 IsGivenBack None past_now address left written = past_now ≡ None
-IsGivenBack (Some ps) past_now address left written = past_now ≡ Some (ps ++ record { address = Some address; left = left; written = written } ∷ [])
+IsGivenBack (Some ps) past_now address left written = past_now ≡ Some (ps
+    ++ record { address = Some address; left = left; written = written } ∷ [])

@@ -16,7 +16,11 @@ dialled_of _ address = None
 
 -- it, once it is given back
 abbrev pub past_of : MemoryLine → Option (List ℕ) → List PastConnection
-past_of (line.Past connection) address = record { address = address; left = Some connection.input.source.left; written = Some connection.output.sink.held } ∷ []
+past_of (line.Past connection) address = record {
+  address = address;
+  left = Some connection.input.source.left;
+  written = Some connection.output.sink.held;
+} ∷ []
 past_of _ address = []
 
 -- where the only connection led that was given back

@@ -1,4 +1,5 @@
-ghost use Rattle.std.specs.Prelude.{◌≡◌, ◌≤◌, ◌<◌, ◌+◌, [], ℕ, List, Option, Some, IfOk, IfSome, IsSome};
+ghost use Rattle.std.specs.Prelude.{◌≡◌, ◌≤◌, ◌<◌, ◌+◌, [], ℕ, List, Option, Some, IfOk, IfSome};
+ghost use Rattle.std.specs.Prelude.{IsSome};
 ghost use Rattle.outside.specs.Causes.{HasCause, Rose};
 ghost use Rattle.sc_dial.specs.Connections.{PastConnection, with_past};
 
@@ -29,13 +30,15 @@ pub trait Dialer {
     /// How often it failed, the ends of its connections included.
     ghost faults: { Self → ℕ };
 
-    /// Makes a connection to an address, as `127.0.0.1:4000`, of which nothing is read or written yet.
+    /// Makes a connection to an address, as `127.0.0.1:4000`, of which nothing is read or written
+    /// yet.
     fn dial(&mut self, address: &str) -> Result<Connection<Self::In, Self::Out>, Failed>
         ensures left { IfOk result (λ c. Self.In.left c.input ≡ next self.old) }
         ensures unwritten { IfOk result (λ c. IfSome (Self.Out.held c.output) (λ held. held ≡ [])) }
         ensures input { IfOk result (λ c. Self.In.faults c.input ≡ 0) }
         ensures output { IfOk result (λ c. Self.Out.faults c.output ≡ 0) }
-        ensures dialled { IfOk result (λ _. IfSome (past self.old) (λ _. dialled self.new ≡ Some address.now)) }
+        ensures dialled { IfOk result (λ _. IfSome (past self.old)
+            (λ _. dialled self.new ≡ Some address.now)) }
         ensures past { past self.new ≡ past self.old }
         ensures cause { HasCause (faults self.old) (faults self.new) result };
 
@@ -44,7 +47,9 @@ pub trait Dialer {
         requires dialled { IfSome (past self.old) (λ _. IsSome (dialled self.old)) }
         ensures past { past self.new ≡ with_past (past self.old)
             (dialled self.old) (Self.In.left input) (Self.Out.held output) }
-        ensures well { Self.In.faults input ≡ 0 → Self.Out.faults output ≡ 0 → faults self.new ≡ faults self.old }
-        ensures failed { 0 < Self.In.faults input + Self.Out.faults output → Rose (faults self.old) (faults self.new) }
+        ensures well { Self.In.faults input ≡ 0 → Self.Out.faults output ≡ 0
+            → faults self.new ≡ faults self.old }
+        ensures failed { 0 < Self.In.faults input + Self.Out.faults output
+            → Rose (faults self.old) (faults self.new) }
         ensures grows { faults self.old ≤ faults self.new };
 }

@@ -21,8 +21,9 @@ pub enum MemoryLine {
     Past(MemoryConnection),
 }
 
-/// One connection in memory, to whatever address is dialled. Each `true` of a list of fails, taken from its end, is a call that
-/// fails; no other does, but a dial behind the first connection, and one that finds no memory.
+/// One connection in memory, to whatever address is dialled. Each `true` of a list of fails, taken
+/// from its end, is a call that fails; no other does, but a dial behind the first connection, and
+/// one that finds no memory.
 #[derive(Drop)]
 pub struct MemoryDialer {
     alloc: Global,
@@ -55,7 +56,8 @@ impl MemoryDialer {
 
     /// Where the connection that was given back was dialled to.
     pub fn address(&self) -> Option<&str>
-        ensures { option_map (λ a. a.now) result ≡ only_address (⟦<MemoryDialer as Dialer>⟧.past self.now) }
+        ensures { option_map (λ a. a.now) result ≡ only_address
+            (⟦<MemoryDialer as Dialer>⟧.past self.now) }
     {
         match (&self.line, &self.address) {
             (MemoryLine::Past(_), Some(address)) => Some(address.as_str()),
@@ -65,7 +67,8 @@ impl MemoryDialer {
 
     /// What was written over the connection that was given back.
     pub fn written(&self) -> Option<&[u8]>
-        ensures { option_map (λ bytes. bytes.now) result ≡ only_written (⟦<MemoryDialer as Dialer>⟧.past self.now) }
+        ensures { option_map (λ bytes. bytes.now) result ≡ only_written
+            (⟦<MemoryDialer as Dialer>⟧.past self.now) }
     {
         match &self.line {
             MemoryLine::Past(connection) => Some(connection.output.get_ref().bytes()),

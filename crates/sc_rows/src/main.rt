@@ -1,7 +1,7 @@
 //! Rows of the client. The first word of a line of the input says what is done by the rest: bytes
 //! get a name, the peer of the next run sends some, a call of that run fails, answers are heard,
-//! words are read, asked by or run, or a connection over TCP is made. Each line is printed, and after
-//! it what came of it.
+//! words are read, asked by or run, or a connection over TCP is made. Each line is printed, and
+//! after it what came of it.
 #![tactic(auto)]
 
 mod answers;

@@ -22,17 +22,21 @@ all_read : (left : Option (List ℕ)) (bytes read : List ℕ) → Consumes (Some
 all_read None bytes read x end = absurd x
 all_read (Some rest) bytes read x end = x ∙ ap (λ r. read ++ r) end ∙ append-nil read
 
-due_by : (c : Command) (next left : Option (List ℕ)) (bytes read text : List ℕ) (ending : TalkEnd) → next ≡ Some bytes → Consumes next left read → (e : EndsSo c read text ending)
+due_by : (c : Command) (next left : Option (List ℕ)) (bytes read text : List ℕ) (ending : TalkEnd) → next ≡ Some bytes
+    → Consumes next left read → (e : EndsSo c read text ending)
     → followed c bytes ≡ record { talk = e.talk; text = text; ending = ending }
 due_by c next left bytes read text ending is x e =
     let rest = rest_of left bytes read (subst (λ n. Consumes n left read) is x) in
     ap (followed c) rest.1 ∙ e.told rest.0
 
-due : (c : Command) (o : Outside) (bytes : List ℕ) → o.next ≡ Some bytes → (status : ℕ) (how : Result (Option Failure) ScFault) → HasRun c o how
-    → (Rose o.dialer o.dialer_now → ⊥) → (Rose o.output o.output_now → ⊥) → status ≡ status_of how → IsUnlessMemory (status_due c (followed c bytes)) status
+due : (c : Command) (o : Outside) (bytes : List ℕ) → o.next ≡ Some bytes → (status : ℕ) (how : Result (Option Failure) ScFault)
+    → HasRun c o how
+    → (Rose o.dialer o.dialer_now → ⊥) → (Rose o.output o.output_now → ⊥) → status ≡ status_of how
+    → IsUnlessMemory (status_due c (followed c bytes)) status
 due c o bytes is status (Ok failure) x undialled unwritten e =
     let run = x.1.run in
-    inl (e ∙ ap (λ f. status_of_text (is_some f)) (x.3 ∙ ap (failure_of c) (sym run.reached.1)) ∙ sym (ap (status_due c) (due_by c o.next x.1.left bytes run.read run.text _ is run.consumed run.reached.0)))
+    inl (e ∙ ap (λ f. status_of_text (is_some f)) (x.3 ∙ ap (failure_of c) (sym run.reached.1))
+    ∙ sym (ap (status_due c) (due_by c o.next x.1.left bytes run.read run.text _ is run.consumed run.reached.0)))
 due c o bytes is status (Err (faults.Words place)) x undialled unwritten e = absurd x
 due c o bytes is status (Err faults.Encoding) x undialled unwritten e = absurd x
 due c o bytes is status (Err faults.Dial) x undialled unwritten e = absurd (undialled x.1)
@@ -52,8 +56,10 @@ if_told : {A : Type 0} {P : A → Type 0} (o : Option A) → ((x : A) → o ≡ 
 if_told None f = tt
 if_told (Some x) f = f x refl
 
-pub complete : (words : List (List ℕ)) (c : Command) (o : Outside) (held held_now : Option (List ℕ)) (before now status : ℕ) → EndsWith words c o held held_now before now status → IsComplete c o status
-complete words c o held held_now before now status e = if_told o.next (λ bytes is undialled unwritten. due c o bytes is status e.how e.run undialled unwritten e.told.status_is)
+pub complete : (words : List (List ℕ)) (c : Command) (o : Outside) (held held_now : Option (List ℕ)) (before now status : ℕ)
+    → EndsWith words c o held held_now before now status → IsComplete c o status
+complete words c o held held_now before now status e = if_told o.next (λ bytes is undialled unwritten. due c o bytes is status e.how e.run
+    undialled unwritten e.told.status_is)
 
 -- whatever command the words are
 pub of_any : (P : Command → Type 0) (told : Result Command ℕ) → ((c : Command) → P c) → IfOk told P

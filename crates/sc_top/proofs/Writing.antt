@@ -14,16 +14,21 @@ module _ {A : Type 0} (f : A → List ℕ) (xs : List A) (place : ℕ) (old mid 
   piece_and d h = rw add-one (ap (flat_map f) (drop-cons xs place d h))
 
   -- one more was written
-  pub piece_sent : (d : A) → place < length xs → Sent old mid (flat_map f xs) (flat_map f (drop place xs)) → Appends mid new (f (get_or xs place d))
+  pub piece_sent : (d : A) → place < length xs → Sent old mid (flat_map f xs) (flat_map f (drop place xs))
+      → Appends mid new (f (get_or xs place d))
       → Sent old new (flat_map f xs) (flat_map f (drop (place + 1) xs))
-  piece_sent d h s a = sent_more old mid new (flat_map f xs) (flat_map f (drop place xs)) (f (get_or xs place d)) (flat_map f (drop (place + 1) xs)) s (piece_and d h) a
+  piece_sent d h s a = sent_more old mid new (flat_map f xs) (flat_map f (drop place xs)) (f (get_or xs place d))
+      (flat_map f (drop (place + 1) xs)) s (piece_and d h) a
 
   -- or a front of it
-  pub piece_failed : (d : A) → place < length xs → Sent old mid (flat_map f xs) (flat_map f (drop place xs)) → AppendsFront mid new (f (get_or xs place d))
+  pub piece_failed : (d : A) → place < length xs → Sent old mid (flat_map f xs) (flat_map f (drop place xs))
+      → AppendsFront mid new (f (get_or xs place d))
       → AppendsFront old new (flat_map f xs)
-  piece_failed d h s a = sent_failed old mid new (flat_map f xs) (flat_map f (drop place xs)) (f (get_or xs place d)) (flat_map f (drop (place + 1) xs)) s (piece_and d h) a
+  piece_failed d h s a = sent_failed old mid new (flat_map f xs) (flat_map f (drop place xs)) (f (get_or xs place d))
+      (flat_map f (drop (place + 1) xs)) s (piece_and d h) a
 
 -- all were
 pub pieces_sent : {A : Type 0} (f : A → List ℕ) (xs : List A) (place : ℕ) (old new : Option (List ℕ)) → length xs ≤ place
     → Sent old new (flat_map f xs) (flat_map f (drop place xs)) → Appends old new (flat_map f xs)
-pieces_sent f xs place old new h s = sent_all old new (flat_map f xs) (flat_map f (drop place xs)) s (ap (λ ys. length (flat_map f ys)) (drop_of_length-le xs h))
+pieces_sent f xs place old new h s = sent_all old new (flat_map f xs) (flat_map f (drop place xs)) s
+    (ap (λ ys. length (flat_map f ys)) (drop_of_length-le xs h))

@@ -13,14 +13,17 @@ use Rattle.sc_words.specs.declared.command.Command.{Command}
 use Rattle.sc_words.specs.Told.{failure_of, told_text}
 
 -- a command's calls were made over one connection, which was given back; or it couldn't be made
-abbrev pub HasHeard : Command → (next : Option (List ℕ)) → (past past_now : Option (List PastConnection)) → (faults faults_now : ℕ) → Result (List Heard) ScFault → Type 0
+abbrev pub HasHeard : Command → (next : Option (List ℕ)) → (past past_now : Option (List PastConnection)) → (faults faults_now : ℕ)
+    → Result (List Heard) ScFault → Type 0
 HasHeard c next past past_now before now (Ok heard) = IsCalled c next past past_now (Ok heard)
-HasHeard c next past past_now before now (Err (faults.Client fault)) = IsCalled c next past past_now (Err fault) × IsDialerCaused fault before now
+HasHeard c next past past_now before now (Err (faults.Client fault)) = IsCalled c next past past_now (Err fault)
+    × IsDialerCaused fault before now
 HasHeard c next past past_now before now (Err faults.Dial) = (past_now ≡ past) × Rose before now
 HasHeard c next past past_now before now (Err other) = ⊥
 
 -- the text of the answers was printed, or a front of it, or nothing
-abbrev pub HasShown : Command → List Heard → (held held_now : Option (List ℕ)) → (faults faults_now : ℕ) → Result (Option Failure) ScFault → Type 0
+abbrev pub HasShown : Command → List Heard → (held held_now : Option (List ℕ)) → (faults faults_now : ℕ) → Result (Option Failure) ScFault
+    → Type 0
 HasShown c heard held held_now before now (Ok failure) = Appends held held_now (told_text c heard) × (failure ≡ failure_of c heard)
 HasShown c heard held held_now before now (Err faults.Output) = AppendsFront held held_now (told_text c heard) × Rose before now
 HasShown c heard held held_now before now (Err faults.OutOfMemory) = held_now ≡ held

@@ -53,7 +53,8 @@ pub record Outside : Type 0 where
   pub output : ℕ
   pub output_now : ℕ
 
-abbrev pub outside_of : (next : Option (List ℕ)) → (past past_now : Option (List PastConnection)) → (dialer dialer_now : ℕ) → (held held_now : Option (List ℕ)) → (output output_now : ℕ) → Outside
+abbrev pub outside_of : (next : Option (List ℕ)) → (past past_now : Option (List PastConnection)) → (dialer dialer_now : ℕ)
+    → (held held_now : Option (List ℕ)) → (output output_now : ℕ) → Outside
 outside_of next past past_now dialer dialer_now held held_now output output_now = record {
   next = next;
   past = past;
@@ -67,7 +68,8 @@ outside_of next past past_now dialer dialer_now held held_now output output_now 
 }
 
 -- one connection was made to the command's address, the command was run over it from its first byte on, and it was given back
-pub record IsCalled (c : Command) (next : Option (List ℕ)) (past past_now : Option (List PastConnection)) (result : Result (List Heard) ClientFault) : Type 0 where
+pub record IsCalled (c : Command) (next : Option (List ℕ)) (past past_now : Option (List PastConnection))
+    (result : Result (List Heard) ClientFault) : Type 0 where
   pub left : Option (List ℕ)
   pub unwritten : Option (List ℕ)
   pub written : Option (List ℕ)
@@ -84,22 +86,28 @@ IsDialerCaused _ dialer dialer_now = Unit {0}
 -- What a command's run did by how it ended. With all answers its text was printed, and nothing is printed of fewer.
 abbrev pub HasRun : Command → Outside → Result (Option Failure) ScFault → Type 0
 HasRun c o (Ok failure) =
-    (heard : List Heard) × IsCalled c o.next o.past o.past_now (Ok heard) × Appends o.held o.held_now (told_text c heard) × (failure ≡ failure_of c heard)
+    (heard : List Heard) × IsCalled c o.next o.past o.past_now (Ok heard) × Appends o.held o.held_now (told_text c heard)
+    × (failure ≡ failure_of c heard)
 HasRun c o (Err (faults.Words place)) = ⊥
 HasRun c o (Err faults.Encoding) = ⊥
 HasRun c o (Err faults.Dial) = (o.past_now ≡ o.past) × Rose o.dialer o.dialer_now × (o.held_now ≡ o.held)
-HasRun c o (Err (faults.Client fault)) = IsCalled c o.next o.past o.past_now (Err fault) × IsDialerCaused fault o.dialer o.dialer_now × (o.held_now ≡ o.held)
+HasRun c o (Err (faults.Client fault)) = IsCalled c o.next o.past o.past_now (Err fault) × IsDialerCaused fault o.dialer o.dialer_now
+    × (o.held_now ≡ o.held)
 HasRun c o (Err faults.Output) =
-    (heard : List Heard) × IsCalled c o.next o.past o.past_now (Ok heard) × AppendsFront o.held o.held_now (told_text c heard) × Rose o.output o.output_now
-HasRun c o (Err faults.OutOfMemory) = ((o.past_now ≡ o.past) ⊎ ((heard : List Heard) × IsCalled c o.next o.past o.past_now (Ok heard))) × (o.held_now ≡ o.held)
+    (heard : List Heard) × IsCalled c o.next o.past o.past_now (Ok heard) × AppendsFront o.held o.held_now (told_text c heard)
+    × Rose o.output o.output_now
+HasRun c o (Err faults.OutOfMemory) = ((o.past_now ≡ o.past) ⊎ ((heard : List Heard) × IsCalled c o.next o.past o.past_now (Ok heard)))
+    × (o.held_now ≡ o.held)
 
 -- how a run ended, as the program tells it: by its status, and by a diagnostic on standard error
-pub record IsTold (words : List (List ℕ)) (how : Result (Option Failure) ScFault) (held held_now : Option (List ℕ)) (faults faults_now status : ℕ) : Type 0 where
+pub record IsTold (words : List (List ℕ)) (how : Result (Option Failure) ScFault) (held held_now : Option (List ℕ))
+    (faults faults_now status : ℕ) : Type 0 where
   pub status_is : status ≡ status_of how
   pub written : IsWritten (diagnostic words how) held held_now faults faults_now
 
 -- a command's run ended in a way that is told so
-pub record EndsWith (words : List (List ℕ)) (c : Command) (o : Outside) (held held_now : Option (List ℕ)) (faults faults_now status : ℕ) : Type 0 where
+pub record EndsWith (words : List (List ℕ)) (c : Command) (o : Outside) (held held_now : Option (List ℕ))
+    (faults faults_now status : ℕ) : Type 0 where
   pub how : Result (Option Failure) ScFault
   pub run : HasRun c o how
   pub told : IsTold words how held held_now faults faults_now status
@@ -107,7 +115,8 @@ pub record EndsWith (words : List (List ℕ)) (c : Command) (o : Outside) (held 
 -- arguments are no command, by the one at this place; or memory ran out
 abbrev pub IsNoCommand : (words : List (List ℕ)) → (place : ℕ) → (held held_now : Option (List ℕ)) → (faults faults_now status : ℕ) → Type 0
 IsNoCommand words place held held_now before now status =
-    IsTold words (Err (faults.Words place)) held held_now before now status ⊎ IsTold words (Err faults.OutOfMemory) held held_now before now status
+    IsTold words (Err (faults.Words place)) held held_now before now status
+    ⊎ IsTold words (Err faults.OutOfMemory) held held_now before now status
 
 -- ## Completeness
 
@@ -127,4 +136,5 @@ status_due c f = status_at f.ending (is_some (failure_of c f.talk.heard))
 -- where no count rose and the dialer tells, the status is that of the peer's bytes
 abbrev pub IsComplete : Command → Outside → (status : ℕ) → Type 0
 IsComplete c o status =
-    IfSome o.next (λ bytes. (Rose o.dialer o.dialer_now → ⊥) → (Rose o.output o.output_now → ⊥) → IsUnlessMemory (status_due c (followed c bytes)) status)
+    IfSome o.next (λ bytes. (Rose o.dialer o.dialer_now → ⊥) → (Rose o.output o.output_now → ⊥)
+    → IsUnlessMemory (status_due c (followed c bytes)) status)

@@ -17,8 +17,18 @@ usage verb.Pause = codes "pause NAME"
 usage verb.Continue = codes "continue NAME"
 usage verb.Interrogate = codes "interrogate NAME"
 usage verb.Control = codes "control NAME NUMBER"
-usage verb.Query = codes "query NAME"
+usage verb.Query = codes "query [NAME]"
 usage verb.Delete = codes "delete NAME"
+usage verb.QueryConfig = codes "qc NAME"
+usage verb.QueryEx = codes "queryex NAME"
+usage verb.QueryDescription = codes "qdescription NAME"
+usage verb.QueryFailure = codes "qfailure NAME"
+usage verb.QueryFailureFlag = codes "qfailureflag NAME"
+usage verb.FailureFlag = codes "failureflag NAME 0|1"
+usage verb.EnumDepend = codes "enumdepend NAME"
+usage verb.GetDisplayName = codes "getdisplayname NAME"
+usage verb.GetKeyName = codes "getkeyname DISPLAYNAME"
+usage verb.QueryLock = codes "querylock"
 
 abbrev pub some_usage : Option Verb → List ℕ
 some_usage (Some v) = usage v
@@ -30,8 +40,10 @@ usage_for words = some_usage (option_and_then verb_named (slice_get words 1))
 
 abbrev pub verbs : List Verb
 verbs =
-    verb.Create ∷ verb.Config ∷ verb.Description ∷ verb.Failure ∷ verb.Start ∷ verb.Stop ∷ verb.Pause ∷ verb.Continue ∷ verb.Interrogate ∷ verb.Control
-    ∷ verb.Query ∷ verb.Delete ∷ []
+    verb.Create ∷ verb.Config ∷ verb.Description ∷ verb.Failure ∷ verb.Start ∷ verb.Stop ∷ verb.Pause ∷ verb.Continue
+    ∷ verb.Interrogate ∷ verb.Control ∷ verb.Query ∷ verb.Delete ∷ verb.QueryConfig ∷ verb.QueryEx ∷ verb.QueryDescription
+    ∷ verb.QueryFailure ∷ verb.QueryFailureFlag ∷ verb.FailureFlag ∷ verb.EnumDepend ∷ verb.GetDisplayName ∷ verb.GetKeyName
+    ∷ verb.QueryLock ∷ []
 
 abbrev pub usage_line : Verb → List ℕ
 usage_line v = codes "sc ADDRESS " ++ (usage v ++ codes "\n")

@@ -1,7 +1,9 @@
 ghost use Rattle.std.specs.Prelude.{◌≡◌, ◌++◌, None, Some, codes, option_map, slice_get};
 ghost use Rattle.outside.specs.Causes.{HasCause};
 ghost use Rattle.outside.specs.Written.{Writes};
-ghost use Rattle.sc_top.specs.Diagnostics.{address_in, at_server, client_diagnostic, diagnostic, failure_diagnostic, fault_diagnostic, joined, misfit, no_command};
+ghost use Rattle.sc_top.specs.Diagnostics.{address_in, at_server, client_diagnostic, diagnostic};
+ghost use Rattle.sc_top.specs.Diagnostics.{failure_diagnostic, fault_diagnostic, joined, misfit};
+ghost use Rattle.sc_top.specs.Diagnostics.{no_command};
 ghost use Rattle.sc_top.specs.Runs.{IsTold};
 ghost use Rattle.sc_top.specs.Usage.{help, usage_for, usage_line};
 

@@ -32,13 +32,23 @@ pub fn usage(verb: Verb) -> &'static str
         Verb::Continue => "continue NAME",
         Verb::Interrogate => "interrogate NAME",
         Verb::Control => "control NAME NUMBER",
-        Verb::Query => "query NAME",
+        Verb::Query => "query [NAME]",
         Verb::Delete => "delete NAME",
+        Verb::QueryConfig => "qc NAME",
+        Verb::QueryEx => "queryex NAME",
+        Verb::QueryDescription => "qdescription NAME",
+        Verb::QueryFailure => "qfailure NAME",
+        Verb::QueryFailureFlag => "qfailureflag NAME",
+        Verb::FailureFlag => "failureflag NAME 0|1",
+        Verb::EnumDepend => "enumdepend NAME",
+        Verb::GetDisplayName => "getdisplayname NAME",
+        Verb::GetKeyName => "getkeyname DISPLAYNAME",
+        Verb::QueryLock => "querylock",
     }
 }
 
 /// Every verb, in the order of the manual.
-pub static VERBS: [Verb; 12] = [
+pub static VERBS: [Verb; 22] = [
     Verb::Create,
     Verb::Config,
     Verb::Description,
@@ -51,6 +61,16 @@ pub static VERBS: [Verb; 12] = [
     Verb::Control,
     Verb::Query,
     Verb::Delete,
+    Verb::QueryConfig,
+    Verb::QueryEx,
+    Verb::QueryDescription,
+    Verb::QueryFailure,
+    Verb::QueryFailureFlag,
+    Verb::FailureFlag,
+    Verb::EnumDepend,
+    Verb::GetDisplayName,
+    Verb::GetKeyName,
+    Verb::QueryLock,
 ];
 
 /// The usage of a verb, or of any.

@@ -1,5 +1,6 @@
 -- Units as bytes.
-use Rattle.std.proofs.Common.{◌≡◌, ℕ, ◌+◌, ◌/◌, ◌%◌, ◌<◌, ◌≤◌, List, [], ◌∷◌, ◌++◌, length, drop, get_or, refl, ap, sym, ◌∙◌, append_assoc, append-nil, add-one}
+use Rattle.std.proofs.Common.{◌≡◌, ℕ, ◌+◌, ◌/◌, ◌%◌, ◌<◌, ◌≤◌, List, [], ◌∷◌, ◌++◌, length, drop, get_or, refl, ap, sym, ◌∙◌, append_assoc}
+use Rattle.std.proofs.Common.{append-nil, add-one}
 use Rattle.std.specs.List.{flat_map}
 use Rattle.std.proofs.Math.Seq.{drop-cons}
 use Rattle.std.proofs.Math.ListN.{drop_of_length-le}
@@ -11,7 +12,8 @@ bytes_both [] ys = refl
 bytes_both (x ∷ xs) ys = ap (λ zs. x % 256 ∷ x / 256 ∷ zs) (bytes_both xs ys)
 
 -- one unit more
-pub units_more : (bytes now units : List ℕ) (i : ℕ) → i < length units → now ≡ bytes ++ (get_or units i 0 % 256 ∷ get_or units i 0 / 256 ∷ [])
+pub units_more : (bytes now units : List ℕ) (i : ℕ) → i < length units → now ≡ bytes
+    ++ (get_or units i 0 % 256 ∷ get_or units i 0 / 256 ∷ [])
     → now ++ bytes_of (drop (i + 1) units) ≡ bytes ++ bytes_of (drop i units)
 units_more bytes now units i h e =
     let u = get_or units i 0 in
@@ -23,7 +25,8 @@ pub units_end : (bytes units : List ℕ) (i : ℕ) → length units ≤ i → by
 units_end bytes units i h = ap (λ us. bytes ++ bytes_of us) (drop_of_length-le units h) ∙ append-nil bytes
 
 -- one name more
-pub needs_more : (bytes between now : List ℕ) (names : List (List ℕ)) (name : List ℕ) (i : ℕ) → i < length names → name ≡ get_or names i name
+pub needs_more : (bytes between now : List ℕ) (names : List (List ℕ)) (name : List ℕ) (i : ℕ) → i < length names
+    → name ≡ get_or names i name
     → between ≡ bytes ++ bytes_of name → now ≡ between ++ (0 ∷ 0 ∷ [])
     → now ++ bytes_of (flat_map zero_ended (drop (i + 1) names)) ≡ bytes ++ bytes_of (flat_map zero_ended (drop i names))
 needs_more bytes between now names name i h is e f =
@@ -38,11 +41,6 @@ pub needs_end : (bytes now : List ℕ) (names : List (List ℕ)) (i : ℕ) → l
     → bytes ++ bytes_of (flat_map zero_ended (drop i names)) ≡ bytes_of (flat_map zero_ended names) → now ≡ needs_bytes names
 unfolding needs_bytes
 needs_end bytes now names i h e before =
-    let all : bytes ≡ bytes_of (flat_map zero_ended names) = sym (append-nil bytes) ∙ ap (λ ns. bytes ++ bytes_of (flat_map zero_ended ns)) (sym (drop_of_length-le names h)) ∙ before in
+    let all : bytes ≡ bytes_of (flat_map zero_ended names) = sym (append-nil bytes)
+    ∙ ap (λ ns. bytes ++ bytes_of (flat_map zero_ended ns)) (sym (drop_of_length-le names h)) ∙ before in
     e ∙ ap (λ bs. bs ++ (0 ∷ 0 ∷ [])) all ∙ sym (bytes_both (flat_map zero_ended names) (0 ∷ []))
-
--- four pieces, one after the other
-pub four_added : (t a b c d t1 t2 t3 t4 : List ℕ) → t1 ≡ t ++ a → t2 ≡ t1 ++ b → t3 ≡ t2 ++ c → t4 ≡ t3 ++ d → t4 ≡ t ++ (a ++ (b ++ (c ++ d)))
-four_added t a b c d t1 t2 t3 t4 e f g h =
-    h ∙ ap (λ x. x ++ d) (g ∙ ap (λ x. x ++ c) (f ∙ ap (λ x. x ++ b) e))
-    ∙ append_assoc ((t ++ a) ++ b) c d ∙ append_assoc (t ++ a) b (c ++ d) ∙ append_assoc t a (b ++ (c ++ d))

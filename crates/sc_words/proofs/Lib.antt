@@ -2,4 +2,4 @@ mod Lists
 mod Pairs
 mod Counts
 mod Bytes
-mod Printed
+mod Pages

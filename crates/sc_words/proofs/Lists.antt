@@ -1,5 +1,6 @@
 -- What is read of words one by one.
-use Rattle.std.proofs.Common.{◌≡◌, ℕ, ◌+◌, ◌<◌, ◌≤◌, Bool, true, false, List, [], ◌∷◌, ◌++◌, length, drop, map, get_or, refl, ap, sym, ◌∙◌, append_assoc, append-nil, add-one, arith}
+use Rattle.std.proofs.Common.{◌≡◌, ℕ, ◌+◌, ◌<◌, ◌≤◌, Bool, true, false, List, [], ◌∷◌, ◌++◌, length, drop, map, get_or, refl, ap, sym, ◌∙◌}
+use Rattle.std.proofs.Common.{append_assoc, append-nil, add-one, arith}
 use Rattle.std.specs.Prelude.{◌==◌, ◌||◌, zero, suc, Option, None, Some, option_map, All, Result, Ok, Err, OnOk, is_err}
 use Rattle.std.specs.Borrow.{Bor}
 use Rattle.std.specs.List.{list_any, AllByRecursion}
@@ -27,11 +28,13 @@ map_same (x ∷ xs) = ap (λ ys. x ∷ ys) (map_same xs)
 -- ## Places
 
 -- the element at a place, and those behind it
-pub read_and : {A : Type 0} (xs : List A) (place : ℕ) (x : A) → place < length xs → x ≡ get_or xs place x → drop place xs ≡ x ∷ drop (place + 1) xs
+pub read_and : {A : Type 0} (xs : List A) (place : ℕ) (x : A) → place < length xs → x ≡ get_or xs place x
+    → drop place xs ≡ x ∷ drop (place + 1) xs
 read_and xs place x h e = rw add-one (drop-cons xs place x h ∙ ap (λ y. y ∷ drop (suc place) xs) (sym e))
 
 -- the last one
-pub read_alone : {A : Type 0} (xs : List A) (place : ℕ) (x : A) → place < length xs → x ≡ get_or xs place x → place + 1 ≡ length xs → drop place xs ≡ x ∷ []
+pub read_alone : {A : Type 0} (xs : List A) (place : ℕ) (x : A) → place < length xs → x ≡ get_or xs place x → place + 1 ≡ length xs
+    → drop place xs ≡ x ∷ []
 read_alone xs place x h e last =
     let past : length xs ≤ place + 1 = omega arith in
     read_and xs place x h e ∙ ap (λ ys. x ∷ ys) (drop_of_length-le xs past)
@@ -40,7 +43,8 @@ plus_two : (place : ℕ) → place + 1 + 1 ≡ place + 2
 plus_two place = omega arith
 
 -- two of them, and those behind
-pub read_two : {A : Type 0} (xs : List A) (place : ℕ) (x y : A) → place + 1 < length xs → x ≡ get_or xs place x → y ≡ get_or xs (place + 1) y
+pub read_two : {A : Type 0} (xs : List A) (place : ℕ) (x y : A) → place + 1 < length xs → x ≡ get_or xs place x
+    → y ≡ get_or xs (place + 1) y
     → drop place xs ≡ x ∷ y ∷ drop (place + 2) xs
 read_two xs place x y h e f =
     let within : place < length xs = omega arith in
@@ -73,7 +77,8 @@ seen_two words place d e h =
 abbrev pub behind : {A : Type 0} → List A → Option (List A) → Option (List A)
 behind xs more = option_map (λ ys. xs ++ ys) more
 
-behind_first : {A : Type 0} (xs : List A) (x : A) (more : Option (List A)) → behind xs (with_first (Some x) more) ≡ behind (xs ++ x ∷ []) more
+behind_first : {A : Type 0} (xs : List A) (x : A) (more : Option (List A))
+    → behind xs (with_first (Some x) more) ≡ behind (xs ++ x ∷ []) more
 behind_first xs x None = refl
 behind_first xs x (Some more) = ap Some (sym (append_assoc xs (x ∷ []) more))
 
@@ -104,7 +109,8 @@ names_more f words place d xs now x h e grown =
 pub names_stop : {A : Type 0} (f : List ℕ → Option A) (words : List (Bor (List ℕ))) (place : ℕ) (d : Bor (List ℕ)) (xs : List A)
     → place < length words → f (get_or words place d).now ≡ None → behind xs (each f (seen (drop place words))) ≡ None
 names_stop f words place d xs h e =
-    ap (λ ws. behind xs (each f ws)) (seen_and words place d h) ∙ each_stops f (get_or words place d).now (seen (drop (place + 1) words)) xs e
+    ap (λ ws. behind xs (each f ws)) (seen_and words place d h) ∙ each_stops f (get_or words place d).now
+    (seen (drop (place + 1) words)) xs e
 
 pub names_end : {A : Type 0} (f : List ℕ → Option A) (words : List (Bor (List ℕ))) (place : ℕ) (xs : List A) → length words ≤ place
     → behind xs (each f (seen (drop place words))) ≡ Some xs
@@ -163,7 +169,8 @@ pub texts_more : (words : List (List ℕ)) (place : ℕ) (word : List ℕ) (xs n
 unfolding texts_from
 texts_more words place word xs now x cut e grown =
     let more = texts_from (place + 1) (drop (place + 1) words) in
-    ap (λ ys. before ys more) grown ∙ sym (before_first xs x more) ∙ ap (λ o. before xs (onto_texts place (drop (place + 1) words) o)) (sym e)
+    ap (λ ys. before ys more) grown ∙ sym (before_first xs x more) ∙ ap (λ o. before xs (onto_texts place (drop (place + 1) words) o))
+    (sym e)
     ∙ ap (λ ws. before xs (texts_from place ws)) (sym cut)
 
 pub texts_stop : (words : List (List ℕ)) (place : ℕ) (word : List ℕ) (xs : List (List ℕ))
@@ -172,7 +179,8 @@ unfolding texts_from
 texts_stop words place word xs cut e =
     ap (λ ws. before xs (texts_from place ws)) cut ∙ ap (λ o. before xs (onto_texts place (drop (place + 1) words) o)) e
 
-pub texts_end : (words : List (List ℕ)) (place : ℕ) (xs : List (List ℕ)) → length words ≤ place → before xs (texts_from place (drop place words)) ≡ Ok xs
+pub texts_end : (words : List (List ℕ)) (place : ℕ) (xs : List (List ℕ)) → length words ≤ place
+    → before xs (texts_from place (drop place words)) ≡ Ok xs
 unfolding texts_from
 texts_end words place xs h = ap (λ ws. before xs (texts_from place ws)) (drop_of_length-le words h) ∙ ap Ok (append-nil xs)
 

@@ -14,6 +14,7 @@ IsPut place told new (Err OutOfMemory) = Unit {0}
 
 -- a key and its value were read, and what is left is read from two places on; or a word doesn't fit
 abbrev pub IsPairRead : Verb → (place : ℕ) → List (List ℕ) → Settings → Settings → Result (Unit {0}) WordsFault → Type 0
-IsPairRead v place words old new (Ok done) = settings_from v place old (drop place words) ≡ settings_from v (place + 2) new (drop (place + 2) words)
+IsPairRead v place words old new (Ok done) = settings_from v place old (drop place words) ≡ settings_from v (place + 2) new
+    (drop (place + 2) words)
 IsPairRead v place words old new (Err (BadWord k)) = settings_from v place old (drop place words) ≡ Err k
 IsPairRead v place words old new (Err OutOfMemory) = Unit {0}

@@ -1,16 +1,33 @@
 -- What a command asks next.
-use Rattle.std.specs.Prelude.{ℕ, ◌+◌, ◌/◌, ◌%◌, ◌==◌, Bool, true, false, nat_lt, nat_le, ◌&&◌, List, [], ◌∷◌, ◌++◌, option_map, unwrap_or, Option, None, Some, if◌then◌else◌}
+use Rattle.std.specs.Prelude.{ℕ, ◌+◌, ◌-◌, ◌/◌, ◌%◌, ◌==◌, Bool, true, false, nat_lt, nat_le, ◌&&◌, List, [], ◌∷◌, ◌++◌, length, slice_get}
+use Rattle.std.specs.Prelude.{option_map, unwrap_or, Option, None, Some, if◌then◌else◌}
 use Rattle.std.specs.List.{flat_map}
 use Rattle.scm_model.specs.declared.calls.ChangeService.{ChangeService}
 use Rattle.scm_model.specs.declared.calls.NewService.{NewService}
 use Rattle.scm_model.specs.declared.calls.Info.TheVariants as info
 use Rattle.scm_model.specs.declared.calls.Request.{Request}
+use Rattle.scm_model.specs.declared.calls.Reply.TheVariants as reply
 use Rattle.scm_model.specs.declared.calls.Request.TheVariants as request
-use Rattle.scm_model.specs.declared.codes.TheConstants.{DELETE, SC_MANAGER_CONNECT, SC_MANAGER_CREATE_SERVICE, SERVICE_ALL_ACCESS, SERVICE_AUTO_START, SERVICE_CHANGE_CONFIG, SERVICE_CONTROL_CONTINUE, SERVICE_CONTROL_INTERROGATE, SERVICE_CONTROL_NETBINDDISABLE, SERVICE_CONTROL_PARAMCHANGE, SERVICE_CONTROL_PAUSE, SERVICE_CONTROL_STOP, SERVICE_DEMAND_START, SERVICE_DISABLED, SERVICE_ERROR_NORMAL, SERVICE_INTERROGATE, SERVICE_NO_CHANGE, SERVICE_PAUSE_CONTINUE, SERVICE_QUERY_STATUS, SERVICE_START, SERVICE_STOP, SERVICE_USER_DEFINED_CONTROL, SERVICE_WIN32_OWN_PROCESS}
+use Rattle.scm_model.specs.declared.codes.TheConstants.{DELETE, MAX_CONFIG_SIZE, MAX_ENUM_SIZE, MAX_LOCK_STATUS_SIZE, SC_MANAGER_CONNECT}
+use Rattle.scm_model.specs.declared.codes.TheConstants.{SC_MANAGER_CREATE_SERVICE, SC_MANAGER_ENUMERATE_SERVICE}
+use Rattle.scm_model.specs.declared.codes.TheConstants.{SC_MANAGER_QUERY_LOCK_STATUS, SC_STATUS_PROCESS_INFO}
+use Rattle.scm_model.specs.declared.codes.TheConstants.{SERVICE_CONFIG_DELAYED_AUTO_START_INFO, SERVICE_CONFIG_DESCRIPTION}
+use Rattle.scm_model.specs.declared.codes.TheConstants.{SERVICE_CONFIG_FAILURE_ACTIONS, SERVICE_CONFIG_FAILURE_ACTIONS_FLAG}
+use Rattle.scm_model.specs.declared.codes.TheConstants.{SERVICE_ENUMERATE_DEPENDENTS, SERVICE_QUERY_CONFIG, SERVICE_STATE_ALL}
+use Rattle.scm_model.specs.declared.codes.TheConstants.{SERVICE_WIN32_SHARE_PROCESS, SERVICE_ALL_ACCESS, SERVICE_AUTO_START}
+use Rattle.scm_model.specs.declared.codes.TheConstants.{SERVICE_CHANGE_CONFIG, SERVICE_CONTROL_CONTINUE, SERVICE_CONTROL_INTERROGATE}
+use Rattle.scm_model.specs.declared.codes.TheConstants.{SERVICE_CONTROL_NETBINDDISABLE, SERVICE_CONTROL_PARAMCHANGE, SERVICE_CONTROL_PAUSE}
+use Rattle.scm_model.specs.declared.codes.TheConstants.{SERVICE_CONTROL_STOP, SERVICE_DEMAND_START, SERVICE_DISABLED, SERVICE_ERROR_NORMAL}
+use Rattle.scm_model.specs.declared.codes.TheConstants.{SERVICE_INTERROGATE, SERVICE_NO_CHANGE, SERVICE_PAUSE_CONTINUE}
+use Rattle.scm_model.specs.declared.codes.TheConstants.{SERVICE_QUERY_STATUS, SERVICE_START, SERVICE_STOP, SERVICE_USER_DEFINED_CONTROL}
+use Rattle.scm_model.specs.declared.codes.TheConstants.{SERVICE_WIN32_OWN_PROCESS}
 use Rattle.sc_words.specs.declared.calls.Heard.{Heard}
+use Rattle.sc_words.specs.declared.calls.Heard.TheVariants as heard
 use Rattle.sc_words.specs.declared.calls.Method.{Method}
 use Rattle.sc_words.specs.declared.calls.Method.TheVariants as method
 use Rattle.sc_words.specs.declared.command.Command.{Command}
+use Rattle.sc_words.specs.declared.command.Level.{Level}
+use Rattle.sc_words.specs.declared.command.Level.TheVariants as level
 use Rattle.sc_words.specs.declared.command.Task.{Task}
 use Rattle.sc_words.specs.declared.command.Task.TheVariants as task
 use Rattle.sc_words.specs.declared.settings.Settings.{Settings}
@@ -22,6 +39,8 @@ use Rattle.sc_words.specs.Calls.{Standing, Asks, Failed, Done, stage_of, given, 
 
 abbrev pub manager_right : Task → ℕ
 manager_right (task.Create s) = SC_MANAGER_CREATE_SERVICE
+manager_right task.QueryAll = SC_MANAGER_ENUMERATE_SERVICE
+manager_right task.QueryLock = SC_MANAGER_QUERY_LOCK_STATUS
 manager_right _ = SC_MANAGER_CONNECT
 
 -- the right that sending a control needs
@@ -43,6 +62,12 @@ service_right (task.Start words) = SERVICE_START
 service_right (task.Control code) = control_right code
 service_right task.Query = SERVICE_QUERY_STATUS
 service_right task.Delete = DELETE
+service_right task.QueryConfig = SERVICE_QUERY_CONFIG
+service_right (task.QueryLevel level) = SERVICE_QUERY_CONFIG
+service_right task.QueryEx = SERVICE_QUERY_STATUS
+service_right (task.FailureFlag on) = SERVICE_CHANGE_CONFIG
+service_right task.EnumDepend = SERVICE_ENUMERATE_DEPENDENTS
+service_right _ = 0
 
 -- ## Configurations
 
@@ -106,7 +131,35 @@ change s handle = record {
 
 -- ## Requests
 
--- what a task asks of its service, or of the manager where it creates it
+abbrev pub level_number : Level → ℕ
+level_number level.Description = SERVICE_CONFIG_DESCRIPTION
+level_number level.Failure = SERVICE_CONFIG_FAILURE_ACTIONS
+level_number level.FailureFlag = SERVICE_CONFIG_FAILURE_ACTIONS_FLAG
+
+-- how many units a name may have that is asked for, with its zero
+abbrev pub name_size : ℕ
+name_size = 4096
+
+-- how many bytes a page of services has
+abbrev pub page_size : ℕ
+page_size = 65536
+
+abbrev pub every_kind : ℕ
+every_kind = SERVICE_WIN32_OWN_PROCESS + SERVICE_WIN32_SHARE_PROCESS
+
+-- what a task asks that reads
+abbrev pub query_asks : Command → Task → Method → ℕ → Request
+query_asks c task.QueryConfig method.QueryServiceConfig2 handle = request.QueryConfig2 handle SERVICE_CONFIG_DELAYED_AUTO_START_INFO
+    MAX_CONFIG_SIZE
+query_asks c task.QueryConfig m handle = request.QueryConfig handle MAX_CONFIG_SIZE
+query_asks c (task.QueryLevel level) m handle = request.QueryConfig2 handle (level_number level) MAX_CONFIG_SIZE
+query_asks c task.QueryEx m handle = request.QueryStatusEx handle SC_STATUS_PROCESS_INFO MAX_CONFIG_SIZE
+query_asks c task.EnumDepend m handle = request.EnumDependents handle SERVICE_STATE_ALL MAX_ENUM_SIZE
+query_asks c task.DisplayName m handle = request.DisplayName handle c.name name_size
+query_asks c task.KeyName m handle = request.KeyName handle c.name name_size
+query_asks c _ m handle = request.QueryLock handle MAX_LOCK_STATUS_SIZE
+
+-- what a task asks of its service, or of the manager
 abbrev pub task_asks : Command → Task → Method → ℕ → Request
 task_asks c (task.Create s) method.ChangeServiceConfig2 handle = request.Change2 handle (info.Delayed (is_delayed s.start))
 task_asks c (task.Create s) m handle = request.Create (creation c.name s handle)
@@ -118,12 +171,24 @@ task_asks c (task.Start words) m handle = request.Start handle (Some words)
 task_asks c (task.Control code) m handle = request.Control handle code
 task_asks c task.Query m handle = request.QueryStatus handle
 task_asks c task.Delete m handle = request.Delete handle
+task_asks c (task.FailureFlag on) m handle = request.Change2 handle (info.OnExit on)
+task_asks c t m handle = query_asks c t m handle
+
+-- the number after which the next page begins
+abbrev pub resume_heard : Option Heard → Option ℕ
+resume_heard (Some (heard.Reply (reply.Page size bytes needed returned resume code))) = resume
+resume_heard _ = Some 0
+
+-- a page of services, after those that were given
+abbrev pub page_asks : ℕ → List Heard → Request
+page_asks handle hs = request.EnumServices handle every_kind SERVICE_STATE_ALL page_size (resume_heard (slice_get hs (length hs - 1)))
 
 -- what a call asks by the handle that was given last
-abbrev pub method_asks : Command → Method → ℕ → Request
-method_asks c method.OpenSCManager handle = request.OpenManager None (manager_right c.task)
-method_asks c method.OpenService handle = request.OpenService handle c.name (service_right c.task)
-method_asks c m handle = task_asks c c.task m handle
+abbrev pub method_asks : Command → Method → List Heard → ℕ → Request
+method_asks c method.OpenSCManager hs handle = request.OpenManager None (manager_right c.task)
+method_asks c method.OpenService hs handle = request.OpenService handle c.name (service_right c.task)
+method_asks c method.EnumServicesStatus hs handle = page_asks handle hs
+method_asks c m hs handle = task_asks c c.task m handle
 
 -- the close of the handle that was given last among those that aren't closed
 abbrev pub close : Command → List Heard → Option Request
@@ -131,7 +196,7 @@ close c hs =
     if nat_lt (closed c.task hs) (given c.task hs) then Some (request.Close (handle_before (closed c.task hs) c.task hs)) else None
 
 abbrev pub asks_at : Standing → Command → List Heard → Option Request
-asks_at (Asks m) c hs = Some (method_asks c m (handle_before 0 c.task hs))
+asks_at (Asks m) c hs = Some (method_asks c m hs (handle_before 0 c.task hs))
 asks_at (Failed m h) c hs = close c hs
 asks_at Done c hs = close c hs
 

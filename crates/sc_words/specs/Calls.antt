@@ -1,18 +1,20 @@
 -- The calls of a command: which they are, and how far they came.
-use Rattle.std.specs.Prelude.{ℕ, ◌+◌, ◌-◌, ◌==◌, Bool, true, false, nat_lt, nat_le, ◌&&◌, min, List, [], ◌∷◌, ◌++◌, length, slice_get, option_map, unwrap_or, Option, None, Some, if◌then◌else◌}
-use Rattle.std.specs.List.{flat_map}
+use Rattle.std.specs.Prelude.{ℕ, ◌+◌, ◌-◌, ◌==◌, Bool, true, false, nat_lt, ◌&&◌, min, List, [], ◌∷◌, length, slice_get}
+use Rattle.std.specs.Prelude.{Option, None, Some, if◌then◌else◌}
 use Rattle.scm_model.specs.declared.calls.Reply.{Reply}
 use Rattle.scm_model.specs.declared.calls.Reply.TheVariants as reply
+use Rattle.scm_model.specs.declared.codes.TheConstants.{ERROR_MORE_DATA}
 use Rattle.sc_words.specs.declared.calls.Failure.{Failure}
 use Rattle.sc_words.specs.declared.calls.Failure.TheVariants as failure
 use Rattle.sc_words.specs.declared.calls.Heard.{Heard}
 use Rattle.sc_words.specs.declared.calls.Heard.TheVariants as heard
 use Rattle.sc_words.specs.declared.calls.Method.{Method}
 use Rattle.sc_words.specs.declared.calls.Method.TheVariants as method
+use Rattle.sc_words.specs.declared.calls.Progress.{Progress}
 use Rattle.sc_words.specs.declared.command.Task.{Task}
 use Rattle.sc_words.specs.declared.command.Task.TheVariants as task
 use Rattle.sc_words.specs.declared.values.StartType.{StartType}
-use Rattle.sc_words.specs.declared.values.StartType.TheVariants.{Auto, Demand, Disabled, DelayedAuto}
+use Rattle.sc_words.specs.declared.values.StartType.TheVariants.{Auto, DelayedAuto}
 
 -- ## Which calls
 
@@ -31,7 +33,7 @@ abbrev pub and_delay : Option Bool → List Method
 and_delay None = []
 and_delay (Some on) = method.ChangeServiceConfig2 ∷ []
 
--- the calls behind OpenSCManager, before the handles are closed
+-- the calls after OpenSCManager, before the handles are closed
 abbrev pub methods_of : Task → List Method
 methods_of (task.Create s) = method.CreateService ∷ and_delay (delay_of_creation s.start)
 methods_of (task.Config s) = method.OpenService ∷ method.ChangeServiceConfig ∷ and_delay (delay_of_change s.start)
@@ -41,6 +43,15 @@ methods_of (task.Start words) = method.OpenService ∷ method.StartService ∷ [
 methods_of (task.Control code) = method.OpenService ∷ method.ControlService ∷ []
 methods_of task.Query = method.OpenService ∷ method.QueryServiceStatus ∷ []
 methods_of task.Delete = method.OpenService ∷ method.DeleteService ∷ []
+methods_of task.QueryConfig = method.OpenService ∷ method.QueryServiceConfig ∷ method.QueryServiceConfig2 ∷ []
+methods_of (task.QueryLevel level) = method.OpenService ∷ method.QueryServiceConfig2 ∷ []
+methods_of task.QueryEx = method.OpenService ∷ method.QueryServiceStatusEx ∷ []
+methods_of (task.FailureFlag on) = method.OpenService ∷ method.ChangeServiceConfig2 ∷ []
+methods_of task.EnumDepend = method.OpenService ∷ method.EnumDependentServices ∷ []
+methods_of task.DisplayName = method.GetServiceDisplayName ∷ []
+methods_of task.KeyName = method.GetServiceKeyName ∷ []
+methods_of task.QueryAll = method.EnumServicesStatus ∷ []
+methods_of task.QueryLock = method.QueryServiceLockStatus ∷ []
 
 abbrev pub calls_of : Task → List Method
 calls_of t = method.OpenSCManager ∷ methods_of t
@@ -71,11 +82,27 @@ abbrev pub failure_heard : Heard → Failure
 failure_heard (heard.Reply r) = failure.Refused (code_heard r)
 failure_heard (heard.Fault status) = failure.Fault status
 
--- how many calls succeeded before the first that didn't, or that isn't answered yet
-unfoldable pub succeeded : List Method → List Heard → ℕ
-succeeded [] hs = 0
-succeeded (m ∷ ms) [] = 0
-succeeded (m ∷ ms) (h ∷ hs) = if is_good h then succeeded ms hs + 1 else 0
+-- a page of services after which there is another: the call is made again
+abbrev pub is_part : Heard → Bool
+is_part (heard.Reply (reply.Page size bytes needed returned resume code)) = code == ERROR_MORE_DATA && nat_lt 0 returned
+is_part _ = false
+
+-- how many calls an answer completes, unless it is a failure
+abbrev pub completes : Heard → Option ℕ
+completes h = if is_part h then Some 0 else if is_good h then Some 1 else None
+
+-- one answer more was taken, and one call more is done or none
+abbrev pub and_taken : (done : ℕ) → Progress → Progress
+and_taken more p = record { done = p.done + more; taken = p.taken + 1 }
+
+-- up to the first call that didn't succeed, or that isn't answered yet
+unfoldable pub progress_of : List Method → List Heard → Progress
+progress_of [] hs = record { done = 0; taken = 0 }
+progress_of (m ∷ ms) [] = record { done = 0; taken = 0 }
+progress_of (m ∷ ms) (h ∷ hs) =
+    if is_part h then and_taken 0 (progress_of (m ∷ ms) hs)
+    else if is_good h then and_taken 1 (progress_of ms hs)
+    else record { done = 0; taken = 0 }
 
 -- where the calls of a task stand
 pub data Standing : Type 0 where
@@ -92,7 +119,7 @@ standing_by (Some m) None = Asks m
 standing_by (Some m) (Some h) = Failed m h
 
 unfoldable pub stage_of : Task → List Heard → Standing
-stage_of t hs = let n = succeeded (calls_of t) hs in standing_by (slice_get (calls_of t) n) (slice_get hs n)
+stage_of t hs = let p = progress_of (calls_of t) hs in standing_by (slice_get (calls_of t) p.done) (slice_get hs p.taken)
 
 -- ## Handles
 
@@ -105,9 +132,16 @@ abbrev pub handle_in : Option Heard → ℕ
 handle_in (Some (heard.Reply r)) = handle_heard r
 handle_in _ = 0
 
--- the first two calls give a handle each, the manager's and then the service's
+-- how many calls of a task give a handle: the manager's is first, and the service's is second
+abbrev pub handles_of : Task → ℕ
+handles_of task.DisplayName = 1
+handles_of task.KeyName = 1
+handles_of task.QueryAll = 1
+handles_of task.QueryLock = 1
+handles_of _ = 2
+
 unfoldable pub given : Task → List Heard → ℕ
-given t hs = min 2 (succeeded (calls_of t) hs)
+given t hs = min (handles_of t) (progress_of (calls_of t) hs).done
 
 -- the handle that was given before the last so many
 unfoldable pub handle_before : ℕ → Task → List Heard → ℕ
@@ -116,8 +150,8 @@ handle_before last t hs = handle_in (slice_get hs (given t hs - 1 - last))
 -- how many replies came to the closes
 abbrev pub closed_by : Standing → Task → List Heard → ℕ
 closed_by (Asks m) t hs = 0
-closed_by (Failed m h) t hs = length hs - succeeded (calls_of t) hs - 1
-closed_by Done t hs = length hs - succeeded (calls_of t) hs
+closed_by (Failed m h) t hs = length hs - (progress_of (calls_of t) hs).taken - 1
+closed_by Done t hs = length hs - (progress_of (calls_of t) hs).taken
 
 unfoldable pub closed : Task → List Heard → ℕ
 closed t hs = closed_by (stage_of t hs) t hs

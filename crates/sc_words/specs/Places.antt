@@ -19,11 +19,11 @@ fits place (Some x) = Ok x
 unfoldable pub word_at : ℕ → List (List ℕ) → Result (List ℕ) ℕ
 word_at place words = fits (length words) (slice_get words place)
 
--- no word stands at a place or behind it
+-- no word stands at a place or after it
 unfoldable pub no_word_at : ℕ → List (List ℕ) → Result (Unit {0}) ℕ
 no_word_at place words = if nat_le (length words) place then Ok tt else Err place
 
--- it answers what is read; want of memory comes at any words
+-- it answers what is read; out of memory comes at any words
 abbrev pub AnswersAs : {A : Type 0} → Result A WordsFault → Result A ℕ → Type 0
 AnswersAs (Ok x) told = told ≡ Ok x
 AnswersAs (Err (BadWord place)) told = told ≡ Err place

@@ -1,5 +1,6 @@
 -- Keys and their values, as they stand in the words of a command.
-use Rattle.std.specs.Prelude.{ℕ, ◌+◌, Bool, true, false, not, ◌&&◌, List, [], ◌∷◌, Option, None, Some, is_some, option_map, Result, Ok, Err, bytes_eq, codes, if◌then◌else◌}
+use Rattle.std.specs.Prelude.{ℕ, ◌+◌, Bool, true, false, not, ◌&&◌, List, [], ◌∷◌, Option, None, Some, is_some, option_map, Result, Ok, Err}
+use Rattle.std.specs.Prelude.{bytes_eq, codes, if◌then◌else◌}
 use Rattle.sc_words.specs.declared.settings.Key.{Key}
 use Rattle.sc_words.specs.declared.settings.Key.TheVariants as key
 use Rattle.sc_words.specs.declared.settings.Settings.{Settings}
@@ -41,7 +42,20 @@ takes_key _ k = false
 
 -- no key stood yet
 abbrev pub no_settings : Settings
-no_settings = record { path = None; kind = None; start = None; error = None; group = None; tag = None; needs = None; display = None; account = None; reset = None; actions = None; command = None }
+no_settings = record {
+  path = None;
+  kind = None;
+  start = None;
+  error = None;
+  group = None;
+  tag = None;
+  needs = None;
+  display = None;
+  account = None;
+  reset = None;
+  actions = None;
+  command = None;
+}
 
 -- whether a key stood before
 abbrev pub is_given : Key → Settings → Bool

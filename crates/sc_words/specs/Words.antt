@@ -1,7 +1,10 @@
 -- What the words `ADDRESS VERB NAME REST` are a command to do.
-use Rattle.std.specs.Prelude.{ℕ, ◌+◌, Bool, List, [], ◌∷◌, length, drop, Option, None, Some, is_some, is_none, Result, Ok, Err, bytes_eq, codes, if◌then◌else◌}
-use Rattle.scm_model.specs.declared.codes.TheConstants.{SERVICE_CONTROL_STOP, SERVICE_CONTROL_PAUSE, SERVICE_CONTROL_CONTINUE, SERVICE_CONTROL_INTERROGATE}
+use Rattle.std.specs.Prelude.{ℕ, ◌+◌, ◌==◌, Bool, true, false, List, [], ◌∷◌, length, drop, Option, None, Some, is_some, is_none, Result}
+use Rattle.std.specs.Prelude.{Ok, Err, bytes_eq, codes, if◌then◌else◌}
+use Rattle.scm_model.specs.declared.codes.TheConstants.{SERVICE_CONTROL_STOP, SERVICE_CONTROL_PAUSE, SERVICE_CONTROL_CONTINUE}
+use Rattle.scm_model.specs.declared.codes.TheConstants.{SERVICE_CONTROL_INTERROGATE}
 use Rattle.sc_words.specs.declared.command.Command.{Command}
+use Rattle.sc_words.specs.declared.command.Level.TheVariants as level
 use Rattle.sc_words.specs.declared.command.Task.{Task}
 use Rattle.sc_words.specs.declared.command.Task.TheVariants as task
 use Rattle.sc_words.specs.declared.settings.Settings.{Settings}
@@ -26,6 +29,16 @@ verb_named word =
     else if bytes_eq word (codes "control") then Some verb.Control
     else if bytes_eq word (codes "query") then Some verb.Query
     else if bytes_eq word (codes "delete") then Some verb.Delete
+    else if bytes_eq word (codes "qc") then Some verb.QueryConfig
+    else if bytes_eq word (codes "queryex") then Some verb.QueryEx
+    else if bytes_eq word (codes "qdescription") then Some verb.QueryDescription
+    else if bytes_eq word (codes "qfailure") then Some verb.QueryFailure
+    else if bytes_eq word (codes "qfailureflag") then Some verb.QueryFailureFlag
+    else if bytes_eq word (codes "failureflag") then Some verb.FailureFlag
+    else if bytes_eq word (codes "enumdepend") then Some verb.EnumDepend
+    else if bytes_eq word (codes "getdisplayname") then Some verb.GetDisplayName
+    else if bytes_eq word (codes "getkeyname") then Some verb.GetKeyName
+    else if bytes_eq word (codes "querylock") then Some verb.QueryLock
     else None
 
 -- REST begins at this place
@@ -73,6 +86,21 @@ number_in words = do
   none ← no_word_at (rest_place + 1) words
   Ok number
 
+-- 0 or 1
+abbrev pub bit_named : List ℕ → Option Bool
+bit_named word =
+    if bytes_eq word (codes "0") then Some false
+    else if bytes_eq word (codes "1") then Some true
+    else None
+
+-- the one bit of REST
+unfoldable pub bit_in : List (List ℕ) → Result Bool ℕ
+bit_in words = do
+  word ← word_at rest_place words
+  bit ← fits rest_place (bit_named word)
+  none ← no_word_at (rest_place + 1) words
+  Ok bit
+
 -- the words from a place on as texts
 unfoldable pub texts_from : ℕ → List (List ℕ) → Result (List (List ℕ)) ℕ
 texts_from place [] = Ok []
@@ -98,6 +126,34 @@ task_of verb.Interrogate words = without_rest (task.Control SERVICE_CONTROL_INTE
 task_of verb.Control words = number_in words >>= λ number. Ok (task.Control number)
 task_of verb.Query words = without_rest task.Query words
 task_of verb.Delete words = without_rest task.Delete words
+task_of verb.QueryConfig words = without_rest task.QueryConfig words
+task_of verb.QueryEx words = without_rest task.QueryEx words
+task_of verb.QueryDescription words = without_rest (task.QueryLevel level.Description) words
+task_of verb.QueryFailure words = without_rest (task.QueryLevel level.Failure) words
+task_of verb.QueryFailureFlag words = without_rest (task.QueryLevel level.FailureFlag) words
+task_of verb.FailureFlag words = bit_in words >>= λ on. Ok (task.FailureFlag on)
+task_of verb.EnumDepend words = without_rest task.EnumDepend words
+task_of verb.GetDisplayName words = without_rest task.DisplayName words
+task_of verb.GetKeyName words = without_rest task.KeyName words
+task_of verb.QueryLock words = Err 2
+
+-- what a verb does that stands alone
+abbrev pub lone_task : Verb → Option Task
+lone_task verb.Query = Some task.QueryAll
+lone_task verb.QueryLock = Some task.QueryLock
+lone_task _ = None
+
+-- `ADDRESS VERB`, of a verb that may stand alone
+abbrev pub lone_command : (address : List ℕ) → Option Task → List (List ℕ) → Result Command ℕ
+lone_command address None words = Err (length words)
+lone_command address (Some t) words = Ok (record { address = address; name = []; task = t })
+
+-- `ADDRESS VERB NAME REST`
+unfoldable pub named_command : (address : List ℕ) → Verb → List (List ℕ) → Result Command ℕ
+named_command address v words = do
+  name ← text_in_place 2 words
+  t ← task_of v words
+  Ok (record { address = address; name = name; task = t })
 
 -- the command that words are, or the place of the first word that doesn't fit; where one is missing, that is the count of words
 unfoldable pub command_of : List (List ℕ) → Result Command ℕ
@@ -105,6 +161,4 @@ command_of words = do
   address ← word_at 0 words
   word ← word_at 1 words
   v ← fits 1 (verb_named word)
-  name ← text_in_place 2 words
-  t ← task_of v words
-  Ok (record { address = address; name = name; task = t })
+  if length words == 2 then lone_command address (lone_task v) words else named_command address v words

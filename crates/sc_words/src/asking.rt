@@ -1,23 +1,38 @@
-ghost use Rattle.std.specs.Prelude.{◌≡◌, ◌++◌, [], IfOk, OnOk, option_map, unwrap_or};
-ghost use Rattle.sc_words.specs.Asks.{asks, bytes_of, change, close, control_right, creation, is_delayed, manager_right, method_asks, needs_bytes, service_right, start_code, tag_asked, task_asks};
+ghost use Rattle.std.specs.Prelude.{◌≡◌, ◌++◌, [], ◌-◌, IfOk, OnOk, length, option_map, slice_get};
+ghost use Rattle.std.specs.Prelude.{unwrap_or};
+ghost use Rattle.sc_words.specs.Asks.{asks, bytes_of, change, close, control_right, creation};
+ghost use Rattle.sc_words.specs.Asks.{is_delayed, level_number, manager_right, method_asks};
+ghost use Rattle.sc_words.specs.Asks.{needs_bytes, page_asks, query_asks, resume_heard};
+ghost use Rattle.sc_words.specs.Asks.{service_right, start_code, tag_asked, task_asks};
 ghost use Rattle.scm_model.specs.declared.calls.Info.TheVariants as info;
 ghost use Rattle.scm_model.specs.declared.calls.Request.TheVariants as request;
 
 use super::calls::{Heard, Method, Stage, closed, given, handle_before, stage_of};
-use super::command::{Command, Task};
+use super::command::{Command, Level, Task};
 use super::settings::Settings;
 use super::values::StartType;
 use scm_model::codes::{
-    DELETE, SC_MANAGER_CONNECT, SC_MANAGER_CREATE_SERVICE, SERVICE_ALL_ACCESS, SERVICE_AUTO_START,
-    SERVICE_CHANGE_CONFIG, SERVICE_CONTROL_CONTINUE, SERVICE_CONTROL_INTERROGATE,
-    SERVICE_CONTROL_NETBINDDISABLE, SERVICE_CONTROL_PARAMCHANGE, SERVICE_CONTROL_PAUSE,
-    SERVICE_CONTROL_STOP, SERVICE_DEMAND_START, SERVICE_DISABLED, SERVICE_ERROR_NORMAL,
-    SERVICE_INTERROGATE, SERVICE_NO_CHANGE, SERVICE_PAUSE_CONTINUE, SERVICE_QUERY_STATUS,
-    SERVICE_START, SERVICE_STOP, SERVICE_USER_DEFINED_CONTROL, SERVICE_WIN32_OWN_PROCESS,
+    DELETE, MAX_CONFIG_SIZE, MAX_ENUM_SIZE, MAX_LOCK_STATUS_SIZE, SC_MANAGER_CONNECT,
+    SC_MANAGER_CREATE_SERVICE, SC_MANAGER_ENUMERATE_SERVICE, SC_MANAGER_QUERY_LOCK_STATUS,
+    SC_STATUS_PROCESS_INFO, SERVICE_ALL_ACCESS, SERVICE_AUTO_START, SERVICE_CHANGE_CONFIG,
+    SERVICE_CONFIG_DELAYED_AUTO_START_INFO, SERVICE_CONFIG_DESCRIPTION,
+    SERVICE_CONFIG_FAILURE_ACTIONS, SERVICE_CONFIG_FAILURE_ACTIONS_FLAG, SERVICE_CONTROL_CONTINUE,
+    SERVICE_CONTROL_INTERROGATE, SERVICE_CONTROL_NETBINDDISABLE, SERVICE_CONTROL_PARAMCHANGE,
+    SERVICE_CONTROL_PAUSE, SERVICE_CONTROL_STOP, SERVICE_DEMAND_START, SERVICE_DISABLED,
+    SERVICE_ENUMERATE_DEPENDENTS, SERVICE_ERROR_NORMAL, SERVICE_INTERROGATE, SERVICE_NO_CHANGE,
+    SERVICE_PAUSE_CONTINUE, SERVICE_QUERY_CONFIG, SERVICE_QUERY_STATUS, SERVICE_START,
+    SERVICE_STATE_ALL, SERVICE_STOP, SERVICE_USER_DEFINED_CONTROL, SERVICE_WIN32_OWN_PROCESS,
+    SERVICE_WIN32_SHARE_PROCESS,
 };
-use scm_model::{Action, ChangeService, Info, NewService, Request, copy_texts};
+use scm_model::{Action, ChangeService, Info, NewService, Reply, Request, copy_texts};
 use scm_text::{Items, OutOfMemory, WText};
 use std::alloc::Global;
+
+/// How many units a name may have that is asked for, with its zero.
+const NAME_SIZE: u32 = 4096;
+
+/// How many bytes a page of services has.
+const PAGE_SIZE: u32 = 65536;
 
 /// The right that is asked for on the manager.
 fn manager_right(task: &Task) -> u32
@@ -25,6 +40,8 @@ fn manager_right(task: &Task) -> u32
 {
     match task {
         Task::Create(_) => SC_MANAGER_CREATE_SERVICE,
+        Task::QueryAll => SC_MANAGER_ENUMERATE_SERVICE,
+        Task::QueryLock => SC_MANAGER_QUERY_LOCK_STATUS,
         _ => SC_MANAGER_CONNECT,
     }
 }
@@ -48,7 +65,7 @@ fn control_right(code: u32) -> u32
     }
 }
 
-/// The rights that are asked for on the service.
+/// The rights that are asked for on the service, or none where it isn't opened.
 fn service_right(task: &Task) -> u32
     ensures { result ≡ service_right task.now }
 {
@@ -60,6 +77,11 @@ fn service_right(task: &Task) -> u32
         Task::Control(code) => control_right(*code),
         Task::Query => SERVICE_QUERY_STATUS,
         Task::Delete => DELETE,
+        Task::QueryConfig | Task::QueryLevel(_) => SERVICE_QUERY_CONFIG,
+        Task::QueryEx => SERVICE_QUERY_STATUS,
+        Task::FailureFlag(_) => SERVICE_CHANGE_CONFIG,
+        Task::EnumDepend => SERVICE_ENUMERATE_DEPENDENTS,
+        _ => 0,
     }
 }
 
@@ -252,7 +274,8 @@ fn change(alloc: Global, settings: &Settings, handle: u64) -> Result<ChangeServi
 
 /// What failure actions ask.
 fn failure(alloc: Global, settings: &Settings) -> Result<Info, OutOfMemory>
-    ensures { IfOk result (λ change. change ≡ info.Failure (unwrap_or settings.now.reset 0) settings.now.command settings.now.actions) }
+    ensures { IfOk result (λ change. change ≡ info.Failure
+        (unwrap_or settings.now.reset 0) settings.now.command settings.now.actions) }
 {
     let command = copy_of_text(alloc, &settings.command)?;
     let actions = copy_of_actions(alloc, &settings.actions)?;
@@ -270,6 +293,97 @@ fn delay(handle: u64, settings: &Settings) -> Request
     Request::Change2 {
         handle,
         info: Info::Delayed(is_delayed(settings.start)),
+    }
+}
+
+impl Level {
+    /// Its number.
+    fn number(self) -> u32
+        ensures { result ≡ level_number self }
+    {
+        match self {
+            Level::Description => SERVICE_CONFIG_DESCRIPTION,
+            Level::Failure => SERVICE_CONFIG_FAILURE_ACTIONS,
+            Level::FailureFlag => SERVICE_CONFIG_FAILURE_ACTIONS_FLAG,
+        }
+    }
+}
+
+/// The number after which the next page of services begins.
+fn resume_after(heard: &[Heard]) -> Option<u32>
+    ensures { result ≡ resume_heard (slice_get heard.now (length heard.now - 1)) }
+{
+    match heard.get(heard.len().saturating_sub(1)) {
+        Some(Heard::Reply(Reply::Page { resume, .. })) => *resume,
+        _ => Some(0),
+    }
+}
+
+/// What asks for the services after those that were given.
+fn page_asks(handle: u64, heard: &[Heard]) -> Request
+    ensures { result ≡ page_asks handle heard.now }
+{
+    Request::EnumServices {
+        handle,
+        kinds: SERVICE_WIN32_OWN_PROCESS + SERVICE_WIN32_SHARE_PROCESS,
+        states: SERVICE_STATE_ALL,
+        size: PAGE_SIZE,
+        resume: resume_after(heard),
+    }
+}
+
+/// What a task of reading asks by a handle.
+fn query_asks(
+    alloc: Global,
+    command: &Command,
+    method: Method,
+    handle: u64,
+) -> Result<Request, OutOfMemory>
+    ensures { IfOk result (λ asked. asked ≡ query_asks command.now command.now.task method handle) }
+{
+    match &command.task {
+        Task::QueryConfig => {
+            if method == Method::QueryServiceConfig2 {
+                return Ok(Request::QueryConfig2 {
+                    handle,
+                    level: SERVICE_CONFIG_DELAYED_AUTO_START_INFO,
+                    size: MAX_CONFIG_SIZE,
+                });
+            }
+            Ok(Request::QueryConfig {
+                handle,
+                size: MAX_CONFIG_SIZE,
+            })
+        }
+        Task::QueryLevel(level) => Ok(Request::QueryConfig2 {
+            handle,
+            level: level.number(),
+            size: MAX_CONFIG_SIZE,
+        }),
+        Task::QueryEx => Ok(Request::QueryStatusEx {
+            handle,
+            level: SC_STATUS_PROCESS_INFO,
+            size: MAX_CONFIG_SIZE,
+        }),
+        Task::EnumDepend => Ok(Request::EnumDependents {
+            handle,
+            states: SERVICE_STATE_ALL,
+            size: MAX_ENUM_SIZE,
+        }),
+        Task::DisplayName => Ok(Request::DisplayName {
+            handle,
+            name: command.name.copy(alloc)?,
+            size: NAME_SIZE,
+        }),
+        Task::KeyName => Ok(Request::KeyName {
+            handle,
+            name: command.name.copy(alloc)?,
+            size: NAME_SIZE,
+        }),
+        _ => Ok(Request::QueryLock {
+            handle,
+            size: MAX_LOCK_STATUS_SIZE,
+        }),
     }
 }
 
@@ -315,6 +429,18 @@ fn task_asks(
         }),
         Task::Query => Ok(Request::QueryStatus { handle }),
         Task::Delete => Ok(Request::Delete { handle }),
+        Task::FailureFlag(on) => Ok(Request::Change2 {
+            handle,
+            info: Info::OnExit(*on),
+        }),
+        Task::QueryConfig
+        | Task::QueryLevel(_)
+        | Task::QueryEx
+        | Task::EnumDepend
+        | Task::DisplayName
+        | Task::KeyName
+        | Task::QueryAll
+        | Task::QueryLock => query_asks(alloc, command, method, handle),
     }
 }
 
@@ -323,9 +449,10 @@ fn method_asks(
     alloc: Global,
     command: &Command,
     method: Method,
+    heard: &[Heard],
     handle: u64,
 ) -> Result<Request, OutOfMemory>
-    ensures { IfOk result (λ asked. asked ≡ method_asks command.now method handle) }
+    ensures { IfOk result (λ asked. asked ≡ method_asks command.now method heard.now handle) }
 {
     match method {
         Method::OpenSCManager => Ok(Request::OpenManager {
@@ -337,6 +464,7 @@ fn method_asks(
             name: command.name.copy(alloc)?,
             access: service_right(&command.task),
         }),
+        Method::EnumServicesStatus => Ok(page_asks(handle, heard)),
         _ => task_asks(alloc, command, method, handle),
     }
 }
@@ -355,8 +483,9 @@ fn close(command: &Command, heard: &[Heard]) -> Option<Request>
     }
 }
 
-/// The next request of a command after these replies, or none where all is asked: the calls in order, each by the handle that
-/// was given last, up to the first that doesn't succeed; and then the closes, the handle that was given last first.
+/// The next request of a command after these replies, or none where all is asked: the calls in
+/// order, each by the handle that was given last, up to the first that doesn't succeed; and then
+/// the closes, the handle that was given last first.
 #[tactic(auto, unfolding(crate::specs::Asks::asks))]
 pub fn next_request(
     alloc: Global,
@@ -369,5 +498,5 @@ pub fn next_request(
         return Ok(close(command, heard));
     };
     let handle = handle_before(0, &command.task, heard);
-    Ok(Some(method_asks(alloc, command, method, handle)?))
+    Ok(Some(method_asks(alloc, command, method, heard, handle)?))
 }

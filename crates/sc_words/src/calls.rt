@@ -1,12 +1,17 @@
-ghost use Rattle.std.specs.Prelude.{◌≡◌, ◌≤◌, ◌∷◌, Some, length};
-ghost use Rattle.sc_words.specs.Calls.{and_delay, calls_of, closed, code_heard, delay_of_change, delay_of_creation, failure_heard, given, handle_before, handle_in, handle_heard, is_good, stage_of, succeeded};
+ghost use Rattle.std.specs.Prelude.{◌≡◌, ◌≤◌, ◌∷◌, IfSome, Some, length};
+ghost use Rattle.sc_words.specs.Calls.{and_delay, calls_of, closed, code_heard, completes};
+ghost use Rattle.sc_words.specs.Calls.{delay_of_change, delay_of_creation, failure_heard, given};
+ghost use Rattle.sc_words.specs.Calls.{handle_before, handle_in, handle_heard, handles_of, is_good};
+ghost use Rattle.sc_words.specs.Calls.{is_part, progress_of, stage_of};
 ghost use Rattle.sc_words.specs.Seen.{seen_standing};
-ghost use Rattle.sc_words.specs.declared.calls.Method.TheVariants.{ChangeServiceConfig, CreateService, OpenSCManager, OpenService};
+ghost use Rattle.sc_words.specs.declared.calls.Method.TheVariants.{ChangeServiceConfig};
+ghost use Rattle.sc_words.specs.declared.calls.Method.TheVariants.{CreateService, OpenSCManager};
+ghost use Rattle.sc_words.specs.declared.calls.Method.TheVariants.{OpenService};
 
 use super::command::Task;
 use super::values::StartType;
 use scm_model::Reply;
-use scm_model::codes::ERROR_SUCCESS;
+use scm_model::codes::{ERROR_MORE_DATA, ERROR_SUCCESS};
 
 /// A call of the manager, under the name that is printed.
 #[derive(Clone, Copy, PartialEq, Eq)]
@@ -20,6 +25,14 @@ pub enum Method {
     ControlService,
     QueryServiceStatus,
     DeleteService,
+    QueryServiceConfig,
+    QueryServiceConfig2,
+    QueryServiceStatusEx,
+    EnumDependentServices,
+    GetServiceDisplayName,
+    GetServiceKeyName,
+    EnumServicesStatus,
+    QueryServiceLockStatus,
 }
 
 /// What the peer answered a request.
@@ -109,6 +122,39 @@ static DELETE: [Method; 3] = [
     Method::DeleteService,
 ];
 
+static QUERY_CONFIG: [Method; 4] = [
+    Method::OpenSCManager,
+    Method::OpenService,
+    Method::QueryServiceConfig,
+    Method::QueryServiceConfig2,
+];
+
+static QUERY_LEVEL: [Method; 3] = [
+    Method::OpenSCManager,
+    Method::OpenService,
+    Method::QueryServiceConfig2,
+];
+
+static QUERY_EX: [Method; 3] = [
+    Method::OpenSCManager,
+    Method::OpenService,
+    Method::QueryServiceStatusEx,
+];
+
+static ENUM_DEPEND: [Method; 3] = [
+    Method::OpenSCManager,
+    Method::OpenService,
+    Method::EnumDependentServices,
+];
+
+static DISPLAY_NAME: [Method; 2] = [Method::OpenSCManager, Method::GetServiceDisplayName];
+
+static KEY_NAME: [Method; 2] = [Method::OpenSCManager, Method::GetServiceKeyName];
+
+static QUERY_ALL: [Method; 2] = [Method::OpenSCManager, Method::EnumServicesStatus];
+
+static QUERY_LOCK: [Method; 2] = [Method::OpenSCManager, Method::QueryServiceLockStatus];
+
 /// The calls of a creation.
 fn creation_calls(start: Option<StartType>) -> &'static [Method]
     ensures { result.now ≡ OpenSCManager ∷ CreateService ∷ and_delay (delay_of_creation start) }
@@ -121,7 +167,8 @@ fn creation_calls(start: Option<StartType>) -> &'static [Method]
 
 /// The calls of a change.
 fn change_calls(start: Option<StartType>) -> &'static [Method]
-    ensures { result.now ≡ OpenSCManager ∷ OpenService ∷ ChangeServiceConfig ∷ and_delay (delay_of_change start) }
+    ensures { result.now ≡ OpenSCManager ∷ OpenService ∷ ChangeServiceConfig ∷ and_delay
+        (delay_of_change start) }
 {
     match start {
         Some(StartType::Auto | StartType::DelayedAuto) => &CONFIG_DELAY,
@@ -141,6 +188,15 @@ fn calls_of(task: &Task) -> &'static [Method]
         Task::Control(_) => &CONTROL,
         Task::Query => &QUERY,
         Task::Delete => &DELETE,
+        Task::QueryConfig => &QUERY_CONFIG,
+        Task::QueryLevel(_) => &QUERY_LEVEL,
+        Task::QueryEx => &QUERY_EX,
+        Task::FailureFlag(_) => &CONFIG2,
+        Task::EnumDepend => &ENUM_DEPEND,
+        Task::DisplayName => &DISPLAY_NAME,
+        Task::KeyName => &KEY_NAME,
+        Task::QueryAll => &QUERY_ALL,
+        Task::QueryLock => &QUERY_LOCK,
     }
 }
 
@@ -186,6 +242,32 @@ impl Heard {
         }
     }
 
+    /// Whether it is a page of services after which there is another.
+    fn is_part(&self) -> bool
+        ensures { result ≡ is_part self.now }
+    {
+        match self {
+            Heard::Reply(Reply::Page { returned, code, .. }) => {
+                *code == ERROR_MORE_DATA && *returned > 0
+            }
+            _ => false,
+        }
+    }
+
+    /// How many calls it completes, unless it is a failure.
+    fn completes(&self) -> Option<usize>
+        ensures value { result ≡ completes self.now }
+        ensures bound { IfSome result (λ n. n ≤ 1) }
+    {
+        if self.is_part() {
+            Some(0)
+        } else if self.is_good() {
+            Some(1)
+        } else {
+            None
+        }
+    }
+
     /// Why a call didn't succeed that was answered so.
     pub fn failure(&self) -> Failure
         ensures { result ≡ failure_heard self.now }
@@ -207,18 +289,34 @@ impl Heard {
     }
 }
 
-/// How many calls succeeded before the first that didn't.
-fn succeeded(methods: &[Method], heard: &[Heard]) -> usize
-    ensures value { result ≡ succeeded methods.now heard.now }
-    ensures bound { result ≤ length methods.now }
+/// How far the calls of a task came.
+#[derive(Clone, Copy)]
+pub struct Progress {
+    /// How many are done.
+    pub done: usize,
+    /// How many answers these and the parts of one more took.
+    pub taken: usize,
+}
+
+/// How far calls came, up to the first that didn't succeed, or that isn't answered yet.
+fn progress_of(methods: &[Method], heard: &[Heard]) -> Progress
+    ensures value { result ≡ progress_of methods.now heard.now }
+    ensures bound { result.done ≤ length methods.now }
 {
-    let most = methods.len().min(heard.len());
-    for place in 0..most {
-        if !heard[place].is_good() {
-            return place;
+    let mut done = 0;
+    for taken in 0..heard.len() {
+        if done == methods.len() {
+            return Progress { done, taken };
         }
+        let Some(more) = heard[taken].completes() else {
+            return Progress { done, taken };
+        };
+        done += more;
     }
-    most
+    Progress {
+        done,
+        taken: heard.len(),
+    }
 }
 
 /// Where the calls of a task stand.
@@ -227,13 +325,23 @@ pub fn stage_of<'a>(task: &Task, heard: &'a [Heard]) -> Stage<'a>
     ensures { seen_standing result ≡ stage_of task.now heard.now }
 {
     let methods = calls_of(task);
-    let count = succeeded(methods, heard);
-    if count == methods.len() {
+    let progress = progress_of(methods, heard);
+    if progress.done == methods.len() {
         return Stage::Done;
     }
-    match heard.get(count) {
-        Some(heard) => Stage::Failed(methods[count], heard),
-        None => Stage::Asks(methods[count]),
+    match heard.get(progress.taken) {
+        Some(heard) => Stage::Failed(methods[progress.done], heard),
+        None => Stage::Asks(methods[progress.done]),
+    }
+}
+
+/// How many calls of a task give a handle: the manager's is first, and the service's is second.
+fn handles_of(task: &Task) -> usize
+    ensures { result ≡ handles_of task.now }
+{
+    match task {
+        Task::DisplayName | Task::KeyName | Task::QueryAll | Task::QueryLock => 1,
+        _ => 2,
     }
 }
 
@@ -242,7 +350,7 @@ pub fn stage_of<'a>(task: &Task, heard: &'a [Heard]) -> Stage<'a>
 pub fn given(task: &Task, heard: &[Heard]) -> usize
     ensures { result ≡ given task.now heard.now }
 {
-    succeeded(calls_of(task), heard).min(2)
+    handles_of(task).min(progress_of(calls_of(task), heard).done)
 }
 
 /// The handle that was given before the last so many.
@@ -262,7 +370,8 @@ pub fn handle_before(last: usize, task: &Task, heard: &[Heard]) -> u64
 pub fn closed(task: &Task, heard: &[Heard]) -> usize
     ensures { result ≡ closed task.now heard.now }
 {
-    let behind = heard.len().saturating_sub(succeeded(calls_of(task), heard));
+    let taken = progress_of(calls_of(task), heard).taken;
+    let behind = heard.len().saturating_sub(taken);
     match stage_of(task, heard) {
         Stage::Asks(_) => 0,
         Stage::Failed(_, _) => behind.saturating_sub(1),

@@ -1,7 +1,17 @@
 use super::settings::Settings;
 use scm_text::{Items, Text, WText};
 
-/// What a command does with its service.
+/// A part of a configuration that is asked for alone.
+#[derive(Clone, Copy, PartialEq, Eq)]
+pub enum Level {
+    Description,
+    /// What is done after failures.
+    Failure,
+    /// Whether a stop with an error is a failure too.
+    FailureFlag,
+}
+
+/// What a command does with its service, or with the manager.
 pub enum Task {
     Create(Settings),
     Config(Settings),
@@ -13,6 +23,22 @@ pub enum Task {
     Control(u32),
     Query,
     Delete,
+    QueryConfig,
+    QueryLevel(Level),
+    /// The status with the process.
+    QueryEx,
+    /// Whether a stop with an error is to be a failure too.
+    FailureFlag(bool),
+    /// The services that need this one.
+    EnumDepend,
+    /// The display name of the service that is named.
+    DisplayName,
+    /// The name of the service whose display name is given.
+    KeyName,
+    /// Every service.
+    QueryAll,
+    /// Who holds the lock of the database.
+    QueryLock,
 }
 
 impl Drop for Task {
@@ -23,7 +49,9 @@ impl Drop for Task {
             }
             Task::Description(text) => drop(text),
             Task::Start(words) => drop(words),
-            Task::Control(_) | Task::Query | Task::Delete => {}
+            Task::Control(_) | Task::QueryLevel(_) | Task::FailureFlag(_) => {}
+            Task::Query | Task::Delete | Task::QueryConfig | Task::QueryEx | Task::EnumDepend => {}
+            Task::DisplayName | Task::KeyName | Task::QueryAll | Task::QueryLock => {}
         }
     }
 }
@@ -32,7 +60,7 @@ impl Drop for Task {
 pub struct Command {
     /// Where the manager listens, as `127.0.0.1:4000`.
     pub address: Text,
-    /// The service's name.
+    /// The service's name, or the empty text if the verb takes none.
     pub name: WText,
     pub task: Task,
 }

@@ -14,7 +14,7 @@ mod verb;
 
 pub use asking::next_request;
 pub use calls::{Failure, Heard, Method};
-pub use command::{Command, Task};
+pub use command::{Command, Level, Task};
 pub use fault::WordsFault;
 pub use reading::read_words;
 pub use settings::{Key, Settings};

@@ -1,8 +1,10 @@
-ghost use Rattle.std.specs.Prelude.{drop};
+ghost use Rattle.std.specs.Prelude.{◌≡◌, drop};
 ghost use Rattle.sc_words.specs.Places.{AnswersAs, fits, no_word_at, seen_word, word_at};
-ghost use Rattle.sc_words.specs.Words.{without_rest, command_of, creation_in, failure_in, number_in, task_of, one_text, text_in_place, texts_from};
+ghost use Rattle.sc_words.specs.Words.{without_rest, bit_in, bit_named, command_of, creation_in};
+ghost use Rattle.sc_words.specs.Words.{failure_in, lone_command, lone_task, named_command};
+ghost use Rattle.sc_words.specs.Words.{number_in, task_of, one_text, text_in_place, texts_from};
 
-use super::command::{Command, Task};
+use super::command::{Command, Level, Task};
 use super::fault::WordsFault;
 use super::settings::{Settings, settings_from};
 use super::texts::word_text;
@@ -15,7 +17,7 @@ use scm_model::codes::{
 use scm_text::{Items, Text, WText};
 use std::alloc::Global;
 
-/// Where the words behind `ADDRESS VERB NAME` begin.
+/// Where the words after `ADDRESS VERB NAME` begin.
 const REST: usize = 3;
 
 /// The word at a place.
@@ -29,7 +31,7 @@ fn word_at(words: &[Text], place: usize) -> Result<&str, WordsFault>
     }
 }
 
-/// That no word stands at a place or behind it.
+/// That no word stands at a place or after it.
 #[tactic(auto, unfolding(crate::specs::Places::no_word_at))]
 fn no_word_at(words: &[Text], place: usize) -> Result<(), WordsFault>
     ensures { AnswersAs result (no_word_at place words.now) }
@@ -79,6 +81,28 @@ fn number_in(words: &[Text]) -> Result<u32, WordsFault>
     let number = fits(REST, word_number(word))?;
     no_word_at(words, REST + 1)?;
     Ok(number)
+}
+
+/// Whether a word is 1, and not 0.
+fn bit_named(word: &str) -> Option<bool>
+    ensures { result ≡ bit_named word.now }
+{
+    match word {
+        "0" => Some(false),
+        "1" => Some(true),
+        _ => None,
+    }
+}
+
+/// The one bit of the rest.
+#[tactic(auto, unfolding(crate::specs::Words::bit_in))]
+fn bit_in(words: &[Text]) -> Result<bool, WordsFault>
+    ensures { AnswersAs result (bit_in words.now) }
+{
+    let word = word_at(words, REST)?;
+    let bit = fits(REST, bit_named(word))?;
+    no_word_at(words, REST + 1)?;
+    Ok(bit)
 }
 
 /// The words from a place on as texts.
@@ -149,10 +173,73 @@ fn task_of(alloc: Global, verb: Verb, words: &[Text]) -> Result<Task, WordsFault
         Verb::Control => Ok(Task::Control(number_in(words)?)),
         Verb::Query => without_rest(Task::Query, words),
         Verb::Delete => without_rest(Task::Delete, words),
+        Verb::QueryConfig => without_rest(Task::QueryConfig, words),
+        Verb::QueryEx => without_rest(Task::QueryEx, words),
+        Verb::QueryDescription => without_rest(Task::QueryLevel(Level::Description), words),
+        Verb::QueryFailure => without_rest(Task::QueryLevel(Level::Failure), words),
+        Verb::QueryFailureFlag => without_rest(Task::QueryLevel(Level::FailureFlag), words),
+        Verb::FailureFlag => Ok(Task::FailureFlag(bit_in(words)?)),
+        Verb::EnumDepend => without_rest(Task::EnumDepend, words),
+        Verb::GetDisplayName => without_rest(Task::DisplayName, words),
+        Verb::GetKeyName => without_rest(Task::KeyName, words),
+        Verb::QueryLock => Err(WordsFault::BadWord(2)),
     }
 }
 
-/// What the words `ADDRESS VERB NAME REST` ask for.
+/// What a verb does that stands alone.
+fn lone_task(verb: Verb) -> Option<Task>
+    ensures { result ≡ lone_task verb }
+{
+    match verb {
+        Verb::Query => Some(Task::QueryAll),
+        Verb::QueryLock => Some(Task::QueryLock),
+        _ => None,
+    }
+}
+
+/// What a verb that may stand alone asks of the manager.
+fn lone_command(
+    alloc: Global,
+    address: &str,
+    verb: Verb,
+    words: &[Text],
+) -> Result<Command, WordsFault>
+    ensures { AnswersAs result (lone_command address.now (lone_task verb) words.now) }
+{
+    match lone_task(verb) {
+        Some(task) => {
+            let address = Text::from_str(alloc, address)?;
+            let name = WText::new(alloc);
+            Ok(Command {
+                address,
+                name,
+                task,
+            })
+        }
+        None => Err(WordsFault::BadWord(words.len())),
+    }
+}
+
+/// What a verb asks by the words `NAME REST`.
+#[tactic(auto, unfolding(crate::specs::Words::named_command))]
+fn named_command(
+    alloc: Global,
+    address: &str,
+    verb: Verb,
+    words: &[Text],
+) -> Result<Command, WordsFault>
+    ensures { AnswersAs result (named_command address.now verb words.now) }
+{
+    let name = text_in_place(alloc, words, 2)?;
+    let task = task_of(alloc, verb, words)?;
+    Ok(Command {
+        address: Text::from_str(alloc, address)?,
+        name,
+        task,
+    })
+}
+
+/// What the words `ADDRESS VERB NAME REST` ask for, or `ADDRESS VERB`.
 #[tactic(auto, unfolding(crate::specs::Words::command_of))]
 pub fn read_words(alloc: Global, words: &Items<Text>) -> Result<Command, WordsFault>
     // A command exactly where there is one, else the first word that doesn't fit.
@@ -161,11 +248,9 @@ pub fn read_words(alloc: Global, words: &Items<Text>) -> Result<Command, WordsFa
     let words = words.as_slice();
     let address = word_at(words, 0)?;
     let verb = fits(1, verb_named(word_at(words, 1)?))?;
-    let name = text_in_place(alloc, words, 2)?;
-    let task = task_of(alloc, verb, words)?;
-    Ok(Command {
-        address: Text::from_str(alloc, address)?,
-        name,
-        task,
-    })
+    if words.len() == 2 {
+        lone_command(alloc, address, verb, words)
+    } else {
+        named_command(alloc, address, verb, words)
+    }
 }

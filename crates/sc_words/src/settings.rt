@@ -2,7 +2,8 @@ ghost use Rattle.std.specs.Prelude.{◌≡◌, ◌<◌, IsSome, IfErr, None, OnO
 ghost use Rattle.sc_words.specs.Along.{IsPairRead, IsPut};
 ghost use Rattle.sc_words.specs.Places.{AnswersAs};
 ghost use Rattle.sc_words.specs.declared.fault.WordsFault.TheVariants as faults;
-ghost use Rattle.sc_words.specs.Settings.{is_given, is_of_failure, key_at, key_named, no_settings, settings_from, takes_key, with_value};
+ghost use Rattle.sc_words.specs.Settings.{is_given, is_of_failure, key_at, key_named, no_settings};
+ghost use Rattle.sc_words.specs.Settings.{settings_from, takes_key, with_value};
 
 use super::fault::WordsFault;
 use super::texts::word_text;
@@ -42,7 +43,7 @@ pub struct Settings {
     pub group: Option<WText>,
     /// Whether a tag is asked for.
     pub tag: Option<bool>,
-    /// The names of services, and behind `+` those of groups.
+    /// The names of services, and after `+` those of groups.
     pub needs: Option<Items<WText>>,
     pub display: Option<WText>,
     pub account: Option<WText>,
@@ -207,7 +208,7 @@ impl Settings {
         }
     }
 
-    /// Reads the key at a place of the words, and its value behind it.
+    /// Reads the key at a place of the words, and its value after it.
     fn read_pair(
         &mut self,
         alloc: Global,

@@ -1,17 +1,22 @@
-ghost use Rattle.std.specs.Prelude.{◌≡◌, ◌<◌, ◌≤◌, ◌++◌, ◌∷◌, IfOk, OnOk, codes, decimal, drop, length, slice_get, string_bytes};
-ghost use Rattle.std.specs.Char.Utf16.{utf16_chars};
-ghost use Rattle.sc_words.specs.Texts.{printed};
-ghost use Rattle.sc_words.specs.Told.{call_line, done_text, exit_lines, failed_line, failure_of, labelled, method_name, state_lines, state_name, status_at, status_text, success, told_text};
+ghost use Rattle.std.specs.Prelude.{◌≡◌, ◌++◌, IfOk, OnOk, slice_get};
+ghost use Rattle.sc_words.specs.Told.{bytes_at, call_line, config_at, count_line, dependents_at};
+ghost use Rattle.sc_words.specs.Told.{dependents_text, done_text, failed_line, failure_of};
+ghost use Rattle.sc_words.specs.Told.{level_text, lock_at, method_name, name_line_at, page_text};
+ghost use Rattle.sc_words.specs.Told.{pages_text, read_text, shown_text, status_at, success};
+ghost use Rattle.sc_words.specs.Told.{told_text};
+ghost use Rattle.sc_words.specs.declared.calls.Method.TheVariants.{QueryServiceConfig};
+ghost use Rattle.sc_words.specs.declared.calls.Method.TheVariants.{QueryServiceConfig2};
+ghost use Rattle.sc_words.specs.declared.calls.Method.TheVariants.{QueryServiceLockStatus};
 
 use super::calls::{Failure, Heard, Method, Stage, code_heard, stage_of};
-use super::command::{Command, Task};
-use scm_model::codes::{
-    SERVICE_CONTINUE_PENDING, SERVICE_PAUSE_PENDING, SERVICE_PAUSED, SERVICE_RUNNING,
-    SERVICE_START_PENDING, SERVICE_STOP_PENDING, SERVICE_STOPPED,
+use super::command::{Command, Level, Task};
+use sc_lines::{
+    Line, add_config, add_description, add_failure, add_flag, add_lines, add_listing, add_lock,
+    add_process, add_status, is_on,
 };
-use scm_model::{Reply, Status};
+use scm_model::{Reply, Shown};
 use scm_text::{Items, OutOfMemory, WText};
-use std::alloc::{AllocError, Global};
+use std::alloc::Global;
 
 /// The name of a call as it is printed.
 fn method_name(method: Method) -> &'static str
@@ -27,66 +32,15 @@ fn method_name(method: Method) -> &'static str
         Method::ControlService => "ControlService",
         Method::QueryServiceStatus => "QueryServiceStatus",
         Method::DeleteService => "DeleteService",
+        Method::QueryServiceConfig => "QueryServiceConfig",
+        Method::QueryServiceConfig2 => "QueryServiceConfig2",
+        Method::QueryServiceStatusEx => "QueryServiceStatusEx",
+        Method::EnumDependentServices => "EnumDependentServices",
+        Method::GetServiceDisplayName => "GetServiceDisplayName",
+        Method::GetServiceKeyName => "GetServiceKeyName",
+        Method::EnumServicesStatus => "EnumServicesStatus",
+        Method::QueryServiceLockStatus => "QueryServiceLockStatus",
     }
-}
-
-/// The name of a state.
-fn state_name(state: u32) -> &'static str
-    ensures { result.now ≡ state_name state }
-{
-    if state == SERVICE_STOPPED {
-        "STOPPED"
-    } else if state == SERVICE_START_PENDING {
-        "START_PENDING"
-    } else if state == SERVICE_STOP_PENDING {
-        "STOP_PENDING"
-    } else if state == SERVICE_RUNNING {
-        "RUNNING"
-    } else if state == SERVICE_CONTINUE_PENDING {
-        "CONTINUE_PENDING"
-    } else if state == SERVICE_PAUSE_PENDING {
-        "PAUSE_PENDING"
-    } else if state == SERVICE_PAUSED {
-        "PAUSED"
-    } else {
-        "UNKNOWN"
-    }
-}
-
-/// The character whose units begin at a place, unless that unit is a surrogate without a partner, and the place behind it.
-fn char_at(units: &[u16], at: usize) -> (Option<char>, usize)
-    requires { at < length units.now }
-    ensures bound { (at < result.1) × (result.1 ≤ length units.now) }
-    ensures first { utf16_chars (drop at units.now) ≡ result.0 ∷ utf16_chars (drop result.1 units.now) }
-{
-    let high = units[at] as u32;
-    if high < 0xD800 || 0xE000 <= high {
-        return (char::from_u32(high), at + 1);
-    }
-    if 0xDC00 <= high || units.len() - at < 2 {
-        return (None, at + 1);
-    }
-    let low = units[at + 1] as u32;
-    if low < 0xDC00 || 0xE000 <= low {
-        return (None, at + 1);
-    }
-    let code = 0x1_0000 + (high - 0xD800) * 0x400 + (low - 0xDC00);
-    (char::from_u32(code), at + 2)
-}
-
-/// A text in UTF-8, with `?` for each unit that is no part of well-formed UTF-16.
-#[tactic(auto, unfolding(crate::specs::Texts::printed))]
-fn printed(alloc: Global, units: &[u16]) -> Result<String, AllocError>
-    ensures { IfOk result (λ text. string_bytes text ≡ printed units.now) }
-{
-    let mut text = String::new(alloc);
-    let mut at = 0;
-    while at < units.len() {
-        let (found, next) = char_at(units, at);
-        text.push(found.unwrap_or('?'))?;
-        at = next;
-    }
-    Ok(text)
 }
 
 /// Appends `[SC] CALL` and what became of it.
@@ -125,64 +79,7 @@ fn add_success(text: &mut Items<u8>, method: Method) -> Result<(), OutOfMemory>
     add_call(text, method, " SUCCESS", "")
 }
 
-/// Appends a label, what it labels, and a line feed.
-fn add_line(text: &mut Items<u8>, label: &str, rest: &str) -> Result<(), OutOfMemory>
-    ensures { OnOk result (text.new ≡ text.old ++ labelled label.now rest.now) }
-{
-    text.append_pair(label.as_bytes(), rest.as_bytes())?;
-    text.append(b"\n")
-}
-
-/// Appends a label, a number, and a line feed.
-fn add_number(text: &mut Items<u8>, label: &str, number: u32) -> Result<(), OutOfMemory>
-    ensures { OnOk result (text.new ≡ text.old ++ labelled label.now (decimal number)) }
-{
-    add_line(text, label, itoa::Buffer::new().format(number))
-}
-
-/// Appends the line of a state.
-fn add_state(text: &mut Items<u8>, state: u32) -> Result<(), OutOfMemory>
-    ensures { OnOk result (text.new ≡ text.old ++ labelled (codes "STATE: ") (decimal state ++ (codes " " ++ state_name state))) }
-{
-    text.append_pair(b"STATE: ", itoa::Buffer::new().format(state).as_bytes())?;
-    text.append_pair(b" ", state_name(state).as_bytes())?;
-    text.append(b"\n")
-}
-
-/// Appends a service's name, and what kind of service it is in which state.
-#[tactic(auto, unfolding(crate::specs::Told::state_lines))]
-fn add_state_lines(text: &mut Items<u8>, name: &str, status: &Status) -> Result<(), OutOfMemory>
-    ensures { OnOk result (text.new ≡ text.old ++ state_lines name.now status.now) }
-{
-    add_line(text, "SERVICE_NAME: ", name)?;
-    add_number(text, "TYPE: ", status.kind)?;
-    add_state(text, status.state)?;
-    add_number(text, "ACCEPTED: ", status.accepted)?;
-    Ok(())
-}
-
-/// Appends how a service ended, or how far it is.
-#[tactic(auto, unfolding(crate::specs::Told::exit_lines))]
-fn add_exit_lines(text: &mut Items<u8>, status: &Status) -> Result<(), OutOfMemory>
-    ensures { OnOk result (text.new ≡ text.old ++ exit_lines status.now) }
-{
-    add_number(text, "WIN32_EXIT_CODE: ", status.win32)?;
-    add_number(text, "SERVICE_EXIT_CODE: ", status.specific)?;
-    add_number(text, "CHECKPOINT: ", status.checkpoint)?;
-    add_number(text, "WAIT_HINT: ", status.hint)?;
-    Ok(())
-}
-
-/// Appends a name and its status, a line each.
-fn add_status(text: &mut Items<u8>, name: &str, status: &Status) -> Result<(), OutOfMemory>
-    ensures { OnOk result (text.new ≡ text.old ++ status_text name.now status.now) }
-{
-    add_state_lines(text, name, status)?;
-    add_exit_lines(text, status)?;
-    Ok(())
-}
-
-/// Appends the status that the reply to the third call tells.
+/// Appends the status in the reply to the third call.
 fn add_told(
     text: &mut Items<u8>,
     alloc: Global,
@@ -194,10 +91,231 @@ fn add_told(
     let Some(Heard::Reply(Reply::State { status, .. })) = heard.get(2) else {
         return Ok(());
     };
-    let Ok(name) = printed(alloc, name.units()) else {
-        return Err(OutOfMemory);
+    add_status(text, alloc, name.units(), status)
+}
+
+/// The bytes in the answer at a place.
+fn bytes_at(heard: &[Heard], place: usize) -> &[u8]
+    ensures { result.now ≡ bytes_at (slice_get heard.now place) }
+{
+    match heard.get(place) {
+        Some(Heard::Reply(Reply::Bytes { bytes, .. })) => bytes.as_slice(),
+        _ => &[],
+    }
+}
+
+/// Appends a configuration, if one was given. Bytes say whether its start is delayed.
+fn add_some_config(
+    text: &mut Items<u8>,
+    alloc: Global,
+    name: &WText,
+    config: &Option<Shown>,
+    bytes: &[u8],
+) -> Result<(), OutOfMemory>
+    ensures { OnOk result (text.new ≡ text.old ++ shown_text name.now config.now bytes.now) }
+{
+    match config {
+        Some(config) => add_config(text, alloc, name.units(), config, is_on(bytes)),
+        None => Ok(()),
+    }
+}
+
+/// Appends the configuration in the reply to the third call, and whether its start is delayed, which
+/// is in the next one.
+fn add_shown(
+    text: &mut Items<u8>,
+    alloc: Global,
+    name: &WText,
+    heard: &[Heard],
+) -> Result<(), OutOfMemory>
+    ensures { OnOk result (text.new
+        ≡ text.old ++ config_at name.now (slice_get heard.now 2) (slice_get heard.now 3)) }
+{
+    let Some(Heard::Reply(Reply::Shown { config, .. })) = heard.get(2) else {
+        return Ok(());
     };
-    add_status(text, name.as_str(), status)
+    add_some_config(text, alloc, name, config, bytes_at(heard, 3))
+}
+
+/// Appends a configuration, after that its call succeeded.
+fn add_config_told(
+    text: &mut Items<u8>,
+    alloc: Global,
+    name: &WText,
+    heard: &[Heard],
+) -> Result<(), OutOfMemory>
+    ensures { OnOk result (text.new ≡ text.old ++ (success QueryServiceConfig
+        ++ config_at name.now (slice_get heard.now 2) (slice_get heard.now 3))) }
+{
+    add_success(text, Method::QueryServiceConfig)?;
+    add_shown(text, alloc, name, heard)
+}
+
+/// Appends a part of a configuration, after that its call succeeded.
+fn add_level(
+    text: &mut Items<u8>,
+    alloc: Global,
+    level: Level,
+    name: &[u16],
+    bytes: &[u8],
+) -> Result<(), OutOfMemory>
+    ensures { OnOk result (text.new ≡ text.old ++ (success QueryServiceConfig2
+        ++ level_text level name.now bytes.now)) }
+{
+    add_success(text, Method::QueryServiceConfig2)?;
+    match level {
+        Level::Description => add_description(text, alloc, name, bytes),
+        Level::Failure => add_failure(text, alloc, name, bytes),
+        Level::FailureFlag => add_flag(text, alloc, name, bytes),
+    }
+}
+
+/// Appends how many services a call read.
+fn add_count(text: &mut Items<u8>, method: Method, count: u32) -> Result<(), OutOfMemory>
+    ensures { OnOk result (text.new ≡ text.old ++ count_line method count) }
+{
+    add_call(
+        text,
+        method,
+        ": entriesread = ",
+        itoa::Buffer::new().format(count),
+    )
+}
+
+/// Appends how many services need one, and each of them.
+fn add_listed(
+    text: &mut Items<u8>,
+    alloc: Global,
+    returned: u32,
+    bytes: &[u8],
+) -> Result<(), OutOfMemory>
+    ensures { OnOk result (text.new ≡ text.old ++ dependents_text returned bytes.now) }
+{
+    add_count(text, Method::EnumDependentServices, returned)?;
+    add_listing(text, alloc, returned, bytes)
+}
+
+/// Appends the services that need one, of the reply to the third call.
+fn add_dependents(text: &mut Items<u8>, alloc: Global, heard: &[Heard]) -> Result<(), OutOfMemory>
+    ensures { OnOk result (text.new ≡ text.old ++ dependents_at (slice_get heard.now 2)) }
+{
+    let Some(
+        Heard::Reply(
+            Reply::Listing {
+                bytes,
+                returned,
+                ..
+            },
+        ),
+    ) = heard.get(2)
+    else {
+        return Ok(());
+    };
+    add_listed(text, alloc, *returned, bytes.as_slice())
+}
+
+/// Appends the services of a page.
+fn add_page(text: &mut Items<u8>, alloc: Global, heard: &Heard) -> Result<(), OutOfMemory>
+    ensures { OnOk result (text.new ≡ text.old ++ page_text heard.now) }
+{
+    match heard {
+        Heard::Reply(
+            Reply::Page {
+                bytes,
+                returned,
+                ..
+            },
+        ) => add_listing(text, alloc, *returned, bytes.as_slice()),
+        _ => Ok(()),
+    }
+}
+
+/// Appends the services of every page.
+fn add_pages(text: &mut Items<u8>, alloc: Global, heard: &[Heard]) -> Result<(), OutOfMemory>
+    ensures { OnOk result (text.new ≡ text.old ++ pages_text heard.now) }
+{
+    for page in heard {
+        add_page(text, alloc, page)?;
+    }
+    Ok(())
+}
+
+/// Appends the name in the reply to the second call.
+fn add_name_line(text: &mut Items<u8>, alloc: Global, heard: &[Heard]) -> Result<(), OutOfMemory>
+    ensures { OnOk result (text.new ≡ text.old ++ name_line_at (slice_get heard.now 1)) }
+{
+    match heard.get(1) {
+        Some(Heard::Reply(Reply::Name { name, .. })) => {
+            add_lines(text, alloc, &[Line::Text("Name = ", name.units())])
+        }
+        _ => Ok(()),
+    }
+}
+
+/// Appends a name that was asked for, after that its call succeeded.
+fn add_name(
+    text: &mut Items<u8>,
+    alloc: Global,
+    method: Method,
+    heard: &[Heard],
+) -> Result<(), OutOfMemory>
+    ensures { OnOk result (text.new
+        ≡ text.old ++ (success method ++ name_line_at (slice_get heard.now 1))) }
+{
+    add_success(text, method)?;
+    add_name_line(text, alloc, heard)
+}
+
+/// Appends who holds the lock of the database, after that its call succeeded.
+fn add_lock_told(text: &mut Items<u8>, alloc: Global, heard: &[Heard]) -> Result<(), OutOfMemory>
+    ensures { OnOk result (text.new
+        ≡ text.old ++ (success QueryServiceLockStatus ++ lock_at (slice_get heard.now 1))) }
+{
+    add_success(text, Method::QueryServiceLockStatus)?;
+    match heard.get(1) {
+        Some(
+            Heard::Reply(
+                Reply::LockState {
+                    held,
+                    owner,
+                    seconds,
+                    ..
+                },
+            ),
+        ) => {
+            let owner = match owner {
+                Some(owner) => owner.units(),
+                None => &[],
+            };
+            add_lock(text, alloc, *held, owner, *seconds)
+        }
+        _ => Ok(()),
+    }
+}
+
+/// Appends what is printed of a task that reads.
+fn add_read(
+    text: &mut Items<u8>,
+    alloc: Global,
+    command: &Command,
+    heard: &[Heard],
+) -> Result<(), OutOfMemory>
+    ensures { OnOk result (text.new ≡ text.old ++ read_text command.now.name command.now.task
+        heard.now) }
+{
+    let name = &command.name;
+    match &command.task {
+        Task::QueryConfig => add_config_told(text, alloc, name, heard),
+        Task::QueryLevel(level) => {
+            add_level(text, alloc, *level, name.units(), bytes_at(heard, 2))
+        }
+        Task::QueryEx => add_process(text, alloc, name.units(), bytes_at(heard, 2)),
+        Task::EnumDepend => add_dependents(text, alloc, heard),
+        Task::DisplayName => add_name(text, alloc, Method::GetServiceDisplayName, heard),
+        Task::KeyName => add_name(text, alloc, Method::GetServiceKeyName, heard),
+        Task::QueryAll => add_pages(text, alloc, heard),
+        _ => add_lock_told(text, alloc, heard),
+    }
 }
 
 /// Appends what is printed where all calls succeeded.
@@ -207,20 +325,24 @@ fn add_done(
     command: &Command,
     heard: &[Heard],
 ) -> Result<(), OutOfMemory>
-    ensures { OnOk result (text.new ≡ text.old ++ done_text command.now.name command.now.task heard.now) }
+    ensures { OnOk result (text.new ≡ text.old ++ done_text command.now.name command.now.task
+        heard.now) }
 {
     match &command.task {
         Task::Create(_) => add_success(text, Method::CreateService),
         Task::Config(_) => add_success(text, Method::ChangeServiceConfig),
-        Task::Description(_) | Task::Failure(_) => add_success(text, Method::ChangeServiceConfig2),
+        Task::Description(_) | Task::Failure(_) | Task::FailureFlag(_) => {
+            add_success(text, Method::ChangeServiceConfig2)
+        }
         Task::Start(_) => add_success(text, Method::StartService),
         Task::Control(_) | Task::Query => add_told(text, alloc, &command.name, heard),
         Task::Delete => add_success(text, Method::DeleteService),
+        _ => add_read(text, alloc, command, heard),
     }
 }
 
-/// The text of a command's replies: that it succeeded, a service's status, or the first call that didn't succeed. It is empty while
-/// a call is still to be made.
+/// The text of a command's replies: that it succeeded, what was asked for, or the first call that
+/// didn't succeed. It is empty while a call is still to be made.
 #[tactic(auto, unfolding(crate::specs::Told::told_text))]
 pub fn show_reply(
     alloc: Global,

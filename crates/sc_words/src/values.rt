@@ -1,5 +1,7 @@
 ghost use Rattle.std.specs.Prelude.{◌≡◌, IfOk, map};
-ghost use Rattle.sc_words.specs.Values.{action_at, actions_at, actions_of, each, error_named, flag_named, kind_named, name_at, names_at, word_number, slash_pieces, seconds_at, start_named, what_named};
+ghost use Rattle.sc_words.specs.Values.{action_at, actions_at, actions_of, each, error_named};
+ghost use Rattle.sc_words.specs.Values.{flag_named, kind_named, name_at, names_at, word_number};
+ghost use Rattle.sc_words.specs.Values.{slash_pieces, seconds_at, start_named, what_named};
 
 use super::texts::word_text;
 use decimal_words::number_below;

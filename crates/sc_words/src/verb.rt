@@ -16,6 +16,16 @@ pub enum Verb {
     Control,
     Query,
     Delete,
+    QueryConfig,
+    QueryEx,
+    QueryDescription,
+    QueryFailure,
+    QueryFailureFlag,
+    FailureFlag,
+    EnumDepend,
+    GetDisplayName,
+    GetKeyName,
+    QueryLock,
 }
 
 /// The verb that a word is.
@@ -35,6 +45,16 @@ pub fn verb_named(word: &str) -> Option<Verb>
         "control" => Some(Verb::Control),
         "query" => Some(Verb::Query),
         "delete" => Some(Verb::Delete),
+        "qc" => Some(Verb::QueryConfig),
+        "queryex" => Some(Verb::QueryEx),
+        "qdescription" => Some(Verb::QueryDescription),
+        "qfailure" => Some(Verb::QueryFailure),
+        "qfailureflag" => Some(Verb::QueryFailureFlag),
+        "failureflag" => Some(Verb::FailureFlag),
+        "enumdepend" => Some(Verb::EnumDepend),
+        "getdisplayname" => Some(Verb::GetDisplayName),
+        "getkeyname" => Some(Verb::GetKeyName),
+        "querylock" => Some(Verb::QueryLock),
         _ => None,
     }
 }

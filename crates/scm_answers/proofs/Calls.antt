@@ -1,5 +1,6 @@
 -- What a request is told answers it.
-use Rattle.std.proofs.Common.{ℕ, ◌≡◌, ◌≤◌, ◌==◌, if◌then◌else◌, true, false, cond, IsTrue, List, [], ◌∷◌, length, Option, None, Some, find, refl, arith, ltb-false}
+use Rattle.std.proofs.Common.{ℕ, ◌≡◌, ◌≤◌, ◌==◌, if◌then◌else◌, true, false, cond, IsTrue, List, [], ◌∷◌, length, Option, None, Some, find}
+use Rattle.std.proofs.Common.{refl, arith, ltb-false}
 use Rattle.std.specs.Prelude.{All, IfSome, Bool, option_and_then}
 use Rattle.std.proofs.lemmas.Bool.{leb-true}
 use Rattle.std.proofs.lemmas.List.Elements.{All-head, All-tail}
@@ -66,7 +67,8 @@ of_refused asked code = (refl, tt)
 
 -- a page has what fits
 page_told : (handle kinds states size : ℕ) (resume : Option ℕ) (rows : List Service) (code : ℕ) (more : Bool)
-    → Answers (request.EnumServices handle kinds states size resume) (if more then page_of size resume rows else reply.Page size [] 0 0 resume code)
+    → Answers (request.EnumServices handle kinds states size resume) (if more then page_of size resume rows
+    else reply.Page size [] 0 0 resume code)
 page_told handle kinds states size resume rows code true = (refl, listing_fits size (page_in size rows) (page_fits size rows))
 page_told handle kinds states size resume rows code false = (refl, no_bytes size)
 
@@ -87,25 +89,29 @@ fits : (shown : Option Shown) (size : ℕ) → size ≤ 8192 → size_in shown �
 fits None size most le = tt
 fits (Some s) size most le = omega (arith, most, le)
 
-shown_fits : (f : Flat) (caller handle size : ℕ) → size ≤ 8192 → query_config_verdict f caller handle size ≡ 0 → IfSome (shown_by f caller handle) (λ s. bytes_needed s ≤ size)
+shown_fits : (f : Flat) (caller handle size : ℕ) → size ≤ 8192 → query_config_verdict f caller handle size ≡ 0
+    → IfSome (shown_by f caller handle) (λ s. bytes_needed s ≤ size)
 shown_fits f caller handle size most e =
     let p = all_pass (query_config_refusals f caller handle size) (refl, (refl, (refl, tt))) e in
     fits (shown_by f caller handle) size most (ltb-false size (size_in (shown_by f caller handle)) p.1.1.0)
 
 -- so is a level of a configuration
-level_fits : (f : Flat) (caller handle level size : ℕ) → size ≤ 8192 → query_config2_verdict f caller handle level size ≡ 0 → IsWhole size size (level_by f caller handle level)
+level_fits : (f : Flat) (caller handle level size : ℕ) → size ≤ 8192 → query_config2_verdict f caller handle level size ≡ 0
+    → IsWhole size size (level_by f caller handle level)
 level_fits f caller handle level size most e =
     let p = all_pass (query_config2_refusals f caller handle level size) (refl, (refl, (refl, (refl, tt)))) e in
     let le = ltb-false size (level_size f caller handle level) p.1.1.1.0 in
     record { is = refl; whole = omega (arith, most, le) }
 
 -- so are services, and a status with its process
-dependents_fit : (f : Flat) (caller handle states size : ℕ) → enum_dependents_verdict f caller handle states size ≡ 0 → listing_size (dependents_by f caller handle states) ≤ size
+dependents_fit : (f : Flat) (caller handle states size : ℕ) → enum_dependents_verdict f caller handle states size ≡ 0
+    → listing_size (dependents_by f caller handle states) ≤ size
 dependents_fit f caller handle states size e =
     let p = all_pass (enum_dependents_refusals f caller handle states size) (refl, (refl, (refl, (refl, tt)))) e in
     ltb-false size (listing_size (dependents_by f caller handle states)) p.1.1.1.0
 
-services_fit : (f : Flat) (caller handle kinds states size : ℕ) (resume : Option ℕ) → enum_services_verdict f caller handle kinds states size resume ≡ 0 → listing_size (services_asked f kinds states resume) ≤ size
+services_fit : (f : Flat) (caller handle kinds states size : ℕ) (resume : Option ℕ)
+    → enum_services_verdict f caller handle kinds states size resume ≡ 0 → listing_size (services_asked f kinds states resume) ≤ size
 services_fit f caller handle kinds states size resume e =
     let p = all_pass (enum_services_refusals f caller handle kinds states size resume) (refl, (refl, (refl, (refl, tt)))) e in
     ltb-false size (listing_size (services_asked f kinds states resume)) p.1.1.1.0
@@ -119,7 +125,10 @@ status_fits f caller handle level size e =
 found_has : {X : Type 0} (P : X → Type 0) (p : X → Bool) (xs : List X) → All P xs → IfSome (find p xs) P
 found_has P p [] all = tt
 found_has P p (x ∷ xs) all =
-    elim (p x) as (λ b. IfSome (cond b (Some x) (find p xs)) P) [ true ↦ All-head P x xs all | false ↦ found_has P p xs (All-tail P x xs all) ]
+    elim (p x) as (λ b. IfSome (cond b (Some x) (find p xs)) P) [
+      | true ↦ All-head P x xs all
+      | false ↦ found_has P p xs (All-tail P x xs all)
+    ]
 
 short_display : (found : Option Service) → IfSome found (λ row. AreShort row.config) → length (name_or_empty (display_in found)) ≤ 256
 short_display None short = omega arith
@@ -142,25 +151,36 @@ short_owner f (Some row) = short_principal _
 short_notice : (handle : ℕ) (found : Option Registration) → IfSome found HasShortName → Answers (request.GetNotify handle) (notice_in found)
 short_notice handle None short = (refl, tt)
 short_notice handle (Some row) short =
-    elim (row.fired == 0) as (λ b. Answers (request.GetNotify handle) (if b then reply.Notice 0 zero_process_status None 0 else reply.Notice row.fired row.status (Some row.name) 0)) [
+    elim (row.fired == 0) as (λ b. Answers (request.GetNotify handle) (if b then reply.Notice 0 zero_process_status None 0
+    else reply.Notice row.fired row.status (Some row.name) 0)) [
       | true ↦ (refl, tt)
       | false ↦ (refl, short)
     ]
 
-short_found : (f : Flat) (number : Option ℕ) → All HasShortName f.registrations → IfSome (option_and_then (registration_of f) number) HasShortName
+short_found : (f : Flat) (number : Option ℕ) → All HasShortName f.registrations
+    → IfSome (option_and_then (registration_of f) number) HasShortName
 short_found f None told = tt
 short_found f (Some number) told = found_has HasShortName (λ (row : Registration). row.number == number) f.registrations told
 
 -- ## Calls
 
-of_done : (l : Limits) (f : Flat) (caller : ℕ) (asked : Request) (append : Kept) → AllShort f → All HasShortName f.registrations → IsTrue (in_range asked) → verdict l f caller asked append ≡ 0 → Answers asked (done_of l f caller asked).reply
-of_done l f caller (request.QueryConfig handle size) append short told range e = (refl, shown_fits f caller handle size (leb-true size 8192 range) e)
-of_done l f caller (request.QueryConfig2 handle level size) append short told range e = (refl, level_fits f caller handle level size (leb-true size 8192 range) e)
+of_done : (l : Limits) (f : Flat) (caller : ℕ) (asked : Request) (append : Kept) → AllShort f → All HasShortName f.registrations
+    → IsTrue (in_range asked) → verdict l f caller asked append ≡ 0 → Answers asked (done_of l f caller asked).reply
+of_done l f caller (request.QueryConfig handle size) append short told range e =
+    (refl, shown_fits f caller handle size (leb-true size 8192 range) e)
+of_done l f caller (request.QueryConfig2 handle level size) append short told range e =
+    (refl, level_fits f caller handle level size (leb-true size 8192 range) e)
 of_done l f caller (request.QueryLock handle size) append short told range e = (refl, short_owner f f.lock)
-of_done l f caller (request.DisplayName handle name size) append short told range e =
-    (refl, short_display (named f name) (found_has (λ (row : Service). AreShort row.config) (λ (row : Service). same_text row.config.name name) f.services short))
-of_done l f caller (request.KeyName handle name size) append short told range e =
-    (refl, short_name (displayed f name) (found_has (λ (row : Service). AreShort row.config) (λ (row : Service). same_text row.config.display name) f.services short))
+of_done l f caller (request.DisplayName handle name size) append short told range e = (
+  refl,
+  short_display (named f name) (found_has (λ (row : Service). AreShort row.config)
+      (λ (row : Service). same_text row.config.name name) f.services short),
+)
+of_done l f caller (request.KeyName handle name size) append short told range e = (
+  refl,
+  short_name (displayed f name) (found_has (λ (row : Service). AreShort row.config)
+      (λ (row : Service). same_text row.config.display name) f.services short),
+)
 of_done l f caller (request.EnumDependents handle states size) append short told range e =
     (refl, listing_fits size (dependents_by f caller handle states) (dependents_fit f caller handle states size e))
 of_done l f caller (request.EnumServices handle kinds states size resume) append short told range e =
@@ -172,7 +192,9 @@ of_done l f caller (request.GetNotify handle) append short told range e =
     short_notice handle (option_and_then (registration_of f) (notify_of f caller handle)) (short_found f (notify_of f caller handle) told)
 of_done l f caller asked append short told range e = (refl, tt)
 
-pub of_call : (l : Limits) (f : Flat) (caller : ℕ) (asked : Request) (append : Kept) → AllShort f → All HasShortName f.registrations → IsTrue (in_range asked) → Answers asked (call_of l f caller asked append).reply
+pub of_call : (l : Limits) (f : Flat) (caller : ℕ) (asked : Request) (append : Kept) → AllShort f → All HasShortName f.registrations
+    → IsTrue (in_range asked) → Answers asked (call_of l f caller asked append).reply
 of_call l f caller asked append short told range =
-    by_verdict (λ r. Answers asked r.reply) (verdict l f caller asked append) (told_refused f caller asked (verdict l f caller asked append)) f (done_of l f caller asked)
+    by_verdict (λ r. Answers asked r.reply) (verdict l f caller asked append)
+    (told_refused f caller asked (verdict l f caller asked append)) f (done_of l f caller asked)
     (of_done l f caller asked append short told range) (λ e. of_told f caller asked (verdict l f caller asked append))

@@ -13,7 +13,7 @@ use Rattle.scm_model.specs.declared.steps.Kept.{Kept}
 use Rattle.scm_model.specs.declared.steps.Step.{Step}
 use Rattle.scm_model.specs.declared.steps.Step.TheVariants.{Call, EndStart, LaunchTaken, Report, Ended, ControlTaken, Raised}
 use Rattle.scm_model.specs.Changes.{with_moment}
-use Rattle.scm_model.specs.Outcomes.{Done}
+use Rattle.scm_model.specs.Outcomes.{CallResult}
 use Rattle.scm_model.specs.Ranges.{in_range}
 use Rattle.scm_model.specs.Refused.{answered}
 use Rattle.start_plan.specs.Decided.{code_of}
@@ -44,25 +44,30 @@ use Rattle.std.proofs.lemmas.Bool.{and_parts}
 abbrev IsCode : Reply → Type 0
 IsCode told = ◌≡◌ {A = Option ReplyKind} (Some kind.Code) (Some (kind_of told)) × Fits 0 told
 
-start_code : (code : ℕ) (f : Flat) (done : Done) → IsCode done.reply → IsCode (answered code (reply.Code code) f done).reply
-start_code code f done h = elim (code == 0) as (λ b. IsCode (cond {A = Done} b done (record { reply = reply.Code code; flat = f })).reply) [ true ↦ h | false ↦ (refl, tt) ]
+start_code : (code : ℕ) (f : Flat) (done : CallResult) → IsCode done.reply → IsCode (answered code (reply.Code code) f done).reply
+start_code code f done h = elim (code == 0) as (λ b. IsCode (cond {A = CallResult} b done
+    (record { reply = reply.Code code; flat = f })).reply) [ true ↦ h | false ↦ (refl, tt) ]
 
-by_decision : (handle : ℕ) (words : Option (List (List ℕ))) (plan : ℕ) (code : Option ℕ) → RepliesTo (request.Start handle words) (answered_by plan code)
+by_decision : (handle : ℕ) (words : Option (List (List ℕ))) (plan : ℕ) (code : Option ℕ)
+    → RepliesTo (request.Start handle words) (answered_by plan code)
 by_decision handle words plan None = tt
 by_decision handle words plan (Some code) = (refl, tt)
 
-of_start : (handle : ℕ) (words : Option (List (List ℕ))) (f : Flat) (begins : Bool) (plan : ℕ) (told : Reply) → IsCode told → RepliesTo (request.Start handle words) (finished f (call_answer begins plan told)).answer
+of_start : (handle : ℕ) (words : Option (List (List ℕ))) (f : Flat) (begins : Bool) (plan : ℕ) (told : Reply) → IsCode told
+    → RepliesTo (request.Start handle words) (finished f (call_answer begins plan told)).answer
 of_start handle words f true plan told h = by_decision handle words plan (code_of f.plans plan)
 of_start handle words f false plan told h = h
 
 -- ## Steps
 
-answers_call : (l : Limits) (f : Flat) (moment caller : ℕ) (asked : Request) (append : Kept) → AllShort f → All HasShortName f.registrations → IsTrue (in_range asked) → RepliesTo asked (step_of l f moment (Call caller asked append)).answer
+answers_call : (l : Limits) (f : Flat) (moment caller : ℕ) (asked : Request) (append : Kept) → AllShort f → All HasShortName f.registrations
+    → IsTrue (in_range asked) → RepliesTo asked (step_of l f moment (Call caller asked append)).answer
 answers_call l f moment caller (request.Start handle words) append short told range =
     let g = with_moment f moment in
     let code = start_verdict g caller handle words in
     let done = call_of l g caller (request.Start handle words) append in
-    of_start handle words (settled l done.flat) (code == 0) g.next.plan done.reply (start_code code g (start_done g caller handle words) (refl, tt))
+    of_start handle words (settled l done.flat) (code == 0) g.next.plan done.reply
+    (start_code code g (start_done g caller handle words) (refl, tt))
 answers_call l f moment caller asked append short told range = of_call l (with_moment f moment) caller asked append short told range
 
 -- a report and an end have no reply
@@ -87,13 +92,18 @@ control_untold : (g : Flat) (found : Option ℕ) → HasNoReply (finished g (con
 control_untold g None = tt
 control_untold g (Some code) = tt
 
-answers_step : (l : Limits) (f : Flat) (moment : ℕ) (step : Step) → Sound f → IsTrue (may l f moment step) → RepliesRightly step (step_of l f moment step).answer
-answers_step l f moment (Call caller asked append) s ok = answers_call l f moment caller asked append (all_short f s) s.registrations.told (and_parts _ _ (and_parts _ _ ok).0).1
+answers_step : (l : Limits) (f : Flat) (moment : ℕ) (step : Step) → Sound f → IsTrue (may l f moment step)
+    → RepliesRightly step (step_of l f moment step).answer
+answers_step l f moment (Call caller asked append) s ok = answers_call l f moment caller asked append (all_short f s) s.registrations.told
+    (and_parts _ _ (and_parts _ _ ok).0).1
 answers_step l f moment (EndStart caller plan) s ok = λ handle words. (refl, tt)
 answers_step l f moment LaunchTaken s ok = launch_untold (settled l (launch_taken (with_moment f moment)).flat) (first_wanted f.wanted)
-answers_step l f moment (ControlTaken process) s ok = control_untold (settled l (control_taken (with_moment f moment) process).flat) (first_control (controls_of f process))
-answers_step l f moment (Report process status) s ok = report_untold (settled l (reported (with_moment f moment) process status).flat) (current_of f process) status
-answers_step l f moment (Ended process) s ok = end_untold (settled l (process_ended (with_moment f moment) process).flat) (current_of f process)
+answers_step l f moment (ControlTaken process) s ok = control_untold (settled l (control_taken (with_moment f moment) process).flat)
+    (first_control (controls_of f process))
+answers_step l f moment (Report process status) s ok = report_untold (settled l (reported (with_moment f moment) process status).flat)
+    (current_of f process) status
+answers_step l f moment (Ended process) s ok = end_untold (settled l (process_ended (with_moment f moment) process).flat)
+    (current_of f process)
 answers_step l f moment (Raised caller subtype) s ok = (raise_verdict f caller, refl)
 answers_step l f moment step s ok = tt
 

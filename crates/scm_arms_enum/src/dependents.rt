@@ -1,6 +1,8 @@
-ghost use Rattle.std.specs.Prelude.{◌≡◌, ◌++◌, ◌==◌, [], filter, map, IfOk, OnOk, option_copied, option_to_list};
+ghost use Rattle.std.specs.Prelude.{◌≡◌, ◌++◌, ◌==◌, [], filter, map, IfOk, OnOk, option_copied};
+ghost use Rattle.std.specs.Prelude.{option_to_list};
 ghost use Rattle.scm_model.specs.declared.calls.Reply.TheVariants as reply;
-ghost use Rattle.scm_rules.specs.EnumDependents.{enum_dependents_reply, is_in_states, listed_dependents, services_of};
+ghost use Rattle.scm_rules.specs.EnumDependents.{enum_dependents_reply, is_in_states};
+ghost use Rattle.scm_rules.specs.EnumDependents.{listed_dependents, services_of};
 
 use super::replying::listing_reply;
 use super::stating::{are_states, is_in_states, push};
@@ -19,7 +21,8 @@ fn push_listed<'a>(
     row: Option<&'a Service>,
     states: u32,
 ) -> Result<(), OutOfMemory>
-    ensures { OnOk result (map (λ s. s.now) rows.new.items ≡ map (λ s. s.now) rows.old.items ++ filter (is_in_states states) (option_to_list (option_copied row.entry))) }
+    ensures { OnOk result (map (λ s. s.now) rows.new.items ≡ map (λ s. s.now) rows.old.items
+        ++ filter (is_in_states states) (option_to_list (option_copied row.entry))) }
 {
     match row {
         Some(row) => {
@@ -40,7 +43,8 @@ fn listed_in<'a>(
     states: u32,
     alloc: Global,
 ) -> Result<Vec<&'a Service>, OutOfMemory>
-    ensures { IfOk result (λ rows. map (λ s. s.now) rows.items ≡ filter (is_in_states states) (services_of tables.now.flat numbers.now)) }
+    ensures { IfOk result (λ rows. map (λ s. s.now) rows.items ≡ filter (is_in_states states)
+        (services_of tables.now.flat numbers.now)) }
 {
     let mut rows = Vec::new(alloc);
     for number in numbers {
@@ -56,7 +60,8 @@ fn listed_dependents(
     states: u32,
     alloc: Global,
 ) -> Result<Vec<&Service>, OutOfMemory>
-    ensures { IfOk result (λ rows. map (λ s. s.now) rows.items ≡ listed_dependents tables.now.flat target states) }
+    ensures { IfOk result (λ rows. map (λ s. s.now) rows.items ≡ listed_dependents tables.now.flat
+        target states) }
 {
     let order = tables.stop_order(target, alloc)?;
     listed_in(tables, order.as_slice(), states, alloc)
@@ -75,8 +80,8 @@ fn refused(size: u32, code: u32, alloc: Global) -> Reply
     }
 }
 
-/// What `REnumDependentServicesW` is answered: the dependents of a service in the order in which they are stopped, all of them or
-/// none.
+/// What `REnumDependentServicesW` is answered: the dependents of a service in the order in which
+/// they are stopped, all of them or none.
 pub fn enum_dependents(
     tables: &Tables,
     caller: u64,
@@ -85,7 +90,8 @@ pub fn enum_dependents(
     size: u32,
     alloc: Global,
 ) -> Result<Reply, OutOfMemory>
-    ensures { IfOk result (λ reply. reply ≡ enum_dependents_reply tables.now.flat caller handle states size) }
+    ensures { IfOk result (λ reply. reply ≡ enum_dependents_reply tables.now.flat caller handle
+        states size) }
 {
     let Some(opened) = tables.opened(caller, handle) else {
         return Ok(refused(size, ERROR_INVALID_HANDLE, alloc));

@@ -1,4 +1,5 @@
-ghost use Rattle.std.specs.Prelude.{◌≡◌, ◌^◌, ◌-◌, [], length, min, nat_lt, IfOk, option_copied, if◌then◌else◌};
+ghost use Rattle.std.specs.Prelude.{◌≡◌, ◌^◌, ◌-◌, [], length, min, nat_lt, IfOk, option_copied};
+ghost use Rattle.std.specs.Prelude.{if◌then◌else◌};
 ghost use Rattle.scm_model.specs.declared.calls.Reply.TheVariants as reply;
 ghost use Rattle.scm_model.specs.declared.codes.TheConstants.{ERROR_INSUFFICIENT_BUFFER};
 ghost use Rattle.scm_rules.specs.QueryConfig2.{level_in, query_config2_reply};
@@ -29,7 +30,9 @@ fn level_in(number: u32, service: Option<&Service>, alloc: Global) -> Result<Ite
 
 /// A level's bytes where there is room for them, or how many they are.
 fn told(size: u32, bytes: Items<u8>, alloc: Global) -> Reply
-    ensures { result ≡ (if nat_lt size (min (2 ^ 32 - 1) (length bytes)) then reply.Bytes size [] (min (2 ^ 32 - 1) (length bytes)) ERROR_INSUFFICIENT_BUFFER else reply.Bytes size bytes 0 0) }
+    ensures { result ≡ (if nat_lt size (min (2 ^ 32 - 1) (length bytes))
+        then reply.Bytes size [] (min (2 ^ 32 - 1) (length bytes)) ERROR_INSUFFICIENT_BUFFER
+        else reply.Bytes size bytes 0 0) }
 {
     let needed = (bytes.len() as u64).min(0xFFFF_FFFF) as u32;
     if size < needed {
@@ -52,7 +55,8 @@ pub fn query_config2(
     size: u32,
     alloc: Global,
 ) -> Result<Reply, OutOfMemory>
-    ensures { IfOk result (λ reply. reply ≡ query_config2_reply tables.now.flat caller handle level size) }
+    ensures { IfOk result (λ reply. reply ≡ query_config2_reply tables.now.flat caller handle level
+        size) }
 {
     let Some(opened) = tables.opened(caller, handle) else {
         return Ok(refused(size, 0, ERROR_INVALID_HANDLE, alloc));

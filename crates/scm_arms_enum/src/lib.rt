@@ -1,5 +1,5 @@
-//! Enumerations of the service manager's services, and of one the status with its process and the levels of its configuration. They
-//! only read, and each makes its whole reply.
+//! Enumerations of the service manager's services, and of one the status with its process and the
+//! levels of its configuration. They only read, and each makes its whole reply.
 #![tactic(auto)]
 
 mod dependents;

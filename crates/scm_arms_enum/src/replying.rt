@@ -69,7 +69,8 @@ fn page_told(
     alloc: Global,
 ) -> Result<Reply, OutOfMemory>
     requires { listing_size (map (λ s. s.now) page.now) < 2 ^ 32 }
-    ensures { IfOk result (λ reply. reply ≡ page_told size resume (map (λ s. s.now) page.now) (map (λ s. s.now) left.now)) }
+    ensures { IfOk result (λ reply. reply ≡ page_told size resume (map (λ s. s.now) page.now)
+        (map (λ s. s.now) left.now)) }
 {
     Ok(Reply::Page {
         size,

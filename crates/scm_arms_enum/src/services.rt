@@ -31,7 +31,8 @@ fn services_behind<'a>(
     behind: u32,
     alloc: Global,
 ) -> Result<Vec<&'a Service>, OutOfMemory>
-    ensures { IfOk result (λ rows. map (λ s. s.now) rows.items ≡ filter (is_asked kinds states behind) services.entry) }
+    ensures { IfOk result (λ rows. map (λ s. s.now) rows.items ≡ filter
+        (is_asked kinds states behind) services.entry) }
 {
     let mut rows = Vec::new(alloc);
     for row in services {
@@ -67,7 +68,8 @@ pub fn enum_services(
     resume: Option<u32>,
     alloc: Global,
 ) -> Result<Reply, OutOfMemory>
-    ensures { IfOk result (λ reply. reply ≡ enum_services_reply tables.now.flat caller handle kinds states size resume) }
+    ensures { IfOk result (λ reply. reply ≡ enum_services_reply tables.now.flat caller handle kinds
+        states size resume) }
 {
     let Some(granted) = tables.manager_mask(caller, handle) else {
         return Ok(refused(size, resume, ERROR_INVALID_HANDLE, alloc));

@@ -26,7 +26,8 @@ pub fn is_in_states(states: u32, service: &Service) -> bool
 
 /// Appends a service.
 pub fn push<'a>(rows: &mut Vec<&'a Service>, row: &'a Service) -> Result<(), OutOfMemory>
-    ensures { OnOk result (map (λ s. s.now) rows.new.items ≡ map (λ s. s.now) rows.old.items ++ row.now ∷ []) }
+    ensures { OnOk result (map (λ s. s.now) rows.new.items ≡ map (λ s. s.now) rows.old.items
+        ++ row.now ∷ []) }
 {
     match rows.push(row) {
         Ok(()) => Ok(()),

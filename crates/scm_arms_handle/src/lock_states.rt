@@ -1,6 +1,8 @@
-ghost use Rattle.std.specs.Prelude.{◌≡◌, ◌<◌, ◌^◌, ◌==◌, Some, codes, length, option_and_then, IfOk, if◌then◌else◌};
+ghost use Rattle.std.specs.Prelude.{◌≡◌, ◌<◌, ◌^◌, ◌==◌, Some, codes, length, option_and_then, IfOk};
+ghost use Rattle.std.specs.Prelude.{if◌then◌else◌};
 ghost use Rattle.scm_model.specs.Rows.{caller_of, owner_at, principal_in};
-ghost use Rattle.scm_rules.specs.Locks.{is_held, lock_owner, lock_size, principal_name, query_lock_reply, query_lock_verdict, seconds_at};
+ghost use Rattle.scm_rules.specs.Locks.{is_held, lock_owner, lock_size, principal_name};
+ghost use Rattle.scm_rules.specs.Locks.{query_lock_reply, query_lock_verdict, seconds_at};
 
 use scm_model::codes::{ERROR_ACCESS_DENIED, ERROR_INSUFFICIENT_BUFFER, ERROR_INVALID_HANDLE};
 use scm_model::{LockRow, Principal, Reply};
@@ -37,7 +39,8 @@ fn name_of(principal: Principal, alloc: Global) -> Result<WText, OutOfMemory>
 
 /// Who the caller is whose handle holds the lock. Nobody has a user's rights.
 fn holder(tables: &Tables, held: LockRow) -> Principal
-    ensures { result ≡ principal_in (option_and_then (caller_of tables.now.flat) (owner_at tables.now.flat.handles held)) }
+    ensures { result ≡ principal_in (option_and_then (caller_of tables.now.flat)
+        (owner_at tables.now.flat.handles held)) }
 {
     match tables.owner_at(held) {
         Some(caller) => tables.principal_of(caller),
@@ -55,7 +58,8 @@ pub fn lock_owner(tables: &Tables, alloc: Global) -> Result<WText, OutOfMemory>
     }
 }
 
-/// How many bytes the owner takes with the numbers before it. No owner is longer than this is told of.
+/// How many bytes the owner takes with the numbers before it. No owner is longer than this is told
+/// of.
 fn lock_size(owner: &WText) -> u32
     requires { length owner.now < 2 ^ 16 }
     ensures { result ≡ lock_size owner.now }
@@ -82,7 +86,8 @@ fn seconds_at(moment: u64, lock: Option<LockRow>) -> u32
     }
 }
 
-/// What `RQueryServiceLockStatusW` is refused with, or 0: `ERROR_INVALID_HANDLE` (6), `ERROR_ACCESS_DENIED` (5) or
+/// What `RQueryServiceLockStatusW` is refused with, or 0: `ERROR_INVALID_HANDLE` (6),
+/// `ERROR_ACCESS_DENIED` (5) or
 /// `ERROR_INSUFFICIENT_BUFFER` (122), where so many bytes are needed.
 fn query_lock_verdict(tables: &Tables, caller: u64, handle: u64, size: u32, needed: u32) -> u32
     requires { needed ≡ lock_size (lock_owner tables.now.flat) }

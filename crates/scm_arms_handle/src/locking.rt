@@ -1,7 +1,8 @@
 ghost use Rattle.std.specs.Prelude.{◌≡◌, ◌≤◌, ◌<◌, ◌^◌};
 ghost use Rattle.scm_model.specs.Refused.{outcome};
 ghost use Rattle.scm_model.specs.declared.calls.Request.TheVariants as request;
-ghost use Rattle.scm_rules.specs.Locks.{lock_done, lock_verdict, locks, unlock_done, unlock_verdict, lock_outcome, unlock_outcome};
+ghost use Rattle.scm_rules.specs.Locks.{lock_done, lock_verdict, locks, unlock_done, unlock_verdict};
+ghost use Rattle.scm_rules.specs.Locks.{lock_outcome, unlock_outcome};
 
 use scm_model::codes::{
     ERROR_ACCESS_DENIED, ERROR_INVALID_HANDLE, ERROR_NOT_ENOUGH_QUOTA,
@@ -10,7 +11,8 @@ use scm_model::codes::{
 use scm_model::{HandleKind, HandleRow, Limits, Reply};
 use scm_tables::{Tables, mask_lacks};
 
-/// What `RLockServiceDatabase` is refused with, or 0: `ERROR_INVALID_HANDLE` (6), `ERROR_ACCESS_DENIED` (5),
+/// What `RLockServiceDatabase` is refused with, or 0: `ERROR_INVALID_HANDLE` (6),
+/// `ERROR_ACCESS_DENIED` (5),
 /// `ERROR_SERVICE_DATABASE_LOCKED` (1055) or `ERROR_NOT_ENOUGH_QUOTA` (1816).
 pub fn lock_verdict(tables: &Tables, limits: &Limits, caller: u64, handle: u64) -> u32
     ensures { result ≡ lock_verdict limits.now tables.now.flat caller handle }

@@ -1,7 +1,8 @@
 ghost use Rattle.std.specs.Prelude.{◌≡◌, ◌≤◌, ◌<◌, ◌^◌};
 ghost use Rattle.scm_model.specs.Refused.{outcome};
 ghost use Rattle.scm_model.specs.declared.calls.Request.TheVariants as request;
-ghost use Rattle.scm_rules.specs.OpenManager.{manager_granted, open_manager_done, open_manager_verdict, open_manager_outcome};
+ghost use Rattle.scm_rules.specs.OpenManager.{manager_granted, open_manager_done};
+ghost use Rattle.scm_rules.specs.OpenManager.{open_manager_verdict, open_manager_outcome};
 
 use super::databases::{names_active, names_failed};
 use access_mask::granted;
@@ -19,7 +20,8 @@ fn manager_granted(tables: &Tables, caller: u64, access: u32) -> Option<u32>
     granted(tables.principal_of(caller), true, access)
 }
 
-/// What `ROpenSCManagerW` is refused with, or 0: `ERROR_INVALID_NAME` (123), `ERROR_DATABASE_DOES_NOT_EXIST` (1065),
+/// What `ROpenSCManagerW` is refused with, or 0: `ERROR_INVALID_NAME` (123),
+/// `ERROR_DATABASE_DOES_NOT_EXIST` (1065),
 /// `ERROR_ACCESS_DENIED` (5) or `ERROR_NOT_ENOUGH_QUOTA` (1816).
 pub fn open_manager_verdict(
     tables: &Tables,
@@ -55,8 +57,10 @@ pub fn open_manager(
 ) -> Reply
     requires room { 1 ≤ tables.old.spare.handles }
     requires next { tables.old.flat.next.handle < 2 ^ 63 }
-    ensures reply { result ≡ (open_manager_outcome limits.now tables.old.flat caller database.now access).reply }
-    ensures flat { tables.new.flat ≡ (open_manager_outcome limits.now tables.old.flat caller database.now access).flat }
+    ensures reply { result ≡ (open_manager_outcome limits.now tables.old.flat caller database.now
+        access).reply }
+    ensures flat { tables.new.flat ≡ (open_manager_outcome limits.now tables.old.flat caller
+        database.now access).flat }
     ensures limits { tables.new.limits ≡ tables.old.limits }
 {
     let code = open_manager_verdict(tables, limits, caller, database, access);

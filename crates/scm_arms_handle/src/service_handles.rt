@@ -1,7 +1,8 @@
 ghost use Rattle.std.specs.Prelude.{◌≡◌, ◌≤◌, ◌<◌, ◌^◌};
 ghost use Rattle.scm_model.specs.Refused.{outcome};
 ghost use Rattle.scm_model.specs.declared.calls.Request.TheVariants as request;
-ghost use Rattle.scm_rules.specs.OpenService.{open_service_done, open_service_verdict, service_granted, open_service_outcome};
+ghost use Rattle.scm_rules.specs.OpenService.{open_service_done, open_service_verdict};
+ghost use Rattle.scm_rules.specs.OpenService.{service_granted, open_service_outcome};
 
 use access_mask::granted;
 use scm_model::codes::{
@@ -20,8 +21,10 @@ fn service_granted(tables: &Tables, caller: u64, access: u32) -> Option<u32>
     granted(tables.principal_of(caller), false, access)
 }
 
-/// What `ROpenServiceW` is refused with, or 0: `ERROR_INVALID_HANDLE` (6), `ERROR_INVALID_NAME` (123),
-/// `ERROR_SERVICE_DOES_NOT_EXIST` (1060), `ERROR_ACCESS_DENIED` (5) or `ERROR_NOT_ENOUGH_QUOTA` (1816).
+/// What `ROpenServiceW` is refused with, or 0: `ERROR_INVALID_HANDLE` (6), `ERROR_INVALID_NAME`
+/// (123),
+/// `ERROR_SERVICE_DOES_NOT_EXIST` (1060), `ERROR_ACCESS_DENIED` (5) or `ERROR_NOT_ENOUGH_QUOTA`
+/// (1816).
 pub fn open_service_verdict(
     tables: &Tables,
     limits: &Limits,
@@ -61,8 +64,10 @@ pub fn open_service(
 ) -> Reply
     requires room { 1 ≤ tables.old.spare.handles }
     requires next { tables.old.flat.next.handle < 2 ^ 63 }
-    ensures reply { result ≡ (open_service_outcome limits.now tables.old.flat caller handle name.now access).reply }
-    ensures flat { tables.new.flat ≡ (open_service_outcome limits.now tables.old.flat caller handle name.now access).flat }
+    ensures reply { result ≡ (open_service_outcome limits.now tables.old.flat caller handle name.now
+        access).reply }
+    ensures flat { tables.new.flat ≡ (open_service_outcome limits.now tables.old.flat caller handle
+        name.now access).flat }
     ensures limits { tables.new.limits ≡ tables.old.limits }
 {
     let code = open_service_verdict(tables, limits, caller, handle, name, access);

@@ -2,7 +2,8 @@ ghost use Rattle.std.specs.Prelude.{◌≡◌, ◌≤◌, ◌<◌, ◌^◌, ◌|
 ghost use Rattle.scm_model.specs.Notices.{registered_by};
 ghost use Rattle.scm_model.specs.Rows.{held_by};
 ghost use Rattle.scm_rules.specs.Delete.{is_marked};
-ghost use Rattle.scm_rules.specs.Notify.{is_bad_mask, notify_done, notify_outcome, notify_verdict, watched};
+ghost use Rattle.scm_rules.specs.Notify.{is_bad_mask, notify_done, notify_outcome, notify_verdict};
+ghost use Rattle.scm_rules.specs.Notify.{watched};
 
 use scm_model::codes::{
     ERROR_ACCESS_DENIED, ERROR_INVALID_HANDLE, ERROR_INVALID_PARAMETER, ERROR_NOT_ENOUGH_QUOTA,
@@ -55,14 +56,17 @@ fn is_marked(service: Option<&Service>) -> bool
 
 /// Whether the caller has as many registrations or handles as it may have.
 fn is_full(tables: &Tables, limits: &Limits, caller: u64) -> bool
-    ensures { result ≡ nat_le limits.now.registrations (registered_by tables.now.flat caller) || nat_le limits.now.handles (held_by tables.now.flat caller) }
+    ensures { result ≡ nat_le limits.now.registrations (registered_by tables.now.flat caller)
+        || nat_le limits.now.handles (held_by tables.now.flat caller) }
 {
     limits.registrations as usize <= tables.registered_by(caller)
         || limits.handles as usize <= tables.handles_of(caller)
 }
 
-/// What `RNotifyServiceStatusChange` is refused with, or 0: `ERROR_INVALID_HANDLE` (6), `ERROR_ACCESS_DENIED` (5),
-/// `ERROR_INVALID_PARAMETER` (87), `ERROR_SERVICE_MARKED_FOR_DELETE` (1072) or `ERROR_NOT_ENOUGH_QUOTA` (1816).
+/// What `RNotifyServiceStatusChange` is refused with, or 0: `ERROR_INVALID_HANDLE` (6),
+/// `ERROR_ACCESS_DENIED` (5),
+/// `ERROR_INVALID_PARAMETER` (87), `ERROR_SERVICE_MARKED_FOR_DELETE` (1072) or
+/// `ERROR_NOT_ENOUGH_QUOTA` (1816).
 pub fn notify_verdict(tables: &Tables, limits: &Limits, caller: u64, handle: u64, mask: u32) -> u32
     ensures { result ≡ notify_verdict limits.now tables.now.flat caller handle mask }
 {
@@ -84,14 +88,16 @@ pub fn notify_verdict(tables: &Tables, limits: &Limits, caller: u64, handle: u64
     0
 }
 
-/// Registers a caller for events of what its handle is of, with a handle of the registration. It takes no memory.
+/// Registers a caller for events of what its handle is of, with a handle of the registration. It
+/// takes no memory.
 pub fn notify(tables: &mut Tables, limits: &Limits, caller: u64, handle: u64, mask: u32) -> Reply
     requires registrations { 1 ≤ tables.old.spare.registrations }
     requires handles { 1 ≤ tables.old.spare.handles }
     requires next_registration { tables.old.flat.next.registration < 2 ^ 63 }
     requires next_handle { tables.old.flat.next.handle < 2 ^ 63 }
     ensures reply { result ≡ (notify_outcome limits.now tables.old.flat caller handle mask).reply }
-    ensures flat { tables.new.flat ≡ (notify_outcome limits.now tables.old.flat caller handle mask).flat }
+    ensures flat { tables.new.flat ≡ (notify_outcome limits.now tables.old.flat caller handle
+        mask).flat }
     ensures limits { tables.new.limits ≡ tables.old.limits }
 {
     let code = notify_verdict(tables, limits, caller, handle, mask);

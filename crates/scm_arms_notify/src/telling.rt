@@ -1,6 +1,6 @@
 ghost use Rattle.std.specs.Prelude.{◌≡◌};
 ghost use Rattle.scm_arms_notify.specs.Told.{notice_told};
-ghost use Rattle.scm_rules.specs.Notify.{close_notify_outcome, get_notify_outcome, notice_verdict, notify_of};
+ghost use Rattle.scm_rules.specs.Notify.{close_notify_outcome, get_notify_outcome, notify_of};
 
 use notify_queue::Notice;
 use scm_model::codes::ERROR_INVALID_HANDLE;
@@ -17,16 +17,6 @@ fn notify_of(tables: &Tables, caller: u64, handle: u64) -> Option<u64>
             HandleKind::Manager | HandleKind::Service(_) | HandleKind::Lock => None,
         },
         None => None,
-    }
-}
-
-/// What a call on a registration is refused with, or 0: `ERROR_INVALID_HANDLE` (6).
-pub fn notice_verdict(tables: &Tables, caller: u64, handle: u64) -> u32
-    ensures { result ≡ notice_verdict tables.now.flat caller handle }
-{
-    match notify_of(tables, caller, handle) {
-        Some(_) => 0,
-        None => ERROR_INVALID_HANDLE,
     }
 }
 

@@ -1,6 +1,8 @@
 ghost use Rattle.std.specs.Prelude.{◌≡◌, ◌≤◌, option_copied};
 ghost use Rattle.scm_model.specs.Refused.{answered};
-ghost use Rattle.scm_rules.specs.Controls.{control_done, control_taken, control_told, control_verdict, granted_in, status_told, tells_status, waiting_for};
+ghost use Rattle.scm_rules.specs.Controls.{control_done, control_taken, control_told};
+ghost use Rattle.scm_rules.specs.Controls.{control_verdict, granted_in, status_told, tells_status};
+ghost use Rattle.scm_rules.specs.Controls.{waiting_for};
 
 use control_dispatch::judge;
 use scm_model::codes::{
@@ -29,8 +31,10 @@ pub fn waiting_for(tables: &Tables, service: Option<&Service>) -> u32
     }
 }
 
-/// What `RControlService` is refused with, or 0: `ERROR_INVALID_HANDLE` (6), `ERROR_INVALID_PARAMETER` (87), `ERROR_ACCESS_DENIED` (5),
-/// `ERROR_SERVICE_NOT_ACTIVE` (1062), `ERROR_SERVICE_CANNOT_ACCEPT_CTRL` (1061), `ERROR_INVALID_SERVICE_CONTROL` (1052) or
+/// What `RControlService` is refused with, or 0: `ERROR_INVALID_HANDLE` (6),
+/// `ERROR_INVALID_PARAMETER` (87), `ERROR_ACCESS_DENIED` (5),
+/// `ERROR_SERVICE_NOT_ACTIVE` (1062), `ERROR_SERVICE_CANNOT_ACCEPT_CTRL` (1061),
+/// `ERROR_INVALID_SERVICE_CONTROL` (1052) or
 /// `ERROR_DEPENDENT_SERVICES_RUNNING` (1051).
 pub fn control_verdict(tables: &Tables, caller: u64, handle: u64, control: u32) -> u32
     ensures { result ≡ control_verdict tables.now.limits tables.now.flat caller handle control }
@@ -69,8 +73,14 @@ fn status_told(code: u32, service: Option<&Service>) -> Status
 /// A control more waits for a service's process; its status is told. It takes no memory.
 pub fn control(tables: &mut Tables, caller: u64, handle: u64, control: u32) -> Reply
     requires { tables.old.limits.controls ≤ 16 }
-    ensures reply { result ≡ (answered (control_verdict tables.old.limits tables.old.flat caller handle control) (control_told tables.old.flat caller handle (control_verdict tables.old.limits tables.old.flat caller handle control)) tables.old.flat (control_done tables.old.limits tables.old.flat caller handle control)).reply }
-    ensures flat { tables.new.flat ≡ (answered (control_verdict tables.old.limits tables.old.flat caller handle control) (control_told tables.old.flat caller handle (control_verdict tables.old.limits tables.old.flat caller handle control)) tables.old.flat (control_done tables.old.limits tables.old.flat caller handle control)).flat }
+    ensures reply { result ≡ (answered (control_verdict tables.old.limits tables.old.flat caller
+        handle control) (control_told tables.old.flat caller handle
+        (control_verdict tables.old.limits tables.old.flat caller handle control)) tables.old.flat
+        (control_done tables.old.limits tables.old.flat caller handle control)).reply }
+    ensures flat { tables.new.flat ≡ (answered (control_verdict tables.old.limits tables.old.flat
+        caller handle control) (control_told tables.old.flat caller handle
+        (control_verdict tables.old.limits tables.old.flat caller handle control)) tables.old.flat
+        (control_done tables.old.limits tables.old.flat caller handle control)).flat }
     ensures limits { tables.new.limits ≡ tables.old.limits }
 {
     let code = control_verdict(tables, caller, handle, control);

@@ -1,5 +1,5 @@
-//! The service manager's processes: what they report, their ends, the controls that wait for them, and the triggers that start and stop
-//! them.
+//! The service manager's processes: what they report, their ends, the controls that wait for them,
+//! and the triggers that start and stop them.
 #![tactic(auto)]
 
 mod controlling;

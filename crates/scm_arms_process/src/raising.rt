@@ -5,7 +5,8 @@ ghost use Rattle.scm_model.specs.declared.steps.Answer.TheVariants as answer;
 ghost use Rattle.scm_rules.specs.Raise.{all_triggered, gets_stop, raise_verdict, raised, with_stop};
 ghost use Rattle.scm_rules.specs.Room.{is_started_at};
 ghost use Rattle.scm_tables.specs.Firing.{HasPlanNumbers, HasStarts};
-ghost use Rattle.scm_arms_process.specs.Raised.{acted, action_in, raise_starts, started_among, started_at, starts_by, stopped_by, triggered_if};
+ghost use Rattle.scm_arms_process.specs.Raised.{acted, action_in, raise_starts, started_among};
+ghost use Rattle.scm_arms_process.specs.Raised.{started_at, starts_by, stopped_by, triggered_if};
 
 use super::controlling::waiting_for;
 use control_dispatch::judge;
@@ -73,7 +74,8 @@ fn gets_stop(tables: &Tables, row: &Service) -> bool
 
 /// The process of a service that is there and gets a STOP.
 fn stopped_by(tables: &Tables, service: Option<&Service>) -> Option<u64>
-    ensures { result ≡ option_and_then (stopped_by tables.now.limits tables.now.flat) (option_copied service.entry) }
+    ensures { result ≡ option_and_then (stopped_by tables.now.limits tables.now.flat)
+        (option_copied service.entry) }
 {
     match service {
         Some(row) => {
@@ -91,7 +93,8 @@ fn stopped_by(tables: &Tables, service: Option<&Service>) -> Option<u64>
 /// A STOP waits for the process of the service at a place, where it gets one.
 fn stop_at(tables: &mut Tables, place: usize)
     requires { tables.old.limits.controls ≤ 16 }
-    ensures flat { tables.new.flat ≡ if_found (with_stop tables.old.limits) (slice_get tables.old.flat.services place) tables.old.flat }
+    ensures flat { tables.new.flat ≡ if_found (with_stop tables.old.limits)
+        (slice_get tables.old.flat.services place) tables.old.flat }
     ensures limits { tables.new.limits ≡ tables.old.limits }
     ensures spare { tables.new.spare ≡ tables.old.spare }
 {
@@ -117,9 +120,11 @@ fn act_at(tables: &mut Tables, place: usize, action: u32)
     requires room { HasStarts (starts_by action) tables.old }
     requires numbers { HasPlanNumbers (starts_by action) tables.old.flat }
     requires controls { tables.old.limits.controls ≤ 16 }
-    ensures flat { tables.new.flat ≡ if_found (acted tables.old.limits action) (slice_get tables.old.flat.services place) tables.old.flat }
+    ensures flat { tables.new.flat ≡ if_found (acted tables.old.limits action)
+        (slice_get tables.old.flat.services place) tables.old.flat }
     ensures limits { tables.new.limits ≡ tables.old.limits }
-    ensures left { (count : ℕ) → HasStarts (starts_by action + count) tables.old → HasStarts count tables.new }
+    ensures left { (count : ℕ) → HasStarts (starts_by action + count) tables.old
+        → HasStarts count tables.new }
 {
     if action == SERVICE_TRIGGER_ACTION_SERVICE_START {
         tables.restart_at(place);
@@ -131,11 +136,14 @@ fn act_at(tables: &mut Tables, place: usize, action: u32)
 /// The service at a place starts or gets a STOP, where it has a trigger.
 fn trigger_at(tables: &mut Tables, place: usize, subtype: &[u8; 16])
     requires room { HasStarts (started_at subtype.now tables.old.flat.services place) tables.old }
-    requires numbers { HasPlanNumbers (started_at subtype.now tables.old.flat.services place) tables.old.flat }
+    requires numbers { HasPlanNumbers (started_at subtype.now tables.old.flat.services place)
+        tables.old.flat }
     requires controls { tables.old.limits.controls ≤ 16 }
-    ensures flat { tables.new.flat ≡ if_found (triggered_if tables.old.limits subtype.now) (slice_get tables.old.flat.services place) tables.old.flat }
+    ensures flat { tables.new.flat ≡ if_found (triggered_if tables.old.limits subtype.now)
+        (slice_get tables.old.flat.services place) tables.old.flat }
     ensures limits { tables.new.limits ≡ tables.old.limits }
-    ensures left { (count : ℕ) → HasStarts (started_at subtype.now tables.old.flat.services place + count) tables.old → HasStarts count tables.new }
+    ensures left { (count : ℕ) → HasStarts (started_at subtype.now tables.old.flat.services place
+        + count) tables.old → HasStarts count tables.new }
 {
     match action_of(tables.row_at(place), subtype) {
         Some(action) => act_at(tables, place, action),
@@ -147,9 +155,11 @@ fn trigger_at(tables: &mut Tables, place: usize, subtype: &[u8; 16])
 /// Each service that has a trigger starts or gets a STOP, in order.
 fn trigger_all(tables: &mut Tables, subtype: &[u8; 16])
     requires room { HasStarts (started_among subtype.now tables.old.flat.services) tables.old }
-    requires numbers { HasPlanNumbers (started_among subtype.now tables.old.flat.services) tables.old.flat }
+    requires numbers { HasPlanNumbers (started_among subtype.now tables.old.flat.services)
+        tables.old.flat }
     requires controls { tables.old.limits.controls ≤ 16 }
-    ensures flat { tables.new.flat ≡ all_triggered tables.old.limits subtype.now tables.old.flat.services tables.old.flat }
+    ensures flat { tables.new.flat ≡ all_triggered tables.old.limits subtype.now
+        tables.old.flat.services tables.old.flat }
     ensures limits { tables.new.limits ≡ tables.old.limits }
 {
     for place in 0..tables.services() {
@@ -160,7 +170,8 @@ fn trigger_all(tables: &mut Tables, subtype: &[u8; 16])
 /// A trigger is raised: each service that has it starts, or gets a STOP. It takes no memory.
 pub fn raise(tables: &mut Tables, caller: u64, subtype: &[u8; 16]) -> Answer
     requires room { HasStarts (raise_starts tables.old.flat caller subtype.now) tables.old }
-    requires numbers { HasPlanNumbers (raise_starts tables.old.flat caller subtype.now) tables.old.flat }
+    requires numbers { HasPlanNumbers (raise_starts tables.old.flat caller subtype.now)
+        tables.old.flat }
     requires controls { tables.old.limits.controls ≤ 16 }
     ensures answer { result ≡ answer.Reply (reply.Code (raise_verdict tables.old.flat caller)) }
     ensures flat { tables.new.flat ≡ raised tables.old.limits tables.old.flat caller subtype.now }

@@ -1,7 +1,8 @@
 ghost use Rattle.std.specs.Prelude.{◌≡◌, ◌<◌, ◌^◌, ◌&&◌, option_copied};
 ghost use Rattle.scm_model.specs.declared.calls.Request.TheVariants as request;
 ghost use Rattle.scm_model.specs.Refused.{outcome};
-ghost use Rattle.scm_rules.specs.Reports.{may_report, report_answer, report_told, reported, set_status_done, set_status_verdict, set_status_outcome};
+ghost use Rattle.scm_rules.specs.Reports.{may_report, report_answer, report_told, reported};
+ghost use Rattle.scm_rules.specs.Reports.{set_status_done, set_status_verdict, set_status_outcome};
 ghost use Rattle.scm_rules.specs.Ends.{end_told, process_ended};
 ghost use Rattle.status_machine.specs.Moves.{takes};
 
@@ -32,8 +33,8 @@ fn report_told(service: Option<&Service>, report: &Status) -> Answer
     }
 }
 
-/// The service whose current process this is takes its report, if it is one that it may make. It is a failure where the service stops with
-/// an error. It takes no memory.
+/// The service whose current process this is takes its report, if it is one that it may make. It is
+/// a failure where the service stops with an error. It takes no memory.
 pub fn report(tables: &mut Tables, process: u64, report: &Status) -> Answer
     requires { tables.old.flat.next.due < 2 ^ 63 }
     ensures answer { result ≡ (reported tables.old.flat process report.now).answer }
@@ -55,7 +56,8 @@ fn end_told(service: Option<&Service>) -> Answer
     }
 }
 
-/// A process leaves, and the service falls whose current one it is, which is a failure. It takes no memory.
+/// A process leaves, and the service falls whose current one it is, which is a failure. It takes no
+/// memory.
 pub fn end(tables: &mut Tables, process: u64) -> Answer
     requires { tables.old.flat.next.due < 2 ^ 63 }
     ensures answer { result ≡ (process_ended tables.old.flat process).answer }
@@ -63,7 +65,7 @@ pub fn end(tables: &mut Tables, process: u64) -> Answer
     ensures limits { tables.new.limits ≡ tables.old.limits }
 {
     let answer = end_told(tables.current(process));
-    tables.abort(process);
+    tables.process_exited(process);
     tables.remove_process(process);
     answer
 }
@@ -85,8 +87,9 @@ fn may_report(tables: &Tables, service: Option<&Service>, report: &Status) -> bo
     }
 }
 
-/// What `RSetServiceStatus` is refused with, or 0: `ERROR_INVALID_HANDLE` (6), `ERROR_ACCESS_DENIED` (5) or `ERROR_INVALID_DATA` (13),
-/// which is also for a service none of whose processes runs.
+/// What `RSetServiceStatus` is refused with, or 0: `ERROR_INVALID_HANDLE` (6),
+/// `ERROR_ACCESS_DENIED` (5) or `ERROR_INVALID_DATA` (13), which is also for a service none of
+/// whose processes runs.
 pub fn set_status_verdict(tables: &Tables, caller: u64, handle: u64, report: &Status) -> u32
     ensures { result ≡ set_status_verdict tables.now.flat caller handle report.now }
 {
@@ -106,7 +109,8 @@ pub fn set_status_verdict(tables: &Tables, caller: u64, handle: u64, report: &St
 pub fn set_status(tables: &mut Tables, caller: u64, handle: u64, report: &Status) -> Reply
     requires { tables.old.flat.next.due < 2 ^ 63 }
     ensures reply { result ≡ (set_status_outcome tables.old.flat caller handle report.now).reply }
-    ensures flat { tables.new.flat ≡ (set_status_outcome tables.old.flat caller handle report.now).flat }
+    ensures flat { tables.new.flat ≡ (set_status_outcome tables.old.flat caller handle
+        report.now).flat }
     ensures limits { tables.new.limits ≡ tables.old.limits }
 {
     let code = set_status_verdict(tables, caller, handle, report);

@@ -17,7 +17,11 @@ reset_or old asked (Some []) = 0
 reset_or old asked (Some (action ∷ actions)) = asked
 
 abbrev pub failing_of : Config → ℕ → Option (List ℕ) → Option (List Action) → Failing
-failing_of old reset command actions = record { reset = reset_or old.reset reset actions; command = unwrap_or command old.command; actions = unwrap_or actions old.actions }
+failing_of old reset command actions = record {
+  reset = reset_or old.reset reset actions;
+  command = unwrap_or command old.command;
+  actions = unwrap_or actions old.actions;
+}
 
 abbrev pub with_failing : Config → Failing → Config
 with_failing old failing = record old { reset = failing.reset; command = failing.command; actions = failing.actions }

@@ -2,7 +2,10 @@ ghost use Rattle.std.specs.Prelude.{◌≡◌, IfOk, IfSome, option_copied, fals
 ghost use Rattle.scm_model.specs.Refused.{first_refusal, outcome};
 ghost use Rattle.scm_model.specs.declared.calls.Request.TheVariants as request;
 ghost use Rattle.scm_model.specs.declared.steps.Kept.TheVariants as appended;
-ghost use Rattle.scm_rules.specs.Change.{asked_refusals, clash_refusals, row_refusals, asked_config, change_change, change_done, change_verdict, changed_from, changed_row, new_config, new_tag, tags_no_group, takes_name, change_outcome};
+ghost use Rattle.scm_rules.specs.Change.{asked_refusals, clash_refusals, row_refusals, asked_config};
+ghost use Rattle.scm_rules.specs.Change.{change_change, change_done, change_verdict, changed_from};
+ghost use Rattle.scm_rules.specs.Change.{changed_row, new_config, new_tag, tags_no_group};
+ghost use Rattle.scm_rules.specs.Change.{takes_name, change_outcome};
 ghost use Rattle.scm_rules.specs.Needs.{are_unreadable};
 ghost use Rattle.scm_rules.specs.Verdicts.{unless_refused};
 ghost use Rattle.scm_tables.specs.Tabled.{HasNeedRoom};
@@ -74,7 +77,8 @@ fn asked_verdict(
     alloc: Global,
 ) -> Result<u32, OutOfMemory>
     requires { new.now ≡ new_config tables.now.flat change.now service.now }
-    ensures { IfOk result (λ code. code ≡ first_refusal (asked_refusals tables.now.flat change.now (Some service.now))) }
+    ensures { IfOk result (λ code. code ≡ first_refusal
+        (asked_refusals tables.now.flat change.now (Some service.now))) }
 {
     let checked = check_change(&service.config, new, change.account.as_ref());
     if checked == ERROR_INVALID_NAME {
@@ -101,7 +105,8 @@ fn clash_verdict(
     alloc: Global,
 ) -> Result<u32, OutOfMemory>
     requires { new.now ≡ new_config tables.now.flat change.now service.now }
-    ensures { IfOk result (λ code. code ≡ first_refusal (clash_refusals tables.now.flat change.now (Some service.now))) }
+    ensures { IfOk result (λ code. code ≡ first_refusal
+        (clash_refusals tables.now.flat change.now (Some service.now))) }
 {
     if takes_name(tables, change, service, new) {
         return Ok(ERROR_DUPLICATE_SERVICE_NAME);
@@ -112,7 +117,8 @@ fn clash_verdict(
     Ok(0)
 }
 
-/// What a change of a service that isn't marked is refused with, or 0, where the caller may change it.
+/// What a change of a service that isn't marked is refused with, or 0, where the caller may change
+/// it.
 fn unmarked_verdict(
     tables: &Tables,
     change: &ChangeService,
@@ -122,7 +128,8 @@ fn unmarked_verdict(
 ) -> Result<u32, OutOfMemory>
     requires made { new.now ≡ new_config tables.now.flat change.now service.now }
     requires unmarked { service.now.marked ≡ false }
-    ensures { IfOk result (λ code. code ≡ first_refusal (row_refusals tables.now.flat change.now (Some service.now))) }
+    ensures { IfOk result (λ code. code ≡ first_refusal
+        (row_refusals tables.now.flat change.now (Some service.now))) }
 {
     let wrong = asked_verdict(tables, change, service, new, alloc)?;
     if wrong != 0 {
@@ -138,7 +145,8 @@ fn row_verdict(
     service: &Service,
     alloc: Global,
 ) -> Result<u32, OutOfMemory>
-    ensures { IfOk result (λ code. code ≡ first_refusal (row_refusals tables.now.flat change.now (Some service.now))) }
+    ensures { IfOk result (λ code. code ≡ first_refusal
+        (row_refusals tables.now.flat change.now (Some service.now))) }
 {
     if service.marked {
         return Ok(ERROR_SERVICE_MARKED_FOR_DELETE);
@@ -149,7 +157,8 @@ fn row_verdict(
 
 /// The same of a service that isn't there.
 fn absent_verdict(change: &ChangeService, alloc: Global) -> Result<u32, OutOfMemory>
-    ensures { IfOk result (λ code. code ≡ (if are_unreadable change.now.needs then ERROR_INVALID_PARAMETER else 0)) }
+    ensures { IfOk result (λ code. code ≡ (if are_unreadable change.now.needs
+        then ERROR_INVALID_PARAMETER else 0)) }
 {
     if are_unreadable(&change.needs, alloc)? {
         return Ok(ERROR_INVALID_PARAMETER);
@@ -157,16 +166,20 @@ fn absent_verdict(change: &ChangeService, alloc: Global) -> Result<u32, OutOfMem
     Ok(0)
 }
 
-/// What `RChangeServiceConfigW` is refused with before anything is kept, or 0: `ERROR_INVALID_HANDLE` (6), `ERROR_ACCESS_DENIED` (5),
-/// `ERROR_SERVICE_MARKED_FOR_DELETE` (1072), `ERROR_INVALID_NAME` (123), `ERROR_INVALID_PARAMETER` (87),
-/// `ERROR_INVALID_SERVICE_ACCOUNT` (1057), `ERROR_DUPLICATE_SERVICE_NAME` (1078) or `ERROR_CIRCULAR_DEPENDENCY` (1059).
+/// What `RChangeServiceConfigW` is refused with before anything is kept, or 0:
+/// `ERROR_INVALID_HANDLE` (6), `ERROR_ACCESS_DENIED` (5),
+/// `ERROR_SERVICE_MARKED_FOR_DELETE` (1072), `ERROR_INVALID_NAME` (123), `ERROR_INVALID_PARAMETER`
+/// (87),
+/// `ERROR_INVALID_SERVICE_ACCOUNT` (1057), `ERROR_DUPLICATE_SERVICE_NAME` (1078) or
+/// `ERROR_CIRCULAR_DEPENDENCY` (1059).
 pub fn change_verdict(
     tables: &Tables,
     caller: u64,
     change: &ChangeService,
     alloc: Global,
 ) -> Result<u32, OutOfMemory>
-    ensures { IfOk result (λ code. code ≡ change_verdict tables.now.flat caller change.now appended.Kept) }
+    ensures { IfOk result (λ code. code ≡ change_verdict tables.now.flat caller change.now
+        appended.Kept) }
 {
     let Some(opened) = tables.opened(caller, change.handle) else {
         return Ok(ERROR_INVALID_HANDLE);
@@ -214,7 +227,9 @@ pub fn changed(
     change: &ChangeService,
     alloc: Global,
 ) -> Result<Option<Change>, OutOfMemory>
-    ensures { IfOk result (λ told. told ≡ unless_refused (change_verdict tables.now.flat caller change.now appended.Kept) (change_change tables.now.flat caller change.now)) }
+    ensures { IfOk result (λ told. told ≡ unless_refused
+        (change_verdict tables.now.flat caller change.now appended.Kept)
+        (change_change tables.now.flat caller change.now)) }
 {
     let code = change_verdict(tables, caller, change, alloc)?;
     if code != 0 {
@@ -226,7 +241,8 @@ pub fn changed(
     }
 }
 
-/// The change of the configurations that a call makes whose configuration and code were made, unless it is refused.
+/// The change of the configurations that a call makes whose configuration and code were made,
+/// unless it is refused.
 pub fn judged(
     tables: &Tables,
     caller: u64,
@@ -237,7 +253,9 @@ pub fn judged(
 ) -> Result<Option<Change>, OutOfMemory>
     requires verdict { code ≡ change_verdict tables.now.flat caller change.now appended.Kept }
     requires made { config.now ≡ asked_config tables.now.flat caller change.now }
-    ensures { IfOk result (λ told. told ≡ unless_refused (change_verdict tables.now.flat caller change.now appended.Kept) (change_change tables.now.flat caller change.now)) }
+    ensures { IfOk result (λ told. told ≡ unless_refused
+        (change_verdict tables.now.flat caller change.now appended.Kept)
+        (change_change tables.now.flat caller change.now)) }
 {
     if code != 0 {
         return Ok(None);
@@ -258,8 +276,9 @@ fn new_tag(change: &ChangeService, config: &Option<Config>) -> Option<u32>
     }
 }
 
-/// Gives a service the configuration that was made for it. The code is what the call is refused with before anything is kept; where
-/// that fails it is `ERROR_CANTWRITE` (1013). It takes no memory.
+/// Gives a service the configuration that was made for it. The code is what the call is refused
+/// with before anything is kept; where that fails it is `ERROR_CANTWRITE` (1013). It takes no
+/// memory.
 pub fn change(
     tables: &mut Tables,
     caller: u64,

@@ -2,7 +2,10 @@ ghost use Rattle.std.specs.Prelude.{◌≡◌, IfOk, IfSome, None, Some};
 ghost use Rattle.std.specs.List.{list_any};
 ghost use Rattle.scm_model.specs.Refused.{first_refusal};
 ghost use Rattle.scm_model.specs.declared.steps.Kept.TheVariants as appended;
-ghost use Rattle.scm_rules.specs.Change2.{asked_level, asks_restart, change2_change, change2_outcome, change2_verdict, has_bad_trigger, is_bad_trigger, is_other, is_refused, is_restart, level_changed, level_config};
+ghost use Rattle.scm_rules.specs.Change2.{asked_level, asks_restart, change2_change};
+ghost use Rattle.scm_rules.specs.Change2.{change2_outcome, change2_verdict, has_bad_trigger};
+ghost use Rattle.scm_rules.specs.Change2.{is_bad_trigger, is_other, is_refused, is_restart};
+ghost use Rattle.scm_rules.specs.Change2.{level_changed, level_config};
 ghost use Rattle.scm_rules.specs.Verdicts.{unless_refused};
 ghost use Rattle.scm_tables.specs.Tabled.{HasNeedRoom};
 ghost use Rattle.scm_arms_service.specs.Leveled.{level_refusals};
@@ -105,7 +108,8 @@ fn is_other(info: &Info) -> bool
 
 /// What a level of a service that is there is refused with, or 0, where the caller may change it.
 fn row_verdict(info: &Info, service: &Service, alloc: Global) -> Result<u32, OutOfMemory>
-    ensures { IfOk result (λ code. code ≡ first_refusal (level_refusals info.now (Some service.now))) }
+    ensures { IfOk result (λ code. code ≡ first_refusal
+        (level_refusals info.now (Some service.now))) }
 {
     if service.marked {
         return Ok(ERROR_SERVICE_MARKED_FOR_DELETE);
@@ -135,8 +139,10 @@ fn absent_verdict(info: &Info) -> u32
     0
 }
 
-/// What `RChangeServiceConfig2W` is refused with before anything is kept, or 0: `ERROR_INVALID_HANDLE` (6), `ERROR_ACCESS_DENIED` (5),
-/// `ERROR_SERVICE_MARKED_FOR_DELETE` (1072), `ERROR_INVALID_LEVEL` (124) or `ERROR_INVALID_PARAMETER` (87).
+/// What `RChangeServiceConfig2W` is refused with before anything is kept, or 0:
+/// `ERROR_INVALID_HANDLE` (6), `ERROR_ACCESS_DENIED` (5),
+/// `ERROR_SERVICE_MARKED_FOR_DELETE` (1072), `ERROR_INVALID_LEVEL` (124) or
+/// `ERROR_INVALID_PARAMETER` (87).
 pub fn change2_verdict(
     tables: &Tables,
     caller: u64,
@@ -144,7 +150,8 @@ pub fn change2_verdict(
     info: &Info,
     alloc: Global,
 ) -> Result<u32, OutOfMemory>
-    ensures { IfOk result (λ code. code ≡ change2_verdict tables.now.flat caller handle info.now appended.Kept) }
+    ensures { IfOk result (λ code. code ≡ change2_verdict tables.now.flat caller handle info.now
+        appended.Kept) }
 {
     let Some(opened) = tables.opened(caller, handle) else {
         return Ok(ERROR_INVALID_HANDLE);
@@ -180,7 +187,9 @@ pub fn changed2(
     info: &Info,
     alloc: Global,
 ) -> Result<Option<Change>, OutOfMemory>
-    ensures { IfOk result (λ told. told ≡ unless_refused (change2_verdict tables.now.flat caller handle info.now appended.Kept) (change2_change tables.now.flat caller handle info.now)) }
+    ensures { IfOk result (λ told. told ≡ unless_refused
+        (change2_verdict tables.now.flat caller handle info.now appended.Kept)
+        (change2_change tables.now.flat caller handle info.now)) }
 {
     let code = change2_verdict(tables, caller, handle, info, alloc)?;
     if code != 0 {
@@ -192,7 +201,8 @@ pub fn changed2(
     }
 }
 
-/// The change of the configurations that a call makes whose configuration and code were made, unless it is refused.
+/// The change of the configurations that a call makes whose configuration and code were made,
+/// unless it is refused.
 pub fn judged2(
     tables: &Tables,
     caller: u64,
@@ -204,7 +214,9 @@ pub fn judged2(
 ) -> Result<Option<Change>, OutOfMemory>
     requires verdict { code ≡ change2_verdict tables.now.flat caller handle info.now appended.Kept }
     requires made { config.now ≡ asked_level tables.now.flat caller handle info.now }
-    ensures { IfOk result (λ told. told ≡ unless_refused (change2_verdict tables.now.flat caller handle info.now appended.Kept) (change2_change tables.now.flat caller handle info.now)) }
+    ensures { IfOk result (λ told. told ≡ unless_refused
+        (change2_verdict tables.now.flat caller handle info.now appended.Kept)
+        (change2_change tables.now.flat caller handle info.now)) }
 {
     if code != 0 {
         return Ok(None);
@@ -215,8 +227,9 @@ pub fn judged2(
     }
 }
 
-/// Gives a service the configuration that was made for it. The code is what the call is refused with before anything is kept; where
-/// that fails it is `ERROR_CANTWRITE` (1013). It takes no memory.
+/// Gives a service the configuration that was made for it. The code is what the call is refused
+/// with before anything is kept; where that fails it is `ERROR_CANTWRITE` (1013). It takes no
+/// memory.
 pub fn change2(
     tables: &mut Tables,
     caller: u64,
@@ -230,7 +243,8 @@ pub fn change2(
     requires made { config ≡ asked_level tables.old.flat caller handle info.now }
     requires needs { IfSome config (HasNeedRoom tables.old.spare) }
     ensures reply { result ≡ (change2_outcome tables.old.flat caller handle info.now kept).reply }
-    ensures flat { tables.new.flat ≡ (change2_outcome tables.old.flat caller handle info.now kept).flat }
+    ensures flat { tables.new.flat ≡ (change2_outcome tables.old.flat caller handle info.now
+        kept).flat }
     ensures limits { tables.new.limits ≡ tables.old.limits }
 {
     let code = code_once_kept(code, kept);

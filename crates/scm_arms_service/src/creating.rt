@@ -1,11 +1,15 @@
-ghost use Rattle.std.specs.Prelude.{◌≡◌, ◌<◌, ◌≤◌, ◌^◌, ◌||◌, Some, nat_le, length, IfOk, IfSome, is_some};
+ghost use Rattle.std.specs.Prelude.{◌≡◌, ◌<◌, ◌≤◌, ◌^◌, ◌||◌, Some, nat_le, length, IfOk, IfSome};
+ghost use Rattle.std.specs.Prelude.{is_some};
 ghost use Rattle.scm_model.specs.Refused.{first_refusal, outcome};
 ghost use Rattle.scm_model.specs.Changes.{with_handle};
 ghost use Rattle.scm_model.specs.Rows.{held_by};
 ghost use Rattle.scm_model.specs.declared.calls.Request.TheVariants as request;
 ghost use Rattle.scm_model.specs.declared.flat.HandleKind.TheVariants as kinds;
 ghost use Rattle.scm_model.specs.declared.steps.Kept.TheVariants as appended;
-ghost use Rattle.scm_rules.specs.Create.{config_refusals, new_status, place_refusals, right_refusals, created_config, create_change, create_done, create_verdict, tags_nothing, create_outcome, with_creation};
+ghost use Rattle.scm_rules.specs.Create.{config_refusals, new_status, place_refusals};
+ghost use Rattle.scm_rules.specs.Create.{right_refusals, created_config, create_change, create_done};
+ghost use Rattle.scm_rules.specs.Create.{create_verdict, tags_nothing, create_outcome};
+ghost use Rattle.scm_rules.specs.Create.{with_creation};
 ghost use Rattle.scm_rules.specs.OpenService.{service_granted};
 ghost use Rattle.scm_rules.specs.Verdicts.{unless_refused};
 ghost use Rattle.scm_tables.specs.Tabled.{HasNeedRoom, HasShortTexts};
@@ -80,7 +84,8 @@ fn config_verdict(new: &NewService, config: &Config, alloc: Global) -> Result<u3
 
 /// Whether there are as many services, or handles of the caller, as there may be.
 fn is_full(tables: &Tables, limits: &Limits, caller: u64) -> bool
-    ensures { result ≡ nat_le limits.now.services (length tables.now.flat.services) || nat_le limits.now.handles (held_by tables.now.flat caller) }
+    ensures { result ≡ nat_le limits.now.services (length tables.now.flat.services)
+        || nat_le limits.now.handles (held_by tables.now.flat caller) }
 {
     limits.services as usize <= tables.services()
         || limits.handles as usize <= tables.handles_of(caller)
@@ -94,7 +99,8 @@ fn place_verdict(
     config: &Config,
     alloc: Global,
 ) -> Result<u32, OutOfMemory>
-    ensures { IfOk result (λ code. code ≡ first_refusal (place_refusals limits.now tables.now.flat caller config.now)) }
+    ensures { IfOk result (λ code. code ≡ first_refusal
+        (place_refusals limits.now tables.now.flat caller config.now)) }
 {
     if is_marked(tables.named(&config.name)) {
         return Ok(ERROR_SERVICE_MARKED_FOR_DELETE);
@@ -114,9 +120,12 @@ fn place_verdict(
     Ok(0)
 }
 
-/// What `RCreateServiceW` is refused with before anything is kept, or 0: `ERROR_INVALID_HANDLE` (6), `ERROR_ACCESS_DENIED` (5),
-/// `ERROR_INVALID_NAME` (123), `ERROR_INVALID_PARAMETER` (87), `ERROR_INVALID_SERVICE_ACCOUNT` (1057),
-/// `ERROR_SERVICE_MARKED_FOR_DELETE` (1072), `ERROR_SERVICE_EXISTS` (1073), `ERROR_DUPLICATE_SERVICE_NAME` (1078),
+/// What `RCreateServiceW` is refused with before anything is kept, or 0: `ERROR_INVALID_HANDLE`
+/// (6), `ERROR_ACCESS_DENIED` (5),
+/// `ERROR_INVALID_NAME` (123), `ERROR_INVALID_PARAMETER` (87), `ERROR_INVALID_SERVICE_ACCOUNT`
+/// (1057),
+/// `ERROR_SERVICE_MARKED_FOR_DELETE` (1072), `ERROR_SERVICE_EXISTS` (1073),
+/// `ERROR_DUPLICATE_SERVICE_NAME` (1078),
 /// `ERROR_CIRCULAR_DEPENDENCY` (1059) or `ERROR_NOT_ENOUGH_QUOTA` (1816).
 pub fn create_verdict(
     tables: &Tables,
@@ -127,7 +136,8 @@ pub fn create_verdict(
     alloc: Global,
 ) -> Result<u32, OutOfMemory>
     requires { config.now ≡ created_config tables.now.flat new.now }
-    ensures { IfOk result (λ code. code ≡ create_verdict limits.now tables.now.flat caller new.now appended.Kept) }
+    ensures { IfOk result (λ code. code ≡ create_verdict limits.now tables.now.flat caller new.now
+        appended.Kept) }
 {
     let denied = right_verdict(tables, caller, new);
     if denied != 0 {
@@ -148,7 +158,9 @@ pub fn created(
     new: &NewService,
     alloc: Global,
 ) -> Result<Option<Change>, OutOfMemory>
-    ensures { IfOk result (λ change. change ≡ unless_refused (create_verdict limits.now tables.now.flat caller new.now appended.Kept) (create_change tables.now.flat new.now)) }
+    ensures { IfOk result (λ change. change ≡ unless_refused
+        (create_verdict limits.now tables.now.flat caller new.now appended.Kept)
+        (create_change tables.now.flat new.now)) }
 {
     let config = config_of(tables, new, alloc)?;
     let code = create_verdict(tables, limits, caller, new, &config, alloc)?;
@@ -158,7 +170,8 @@ pub fn created(
     Ok(Some(Change::Created(config)))
 }
 
-/// Adds a service that has this configuration, and opens a handle of it with these rights, whose number it answers.
+/// Adds a service that has this configuration, and opens a handle of it with these rights, whose
+/// number it answers.
 fn add_opened(tables: &mut Tables, caller: u64, config: Config, kind: u32, rights: u32) -> u64
     requires texts { HasShortTexts config }
     requires services { 1 ≤ tables.old.spare.services }
@@ -167,7 +180,8 @@ fn add_opened(tables: &mut Tables, caller: u64, config: Config, kind: u32, right
     requires next_service { tables.old.flat.next.service < 2 ^ 63 }
     requires next_handle { tables.old.flat.next.handle < 2 ^ 63 }
     ensures number { result ≡ tables.old.flat.next.handle }
-    ensures flat { tables.new.flat ≡ with_handle (with_creation tables.old.flat config (new_status kind)) caller (kinds.Service tables.old.flat.next.service) rights }
+    ensures flat { tables.new.flat ≡ with_handle (with_creation tables.old.flat config
+        (new_status kind)) caller (kinds.Service tables.old.flat.next.service) rights }
     ensures limits { tables.new.limits ≡ tables.old.limits }
 {
     let service = tables.add_service(config, new_status(kind));
@@ -197,8 +211,9 @@ fn create_done(tables: &mut Tables, caller: u64, new: &NewService, config: Confi
     }
 }
 
-/// Creates a service that has the configuration that was made for it, and opens a handle of it. The code is what the call is refused
-/// with before anything is kept; where that fails it is `ERROR_CANTWRITE` (1013). It takes no memory.
+/// Creates a service that has the configuration that was made for it, and opens a handle of it. The
+/// code is what the call is refused with before anything is kept; where that fails it is
+/// `ERROR_CANTWRITE` (1013). It takes no memory.
 pub fn create(
     tables: &mut Tables,
     limits: &Limits,
@@ -216,7 +231,8 @@ pub fn create(
     requires next_service { tables.old.flat.next.service < 2 ^ 63 }
     requires next_handle { tables.old.flat.next.handle < 2 ^ 63 }
     ensures reply { result ≡ (create_outcome limits.now tables.old.flat caller new kept).reply }
-    ensures flat { tables.new.flat ≡ (create_outcome limits.now tables.old.flat caller new kept).flat }
+    ensures flat { tables.new.flat ≡ (create_outcome limits.now tables.old.flat caller new
+        kept).flat }
     ensures limits { tables.new.limits ≡ tables.old.limits }
 {
     let code = code_once_kept(code, kept);

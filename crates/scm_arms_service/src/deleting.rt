@@ -1,7 +1,8 @@
 ghost use Rattle.std.specs.Prelude.{◌≡◌, IfOk, option_copied, option_map};
 ghost use Rattle.scm_model.specs.Refused.{outcome};
 ghost use Rattle.scm_model.specs.declared.calls.Request.TheVariants as request;
-ghost use Rattle.scm_rules.specs.Delete.{delete_change, delete_done, delete_verdict, is_failed, is_marked, delete_outcome, removed};
+ghost use Rattle.scm_rules.specs.Delete.{delete_change, delete_done, delete_verdict, is_failed};
+ghost use Rattle.scm_rules.specs.Delete.{is_marked, delete_outcome, removed};
 ghost use Rattle.scm_model.specs.declared.steps.Kept.TheVariants as appended;
 ghost use Rattle.scm_rules.specs.Verdicts.{unless_refused};
 ghost use Rattle.scm_arms_service.specs.Judged.{code_once_kept};
@@ -43,7 +44,8 @@ pub fn code_once_kept(code: u32, kept: Kept) -> u32
     }
 }
 
-/// What `RDeleteService` is refused with, or 0: `ERROR_INVALID_HANDLE` (6), `ERROR_ACCESS_DENIED` (5),
+/// What `RDeleteService` is refused with, or 0: `ERROR_INVALID_HANDLE` (6), `ERROR_ACCESS_DENIED`
+/// (5),
 /// `ERROR_SERVICE_MARKED_FOR_DELETE` (1072) or `ERROR_CANTWRITE` (1013).
 pub fn delete_verdict(tables: &Tables, caller: u64, handle: u64, kept: Kept) -> u32
     ensures { result ≡ delete_verdict tables.now.flat caller handle kept }
@@ -80,7 +82,9 @@ pub fn removed(
     handle: u64,
     alloc: Global,
 ) -> Result<Option<Change>, OutOfMemory>
-    ensures { IfOk result (λ change. change ≡ unless_refused (delete_verdict tables.now.flat caller handle appended.Kept) (delete_change tables.now.flat caller handle)) }
+    ensures { IfOk result (λ change. change ≡ unless_refused
+        (delete_verdict tables.now.flat caller handle appended.Kept)
+        (delete_change tables.now.flat caller handle)) }
 {
     if delete_verdict(tables, caller, handle, Kept::Kept) != 0 {
         return Ok(None);
@@ -88,7 +92,8 @@ pub fn removed(
     removal(tables.held_service(caller, handle), alloc)
 }
 
-/// Marks a service, of which its registrations are told. It leaves once it is STOPPED and no handle names it.
+/// Marks a service, of which its registrations are told. It leaves once it is STOPPED and no handle
+/// names it.
 pub fn delete(tables: &mut Tables, caller: u64, handle: u64, kept: Kept) -> Reply
     ensures reply { result ≡ (delete_outcome tables.old.flat caller handle kept).reply }
     ensures flat { tables.new.flat ≡ (delete_outcome tables.old.flat caller handle kept).flat }

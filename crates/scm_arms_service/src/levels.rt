@@ -34,7 +34,8 @@ struct Failing {
     actions: Items<Action>,
 }
 
-/// The reset period that is asked for with actions; 0 with no actions, and the old one where they are absent.
+/// The reset period that is asked for with actions; 0 with no actions, and the old one where they
+/// are absent.
 fn reset_or(old: u32, asked: u32, actions: &Option<Items<Action>>) -> u32
     ensures { result ≡ reset_or old asked actions.now }
 {
@@ -108,7 +109,8 @@ fn failed(
     actions: &Option<Items<Action>>,
     alloc: Global,
 ) -> Result<Config, OutOfMemory>
-    ensures { IfOk result (λ config. config ≡ config_at (info.Failure reset command.now actions.now) old.now) }
+    ensures { IfOk result (λ config. config ≡ config_at
+        (info.Failure reset command.now actions.now) old.now) }
 {
     let failing = failing_of(old, reset, command, actions, alloc)?;
     let old = old.copy(alloc)?;

@@ -33,7 +33,8 @@ fn copy_or_empty(text: &Option<WText>, alloc: Global) -> Result<WText, OutOfMemo
     }
 }
 
-/// The tag of a new service: one more than the greatest of its group where one is asked for, else 0.
+/// The tag of a new service: one more than the greatest of its group where one is asked for, else
+/// 0.
 fn tag_of(tables: &Tables, group: &Option<WText>, asked: Option<u32>) -> u32
     ensures { result ≡ tag_of tables.now.flat (unwrap_or group.now []) asked }
 {

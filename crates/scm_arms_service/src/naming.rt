@@ -1,5 +1,6 @@
 ghost use Rattle.std.specs.Prelude.{◌≡◌, IfOk};
-ghost use Rattle.scm_rules.specs.OtherName.{display_by_name, name_by_display, name_or_empty, other_name_reply, other_name_verdict, units_of};
+ghost use Rattle.scm_rules.specs.OtherName.{display_by_name, name_by_display, name_or_empty};
+ghost use Rattle.scm_rules.specs.OtherName.{other_name_reply, other_name_verdict, units_of};
 
 use scm_model::Reply;
 use scm_model::codes::{
@@ -120,7 +121,8 @@ pub fn display_name(
     size: u32,
     alloc: Global,
 ) -> Result<Reply, OutOfMemory>
-    ensures { IfOk result (λ reply. reply ≡ other_name_reply tables.now.flat caller handle size (display_by_name tables.now.flat name.now)) }
+    ensures { IfOk result (λ reply. reply ≡ other_name_reply tables.now.flat caller handle size
+        (display_by_name tables.now.flat name.now)) }
 {
     let other = display_by_name(tables, name, alloc)?;
     Ok(other_name(tables, caller, handle, size, other, alloc))
@@ -135,7 +137,8 @@ pub fn key_name(
     size: u32,
     alloc: Global,
 ) -> Result<Reply, OutOfMemory>
-    ensures { IfOk result (λ reply. reply ≡ other_name_reply tables.now.flat caller handle size (name_by_display tables.now.flat display.now)) }
+    ensures { IfOk result (λ reply. reply ≡ other_name_reply tables.now.flat caller handle size
+        (name_by_display tables.now.flat display.now)) }
 {
     let other = name_by_display(tables, display, alloc)?;
     Ok(other_name(tables, caller, handle, size, other, alloc))

@@ -1,6 +1,7 @@
 ghost use Rattle.std.specs.Prelude.{◌≡◌, ◌+◌, ◌*◌, List, ℕ, map, option_and_then, option_map, IfOk};
 ghost use Rattle.scm_text.specs.Multi.{names_of};
-ghost use Rattle.scm_rules.specs.Needs.{are_unreadable, need_named, needs_in_bytes, needs_or, needs_read, units_in_bytes};
+ghost use Rattle.scm_rules.specs.Needs.{are_unreadable, need_named, needs_in_bytes, needs_or};
+ghost use Rattle.scm_rules.specs.Needs.{needs_read, units_in_bytes};
 
 use scm_model::{Need, copy_needs};
 use scm_text::{Items, MultiFault, OutOfMemory, WText, read_multi};
@@ -81,8 +82,8 @@ fn needs_read(units: &[u16], alloc: Global) -> Result<Option<Items<Need>>, OutOf
     }
 }
 
-/// The needs that bytes name: 16-bit units, each name ended by a 0 and all by one more, `+` before a group's. None where they can't
-/// be read.
+/// The needs that bytes name: 16-bit units, each name ended by a 0 and all by one more, `+` before
+/// a group's. None where they can't be read.
 pub fn needs_in(bytes: &[u8], alloc: Global) -> Result<Option<Items<Need>>, OutOfMemory>
     ensures { IfOk result (λ needs. needs ≡ needs_in_bytes bytes.now) }
 {

@@ -7,7 +7,8 @@ use scm_model::codes::{ERROR_INVALID_HANDLE, SERVICE_QUERY_STATUS};
 use scm_model::{Reply, zero_status};
 use scm_tables::{Tables, mask_lacks, status_in};
 
-/// What `RQueryServiceStatus` is refused with, or 0: `ERROR_INVALID_HANDLE` (6) or `ERROR_ACCESS_DENIED` (5).
+/// What `RQueryServiceStatus` is refused with, or 0: `ERROR_INVALID_HANDLE` (6) or
+/// `ERROR_ACCESS_DENIED` (5).
 pub fn query_verdict(tables: &Tables, caller: u64, handle: u64) -> u32
     ensures { result ≡ query_verdict tables.now.flat caller handle }
 {

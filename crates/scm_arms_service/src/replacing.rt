@@ -45,7 +45,8 @@ fn display_or<'a>(old: &'a Config, asked: &'a Option<WText>) -> &'a WText
 
 /// The tag of a service in the group that it will be in.
 pub fn tag_or(tables: &Tables, old: &Config, change: &ChangeService) -> u32
-    ensures { result ≡ tag_or tables.now.flat old.now (unwrap_or change.now.group old.now.group) change.now.tag }
+    ensures { result ≡ tag_or tables.now.flat old.now
+        (unwrap_or change.now.group old.now.group) change.now.tag }
 {
     match change.tag {
         Some(_) => tables.next_tag(text_or(&old.group, &change.group)),
@@ -67,7 +68,8 @@ struct Parts {
     delayed: bool,
 }
 
-/// What is asked for, or what was there, apart from the tag. Needs that can't be read leave the old ones.
+/// What is asked for, or what was there, apart from the tag. Needs that can't be read leave the old
+/// ones.
 fn parts_of(
     old: &Config,
     change: &ChangeService,

@@ -1,8 +1,11 @@
-ghost use Rattle.std.specs.Prelude.{◌≡◌, ◌<◌, ◌^◌, ◌++◌, ◌==◌, codes, IfOk, OnOk, None, option_copied, if◌then◌else◌};
+ghost use Rattle.std.specs.Prelude.{◌≡◌, ◌<◌, ◌^◌, ◌++◌, ◌==◌, codes, IfOk, OnOk, None};
+ghost use Rattle.std.specs.Prelude.{option_copied, if◌then◌else◌};
 ghost use Rattle.scm_model.specs.declared.flat.Flat.{Flat};
 ghost use Rattle.scm_model.specs.declared.calls.Reply.TheVariants as reply;
 ghost use Rattle.scm_model.specs.Refused.{answered};
-ghost use Rattle.scm_rules.specs.QueryConfig.{query_config_reply, query_config_verdict, shown_by, shown_in, shown_need, shown_needs, shown_of, shown_size, size_in, text_size};
+ghost use Rattle.scm_rules.specs.QueryConfig.{query_config_reply, query_config_verdict, shown_by};
+ghost use Rattle.scm_rules.specs.QueryConfig.{shown_in, shown_need, shown_needs, shown_of};
+ghost use Rattle.scm_rules.specs.QueryConfig.{shown_size, size_in, text_size};
 
 use scm_model::codes::{
     ERROR_ACCESS_DENIED, ERROR_INSUFFICIENT_BUFFER, ERROR_INVALID_HANDLE, SERVICE_QUERY_CONFIG,
@@ -114,7 +117,8 @@ fn size_in(shown: &Option<Shown>) -> u32
     }
 }
 
-/// What `RQueryServiceConfigW` is refused with, or 0: `ERROR_INVALID_HANDLE` (6), `ERROR_ACCESS_DENIED` (5) or
+/// What `RQueryServiceConfigW` is refused with, or 0: `ERROR_INVALID_HANDLE` (6),
+/// `ERROR_ACCESS_DENIED` (5) or
 /// `ERROR_INSUFFICIENT_BUFFER` (122), where so many bytes are needed.
 fn query_config_verdict(tables: &Tables, caller: u64, handle: u64, size: u32, needed: u32) -> u32
     requires { needed ≡ size_in (shown_by tables.now.flat caller handle) }
@@ -134,7 +138,9 @@ fn query_config_verdict(tables: &Tables, caller: u64, handle: u64, size: u32, ne
 
 /// What is answered of a configuration that may be shown.
 fn told(config: Option<Shown>, needed: u32, code: u32) -> Reply
-    ensures { (f : Flat) → result ≡ (answered code (reply.Shown None (if code == ERROR_INSUFFICIENT_BUFFER then needed else 0) code) f (record { reply = reply.Shown config needed 0; flat = f })).reply }
+    ensures { (f : Flat) → result ≡ (answered code (reply.Shown None
+        (if code == ERROR_INSUFFICIENT_BUFFER then needed else 0) code) f
+        (record { reply = reply.Shown config needed 0; flat = f })).reply }
 {
     if code == 0 {
         return Reply::Shown {

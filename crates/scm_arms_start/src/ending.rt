@@ -12,7 +12,8 @@ use scm_tables::Tables;
 
 /// Answers a start that is decided. Its plan leaves.
 pub fn end_start(tables: &mut Tables, plan: u64) -> Answer
-    ensures answer { result ≡ answer.Reply (reply.Code (unwrap_or (code_of tables.old.flat.plans plan) 0)) }
+    ensures answer { result ≡ answer.Reply (reply.Code
+        (unwrap_or (code_of tables.old.flat.plans plan) 0)) }
     ensures flat { tables.new.flat ≡ ended tables.old.flat plan }
     ensures limits { tables.new.limits ≡ tables.old.limits }
 {

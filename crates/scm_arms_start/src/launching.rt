@@ -32,7 +32,8 @@ pub fn launched(tables: &mut Tables, process: u64, pid: u32) -> Answer
     Answer::Done
 }
 
-/// A launch failed: the starts of its service fail with the code, the service falls, and the process leaves.
+/// A launch failed: the starts of its service fail with the code, the service falls, and the
+/// process leaves.
 pub fn fail_launch(tables: &mut Tables, process: u64, code: u32) -> Answer
     ensures answer { result ≡ answer.Done }
     ensures flat { tables.new.flat ≡ launch_failed tables.old.flat process code }

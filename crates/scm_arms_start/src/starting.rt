@@ -1,11 +1,14 @@
-ghost use Rattle.std.specs.Prelude.{◌≡◌, ◌≤◌, ◌<◌, ◌==◌, ◌^◌, Some, IfOk, [], length, option_copied, option_map, unwrap_or};
+ghost use Rattle.std.specs.Prelude.{◌≡◌, ◌≤◌, ◌<◌, ◌==◌, ◌^◌, Some, IfOk, [], length, option_copied};
+ghost use Rattle.std.specs.Prelude.{option_map, unwrap_or};
 ghost use Rattle.std.specs.List.{list_any};
 ghost use Rattle.std.specs.Char.Utf16.{has_unpaired_surrogate};
 ghost use Rattle.scm_model.specs.Refused.{first_refusal, outcome};
 ghost use Rattle.scm_model.specs.declared.calls.Request.TheVariants as request;
 ghost use Rattle.scm_model.specs.Rows.{held_service};
 ghost use Rattle.scm_rules.specs.Delete.{is_marked};
-ghost use Rattle.scm_rules.specs.Start.{service_refusals, are_bad_words, is_aimed_at, is_disabled, is_missing, lacks_need, new_plan, start_done, start_verdict, start_outcome};
+ghost use Rattle.scm_rules.specs.Start.{service_refusals, are_bad_words, is_aimed_at, is_disabled};
+ghost use Rattle.scm_rules.specs.Start.{is_missing, lacks_need, new_plan, start_done, start_verdict};
+ghost use Rattle.scm_rules.specs.Start.{start_outcome};
 ghost use Rattle.scm_rules.specs.Steps.{call_answer};
 ghost use Rattle.scm_model.specs.Ready.{state_in};
 ghost use Rattle.scm_arms_start.specs.Entries.{start_entries};
@@ -118,7 +121,8 @@ fn is_aimed_at(tables: &Tables, service: Option<&Service>) -> bool
 
 /// What a start of a service is refused with for how the service stands, or 0.
 fn service_verdict(tables: &Tables, service: Option<&Service>) -> u32
-    ensures { result ≡ first_refusal (service_refusals tables.now.flat (option_copied service.entry)) }
+    ensures { result ≡ first_refusal (service_refusals tables.now.flat
+        (option_copied service.entry)) }
 {
     if is_marked(service) {
         return ERROR_SERVICE_MARKED_FOR_DELETE;
@@ -138,8 +142,10 @@ fn service_verdict(tables: &Tables, service: Option<&Service>) -> u32
     0
 }
 
-/// What `RStartServiceW` is refused with, or 0: `ERROR_INVALID_HANDLE` (6), `ERROR_INVALID_PARAMETER` (87), `ERROR_ACCESS_DENIED` (5),
-/// `ERROR_SERVICE_MARKED_FOR_DELETE` (1072), `ERROR_SERVICE_DATABASE_LOCKED` (1055), `ERROR_SERVICE_ALREADY_RUNNING` (1056),
+/// What `RStartServiceW` is refused with, or 0: `ERROR_INVALID_HANDLE` (6),
+/// `ERROR_INVALID_PARAMETER` (87), `ERROR_ACCESS_DENIED` (5),
+/// `ERROR_SERVICE_MARKED_FOR_DELETE` (1072), `ERROR_SERVICE_DATABASE_LOCKED` (1055),
+/// `ERROR_SERVICE_ALREADY_RUNNING` (1056),
 /// `ERROR_SERVICE_DISABLED` (1058) or `ERROR_SERVICE_DEPENDENCY_DELETED` (1075).
 pub fn start_verdict(tables: &Tables, caller: u64, handle: u64, words: &Option<Items<WText>>) -> u32
     ensures { result ≡ start_verdict tables.now.flat caller handle words.now }
@@ -164,7 +170,8 @@ pub fn start_entries(
     words: &Option<Items<WText>>,
     alloc: Global,
 ) -> Result<Items<u64>, OutOfMemory>
-    ensures { IfOk result (λ entries. entries ≡ start_entries tables.now.flat caller handle words.now) }
+    ensures { IfOk result (λ entries. entries ≡ start_entries tables.now.flat caller handle
+        words.now) }
 {
     if start_verdict(tables, caller, handle, words) != 0 {
         return Ok(Items::new(alloc));
@@ -195,7 +202,8 @@ fn held_number(tables: &Tables, caller: u64, handle: u64) -> Option<u64>
     }
 }
 
-/// Begins a plan to start a service after what it needs. It takes no memory. `entries` are the services that it goes by.
+/// Begins a plan to start a service after what it needs. It takes no memory. `entries` are the
+/// services that it goes by.
 pub fn start(
     tables: &mut Tables,
     alloc: Global,
@@ -207,10 +215,12 @@ pub fn start(
     requires made { entries ≡ Some (start_entries tables.old.flat caller handle words) }
     requires plans { 1 ≤ tables.old.spare.plans }
     requires dues { 1 ≤ tables.old.spare.dues }
-    requires tried { length (start_entries tables.old.flat caller handle words) ≤ tables.old.spare.tried }
+    requires tried { length (start_entries tables.old.flat caller handle words) ≤
+        tables.old.spare.tried }
     requires next_plan { tables.old.flat.next.plan < 2 ^ 63 }
     requires next_due { tables.old.flat.next.due < 2 ^ 63 }
-    ensures answer { result ≡ call_answer (start_verdict tables.old.flat caller handle words == 0) tables.old.flat.next.plan (start_outcome tables.old.flat caller handle words).reply }
+    ensures answer { result ≡ call_answer (start_verdict tables.old.flat caller handle words == 0)
+        tables.old.flat.next.plan (start_outcome tables.old.flat caller handle words).reply }
     ensures flat { tables.new.flat ≡ (start_outcome tables.old.flat caller handle words).flat }
     ensures limits { tables.new.limits ≡ tables.old.limits }
 {

@@ -12,7 +12,7 @@ use Rattle.scm_model.specs.Ranges.{are_few, in_range}
 use Rattle.scm_shapes.specs.declared.item.Value.{Value}
 use Rattle.scm_shapes.specs.Shapes.{fitted}
 use Rattle.scm_shapes.specs.HandleBodies.{is_handle_body, handle_body_of, handle_body_values}
-use Rattle.scm_shapes.specs.Laws.{AreSent, CanHoldAll, IsCarried, as_read}
+use Rattle.scm_shapes.specs.Laws.{AreSent, CanHoldAll, IsEncodable, as_read}
 use Rattle.ndr_body.specs.Laws.{IsSent}
 use Rattle.scm_shapes.specs.Calls.{Codec, shape_in, made_in}
 use Rattle.scm_calls.specs.declared.calls.Call.{Call as PlainCall}
@@ -93,7 +93,8 @@ of_a_call r = content (call_of r) (is_of_a_call r)
 
 -- ## A handle and numbers
 
-plain_by_handle : (c : PlainCall) (vs : List Value) → IsTrue (is_handle_body (plain_shape c)) → plain_from c (handle_body_values (handle_body_of vs)) ≡ plain_from c vs
+plain_by_handle : (c : PlainCall) (vs : List Value) → IsTrue (is_handle_body (plain_shape c))
+    → plain_from c (handle_body_values (handle_body_of vs)) ≡ plain_from c vs
 plain_by_handle plain.SetStatus vs h = absurd cc
 plain_by_handle plain.OpenManager vs h = absurd cc
 plain_by_handle plain.OpenService vs h = absurd cc
@@ -102,18 +103,21 @@ plain_by_handle plain.DisplayName vs h = absurd cc
 plain_by_handle plain.KeyName vs h = absurd cc
 plain_by_handle _ vs h = refl
 
-config_by_handle : (c : ConfigCall) (vs : List Value) → IsTrue (is_handle_body (config_shape c)) → config_from c (handle_body_values (handle_body_of vs)) ≡ config_from c vs
+config_by_handle : (c : ConfigCall) (vs : List Value) → IsTrue (is_handle_body (config_shape c))
+    → config_from c (handle_body_values (handle_body_of vs)) ≡ config_from c vs
 config_by_handle config.Change vs h = absurd cc
 config_by_handle config.Create vs h = absurd cc
 config_by_handle config.Change2 vs h = absurd cc
 config_by_handle _ vs h = refl
 
-enum_by_handle : (c : EnumCall) (vs : List Value) → IsTrue (is_handle_body (enum_shape c)) → enum_from c (handle_body_values (handle_body_of vs)) ≡ enum_from c vs
+enum_by_handle : (c : EnumCall) (vs : List Value) → IsTrue (is_handle_body (enum_shape c))
+    → enum_from c (handle_body_values (handle_body_of vs)) ≡ enum_from c vs
 enum_by_handle enum.EnumServices vs h = absurd cc
 enum_by_handle _ vs h = refl
 
 -- a body of a handle and at most two numbers asks what these ask
-pub asked_by_handle : (c : Call) (vs : List Value) → IsTrue (is_handle_body (shape_of c)) → asked_by c (handle_body_values (handle_body_of vs)) ≡ asked_by c vs
+pub asked_by_handle : (c : Call) (vs : List Value) → IsTrue (is_handle_body (shape_of c))
+    → asked_by c (handle_body_values (handle_body_of vs)) ≡ asked_by c vs
 asked_by_handle (call.Plain c) vs h = plain_by_handle c vs h
 asked_by_handle (call.Config c) vs h = config_by_handle c vs h
 asked_by_handle (call.Enum c) vs h = enum_by_handle c vs h
@@ -158,22 +162,51 @@ held_ranged (request.QueryConfig2 handle level size) h = le-leb size MAX_CONFIG_
 held_ranged (request.Start handle words) h = few words h.1.0
 held_ranged _ h = refl
 
-words_held : (words : Option (List (List ℕ))) → IsTrue (are_few words) → IfSome words (λ words. AllByRecursion IsSent words) → IfSome words AreSent
+words_held : (words : Option (List (List ℕ))) → IsTrue (are_few words) → IfSome words (λ words. AllByRecursion IsSent words)
+    → IfSome words AreSent
 words_held None range h = tt
 words_held (Some words) range h = record { few = leb-true (length words) SC_MAX_ARGUMENTS range; sent = h }
 
 -- and what is in them can be held, where its parts can stand in a body
 pub ranged_held : (r : Request) → IsTrue (in_range r) → AreCarried r → CanHoldAll (shape_in shape_of (call_of r)) (values_of r)
-ranged_held (request.QueryLock handle size) range h = (h.0, (record { in_range = leb-true size MAX_LOCK_STATUS_SIZE range; small = h.1.0 }, tt))
-ranged_held (request.QueryConfig handle size) range h = (h.0, (record { in_range = leb-true size MAX_CONFIG_SIZE range; small = h.1.0 }, tt))
-ranged_held (request.EnumDependents handle states size) range h = (h.0, (h.1.0, (record { in_range = leb-true size MAX_ENUM_SIZE range; small = h.1.1.0 }, tt)))
-ranged_held (request.EnumServices handle kinds states size resume) range h = (h.0, (h.1.0, (h.1.1.0, (record { in_range = leb-true size MAX_ENUM_SIZE range; small = h.1.1.1.0 }, h.1.1.1.1))))
-ranged_held (request.QueryStatusEx handle level size) range h = (h.0, (h.1.0, (record { in_range = leb-true size MAX_CONFIG_SIZE range; small = h.1.1.0 }, tt)))
+ranged_held (request.QueryLock handle size) range h = (
+  h.0,
+  (
+    record { in_range = leb-true size MAX_LOCK_STATUS_SIZE range; small = h.1.0 },
+    tt,
+  ),
+)
+ranged_held (request.QueryConfig handle size) range h = (
+  h.0,
+  (
+    record { in_range = leb-true size MAX_CONFIG_SIZE range; small = h.1.0 },
+    tt,
+  ),
+)
+ranged_held (request.EnumDependents handle states size) range h = (
+  h.0,
+  (h.1.0, (record { in_range = leb-true size MAX_ENUM_SIZE range; small = h.1.1.0 }, tt)),
+)
+ranged_held (request.EnumServices handle kinds states size resume) range h =
+    (h.0, (h.1.0, (h.1.1.0, (record { in_range = leb-true size MAX_ENUM_SIZE range; small = h.1.1.1.0 }, h.1.1.1.1))))
+ranged_held (request.QueryStatusEx handle level size) range h = (
+  h.0,
+  (
+    h.1.0,
+    (record { in_range = leb-true size MAX_CONFIG_SIZE range; small = h.1.1.0 }, tt),
+  ),
+)
 ranged_held (request.Change2 handle asked) range h = (h.0, (record { in_range = range; sent = h.1.0 }, tt))
-ranged_held (request.QueryConfig2 handle level size) range h = (h.0, (h.1.0, (record { in_range = leb-true size MAX_CONFIG_SIZE range; small = h.1.1.0 }, tt)))
+ranged_held (request.QueryConfig2 handle level size) range h = (
+  h.0,
+  (
+    h.1.0,
+    (record { in_range = leb-true size MAX_CONFIG_SIZE range; small = h.1.1.0 }, tt),
+  ),
+)
 ranged_held (request.Start handle words) range h = (h.0, (words_held words range h.1.0, tt))
 ranged_held _ range h = h
 
-pub reply_held : (r : Reply) → AllByRecursion IsCarried (reply_values r) → CanHoldAll (reply_shape (kind_of r)) (reply_values r)
+pub reply_held : (r : Reply) → AllByRecursion IsEncodable (reply_values r) → CanHoldAll (reply_shape (kind_of r)) (reply_values r)
 reply_held (reply.Code code) h = h
 reply_held _ h = h

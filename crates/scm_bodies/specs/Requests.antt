@@ -7,7 +7,7 @@ use Rattle.scm_shapes.specs.declared.item.Item.{Item}
 use Rattle.scm_shapes.specs.declared.item.Value.{Value}
 use Rattle.scm_shapes.specs.Shapes.{body_bytes}
 use Rattle.scm_shapes.specs.Calls.{read_as, Spells}
-use Rattle.scm_shapes.specs.Laws.{IsCarried}
+use Rattle.scm_shapes.specs.Laws.{IsEncodable}
 use Rattle.scm_calls.specs.Requests.{plain_shape, plain_from, plain_values}
 use Rattle.scm_calls_cfg.specs.Requests.{config_shape, config_from, config_values}
 use Rattle.scm_calls_enum.specs.Requests.{enum_shape, enum_from, enum_values}
@@ -49,4 +49,4 @@ request_bytes r = body_bytes (values_of r)
 
 -- the parts of a request can stand in a body: numbers have their bits, and a text or bytes as many units as a count of 32 bits can say
 abbrev pub AreCarried : Request → Type 0
-AreCarried r = AllByRecursion IsCarried (values_of r)
+AreCarried r = AllByRecursion IsEncodable (values_of r)

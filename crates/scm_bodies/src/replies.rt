@@ -1,7 +1,7 @@
 ghost use Rattle.std.specs.Prelude.{◌≡◌, ◌≤◌, ◌++◌, ℕ, List, IsTrue, Ok, IfOk, IfErr, IsOk, length};
 ghost use Rattle.std.specs.List.{AllByRecursion};
 ghost use Rattle.ndr_body.specs.Reading.{FindsMemory, Gives};
-ghost use Rattle.scm_shapes.specs.Laws.{IsCarried};
+ghost use Rattle.scm_shapes.specs.Laws.{IsEncodable};
 ghost use Rattle.scm_shapes.specs.Plain.{ArePlain};
 ghost use Rattle.scm_model.specs.declared.calls.Request.{Request as ARequest};
 ghost use Rattle.scm_model.specs.declared.calls.Reply.{Reply as AReply};
@@ -9,7 +9,8 @@ ghost use Rattle.scm_model.specs.Ranges.{in_range};
 ghost use Rattle.scm_calls.specs.Replies.{reply_shape, reply_values, kind_of};
 ghost use Rattle.scm_bodies.specs.declared.call.Call.{Call as ACall};
 ghost use Rattle.scm_bodies.specs.Calls.{reply_kind};
-ghost use Rattle.scm_bodies.specs.Replies.{reply_told, reply_at, IsReply, Answers, read_back, reply_bound, reply_bytes};
+ghost use Rattle.scm_bodies.specs.Replies.{reply_told, reply_at, IsReply, Answers, read_back};
+ghost use Rattle.scm_bodies.specs.Replies.{reply_bound, reply_bytes};
 
 use crate::call::{Call, call_of, reply_kind};
 use ndr_body::BodyFault;
@@ -50,11 +51,15 @@ pub fn write_reply(reply: &Reply, out: Buffer<u8>) -> Result<Buffer<u8>, (OutOfM
     // It takes no memory where there is room for the body.
     ensures enough { length (reply_bytes reply.now) ≤ out.room → IsOk result }
     // Nor where there is room for every reply that answers a request.
-    ensures bounded { (request : ARequest) → Answers request reply.now → reply_bound request ≤ out.room → IsOk result }
+    ensures bounded { (request : ARequest) → Answers request reply.now
+        → reply_bound request ≤ out.room → IsOk result }
     // What some body tells is read back from the one that is written.
-    ensures back { (call : ACall) (bytes : List ℕ) → IsReply call bytes reply.now → reply_at call (reply_bytes reply.now) ≡ Ok reply.now }
-    // So is a reply whose parts can stand in a body, but that bytes come with zeros up to their size.
-    ensures carried { AllByRecursion IsCarried (reply_values reply.now) → reply_told (kind_of reply.now) (reply_bytes reply.now) ≡ Ok (read_back reply.now) }
+    ensures back { (call : ACall) (bytes : List ℕ) → IsReply call bytes reply.now
+        → reply_at call (reply_bytes reply.now) ≡ Ok reply.now }
+    // So is a reply whose parts can stand in a body, but that bytes come with zeros up to their
+    // size.
+    ensures carried { AllByRecursion IsEncodable (reply_values reply.now)
+        → reply_told (kind_of reply.now) (reply_bytes reply.now) ≡ Ok (read_back reply.now) }
 {
     put_reply(reply, out)
 }
@@ -74,8 +79,10 @@ pub fn reply_bound(request: &Request) -> u32
     // What is read is in its ranges. Beyond them no number of 32 bits may be great enough.
     requires { IsTrue (in_range request.now) }
     ensures value { result ≡ reply_bound request.now }
-    ensures bound { (told : AReply) → Answers request.now told → length (reply_bytes told) ≤ result }
-    ensures reached { (told : AReply) × Answers request.now told × (length (reply_bytes told) ≡ result) }
+    ensures bound { (told : AReply) → Answers request.now told
+        → length (reply_bytes told) ≤ result }
+    ensures reached { (told : AReply) × Answers request.now told
+        × (length (reply_bytes told) ≡ result) }
 {
     bound_of(request)
 }

@@ -6,7 +6,8 @@ ghost use Rattle.scm_shapes.specs.Written.{IsWritten};
 ghost use Rattle.scm_model.specs.declared.calls.Request.{Request as ARequest};
 ghost use Rattle.scm_model.specs.Ranges.{in_range};
 ghost use Rattle.scm_bodies.specs.declared.call.Call.{Call as ACall};
-ghost use Rattle.scm_bodies.specs.Requests.{shape_of, asked_by, values_of, request_at, IsRequest, request_bytes, AreCarried};
+ghost use Rattle.scm_bodies.specs.Requests.{shape_of, asked_by, values_of, request_at, IsRequest};
+ghost use Rattle.scm_bodies.specs.Requests.{request_bytes, AreCarried};
 
 use crate::call::{Call, call_of};
 use ndr_body::BodyFault;
@@ -127,8 +128,8 @@ pub fn read_request(alloc: Global, call: Call, body: &[u8]) -> Result<Request, B
     read(alloc, call, body)
 }
 
-/// Writes the body of a request behind what the buffer holds. Without memory the buffer is given back
-/// as it was.
+/// Writes the body of a request behind what the buffer holds. Without memory the buffer is given
+/// back as it was.
 fn put_request(request: &Request, out: Buffer<u8>) -> Result<Buffer<u8>, (OutOfMemory, Buffer<u8>)>
     ensures { IsWritten (values_of request.now) out result }
 {
@@ -151,10 +152,15 @@ fn bytes_of(alloc: Global, request: &Request) -> Result<Items<u8>, OutOfMemory>
 /// The body of a request, in the one form that is written.
 pub fn write_request(alloc: Global, request: &Request) -> Result<Items<u8>, OutOfMemory>
     ensures form { IfOk result (λ bytes. bytes ≡ request_bytes request.now) }
-    // What some body asks is in its ranges, has no part that is too long, and is read back from the one that is written.
-    ensures back { (call : ACall) (bytes : List ℕ) → IsRequest call bytes request.now → IsTrue (in_range request.now) × AreCarried request.now × (request_at call (request_bytes request.now) ≡ Ok request.now) }
-    // And such a request is one that a body asks. A text in memory can have more units than a body can count: no body asks for it.
-    ensures ranged { IsTrue (in_range request.now) → AreCarried request.now → (call : ACall) × (request_at call (request_bytes request.now) ≡ Ok request.now) }
+    // What some body asks is in its ranges, has no part that is too long, and is read back from the
+    // one that is written.
+    ensures back { (call : ACall) (bytes : List ℕ) → IsRequest call bytes request.now
+        → IsTrue (in_range request.now) × AreCarried request.now
+        × (request_at call (request_bytes request.now) ≡ Ok request.now) }
+    // And such a request is one that a body asks. A text in memory can have more units than a body
+    // can count: no body asks for it.
+    ensures ranged { IsTrue (in_range request.now) → AreCarried request.now → (call : ACall)
+        × (request_at call (request_bytes request.now) ≡ Ok request.now) }
 {
     bytes_of(alloc, request)
 }

@@ -1,5 +1,6 @@
 -- What a caller's calls come to.
-use Rattle.std.proofs.Common.{◌≡◌, ◌≢◌, ℕ, inl, inr, ⊎_elim, true, false, List, [], ◌∷◌, ◌++◌, Option, None, Some, Result, Ok, Err, refl, sym, ap, ◌∙◌, subst}
+use Rattle.std.proofs.Common.{◌≡◌, ◌≢◌, ℕ, inl, inr, ⊎_elim, true, false, List, [], ◌∷◌, ◌++◌, Option, None, Some, Result, Ok, Err, refl}
+use Rattle.std.proofs.Common.{sym, ap, ◌∙◌, subst}
 use Rattle.scm_model.specs.declared.codes.TheConstants.{ERROR_NOT_ENOUGH_MEMORY}
 use Rattle.scm_model.specs.declared.calls.Reply.{Reply}
 use Rattle.scm_model.specs.declared.calls.Request.{Request}
@@ -31,7 +32,8 @@ use Rattle.scm_book.specs.declared.answers.StartEnd.{StartEnd}
 use Rattle.scm_book.specs.declared.answers.StartEnd.TheVariants as starts
 use Rattle.scm_book.specs.declared.fault.MakeFault.{MakeFault}
 use Rattle.scm_book.specs.declared.fault.MakeFault.TheVariants as makes
-use Rattle.scm_book.specs.Called.{CallTold, Calls, IfTold, IsBegun, IsReply, LeavesWhose, StartTold, Starts, WantsMemory, called, is_start, refusal_of}
+use Rattle.scm_book.specs.Called.{CallTold, Calls, IfTold, IsBegun, IsReply, LeavesWhose, StartTold, Starts, WantsMemory, called, is_start}
+use Rattle.scm_book.specs.Called.{refusal_of}
 use Rattle.scm_book.specs.Holds.{Opens}
 use Rattle.scm_book.specs.Naming.{whose_after}
 use Rattle.scm_book.specs.Passes.{Known, MadeSo, room_behind}
@@ -52,52 +54,65 @@ reply_or_plan f (request.Start handle words) told start shape = ⊎_elim
 reply_or_plan f asked told start shape = absurd cc
 
 -- whose plan it is that a start is told
-plan_for : (f : Flat) (number caller : ℕ) (found : Option Service) → IsPlanFor f number caller found → plan_caller f.plans number ≡ Some caller
+plan_for : (f : Flat) (number caller : ℕ) (found : Option Service) → IsPlanFor f number caller found
+    → plan_caller f.plans number ≡ Some caller
 plan_for f number caller None bad = absurd bad
 plan_for f number caller (Some row) is = is.callers
 
-own_plan : (before after : Flat) (caller plan : ℕ) (asked : Request) (append : Kept) → is_start asked ≡ true → BeginsOwn before (Call caller asked append) (answers.Begun plan) after → plan_caller after.plans plan ≡ Some caller
+own_plan : (before after : Flat) (caller plan : ℕ) (asked : Request) (append : Kept) → is_start asked ≡ true
+    → BeginsOwn before (Call caller asked append) (answers.Begun plan) after → plan_caller after.plans plan ≡ Some caller
 own_plan before after caller plan (request.Start handle words) append start own = plan_for after plan caller _ own
 own_plan before after caller plan asked append start own = absurd cc
 
 module _ (o : Opening) (opens : Opens o) (k k' : Known) (moment : ℕ) (asked : Request) where
-  pub told_reply : is_start asked ≡ false → (r : Result (Option Answer) MakeFault) → CallEnds o k moment k.caller (called k asked) r k' → IfTold IsReply r
+  pub told_reply : is_start asked ≡ false → (r : Result (Option Answer) MakeFault) → CallEnds o k moment k.caller (called k asked) r k'
+      → IfTold IsReply r
   told_reply other (Ok (Some told)) made =
-      plain_reply (state o.limits o.first made.made.before) asked told other (shaped o opens k k' moment (Call k.caller asked made.append) told made.made)
+      plain_reply (state o.limits o.first made.made.before) asked told other
+      (shaped o opens k k' moment (Call k.caller asked made.append) told made.made)
   told_reply other (Ok None) none = tt
   told_reply other (Err fault) ends = tt
 
-  pub told_begun : is_start asked ≡ true → (r : Result (Option Answer) MakeFault) → CallEnds o k moment k.caller (called k asked) r k' → IfTold IsBegun r
+  pub told_begun : is_start asked ≡ true → (r : Result (Option Answer) MakeFault) → CallEnds o k moment k.caller (called k asked) r k'
+      → IfTold IsBegun r
   told_begun start (Ok (Some told)) made =
-      reply_or_plan (state o.limits o.first made.made.before) asked told start (shaped o opens k k' moment (Call k.caller asked made.append) told made.made)
+      reply_or_plan (state o.limits o.first made.made.before) asked told start
+      (shaped o opens k k' moment (Call k.caller asked made.append) told made.made)
   told_begun start (Ok None) none = tt
   told_begun start (Err fault) ends = tt
 
   -- ## What the call comes to
 
-  wants : (told : Answer) (made : MadeSo o k moment (NoMemory k.caller) told k') → room_behind o made.made.before (called k asked) ≡ true → WantsMemory o k moment asked (refused asked ERROR_NOT_ENOUGH_MEMORY) k'
+  wants : (told : Answer) (made : MadeSo o k moment (NoMemory k.caller) told k') → room_behind o made.made.before (called k asked) ≡ true
+      → WantsMemory o k moment asked (refused asked ERROR_NOT_ENOUGH_MEMORY) k'
   wants told made room =
-      let both = subst (λ (a : Answer). (so : MadeSo o k moment (NoMemory k.caller) a k') × (room_behind o so.made.before (called k asked) ≡ true)) (shaped o opens k k' moment (NoMemory k.caller) told made.made) (made, room) in
+      let both = subst (λ (a : Answer). (so : MadeSo o k moment (NoMemory k.caller) a k')
+      × (room_behind o so.made.before (called k asked) ≡ true)) (shaped o opens k k' moment (NoMemory k.caller) told made.made)
+      (made, room) in
       record { made = both.0; room = both.1; refused = refl }
 
-  pub calls_so : (r : Result (Option Answer) MakeFault) (end : CallEnd) → CallEnds o k moment k.caller (called k asked) r k' → CallTold r (refused asked ERROR_NOT_ENOUGH_MEMORY) end → Calls o k moment asked k' end
+  pub calls_so : (r : Result (Option Answer) MakeFault) (end : CallEnd) → CallEnds o k moment k.caller (called k asked) r k'
+      → CallTold r (refused asked ERROR_NOT_ENOUGH_MEMORY) end → Calls o k moment asked k' end
   calls_so (Ok (Some told)) end made said =
       subst (Calls o k moment asked k') (sym said.2) (inl (subst (λ (a : Answer). MadeSo o k moment (called k asked) a k') said.1 made))
   calls_so (Ok None) end none said = subst (Calls o k moment asked k') (sym said) (inr (wants none.0 none.1 none.2))
   calls_so (Err makes.Full) end ends said = subst (Calls o k moment asked k') (sym said) (record { learnt = ends.0; full = ends.1 })
   calls_so (Err makes.OutOfMemory) end ends said = subst (Calls o k moment asked k') (sym said) (record { learnt = ends.0; free = ends.1 })
 
-  plan_there : (plan : ℕ) → is_start asked ≡ true → (made : MadeSo o k moment (called k asked) (answers.Begun plan) k') → plan_caller (state o.limits o.first k'.seen).plans plan ≡ Some k.caller
+  plan_there : (plan : ℕ) → is_start asked ≡ true → (made : MadeSo o k moment (called k asked) (answers.Begun plan) k')
+      → plan_caller (state o.limits o.first k'.seen).plans plan ≡ Some k.caller
   plan_there plan start made =
       let e : Entry = (moment, Call k.caller asked made.append) in
       let before : List Entry = made.made.before in
       subst (λ (l : List Entry). plan_caller (state o.limits o.first l).plans plan ≡ Some k.caller) (sym made.made.seen)
       (own_plan (state o.limits o.first before) (state o.limits o.first (before ++ e ∷ [])) k.caller plan asked made.append start
       (at_entry LawOfBegun o.limits o.first k'.seen
-      (along Sound LawOfBegun o.limits (keeps o.limits) (begins o.limits) o.first k'.seen (begun o.limits o.first opens.begins) (legal_made o.limits o.first k'.seen made.made.legal))
+      (along Sound LawOfBegun o.limits (keeps o.limits) (begins o.limits) o.first k'.seen (begun o.limits o.first opens.begins)
+      (legal_made o.limits o.first k'.seen made.made.legal))
       before e [] (answers.Begun plan) made.made.seen made.made.answer))
 
-  pub starts_so : k.caller ≢ 0 → is_start asked ≡ true → (r : Result (Option Answer) MakeFault) (end : StartEnd) → CallEnds o k moment k.caller (called k asked) r k'
+  pub starts_so : k.caller ≢ 0 → is_start asked ≡ true → (r : Result (Option Answer) MakeFault) (end : StartEnd)
+      → CallEnds o k moment k.caller (called k asked) r k'
       → StartTold r (refused asked ERROR_NOT_ENOUGH_MEMORY) end → Starts o k moment asked k' end
   starts_so some start (Ok (Some (answers.Reply reply))) end made said = subst (Starts o k moment asked k') (sym said) (inl made)
   starts_so some start (Ok (Some (answers.Begun plan))) end made said = subst (Starts o k moment asked k') (sym said) (record {
@@ -109,8 +124,10 @@ module _ (o : Opening) (opens : Opens o) (k k' : Known) (moment : ℕ) (asked : 
   })
   starts_so some start (Ok (Some told)) end made said = absurd said
   starts_so some start (Ok None) end none said = subst (Starts o k moment asked k') (sym said) (inr (wants none.0 none.1 none.2))
-  starts_so some start (Err makes.Full) end ends said = subst (Starts o k moment asked k') (sym said) (record { learnt = ends.0; full = ends.1 })
-  starts_so some start (Err makes.OutOfMemory) end ends said = subst (Starts o k moment asked k') (sym said) (record { learnt = ends.0; free = ends.1 })
+  starts_so some start (Err makes.Full) end ends said = subst (Starts o k moment asked k') (sym said)
+      (record { learnt = ends.0; full = ends.1 })
+  starts_so some start (Err makes.OutOfMemory) end ends said = subst (Starts o k moment asked k') (sym said)
+      (record { learnt = ends.0; free = ends.1 })
 
 -- ## Whose the pass is
 
@@ -119,7 +136,8 @@ whose_kept f caller (Call by asked append) now = refl
 whose_kept f caller step now = refl
 
 -- a step by which nobody joins or goes leaves the pass whose it was
-pub caller_still : (o : Opening) (k k' : Known) (moment caller : ℕ) (step : Step) → LeavesWhose step → (r : Result (Option Answer) MakeFault) → CallEnds o k moment caller step r k' → k'.caller ≡ k.caller
+pub caller_still : (o : Opening) (k k' : Known) (moment caller : ℕ) (step : Step) → LeavesWhose step
+    → (r : Result (Option Answer) MakeFault) → CallEnds o k moment caller step r k' → k'.caller ≡ k.caller
 caller_still o k k' moment caller step stays (Ok (Some told)) made =
     let f = state o.limits o.first made.made.before in made.made.caller ∙ (whose_kept f k.caller step made.append ∙ stays f k.caller)
 caller_still o k k' moment caller step stays (Ok None) none = none.1.made.caller
@@ -127,7 +145,8 @@ caller_still o k k' moment caller step stays (Err fault) ends = ends.0.caller
 
 -- ## As a book makes it, whose turn and pass lie within what contracts see
 
-pub asks_so : (b b' : Identity) (from k k' : Known) → b ≡ b' → (same : from ≡ k) → (moment caller : ℕ) → caller ≡ from.caller → (step : Step) (r : Result (Option Answer) MakeFault)
+pub asks_so : (b b' : Identity) (from k k' : Known) → b ≡ b' → (same : from ≡ k) → (moment caller : ℕ) → caller ≡ from.caller
+    → (step : Step) (r : Result (Option Answer) MakeFault)
     → CallEnds b.opening from moment caller step r k' → CallEnds b'.opening k moment k.caller step r k'
 asks_so b b' from k k' book same moment caller whose step r ends =
     let mine : caller ≡ k.caller = whose ∙ ap (λ (x : Known). x.caller) same in
@@ -135,34 +154,46 @@ asks_so b b' from k k' book same moment caller whose step r ends =
     (subst (λ (c : ℕ). CallEnds b.opening from moment c step r k') mine ends)
 
 -- the step is the pass's call, whose caller its token tells
-pub call_is : (from k : Known) → from ≡ k → (caller : ℕ) → caller ≡ from.caller → (asked : Request) (step : Step) → step ≡ Call caller asked appended.NotAsked → step ≡ called k asked
-call_is from k same caller whose asked step is = is ∙ ap (λ (n : ℕ). Call n asked appended.NotAsked) (whose ∙ ap (λ (x : Known). x.caller) same)
+pub call_is : (from k : Known) → from ≡ k → (caller : ℕ) → caller ≡ from.caller → (asked : Request) (step : Step)
+    → step ≡ Call caller asked appended.NotAsked → step ≡ called k asked
+call_is from k same caller whose asked step is = is ∙ ap (λ (n : ℕ). Call n asked appended.NotAsked) (whose
+    ∙ ap (λ (x : Known). x.caller) same)
 
 -- ## A refusal is read off the step behind the call, which is as it was where there was no memory
 
-refusal_late : (asked : Request) (k : Known) (step step' : Step) → step ≡ called k asked → step' ≡ step → refusal_of step' ≡ refused asked ERROR_NOT_ENOUGH_MEMORY
+refusal_late : (asked : Request) (k : Known) (step step' : Step) → step ≡ called k asked → step' ≡ step
+    → refusal_of step' ≡ refused asked ERROR_NOT_ENOUGH_MEMORY
 refusal_late asked k step step' is same = ap (λ (s : Step). refusal_of s) (same ∙ is)
 
-told_late : (asked : Request) (k : Known) (step step' : Step) → step ≡ called k asked → (r : Result (Option Answer) MakeFault) → (r ≡ Ok None → step' ≡ step) → (end : CallEnd)
+told_late : (asked : Request) (k : Known) (step step' : Step) → step ≡ called k asked → (r : Result (Option Answer) MakeFault)
+    → (r ≡ Ok None → step' ≡ step) → (end : CallEnd)
     → CallTold r (refusal_of step') end → CallTold r (refused asked ERROR_NOT_ENOUGH_MEMORY) end
 told_late asked k step step' is (Ok (Some told)) same end said = said
-told_late asked k step step' is (Ok None) same end said = said ∙ ap (λ (reply : Reply). calls.Answered reply) (refusal_late asked k step step' is (same refl))
+told_late asked k step step' is (Ok None) same end said = said ∙ ap (λ (reply : Reply). calls.Answered reply)
+    (refusal_late asked k step step' is (same refl))
 told_late asked k step step' is (Err makes.Full) same end said = said
 told_late asked k step step' is (Err makes.OutOfMemory) same end said = said
 
-begun_late : (asked : Request) (k : Known) (step step' : Step) → step ≡ called k asked → (r : Result (Option Answer) MakeFault) → (r ≡ Ok None → step' ≡ step) → (end : StartEnd)
+begun_late : (asked : Request) (k : Known) (step step' : Step) → step ≡ called k asked → (r : Result (Option Answer) MakeFault)
+    → (r ≡ Ok None → step' ≡ step) → (end : StartEnd)
     → StartTold r (refusal_of step') end → StartTold r (refused asked ERROR_NOT_ENOUGH_MEMORY) end
 begun_late asked k step step' is (Ok (Some told)) same end said = said
-begun_late asked k step step' is (Ok None) same end said = said ∙ ap (λ (reply : Reply). starts.Answered reply) (refusal_late asked k step step' is (same refl))
+begun_late asked k step step' is (Ok None) same end said = said ∙ ap (λ (reply : Reply). starts.Answered reply)
+    (refusal_late asked k step step' is (same refl))
 begun_late asked k step step' is (Err makes.Full) same end said = said
 begun_late asked k step step' is (Err makes.OutOfMemory) same end said = said
 
-pub call_comes : (o : Opening) → Opens o → (k k' : Known) (moment : ℕ) (asked : Request) (step step' : Step) → step ≡ called k asked → (r : Result (Option Answer) MakeFault) → (r ≡ Ok None → step' ≡ step) → (end : CallEnd)
+pub call_comes : (o : Opening) → Opens o → (k k' : Known) (moment : ℕ) (asked : Request) (step step' : Step) → step ≡ called k asked
+    → (r : Result (Option Answer) MakeFault) → (r ≡ Ok None → step' ≡ step) → (end : CallEnd)
     → CallEnds o k moment k.caller step r k' → CallTold r (refusal_of step') end → Calls o k moment asked k' end
 call_comes o opens k k' moment asked step step' is r same end ends told =
-    calls_so o opens k k' moment asked r end (subst (λ (s : Step). CallEnds o k moment k.caller s r k') is ends) (told_late asked k step step' is r same end told)
+    calls_so o opens k k' moment asked r end (subst (λ (s : Step). CallEnds o k moment k.caller s r k') is ends)
+    (told_late asked k step step' is r same end told)
 
-pub start_comes : (o : Opening) → Opens o → (k k' : Known) (moment : ℕ) (asked : Request) (step step' : Step) → step ≡ called k asked → (r : Result (Option Answer) MakeFault) → (r ≡ Ok None → step' ≡ step) → (end : StartEnd)
-    → CallEnds o k moment k.caller step r k' → k.caller ≢ 0 → is_start asked ≡ true → StartTold r (refusal_of step') end → Starts o k moment asked k' end
+pub start_comes : (o : Opening) → Opens o → (k k' : Known) (moment : ℕ) (asked : Request) (step step' : Step) → step ≡ called k asked
+    → (r : Result (Option Answer) MakeFault) → (r ≡ Ok None → step' ≡ step) → (end : StartEnd)
+    → CallEnds o k moment k.caller step r k' → k.caller ≢ 0 → is_start asked ≡ true → StartTold r (refusal_of step') end
+    → Starts o k moment asked k' end
 start_comes o opens k k' moment asked step step' is r same end ends some start told =
-    starts_so o opens k k' moment asked some start r end (subst (λ (s : Step). CallEnds o k moment k.caller s r k') is ends) (begun_late asked k step step' is r same end told)
+    starts_so o opens k k' moment asked some start r end (subst (λ (s : Step). CallEnds o k moment k.caller s r k') is ends)
+    (begun_late asked k step step' is r same end told)

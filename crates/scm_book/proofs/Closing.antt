@@ -25,25 +25,32 @@ use Rattle.scm_book.specs.Passes.{Known, Made}
 use Rattle.scm_book.specs.Turns.{known}
 use Rattle.scm_book.proofs.Coming.{shaped}
 
-module _ {K : Type 0} (tells : K → Option (List ℕ)) (faulted : K → ℕ) (b : Identity) (s : Seat (Option (Box (Held K) Global)) View) (h : Held K) (ends : Ends (way_of tells faulted) b s h) where
-  pub closes : (c : Closed K) → c.trail ≡ h.trail → c.keeper ≡ h.keeper → c.services ≡ length h.manager.flat.services → Closes tells faulted b.opening (known s) c
+module _ {K : Type 0} (tells : K → Option (List ℕ)) (faulted : K → ℕ) (b : Identity) (s : Seat (Option (Box (Held K) Global)) View)
+    (h : Held K) (ends : Ends (way_of tells faulted) b s h) where
+  pub closes : (c : Closed K) → c.trail ≡ h.trail → c.keeper ≡ h.keeper → c.services ≡ length h.manager.flat.services
+      → Closes tells faulted b.opening (known s) c
   closes c trail keeper services =
       let log = ends.log in
       let is : c.trail.entries ≡ log = ap (λ (t : Trailed). t.entries) trail ∙ ends.fits.trail in record {
         longer = subst (IsPrefix s.me.0.seen) (sym is) ends.longer;
         legal = subst (Legal b.opening.limits b.opening.first) (sym is) ends.run.legal;
         alone = λ only. is ∙ (ends.alone only).seen;
-        services = services ∙ (ap (λ (f : Flat). length f.services) ends.fits.manager ∙ ap (λ (l : List Entry). length (state b.opening.limits b.opening.first l).services) (sym is));
+        services = services ∙ (ap (λ (f : Flat). length f.services) ends.fits.manager
+            ∙ ap (λ (l : List Entry). length (state b.opening.limits b.opening.first l).services) (sym is));
         journal = h.journal;
-        bears = subst (λ (l : List Entry). Bears (and_changes b.opening.bytes (kept_changes b.opening.limits b.opening.first l)) h.journal (tells c.keeper)) (sym is)
-            (subst (λ (k : K). Bears (and_changes b.opening.bytes (kept_changes b.opening.limits b.opening.first log)) h.journal (tells k)) (sym keeper) ends.fits.journal);
+        bears = subst (λ (l : List Entry). Bears (and_changes b.opening.bytes (kept_changes b.opening.limits b.opening.first l)) h.journal
+            (tells c.keeper)) (sym is)
+            (subst (λ (k : K). Bears (and_changes b.opening.bytes (kept_changes b.opening.limits b.opening.first log)) h.journal (tells k))
+            (sym keeper) ends.fits.journal);
         faults = subst (λ (l : List Entry). RoseBy (failures_in l) b.opening.faults (faulted c.keeper)) (sym is)
             (subst (λ (k : K). RoseBy (failures_in log) b.opening.faults (faulted k)) (sym keeper) ends.fits.faults);
       }
 
 -- a going is told that it was done
-pub gone_told : (o : Opening) → Opens o → (k k' : Known) (moment caller : ℕ) (told : Answer) → Made o k moment (Gone caller) told k' → Made o k moment (Gone caller) answers.Done k'
-gone_told o opens k k' moment caller told made = subst (λ (t : Answer). Made o k moment (Gone caller) t k') (shaped o opens k k' moment (Gone caller) told made) made
+pub gone_told : (o : Opening) → Opens o → (k k' : Known) (moment caller : ℕ) (told : Answer) → Made o k moment (Gone caller) told k'
+    → Made o k moment (Gone caller) answers.Done k'
+gone_told o opens k k' moment caller told made = subst (λ (t : Answer). Made o k moment (Gone caller) t k')
+    (shaped o opens k k' moment (Gone caller) told made) made
 
 -- a pass that is nobody's makes no step
 pub goes_nobody : (o : Opening) (k k' : Known) (moment whose : ℕ) → k' ≡ k → whose ≡ k'.caller → whose ≡ 0 → Goes o k moment k'
@@ -53,7 +60,8 @@ goes_nobody o k k' moment whose same is none = record {
 }
 
 -- a caller goes
-pub goes_away : (o : Opening) → Opens o → (k from k' : Known) (moment whose : ℕ) (told : Answer) → from ≡ k → whose ≡ from.caller → whose ≢ 0 → Made o from moment (Gone whose) told k' → Goes o k moment k'
+pub goes_away : (o : Opening) → Opens o → (k from k' : Known) (moment whose : ℕ) (told : Answer) → from ≡ k → whose ≡ from.caller
+    → whose ≢ 0 → Made o from moment (Gone whose) told k' → Goes o k moment k'
 goes_away o opens k from k' moment whose told same is some made = record {
   caller = λ one. subst (λ (c : ℕ). Made o k moment (Gone c) answers.Done k') (is ∙ ap (λ (x : Known). x.caller) same)
       (subst (λ (x : Known). Made o x moment (Gone whose) answers.Done k') same (gone_told o opens from k' moment whose told made));

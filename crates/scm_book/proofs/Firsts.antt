@@ -1,5 +1,6 @@
 -- The launch that is wanted first, as the holder of the turn takes it in hand and as a pass sees it.
-use Rattle.std.proofs.Common.{◌≡◌, ◌∙◌, ℕ, ◌+◌, ◌≤◌, true, false, IsTrue, List, [], ◌∷◌, ◌++◌, Option, None, Some, Box, refl, sym, ap, subst, arith}
+use Rattle.std.proofs.Common.{◌≡◌, ◌∙◌, ℕ, ◌+◌, ◌≤◌, true, false, IsTrue, List, [], ◌∷◌, ◌++◌, Option, None, Some, Box, refl, sym, ap}
+use Rattle.std.proofs.Common.{subst, arith}
 use Rattle.std.specs.declared.alloc.Global.{Global}
 use Rattle.atomic_table.specs.declared.shared.Seat.{Seat}
 use Rattle.book_rule.specs.declared.view.Opening.{Opening}
@@ -40,16 +41,25 @@ some_first [] process is = absurd cc
 some_first (row ∷ rows) process is = refl
 
 -- taking it in hand tells which process that is
-first_answer : (l : Limits) (f : Flat) (moment process : ℕ) → first_wanted f.wanted ≡ Some process → (step_of l f moment LaunchTaken).answer ≡ answers.Launch process
-first_answer l f moment process is = ap (λ (found : Option ℕ). (finished (settled l (launch_taken (with_moment f moment)).flat) (launch_told found)).answer) is
+first_answer : (l : Limits) (f : Flat) (moment process : ℕ) → first_wanted f.wanted ≡ Some process
+    → (step_of l f moment LaunchTaken).answer ≡ answers.Launch process
+first_answer l f moment process is = ap (λ (found : Option ℕ). (finished (settled l (launch_taken (with_moment f moment)).flat)
+    (launch_told found)).answer) is
 
 module _ {K : Type 0} (h h' : Held K) (moment process : ℕ) (first : first_wanted h.manager.flat.wanted ≡ Some process) where
-  pub adds_launch : h'.manager ≡ record h.manager { flat = (step_of h.manager.limits h.manager.flat moment LaunchTaken).flat; steps = h.manager.steps + 1; room = None }
-      → h'.trail.entries ≡ h.trail.entries ++ (moment, LaunchTaken) ∷ [] → h.trail.room ≤ h'.trail.room + 1 → h'.journal ≡ h.journal → h'.keeper ≡ h.keeper
+  pub adds_launch : h'.manager ≡ record h.manager {
+    flat = (step_of h.manager.limits h.manager.flat moment LaunchTaken).flat;
+    steps = h.manager.steps + 1;
+    room = None;
+  }
+      → h'.trail.entries ≡ h.trail.entries ++ (moment, LaunchTaken) ∷ [] → h.trail.room ≤ h'.trail.room + 1 → h'.journal ≡ h.journal
+      → h'.keeper ≡ h.keeper
       → Adds h h' moment LaunchTaken (answers.Launch process)
   adds_launch manager entries room journal keeper = record {
-    grows = grown h h' moment LaunchTaken LaunchTaken LaunchTaken (answers.Launch process) refl refl (and_both (wants_launch h.manager.flat.wanted) true (some_first h.manager.flat.wanted process first) refl) entries
-        (sym (first_answer h.manager.limits h.manager.flat moment process first)) (ap (λ (m : Managed). m.flat) manager) (ap (λ (m : Managed). m.limits) manager)
+    grows = grown h h' moment LaunchTaken LaunchTaken LaunchTaken (answers.Launch process) refl refl
+        (and_both (wants_launch h.manager.flat.wanted) true (some_first h.manager.flat.wanted process first) refl) entries
+        (sym (first_answer h.manager.limits h.manager.flat moment process first)) (ap (λ (m : Managed). m.flat) manager)
+        (ap (λ (m : Managed). m.limits) manager)
         (ap (λ (m : Managed). m.steps) manager) (let t = ap (λ (m : Managed). m.text) manager in omega arith);
     journal = journal;
     keeper = keeper;
@@ -62,7 +72,8 @@ nothing_wanted f is = none_first f.wanted is
 
 -- ## At the end of a history
 
-module _ {K : Type 0} (tells : K → Option (List ℕ)) (faulted : K → ℕ) (o : Opening) (log : List Entry) (h : Held K) (holds : Holds tells faulted o log h) where
+module _ {K : Type 0} (tells : K → Option (List ℕ)) (faulted : K → ℕ) (o : Opening) (log : List Entry) (h : Held K)
+    (holds : Holds tells faulted o log h) where
   pub wanted_same : wants_launch h.manager.flat.wanted ≡ is_wanted_behind o log
   wanted_same = ap (λ (f : Flat). wants_launch f.wanted) holds.manager
 
@@ -70,16 +81,23 @@ module _ {K : Type 0} (tells : K → Option (List ℕ)) (faulted : K → ℕ) (o
   pub launch_room : Runs o log → (moment : ℕ) → IsTrue (wants_launch h.manager.flat.wanted) → 1 ≤ h.trail.room
   launch_room runs moment wanted = owed_room tells faulted o log h holds runs moment owes.LaunchTaken (sym wanted_same ∙ wanted)
 
-  pub line_same : (path path' : TextWithRoom) (words : List (List ℕ)) → HandsOut (first_line h.manager.flat h.manager.flat.wanted) path path' words → HandsOut (line_behind o log) path path' words
+  pub line_same : (path path' : TextWithRoom) (words : List (List ℕ)) →
+      HandsOut (first_line h.manager.flat h.manager.flat.wanted) path path' words → HandsOut (line_behind o log) path path' words
   line_same path path' words = subst (λ (f : Flat). HandsOut (first_line f f.wanted) path path' words) holds.manager
 
 -- ## A turn
 
-module _ {K : Type 0} (tells : K → Option (List ℕ)) (faulted : K → ℕ) (b : Identity) (s s1 : Seat (Option (Box (Held K) Global)) View) (h : Box (Held K) Global) (enters : Enters (way_of tells faulted) b s s1 h) where
-  pub did_launch : (s2 : Seat (Option (Box (Held K) Global)) View) (moment : ℕ) (path path' : TextWithRoom) (r : Option TakenLaunch) → DidLaunch tells faulted b s1 s2 moment path path' r
+module _ {K : Type 0} (tells : K → Option (List ℕ)) (faulted : K → ℕ) (b : Identity) (s s1 : Seat (Option (Box (Held K) Global)) View)
+    (h : Box (Held K) Global) (enters : Enters (way_of tells faulted) b s s1 h) where
+  pub did_launch : (s2 : Seat (Option (Box (Held K) Global)) View) (moment : ℕ) (path path' : TextWithRoom) (r : Option TakenLaunch)
+      → DidLaunch tells faulted b s1 s2 moment path path' r
       → TakesBy b.opening (known s) moment path path' r (known s2)
-  did_launch s2 moment path path' None did =
-      (left_learnt tells faulted b s s1 h enters s2 did.0, subst (λ (l : List Entry). is_wanted_behind b.opening l ≡ false) (sym (ap (λ m. m.0.seen) did.0.me)) did.1, did.2)
+  did_launch s2 moment path path' None did = (
+    left_learnt tells faulted b s s1 h enters s2 did.0,
+    subst (λ (l : List Entry). is_wanted_behind b.opening l ≡ false)
+        (sym (ap (λ m. m.0.seen) did.0.me)) did.1,
+    did.2,
+  )
   did_launch s2 moment path path' (Some taken) did =
       let e : Entry = (moment, LaunchTaken) in
       let made = did_made tells faulted b s s1 h enters s2 moment LaunchTaken (answers.Launch taken.process) did.0 in

@@ -1,5 +1,6 @@
 -- What the rule of turns asks of an entry that may come.
-use Rattle.std.proofs.Common.{◌≡◌, ◌≢◌, ℕ, ◌+◌, ◌≤◌, ◌⊎◌, inl, inr, true, false, IsTrue, List, [], ◌∷◌, ◌++◌, length, length-append, refl, ap, arith, ne_eqb, Option}
+use Rattle.std.proofs.Common.{◌≡◌, ◌≢◌, ℕ, ◌+◌, ◌≤◌, ◌⊎◌, inl, inr, true, false, IsTrue, List, [], ◌∷◌, ◌++◌, length, length-append, refl}
+use Rattle.std.proofs.Common.{ap, arith, ne_eqb, Option}
 use Rattle.scm_model.specs.declared.flat.Flat.{Flat}
 use Rattle.scm_model.specs.declared.flat.Limits.{Limits}
 use Rattle.scm_model.specs.declared.steps.Name.{Name}
@@ -25,21 +26,25 @@ stays_here (Gone d) c other = ne_eqb c d (λ e. other (inl (ap names.Caller e)))
 stays_here step c other = refl
 
 -- whose a seat is that made a step is who it was, unless it goes, or who joined
-who_after : (f : Flat) (step : Step) (c : ℕ) → whose_after f c step ≢ 0 → (whose_after f c step ≡ c) ⊎ Has (names.Caller (whose_after f c step)) (names_made f step)
+who_after : (f : Flat) (step : Step) (c : ℕ) → whose_after f c step ≢ 0 → (whose_after f c step ≡ c)
+    ⊎ Has (names.Caller (whose_after f c step)) (names_made f step)
 who_after f (Joined principal) c some_one = inr (inl refl)
 who_after f (Gone d) c some_one = absurd (some_one refl)
 who_after f step c some_one = inl refl
 
-lives_after : (l : Limits) (f after : Flat) (moment : ℕ) (step : Step) (told : _) → CallersStay f (moment, step) told after → (c : ℕ) → (c ≢ 0 → IsTrue (is_caller f c)) → whose_after f c step ≢ 0
+lives_after : (l : Limits) (f after : Flat) (moment : ℕ) (step : Step) (told : _) → CallersStay f (moment, step) told after → (c : ℕ)
+    → (c ≢ 0 → IsTrue (is_caller f c)) → whose_after f c step ≢ 0
     → IsTrue (is_caller after (whose_after f c step))
 lives_after l f after moment (Joined principal) told stay c lives some_one = stay.joined
 lives_after l f after moment (Gone d) told stay c lives some_one = absurd (some_one refl)
 lives_after l f after moment step told stay c lives some_one = stay.others c refl (lives some_one)
 
-contradicts : (l : Limits) (f : Flat) (n : Name) (log front rest : List Entry) → log ≡ front ++ rest → has_name l f n (front ++ rest) ≡ true → has_name l f n log ≡ false → ⊥
+contradicts : (l : Limits) (f : Flat) (n : Name) (log front rest : List Entry) → log ≡ front ++ rest → has_name l f n (front ++ rest) ≡ true
+    → has_name l f n log ≡ false → ⊥
 contradicts l f n log front rest is there none = let same = ap (has_name l f n) is in absurd cc
 
-module _ {K : Type 0} (tells : K → Option (List ℕ)) (faulted : K → ℕ) (o : Opening) (log : List Entry) (e : Entry) (runs : Runs o log) (ok : IsTrue (may o.limits (state o.limits o.first log) e.0 e.1))
+module _ {K : Type 0} (tells : K → Option (List ℕ)) (faulted : K → ℕ) (o : Opening) (log : List Entry) (e : Entry) (runs : Runs o log)
+    (ok : IsTrue (may o.limits (state o.limits o.first log) e.0 e.1))
     (free : (is_owed e.1 ≡ true) ⊎ IsTrue (has_room o.limits (state o.limits o.first log) (length log) (text_in log) e.1)) where
   legal_then : Legal o.limits o.first (log ++ e ∷ [])
   legal_then = stays o.limits o.first runs.opens.begins log e runs.legal ok free
@@ -48,7 +53,8 @@ module _ {K : Type 0} (tells : K → Option (List ℕ)) (faulted : K → ℕ) (o
   runs_on = record { opens = runs.opens; legal = legal_then }
 
   pub counted : length log + 1 ≤ o.limits.steps
-  counted = let w = within o.limits o.first runs.opens.begins (log ++ e ∷ []) legal_then in let n = length-append log (e ∷ []) in omega arith
+  counted = let w = within o.limits o.first runs.opens.begins (log ++ e ∷ []) legal_then in let n = length-append log (e ∷ []) in
+      omega arith
 
   pub short : length log + 1 ≤ 4194304
   short = let c = counted in let small = runs.opens.small.steps in omega arith
@@ -56,13 +62,16 @@ module _ {K : Type 0} (tells : K → Option (List ℕ)) (faulted : K → ℕ) (o
   new_name : (n : Name) → Has n (names_made (state o.limits o.first log) e.1) → (k : ℕ) → MadeAt (way_of tells faulted) o log k n → ⊥
   new_name n has k at =
       let no = not_before o.limits o.first n log e (anew o.limits o.first runs.opens.begins log e legal_then) has in
-      contradicts o.limits o.first n log at.front (at.entry ∷ at.rest) at.is (made_at o.limits o.first n at.front at.entry at.rest at.made) no
+      contradicts o.limits o.first n log at.front (at.entry ∷ at.rest) at.is
+      (made_at o.limits o.first n at.front at.entry at.rest at.made) no
 
   unnamed : (n : Name) → Has n (names_made (state o.limits o.first log) e.1) → (k : ℕ) → NamedAt (way_of tells faulted) log k n → ⊥
   unnamed n has k at =
       let no = not_before o.limits o.first n log e (anew o.limits o.first runs.opens.begins log e legal_then) has in
       let stands = behind o.limits o.first runs.opens.begins log at.front at.entry at.rest at.is runs.legal in
-      contradicts o.limits o.first n log at.front (at.entry ∷ at.rest) at.is (made_more o.limits o.first n at.front (at.entry ∷ at.rest) (named_before o.limits o.first n at.front at.entry stands at.named)) no
+      contradicts o.limits o.first n log at.front (at.entry ∷ at.rest) at.is
+      (made_more o.limits o.first n at.front (at.entry ∷ at.rest) (named_before o.limits o.first n at.front at.entry stands at.named))
+      no
 
   pub follows : Follows (way_of tells faulted) o log e
   follows =
@@ -73,6 +82,7 @@ module _ {K : Type 0} (tells : K → Option (List ℕ)) (faulted : K → ℕ) (o
         new = new_name;
         unnamed = unnamed;
         others = λ c lives other. stay.others c (stays_here e.1 c other) lives;
-        mine = λ c lives some_one. lives_after o.limits (state o.limits o.first log) (state o.limits o.first (log ++ e ∷ [])) e.0 e.1 _ stay c lives some_one;
+        mine = λ c lives some_one. lives_after o.limits (state o.limits o.first log)
+            (state o.limits o.first (log ++ e ∷ [])) e.0 e.1 _ stay c lives some_one;
         who = who_after (state o.limits o.first log) e.1;
       }

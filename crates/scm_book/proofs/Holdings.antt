@@ -1,5 +1,6 @@
 -- What the holder has stands at the end of the longer history.
-use Rattle.std.proofs.Common.{◌≡◌, ℕ, ◌+◌, ◌≤◌, true, List, [], ◌∷◌, ◌++◌, length, length-append, Option, None, refl, sym, ap, ◌∙◌, subst, arith}
+use Rattle.std.proofs.Common.{◌≡◌, ℕ, ◌+◌, ◌≤◌, true, List, [], ◌∷◌, ◌++◌, length, length-append, Option, None, refl, sym, ap, ◌∙◌, subst}
+use Rattle.std.proofs.Common.{arith}
 use Rattle.std.proofs.lemmas.List.Sums.{fold-append}
 use Rattle.scm_model.specs.declared.flat.Flat.{Flat}
 use Rattle.scm_model.specs.declared.flat.Limits.{Limits}
@@ -42,14 +43,18 @@ debt_kept f step now = refl
 
 -- the changes of one entry more
 changes_more : (l : Limits) (f : Flat) (told : Option (List ℕ)) (log : List Entry) (e : Entry)
-    → and_changes (and_changes told (kept_changes l f log)) (one_or_none (kept_change l (state l f log) e.1)) ≡ and_changes told (kept_changes l f (log ++ e ∷ []))
+    → and_changes (and_changes told (kept_changes l f log)) (one_or_none (kept_change l (state l f log) e.1)) ≡ and_changes told
+    (kept_changes l f (log ++ e ∷ []))
 changes_more l f told log e =
-    sym (fold-append and_change told (kept_changes l f log) (one_or_none (kept_change l (state l f log) e.1))) ∙ ap (and_changes told) (sym ((law_of_kept l f).more log e))
+    sym (fold-append and_change told (kept_changes l f log) (one_or_none (kept_change l (state l f log) e.1)))
+    ∙ ap (and_changes told) (sym ((law_of_kept l f).more log e))
 
-module _ {K : Type 0} (tells : K → Option (List ℕ)) (faulted : K → ℕ) (o : Opening) (log : List Entry) (h h' : Held K) (holds : Holds tells faulted o log h) where
+module _ {K : Type 0} (tells : K → Option (List ℕ)) (faulted : K → ℕ) (o : Opening) (log : List Entry) (h h' : Held K)
+    (holds : Holds tells faulted o log h) where
   module _ (moment : ℕ) (step : Step) (told : Answer) (grows : Grows h h' moment step told) where
     flat_then : h'.manager.flat ≡ state o.limits o.first (log ++ (moment, step) ∷ [])
-    flat_then = grows.flat ∙ ((λ i. state (holds.limits i) (holds.manager i) ((moment, step) ∷ [])) ∙ sym (state_behind o.limits o.first log ((moment, step) ∷ [])))
+    flat_then = grows.flat ∙ ((λ i. state (holds.limits i) (holds.manager i) ((moment, step) ∷ []))
+        ∙ sym (state_behind o.limits o.first log ((moment, step) ∷ [])))
 
     steps_then : h'.manager.steps ≡ length (log ++ (moment, step) ∷ [])
     steps_then = let a = grows.steps in let b = holds.steps in let n = length-append log ((moment, step) ∷ []) in omega arith
@@ -65,7 +70,8 @@ module _ {K : Type 0} (tells : K → Option (List ℕ)) (faulted : K → ℕ) (o
         let debts = ap (λ (f : Flat). debt f step) holds.manager in
         omega arith
 
-  pub holds_made : (moment : ℕ) (step : Step) (told : Answer) (made : Makes tells faulted h h' moment step told) → Runs o (log ++ (moment, with_kept step made.append) ∷ [])
+  pub holds_made : (moment : ℕ) (step : Step) (told : Answer) (made : Makes tells faulted h h' moment step told)
+      → Runs o (log ++ (moment, with_kept step made.append) ∷ [])
       → Holds tells faulted o (log ++ (moment, with_kept step made.append) ∷ []) h'
   holds_made moment step told made runs =
       let now : Step = with_kept step made.append in
@@ -75,13 +81,16 @@ module _ {K : Type 0} (tells : K → Option (List ℕ)) (faulted : K → ℕ) (o
         steps = steps_then moment now told grows;
         text = text_then moment now told grows;
         manager = flat_then moment now told grows;
-        journal = subst (λ (t : Option (List ℕ)). Bears t h'.journal (tells h'.keeper)) (changes_more o.limits o.first o.bytes log (moment, now))
-            (subst (λ (c : Option Change). Bears (and_changes (and_changes o.bytes (kept_changes o.limits o.first log)) (one_or_none c)) h'.journal (tells h'.keeper))
+        journal = subst (λ (t : Option (List ℕ)). Bears t h'.journal (tells h'.keeper))
+            (changes_more o.limits o.first o.bytes log (moment, now))
+            (subst (λ (c : Option Change). Bears (and_changes (and_changes o.bytes (kept_changes o.limits o.first log)) (one_or_none c))
+            h'.journal (tells h'.keeper))
             (λ i. kept_change (holds.limits i) (holds.manager i) now)
             (made.keeps.bears (and_changes o.bytes (kept_changes o.limits o.first log)) holds.journal));
         faults = subst (λ (n : ℕ). RoseBy n o.faults (faulted h'.keeper)) (sym (failed_more log (moment, now)))
             (rose_more (failures_in log) (one_failed now) o.faults (faulted h.keeper) (faulted h'.keeper) holds.faults made.keeps.faults);
-        room = let owes = owed_then moment now told grows runs in let d = debt_kept h.manager.flat step made.append in let r = made.room in omega arith;
+        room = let owes = owed_then moment now told grows runs in let d = debt_kept h.manager.flat step made.append in let r = made.room in
+            omega arith;
         fits =
             let r = room_text h.manager.limits h.manager.flat h.manager.steps h.manager.text step made.free in
             let l = ap (λ (l : Limits). l.text) holds.limits in
@@ -91,8 +100,10 @@ module _ {K : Type 0} (tells : K → Option (List ℕ)) (faulted : K → ℕ) (o
             omega arith;
       }
 
-  pub holds_added : (moment : ℕ) (step : Step) (told : Answer) → Adds h h' moment step told → is_owed step ≡ true → text_of step ≡ 0 → one_failed step ≡ 0
-      → kept_change h.manager.limits h.manager.flat step ≡ None → Runs o (log ++ (moment, step) ∷ []) → Holds tells faulted o (log ++ (moment, step) ∷ []) h'
+  pub holds_added : (moment : ℕ) (step : Step) (told : Answer) → Adds h h' moment step told → is_owed step ≡ true → text_of step ≡ 0
+      → one_failed step ≡ 0
+      → kept_change h.manager.limits h.manager.flat step ≡ None → Runs o (log ++ (moment, step) ∷ [])
+      → Holds tells faulted o (log ++ (moment, step) ∷ []) h'
   holds_added moment step told adds owes textless faultless changeless runs =
       let grows = adds.grows in record {
         trail = grows.trail ∙ ap (λ (l : List Entry). l ++ (moment, step) ∷ []) holds.trail;
@@ -100,14 +111,18 @@ module _ {K : Type 0} (tells : K → Option (List ℕ)) (faulted : K → ℕ) (o
         steps = steps_then moment step told grows;
         text = text_then moment step told grows;
         manager = flat_then moment step told grows;
-        journal = subst (λ (t : Option (List ℕ)). Bears t h'.journal (tells h'.keeper)) (changes_more o.limits o.first o.bytes log (moment, step))
-            (subst (λ (c : Option Change). Bears (and_changes (and_changes o.bytes (kept_changes o.limits o.first log)) (one_or_none c)) h'.journal (tells h'.keeper))
+        journal = subst (λ (t : Option (List ℕ)). Bears t h'.journal (tells h'.keeper))
+            (changes_more o.limits o.first o.bytes log (moment, step))
+            (subst (λ (c : Option Change). Bears (and_changes (and_changes o.bytes (kept_changes o.limits o.first log)) (one_or_none c))
+            h'.journal (tells h'.keeper))
             (sym changeless ∙ (λ i. kept_change (holds.limits i) (holds.manager i) step))
             (subst (λ (j : _). Bears (and_changes o.bytes (kept_changes o.limits o.first log)) j (tells h'.keeper)) (sym adds.journal)
-            (subst (λ (k : K). Bears (and_changes o.bytes (kept_changes o.limits o.first log)) h.journal (tells k)) (sym adds.keeper) holds.journal)));
+            (subst (λ (k : K). Bears (and_changes o.bytes (kept_changes o.limits o.first log)) h.journal (tells k))
+            (sym adds.keeper) holds.journal)));
         faults = subst (λ (n : ℕ). RoseBy n o.faults (faulted h'.keeper)) (sym (failed_more log (moment, step)))
             (let f = ap faulted adds.keeper in let b = holds.faults in let z = faultless in omega arith);
-        room = let o = owed_then moment step told grows runs in let d = debt_owed h.manager.flat step owes in let r = adds.room in let b = holds.room in omega arith;
+        room = let o = owed_then moment step told grows runs in let d = debt_owed h.manager.flat step owes in let r = adds.room in
+            let b = holds.room in omega arith;
         fits = let m = text_more log (moment, step) in let b = holds.fits in omega arith;
       }
 
@@ -119,7 +134,8 @@ module _ {K : Type 0} (tells : K → Option (List ℕ)) (faulted : K → ℕ) (o
     text = same.none.text ∙ holds.text;
     manager = same.none.flat ∙ holds.manager;
     journal = subst (λ (j : _). Bears (and_changes o.bytes (kept_changes o.limits o.first log)) j (tells h'.keeper)) (sym same.journal)
-        (subst (λ (k : K). Bears (and_changes o.bytes (kept_changes o.limits o.first log)) h.journal (tells k)) (sym same.keeper) holds.journal);
+        (subst (λ (k : K). Bears (and_changes o.bytes (kept_changes o.limits o.first log)) h.journal (tells k))
+        (sym same.keeper) holds.journal);
     faults = let f = ap faulted same.keeper in let b = holds.faults in omega arith;
     room = let f = ap owed same.none.flat in let b = holds.room in let r = same.room in omega arith;
     fits = holds.fits;

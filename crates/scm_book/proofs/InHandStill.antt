@@ -39,21 +39,25 @@ no_process caller process (inl is) = absurd cc
 no_process caller process (inr bad) = bad
 
 -- a plan that is there aims at a service
-aimed : (found : Option Plan) (caller : ℕ) → option_map (λ (plan : Plan). plan.caller) found ≡ Some caller → (target : ℕ) × (option_map (λ (plan : Plan). plan.target) found ≡ Some target)
+aimed : (found : Option Plan) (caller : ℕ) → option_map (λ (plan : Plan). plan.caller) found ≡ Some caller → (target : ℕ)
+    × (option_map (λ (plan : Plan). plan.target) found ≡ Some target)
 aimed None caller is = absurd cc
 aimed (Some plan) caller is = (plan.target, refl)
 
 module _ (o : Opening) (opens : Opens o) where
   -- a plan stays by an entry that neither ends it nor is its caller's going
-  plan_kept : (log : List Entry) (e : Entry) (c number : ℕ) → c ≢ 0 → Legal o.limits o.first (log ++ e ∷ []) → ends_plan number e.1 ≡ false → takes_leave c e.1 ≡ false
-      → plan_caller (state o.limits o.first log).plans number ≡ Some c → plan_caller (state o.limits o.first (log ++ e ∷ [])).plans number ≡ Some c
+  plan_kept : (log : List Entry) (e : Entry) (c number : ℕ) → c ≢ 0 → Legal o.limits o.first (log ++ e ∷ []) → ends_plan number e.1 ≡ false
+      → takes_leave c e.1 ≡ false
+      → plan_caller (state o.limits o.first log).plans number ≡ Some c →
+      plan_caller (state o.limits o.first (log ++ e ∷ [])).plans number ≡ Some c
   plan_kept log e c number somebody legal ends leaves there =
       let l = o.limits in
       let f = o.first in
       let es = log ++ e ∷ [] in
       let aim = aimed (plan_of (state l f log).plans number) c there in
       let after : IsPlanOf (state l f es) number c aim.0 =
-      at_entry PlansAreTheirCallers l f es (along Sound PlansAreTheirCallers l (keeps l) (plans_stay l) f es (begun l f opens.begins) (legal_made l f es legal)) log e [] _ refl (told l f log e [])
+      at_entry PlansAreTheirCallers l f es (along Sound PlansAreTheirCallers l (keeps l) (plans_stay l) f es (begun l f opens.begins)
+      (legal_made l f es legal)) log e [] _ refl (told l f log e [])
       number c aim.0 (record { callers = there; aims = aim.1 }) (ne_eqb c 0 somebody) ends leaves in
       after.callers
 
@@ -61,7 +65,8 @@ module _ (o : Opening) (opens : Opens o) where
     pub learnt_keeps : Learnt o k k' → KeepsAll o k k'
     learnt_keeps learnt = keeps_seen o opens k k' learnt.longer learnt.legal learnt.until learnt.names learnt.caller
 
-    module _ (moment : ℕ) (step : Step) (told : Answer) (made : Made o k moment step told k') (whose : k'.caller ≡ k.caller) (leaves : takes_leave k.caller step ≡ false) where
+    module _ (moment : ℕ) (step : Step) (told : Answer) (made : Made o k moment step told k') (whose : k'.caller ≡ k.caller)
+        (leaves : takes_leave k.caller step ≡ false) where
       pub plan_still : (plan : ℕ) → ends_plan plan step ≡ false → HasPlan o k plan → HasPlan o k' plan
       plan_still plan ends has =
           let e : Entry = (moment, step) in
@@ -76,24 +81,29 @@ module _ (o : Opening) (opens : Opens o) where
           }
 
       -- a step that ends no plan, and is of no process
-      pub made_keeps : ((plan : ℕ) → ends_plan plan step ≡ false) → ((process : ℕ) → Has (names.Process process) (named_in step) → ⊥) → KeepsAll o k k'
+      pub made_keeps : ((plan : ℕ) → ends_plan plan step ≡ false) → ((process : ℕ) → Has (names.Process process) (named_in step) → ⊥)
+          → KeepsAll o k k'
       made_keeps ends unnamed = record {
         processes = λ process phase. process_lasts o opens k k' moment step told made process phase (unnamed process);
         plans = λ plan. plan_still plan (ends plan);
       }
 
     -- who joins has in hand what it had, as nobody
-    pub joins_keep : (moment : ℕ) (principal : Principal) (number : ℕ) → k.caller ≡ 0 → JoinsAs o k moment principal k' number → KeepsAll o k k'
+    pub joins_keep : (moment : ℕ) (principal : Principal) (number : ℕ) → k.caller ≡ 0 → JoinsAs o k moment principal k' number
+        → KeepsAll o k k'
     joins_keep moment principal number nobody joins = record {
-      processes = λ process phase. process_lasts o opens k k' moment (Joined principal) (answers.Caller number) joins.made.made process phase (λ has. absurd has);
+      processes = λ process phase. process_lasts o opens k k' moment (Joined principal)
+          (answers.Caller number) joins.made.made process phase (λ has. absurd has);
       plans = λ plan has. absurd (has.caller nobody);
     }
 
     -- ## The calls
 
     answered_keeps : (moment : ℕ) (asked : Request) (reply : _) → AnsweredSo o k moment asked reply k' → KeepsAll o k k'
-    answered_keeps moment asked reply (inl so) = made_keeps moment (Call k.caller asked so.append) _ so.made so.made.caller refl (λ plan. refl) (no_process k.caller)
-    answered_keeps moment asked reply (inr none) = made_keeps moment (NoMemory k.caller) _ none.made.made none.made.made.caller refl (λ plan. refl) (no_process k.caller)
+    answered_keeps moment asked reply (inl so) = made_keeps moment (Call k.caller asked so.append) _ so.made so.made.caller refl
+        (λ plan. refl) (no_process k.caller)
+    answered_keeps moment asked reply (inr none) = made_keeps moment (NoMemory k.caller) _ none.made.made none.made.made.caller refl
+        (λ plan. refl) (no_process k.caller)
 
     pub calls_keep : (moment : ℕ) (asked : Request) (end : CallEnd) → Calls o k moment asked k' end → KeepsAll o k k'
     calls_keep moment asked (calls.Answered reply) ends = answered_keeps moment asked reply ends
@@ -101,20 +111,24 @@ module _ (o : Opening) (opens : Opens o) where
     calls_keep moment asked calls.OutOfMemory ends = learnt_keeps ends.learnt
 
     pub raises_keep : (moment : ℕ) (subtype : List ℕ) (end : CallEnd) → Raises o k moment subtype k' end → KeepsAll o k k'
-    raises_keep moment subtype (calls.Answered reply) (inl so) = made_keeps moment (Raised k.caller subtype) _ so.made.made so.made.made.caller refl (λ plan. refl) (no_process k.caller)
-    raises_keep moment subtype (calls.Answered reply) (inr none) = made_keeps moment (NoMemory k.caller) _ none.made.made none.made.made.caller refl (λ plan. refl) (no_process k.caller)
+    raises_keep moment subtype (calls.Answered reply) (inl so) = made_keeps moment
+        (Raised k.caller subtype) _ so.made.made so.made.made.caller refl (λ plan. refl) (no_process k.caller)
+    raises_keep moment subtype (calls.Answered reply) (inr none) = made_keeps moment
+        (NoMemory k.caller) _ none.made.made none.made.made.caller refl (λ plan. refl) (no_process k.caller)
     raises_keep moment subtype calls.Full ends = learnt_keeps ends.learnt
     raises_keep moment subtype calls.OutOfMemory ends = learnt_keeps ends.learnt
 
     pub starts_keep : (moment : ℕ) (asked : Request) (end : StartEnd) → Starts o k moment asked k' end → KeepsAll o k k'
     starts_keep moment asked (starts.Answered reply) ends = answered_keeps moment asked reply ends
     starts_keep moment asked (starts.Waiting plan) ends =
-        made_keeps moment (Call k.caller asked ends.made.append) _ ends.made.made ends.made.made.caller refl (λ plan. refl) (no_process k.caller)
+        made_keeps moment (Call k.caller asked ends.made.append) _ ends.made.made ends.made.made.caller refl (λ plan. refl)
+        (no_process k.caller)
     starts_keep moment asked starts.Full ends = learnt_keeps ends.learnt
     starts_keep moment asked starts.OutOfMemory ends = learnt_keeps ends.learnt
 
     pub end_keeps : (moment plan : ℕ) (told : Answer) → Made o k moment (EndStart k.caller plan) told k' → KeepsAllButPlan o plan k k'
     end_keeps moment plan told made = record {
-      processes = λ process phase. process_lasts o opens k k' moment (EndStart k.caller plan) told made process phase (no_process k.caller process);
+      processes = λ process phase. process_lasts o opens k k' moment (EndStart k.caller plan) told made process phase
+          (no_process k.caller process);
       plans = λ other apart. plan_still moment (EndStart k.caller plan) told made made.caller refl other (ne_eqb other plan apart);
     }

@@ -38,16 +38,20 @@ module _ (l : Limits) (f : Flat) (begins : IsOpening l f) where
 
     pub leaves_owed : owed (state l f (log ++ e ∷ [])) + 1 ≤ owed (state l f log) + debt (state l f log) e.1
     leaves_owed =
-        let each : EachEntry LawOfOwed l f (log ++ e ∷ []) = at_entry LawOfOwed l f (log ++ e ∷ []) (along (Clear l) LawOfOwed l (clear_keeps l) (pays l) f (log ++ e ∷ []) (clear_begun l f begins) (legal_made l f (log ++ e ∷ []) legal)) in
+        let each : EachEntry LawOfOwed l f (log ++ e ∷ []) = at_entry LawOfOwed l f (log ++ e ∷ [])
+        (along (Clear l) LawOfOwed l (clear_keeps l) (pays l) f (log ++ e ∷ []) (clear_begun l f begins)
+        (legal_made l f (log ++ e ∷ []) legal)) in
         (each log e [] (step_of l (state l f log) e.0 e.1).answer refl one_told).pays
 
     pub callers_stay : CallersStay (state l f log) e (step_of l (state l f log) e.0 e.1).answer (state l f (log ++ e ∷ []))
     callers_stay =
-        let each : EachEntry CallersStay l f (log ++ e ∷ []) = at_entry CallersStay l f (log ++ e ∷ []) (along Sound CallersStay l (keeps l) (stay l) f (log ++ e ∷ []) (begun l f begins) (legal_made l f (log ++ e ∷ []) legal)) in
+        let each : EachEntry CallersStay l f (log ++ e ∷ []) = at_entry CallersStay l f (log ++ e ∷ [])
+        (along Sound CallersStay l (keeps l) (stay l) f (log ++ e ∷ []) (begun l f begins) (legal_made l f (log ++ e ∷ []) legal)) in
         each log e [] (step_of l (state l f log) e.0 e.1).answer refl one_told
 
     pub anew : MakesAnew l f log e
     anew = makes_anew l f (log ++ e ∷ []) (begun l f begins) (legal_made l f (log ++ e ∷ []) legal) log e [] refl
 
   pub behind : (log front : List Entry) (e : Entry) (rest : List Entry) → log ≡ front ++ e ∷ rest → Legal l f log → StandsBehind l f front e
-  behind log front e rest is legal = stands_behind l f log (begun l f begins) (opened_empty l f begins) (opened_planless l f begins) (legal_made l f log legal) front e rest is
+  behind log front e rest is legal = stands_behind l f log (begun l f begins) (opened_empty l f begins) (opened_planless l f begins)
+      (legal_made l f log legal) front e rest is

@@ -1,5 +1,6 @@
 -- Whom the entries of a history make and name.
-use Rattle.std.proofs.Common.{ℕ, ◌≡◌, ◌∙◌, ◌||◌, ◌⊎◌, inl, inr, ⊎_elim, Bool, true, false, IsTrue, List, [], ◌∷◌, ◌++◌, Option, None, Some, refl, ap, sym, subst, eq-eqb}
+use Rattle.std.proofs.Common.{ℕ, ◌≡◌, ◌∙◌, ◌||◌, ◌⊎◌, inl, inr, ⊎_elim, Bool, true, false, IsTrue, List, [], ◌∷◌, ◌++◌, Option, None, Some}
+use Rattle.std.proofs.Common.{refl, ap, sym, subst, eq-eqb}
 use Rattle.std.specs.Prelude.{IfSome}
 use Rattle.scm_model.specs.declared.flat.Flat.{Flat}
 use Rattle.scm_model.specs.declared.flat.Limits.{Limits}
@@ -7,7 +8,8 @@ use Rattle.scm_model.specs.declared.steps.Name.{Name}
 use Rattle.scm_model.specs.declared.steps.Name.TheVariants as names
 use Rattle.scm_model.specs.Entries.{Entry}
 use Rattle.scm_rules.specs.Histories.{state}
-use Rattle.scm_rules.specs.Named.{caller_made, caller_named, has_made, has_taken, is_it, makes_caller, process_named, process_taken, takes_process}
+use Rattle.scm_rules.specs.Named.{caller_made, caller_named, has_made, has_taken, is_it, makes_caller, process_named, process_taken}
+use Rattle.scm_rules.specs.Named.{takes_process}
 use Rattle.scm_rules.specs.Steps.{step_of}
 use Rattle.scm_history.specs.Anew.{MakesAnew}
 use Rattle.scm_history.specs.Made.{StandsBehind}
@@ -58,7 +60,8 @@ in_processes (Some number) n (inl is) = record { number = number; name = is; is 
 in_processes (Some number) n (inr bad) = absurd bad
 
 in_either : (a b : Option ℕ) (n : Name) → Has n (caller_names a ++ process_names b) → IsCaller a n ⊎ IsProcess b n
-in_either a b n has = ⊎_elim (λ (one : Has n (caller_names a)). inl (in_callers a n one)) (λ (one : Has n (process_names b)). inr (in_processes b n one)) (has_cases n (caller_names a) (process_names b) has)
+in_either a b n has = ⊎_elim (λ (one : Has n (caller_names a)). inl (in_callers a n one))
+    (λ (one : Has n (process_names b)). inr (in_processes b n one)) (has_cases n (caller_names a) (process_names b) has)
 
 -- ## Made by a history
 
@@ -67,32 +70,41 @@ abbrev pub has_name : Limits → Flat → Name → List Entry → Bool
 has_name l f (names.Caller caller) log = has_made l f caller log
 has_name l f (names.Process process) log = has_taken l f process log
 
-caller_at : (l : Limits) (f : Flat) (number : ℕ) (front : List Entry) (e : Entry) (rest : List Entry) → makes_caller (state l f front) number e.1 ≡ true → has_made l f number (front ++ e ∷ rest) ≡ true
+caller_at : (l : Limits) (f : Flat) (number : ℕ) (front : List Entry) (e : Entry) (rest : List Entry)
+    → makes_caller (state l f front) number e.1 ≡ true → has_made l f number (front ++ e ∷ rest) ≡ true
 unfolding state
 caller_at l f number [] e rest is = or_left (makes_caller f number e.1) (has_made l (step_of l f e.0 e.1).flat number rest) is
 caller_at l f number (x ∷ front) e rest is =
-    or_right (makes_caller f number x.1) (has_made l (step_of l f x.0 x.1).flat number (front ++ e ∷ rest)) (caller_at l (step_of l f x.0 x.1).flat number front e rest is)
+    or_right (makes_caller f number x.1) (has_made l (step_of l f x.0 x.1).flat number (front ++ e ∷ rest))
+    (caller_at l (step_of l f x.0 x.1).flat number front e rest is)
 
-process_at : (l : Limits) (f : Flat) (number : ℕ) (front : List Entry) (e : Entry) (rest : List Entry) → takes_process (state l f front) number e.1 ≡ true → has_taken l f number (front ++ e ∷ rest) ≡ true
+process_at : (l : Limits) (f : Flat) (number : ℕ) (front : List Entry) (e : Entry) (rest : List Entry)
+    → takes_process (state l f front) number e.1 ≡ true → has_taken l f number (front ++ e ∷ rest) ≡ true
 unfolding state
 process_at l f number [] e rest is = or_left (takes_process f number e.1) (has_taken l (step_of l f e.0 e.1).flat number rest) is
 process_at l f number (x ∷ front) e rest is =
-    or_right (takes_process f number x.1) (has_taken l (step_of l f x.0 x.1).flat number (front ++ e ∷ rest)) (process_at l (step_of l f x.0 x.1).flat number front e rest is)
+    or_right (takes_process f number x.1) (has_taken l (step_of l f x.0 x.1).flat number (front ++ e ∷ rest))
+    (process_at l (step_of l f x.0 x.1).flat number front e rest is)
 
-caller_more : (l : Limits) (f : Flat) (number : ℕ) (front rest : List Entry) → has_made l f number front ≡ true → has_made l f number (front ++ rest) ≡ true
+caller_more : (l : Limits) (f : Flat) (number : ℕ) (front rest : List Entry) → has_made l f number front ≡ true
+    → has_made l f number (front ++ rest) ≡ true
 caller_more l f number [] rest is = absurd cc
 caller_more l f number (x ∷ front) rest is =
     let later = (step_of l f x.0 x.1).flat in
-    or_more (makes_caller f number x.1) (has_made l later number front) (has_made l later number (front ++ rest)) (caller_more l later number front rest) is
+    or_more (makes_caller f number x.1) (has_made l later number front) (has_made l later number (front ++ rest))
+    (caller_more l later number front rest) is
 
-process_more : (l : Limits) (f : Flat) (number : ℕ) (front rest : List Entry) → has_taken l f number front ≡ true → has_taken l f number (front ++ rest) ≡ true
+process_more : (l : Limits) (f : Flat) (number : ℕ) (front rest : List Entry) → has_taken l f number front ≡ true
+    → has_taken l f number (front ++ rest) ≡ true
 process_more l f number [] rest is = absurd cc
 process_more l f number (x ∷ front) rest is =
     let later = (step_of l f x.0 x.1).flat in
-    or_more (takes_process f number x.1) (has_taken l later number front) (has_taken l later number (front ++ rest)) (process_more l later number front rest) is
+    or_more (takes_process f number x.1) (has_taken l later number front) (has_taken l later number (front ++ rest))
+    (process_more l later number front rest) is
 
 -- who was made by a front was made by the whole
-pub made_more : (l : Limits) (f : Flat) (n : Name) (front rest : List Entry) → has_name l f n front ≡ true → has_name l f n (front ++ rest) ≡ true
+pub made_more : (l : Limits) (f : Flat) (n : Name) (front rest : List Entry) → has_name l f n front ≡ true
+    → has_name l f n (front ++ rest) ≡ true
 made_more l f (names.Caller caller) front rest is = caller_more l f caller front rest is
 made_more l f (names.Process process) front rest is = process_more l f process front rest is
 
@@ -102,7 +114,8 @@ module _ (l : Limits) (f : Flat) (n : Name) (front : List Entry) (e : Entry) whe
   made_at rest has = ⊎_elim
       (λ (c : IsCaller (caller_made (state l f front) e.1) n). subst (λ (m : Name). has_name l f m (front ++ e ∷ rest) ≡ true) (sym c.name)
       (caller_at l f c.number front e rest (is_itself c.number (caller_made (state l f front) e.1) c.is)))
-      (λ (p : IsProcess (process_taken (state l f front) e.1) n). subst (λ (m : Name). has_name l f m (front ++ e ∷ rest) ≡ true) (sym p.name)
+      (λ (p : IsProcess (process_taken (state l f front) e.1) n). subst (λ (m : Name). has_name l f m (front ++ e ∷ rest) ≡ true)
+      (sym p.name)
       (process_at l f p.number front e rest (is_itself p.number (process_taken (state l f front) e.1) p.is)))
       (in_either (caller_made (state l f front) e.1) (process_taken (state l f front) e.1) n has)
 

@@ -36,19 +36,23 @@ module _ {K : Type 0} (tells : K → Option (List ℕ)) (faulted : K → ℕ) (h
     steps = new.steps;
     text = new.text;
     manager = sym (state_none h.manager.limits h.manager.flat);
-    journal = subst (λ (changes : List Change). Bears (and_changes (tells h.keeper) changes) h.journal (tells h.keeper)) (sym (law_of_kept h.manager.limits h.manager.flat).none) new.journal;
+    journal = subst (λ (changes : List Change). Bears (and_changes (tells h.keeper) changes) h.journal (tells h.keeper))
+        (sym (law_of_kept h.manager.limits h.manager.flat).none) new.journal;
     faults = omega arith;
     room = let none = opened_owes h.manager.limits h.manager.flat new.begins in omega arith;
     fits = omega arith;
   }
 
-pub is_new : {K : Type 0} (tells : K → Option (List ℕ)) (h : Held K) (m : Managed) (t : Trailed) (j : Journal) (k : K) → h.manager ≡ m → h.trail ≡ t → h.journal ≡ j → h.keeper ≡ k
-    → IsOpening m.limits m.flat → AreSmall m.limits → m.steps ≡ 0 → m.text ≡ 0 → Bears (tells k) j (tells k) → t.entries ≡ [] → IsNew tells h
+pub is_new : {K : Type 0} (tells : K → Option (List ℕ)) (h : Held K) (m : Managed) (t : Trailed) (j : Journal) (k : K) → h.manager ≡ m
+    → h.trail ≡ t → h.journal ≡ j → h.keeper ≡ k
+    → IsOpening m.limits m.flat → AreSmall m.limits → m.steps ≡ 0 → m.text ≡ 0 → Bears (tells k) j (tells k) → t.entries ≡ []
+    → IsNew tells h
 is_new tells h m t j k manager trail journal keeper begins small steps text bears none = record {
   begins = subst (λ (x : Managed). IsOpening x.limits x.flat) (sym manager) begins;
   small = subst (λ (x : Managed). AreSmall x.limits) (sym manager) small;
   steps = ap (λ (x : Managed). x.steps) manager ∙ steps;
   text = ap (λ (x : Managed). x.text) manager ∙ text;
-  journal = subst (λ (x : Journal). Bears (tells h.keeper) x (tells h.keeper)) (sym journal) (subst (λ x. Bears (tells x) j (tells x)) (sym keeper) bears);
+  journal = subst (λ (x : Journal). Bears (tells h.keeper) x (tells h.keeper)) (sym journal)
+      (subst (λ x. Bears (tells x) j (tells x)) (sym keeper) bears);
   trail = ap (λ (x : Trailed). x.entries) trail ∙ none;
 }

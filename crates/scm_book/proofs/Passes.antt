@@ -1,5 +1,6 @@
 -- What a turn comes to, as contracts see the pass.
-use Rattle.std.proofs.Common.{◌≡◌, ℕ, true, List, [], ◌∷◌, ◌++◌, length, Option, None, Some, Result, Ok, Err, Box, box_value, sym, ap, ◌∙◌, subst, arith}
+use Rattle.std.proofs.Common.{◌≡◌, ℕ, true, List, [], ◌∷◌, ◌++◌, length, Option, None, Some, Result, Ok, Err, Box, box_value, sym, ap, ◌∙◌}
+use Rattle.std.proofs.Common.{subst, arith}
 use Rattle.std.specs.declared.alloc.Global.{Global}
 use mathlib.Core.List.{IsPrefix}
 use Rattle.atomic_table.specs.Seated.{TableId}
@@ -24,19 +25,22 @@ use Rattle.scm_book.specs.declared.held.Held.{Held}
 use Rattle.scm_book.specs.Holds.{Holds, Runs, way_of}
 use Rattle.scm_book.specs.Passes.{ClaimsIn, Known, Learnt, Made, MadeSo, knows, room_behind, view_of}
 use Rattle.scm_book.specs.Starts.{AlwaysThere, DidEnd, Ends, IsThere, IsUndecided}
-use Rattle.scm_book.specs.Turns.{AlwaysMay, CallEnds, Did, DidCall, DidSo, DidStep, HasTurn, IsSeated, LeftIt, MakeCause, MayMake, NamesNoOther, StepCause, StepEnds, known, of_badge}
+use Rattle.scm_book.specs.Turns.{AlwaysMay, CallEnds, Did, DidCall, DidSo, DidStep, HasTurn, IsSeated, LeftIt, MakeCause, MayMake}
+use Rattle.scm_book.specs.Turns.{NamesNoOther, StepCause, StepEnds, known, of_badge}
 
 -- ## What a keeper tells plays no part in what a seat claims
 
 module _ {K J : Type 0} (tells : K → Option (List ℕ)) (faulted : K → ℕ) (tells' : J → Option (List ℕ)) (faulted' : J → ℕ) where
-  made_as : (o : Opening) (log : List Entry) (k : ℕ) (n : Name) → MadeAt (way_of tells faulted) o log k n → MadeAt (way_of tells' faulted') o log k n
+  made_as : (o : Opening) (log : List Entry) (k : ℕ) (n : Name) → MadeAt (way_of tells faulted) o log k n
+      → MadeAt (way_of tells' faulted') o log k n
   made_as o log k n at = record { front = at.front; entry = at.entry; rest = at.rest; is = at.is; place = at.place; made = at.made }
 
   named_as : (log : List Entry) (k : ℕ) (n : Name) → NamedAt (way_of tells faulted) log k n → NamedAt (way_of tells' faulted') log k n
   named_as log k n at = record { front = at.front; entry = at.entry; rest = at.rest; is = at.is; place = at.place; named = at.named }
 
 module _ {K J : Type 0} (tells : K → Option (List ℕ)) (faulted : K → ℕ) (tells' : J → Option (List ℕ)) (faulted' : J → ℕ) where
-  claims_as : (o : Opening) (log : List Entry) (whose : ℕ) (names : List Name) (own : List ℕ) (seen : List Entry) → Claims (way_of tells faulted) o log whose names own seen
+  claims_as : (o : Opening) (log : List Entry) (whose : ℕ) (names : List Name) (own : List ℕ) (seen : List Entry)
+      → Claims (way_of tells faulted) o log whose names own seen
       → Claims (way_of tells' faulted') o log whose names own seen
   claims_as o log whose names own seen claims = record {
     within = claims.within;
@@ -49,7 +53,8 @@ module _ {K J : Type 0} (tells : K → Option (List ℕ)) (faulted : K → ℕ) 
 
 module _ {K : Type 0} (tells : K → Option (List ℕ)) (faulted : K → ℕ) where
   -- who has seen more claims the same
-  claims_seen : (o : Opening) (log : List Entry) (whose : ℕ) (names : List Name) (own : List ℕ) (seen : List Entry) → IsPrefix seen log → Claims (way_of tells faulted) o log whose names own seen
+  claims_seen : (o : Opening) (log : List Entry) (whose : ℕ) (names : List Name) (own : List ℕ) (seen : List Entry) → IsPrefix seen log
+      → Claims (way_of tells faulted) o log whose names own seen
       → Claims (way_of tells faulted) o log whose names own log
   claims_seen o log whose names own seen longer claims = record {
     within = λ k mine. let low = claims.within k mine in let up = prefix_length seen log longer in omega arith;
@@ -60,10 +65,13 @@ module _ {K : Type 0} (tells : K → Option (List ℕ)) (faulted : K → ℕ) wh
     lives = claims.lives;
   }
 
-  pub claims_in : (o : Opening) (log : List Entry) (table : TableId) (v : View) → ClaimsOf (way_of tells faulted) o log v → ClaimsIn o log (knows table v)
-  claims_in o log table v claims = claims_as tells faulted (λ (k : Unit {0}). None) (λ (k : Unit {0}). 0) o log v.caller v.names v.own v.seen claims
+  pub claims_in : (o : Opening) (log : List Entry) (table : TableId) (v : View) → ClaimsOf (way_of tells faulted) o log v
+      → ClaimsIn o log (knows table v)
+  claims_in o log table v claims = claims_as tells faulted (λ (k : Unit {0}). None)
+      (λ (k : Unit {0}). 0) o log v.caller v.names v.own v.seen claims
 
-  module _ (b : Identity) (s s1 : Seat (Option (Box (Held K) Global)) View) (h : Box (Held K) Global) (enters : Enters (way_of tells faulted) b s s1 h) where
+  module _ (b : Identity) (s s1 : Seat (Option (Box (Held K) Global)) View) (h : Box (Held K) Global)
+      (enters : Enters (way_of tells faulted) b s s1 h) where
     sees : s1.me.0 ≡ having_seen s.me.0 enters.log
     sees = ap (λ m. m.0) enters.me
 
@@ -87,16 +95,19 @@ module _ {K : Type 0} (tells : K → Option (List ℕ)) (faulted : K → ℕ) wh
     has_turn waits = record { seat = holding waits; holds = entered_holds; runs = entered_runs }
 
     -- what always may come may come now
-    pub may_now : (moment : ℕ) (step : Step) → AlwaysMay b.opening (known s) moment step → MayMake b.opening s1.me.0.seen s1.me.0.names moment step
+    pub may_now : (moment : ℕ) (step : Step) → AlwaysMay b.opening (known s) moment step
+        → MayMake b.opening s1.me.0.seen s1.me.0.names moment step
     may_now moment step may = subst (λ (v : View). MayMake b.opening v.seen v.names moment step) (sym sees)
         (may enters.log enters.learns.longer enters.learns.run (claims_in b.opening enters.log s.table_id s.me.0 enters.learns.claims))
 
     -- a plan that is always there is there now
-    pub there_now : (caller plan : ℕ) → AlwaysThere b.opening (known s) caller plan → IsThere b.opening s1.me.0.seen s1.me.0.names caller plan
+    pub there_now : (caller plan : ℕ) → AlwaysThere b.opening (known s) caller plan
+        → IsThere b.opening s1.me.0.seen s1.me.0.names caller plan
     there_now caller plan there = subst (λ (v : View). IsThere b.opening v.seen v.names caller plan) (sym sees)
         (there enters.log enters.learns.longer enters.learns.run (claims_in b.opening enters.log s.table_id s.me.0 enters.learns.claims))
 
-    pub did_made : (s2 : Seat (Option (Box (Held K) Global)) View) (moment : ℕ) (step : Step) (told : Answer) → Did (way_of tells faulted) b s1 s2 moment step told → Made b.opening (known s) moment step told (known s2)
+    pub did_made : (s2 : Seat (Option (Box (Held K) Global)) View) (moment : ℕ) (step : Step) (told : Answer)
+        → Did (way_of tells faulted) b s1 s2 moment step told → Made b.opening (known s) moment step told (known s2)
     did_made s2 moment step told did =
         let log : List Entry = enters.log in
         let e : Entry = (moment, step) in
@@ -106,19 +117,26 @@ module _ {K : Type 0} (tells : K → Option (List ℕ)) (faulted : K → ℕ) wh
           before = log;
           longer = enters.learns.longer;
           seen = seen;
-          legal = subst (Legal b.opening.limits b.opening.first) (sym (seen ∙ ap (λ (v : View). v.seen ++ e ∷ []) (sym sees))) did.run.legal;
+          legal = subst (Legal b.opening.limits b.opening.first) (sym (seen ∙ ap (λ (v : View). v.seen ++ e ∷ []) (sym sees)))
+              did.run.legal;
           own = ap (λ (v : View). v.own) now;
           names = ap (λ (v : View). v.names) now;
           caller = ap (λ (v : View). v.caller) now;
           answer = subst (λ (l : List Entry). answer b.opening.limits b.opening.first l (length log) ≡ Some told) (sym seen)
-              (subst (λ (v : View). answer b.opening.limits b.opening.first (v.seen ++ e ∷ []) (length v.seen) ≡ Some told) sees did.answer);
+              (subst (λ (v : View). answer b.opening.limits b.opening.first (v.seen ++ e ∷ []) (length v.seen) ≡ Some told) sees
+              did.answer);
           until = claims_in b.opening log s.table_id s.me.0 enters.learns.claims;
           claims = claims_in b.opening s2.me.0.seen s2.table_id s2.me.0 did.claims;
           alone = λ is. (enters.learns.alone is).seen;
-          same = record { table = did.table ∙ enters.table; opening = ap (λ (v : View). v.opening) now; alone = ap (λ (v : View). v.alone) now };
+          same = record {
+            table = did.table ∙ enters.table;
+            opening = ap (λ (v : View). v.opening) now;
+            alone = ap (λ (v : View). v.alone) now;
+          };
         }
 
-    pub did_so : (s2 : Seat (Option (Box (Held K) Global)) View) (moment : ℕ) (step : Step) (told : Answer) → DidSo (way_of tells faulted) b s1 s2 moment step told → MadeSo b.opening (known s) moment step told (known s2)
+    pub did_so : (s2 : Seat (Option (Box (Held K) Global)) View) (moment : ℕ) (step : Step) (told : Answer)
+        → DidSo (way_of tells faulted) b s1 s2 moment step told → MadeSo b.opening (known s) moment step told (known s2)
     unfolding did_made
     did_so s2 moment step told did = record {
       append = did.append;
@@ -135,35 +153,55 @@ module _ {K : Type 0} (tells : K → Option (List ℕ)) (faulted : K → ℕ) wh
           own = ap (λ (v : View). v.own) now;
           names = ap (λ (v : View). v.names) now;
           caller = ap (λ (v : View). v.caller) now;
-          until = subst (λ (l : List Entry). ClaimsIn b.opening l (known s)) (sym seen) (claims_in b.opening enters.log s.table_id s.me.0 enters.learns.claims);
+          until = subst (λ (l : List Entry). ClaimsIn b.opening l (known s)) (sym seen)
+              (claims_in b.opening enters.log s.table_id s.me.0 enters.learns.claims);
           claims = claims_in b.opening s2.me.0.seen s2.table_id s2.me.0
               (subst (λ (v : View). ClaimsOf (way_of tells faulted) b.opening v.seen v) (sym now)
-              (claims_seen b.opening enters.log s.me.0.caller s.me.0.names s.me.0.own s.me.0.seen enters.learns.longer enters.learns.claims));
+              (claims_seen b.opening enters.log s.me.0.caller s.me.0.names s.me.0.own s.me.0.seen enters.learns.longer
+              enters.learns.claims));
           alone = λ is. seen ∙ (enters.learns.alone is).seen;
-          same = record { table = left.table ∙ enters.table; opening = ap (λ (v : View). v.opening) now; alone = ap (λ (v : View). v.alone) now };
+          same = record {
+            table = left.table ∙ enters.table;
+            opening = ap (λ (v : View). v.opening) now;
+            alone = ap (λ (v : View). v.alone) now;
+          };
         }
 
     -- what was made within the turn, or wasn't
     left_seen : (s2 : Seat (Option (Box (Held K) Global)) View) → LeftIt s1 s2 → s1.me.0.seen ≡ s2.me.0.seen
     left_seen s2 left = ap (λ m. m.0.seen) (sym left.me)
 
-    pub did_step : (s2 : Seat (Option (Box (Held K) Global)) View) (moment : ℕ) (step : Step) (r : Result Answer StepFault) → DidStep tells faulted b s1 s2 moment step r → StepEnds b.opening (known s) moment step r (known s2)
+    pub did_step : (s2 : Seat (Option (Box (Held K) Global)) View) (moment : ℕ) (step : Step) (r : Result Answer StepFault)
+        → DidStep tells faulted b s1 s2 moment step r → StepEnds b.opening (known s) moment step r (known s2)
     unfolding did_so left_learnt
     did_step s2 moment step (Ok told) did = did_so s2 moment step told did
-    did_step s2 moment step (Err fault) did = (left_learnt s2 did.0, subst (λ (l : List Entry). StepCause b.opening l moment step fault) (left_seen s2 did.0) did.1)
+    did_step s2 moment step (Err fault) did = (
+      left_learnt s2 did.0,
+      subst (λ (l : List Entry). StepCause b.opening l moment step fault)
+          (left_seen s2 did.0) did.1,
+    )
 
-    pub did_call : (s2 : Seat (Option (Box (Held K) Global)) View) (moment caller : ℕ) (call : Step) (r : Result (Option Answer) MakeFault) → DidCall tells faulted b s1 s2 moment caller call r
+    pub did_call : (s2 : Seat (Option (Box (Held K) Global)) View) (moment caller : ℕ) (call : Step) (r : Result (Option Answer) MakeFault)
+        → DidCall tells faulted b s1 s2 moment caller call r
         → CallEnds b.opening (known s) moment caller call r (known s2)
     unfolding did_made did_so left_learnt
     did_call s2 moment caller call (Ok (Some told)) did = did_so s2 moment call told did
     did_call s2 moment caller call (Ok None) did =
         (did.0, did_so s2 moment (NoMemory caller) did.0 did.1, subst (λ (v : View). room_behind b.opening v.seen call ≡ true) sees did.2)
-    did_call s2 moment caller call (Err fault) did = (left_learnt s2 did.0, subst (λ (l : List Entry). MakeCause b.opening l call fault) (left_seen s2 did.0) did.1)
+    did_call s2 moment caller call (Err fault) did = (
+      left_learnt s2 did.0,
+      subst (λ (l : List Entry). MakeCause b.opening l call fault) (left_seen s2 did.0) did.1,
+    )
 
-    pub did_end : (s2 : Seat (Option (Box (Held K) Global)) View) (moment caller plan : ℕ) (r : Option Answer) → DidEnd tells faulted b s1 s2 moment caller plan r → Ends b.opening (known s) moment caller plan (known s2) r
+    pub did_end : (s2 : Seat (Option (Box (Held K) Global)) View) (moment caller plan : ℕ) (r : Option Answer)
+        → DidEnd tells faulted b s1 s2 moment caller plan r → Ends b.opening (known s) moment caller plan (known s2) r
     unfolding did_made left_learnt
     did_end s2 moment caller plan (Some told) did = did_made s2 moment (EndStart caller plan) told did
-    did_end s2 moment caller plan None did = (left_learnt s2 did.0, subst (λ (l : List Entry). IsUndecided b.opening l plan) (left_seen s2 did.0) did.1)
+    did_end s2 moment caller plan None did = (
+      left_learnt s2 did.0,
+      subst (λ (l : List Entry). IsUndecided b.opening l plan)
+          (left_seen s2 did.0) did.1,
+    )
 
     -- whom it may name it may name still
     pub names_now : (step : Step) → NamesNoOther s.me.0.names step → NamesNoOther s1.me.0.names step
@@ -172,21 +210,31 @@ module _ {K : Type 0} (tells : K → Option (List ℕ)) (faulted : K → ℕ) wh
     -- after a call the seat waits again
     pub left_waits : (s2 : Seat (Option (Box (Held K) Global)) View) → Waits b s → LeftIt s1 s2 → Waits b s2
     left_waits s2 waits left = record {
-      of = record { table = left.table ∙ (enters.table ∙ waits.of.table); opening = ap (λ m. m.0.opening) left.me ∙ (holding waits).of.opening };
+      of = record {
+        table = left.table ∙ (enters.table ∙ waits.of.table);
+        opening = ap (λ m. m.0.opening) left.me
+            ∙ (holding waits).of.opening;
+      };
       away = ap (λ m. m.0.stage) left.me;
       empty = ap (λ m. m.1) left.me;
     }
 
-    pub did_waits : (s2 : Seat (Option (Box (Held K) Global)) View) (moment : ℕ) (step : Step) (told : Answer) → Waits b s → Did (way_of tells faulted) b s1 s2 moment step told → Waits b s2
+    pub did_waits : (s2 : Seat (Option (Box (Held K) Global)) View) (moment : ℕ) (step : Step) (told : Answer) → Waits b s
+        → Did (way_of tells faulted) b s1 s2 moment step told → Waits b s2
     did_waits s2 moment step told waits did = record {
-      of = record { table = did.table ∙ (enters.table ∙ waits.of.table); opening = ap (λ m. m.0.opening) did.me ∙ (holding waits).of.opening };
+      of = record {
+        table = did.table ∙ (enters.table ∙ waits.of.table);
+        opening = ap (λ m. m.0.opening) did.me
+            ∙ (holding waits).of.opening;
+      };
       away = ap (λ m. m.0.stage) did.me;
       empty = ap (λ m. m.1) did.me;
     }
 
 -- ## A token that becomes a seat, and a seat that becomes a token
 
-module _ {K : Type 0} (b : Identity) (old r : Badge View) (s : Seat (Option (Box (Held K) Global)) View) (same : r ≡ old) (seated : IsSeated b old) (table : s.table_id ≡ r.table_id) (views : r.views ≡ s.me.0 ∷ []) where
+module _ {K : Type 0} (b : Identity) (old r : Badge View) (s : Seat (Option (Box (Held K) Global)) View) (same : r ≡ old)
+    (seated : IsSeated b old) (table : s.table_id ≡ r.table_id) (views : r.views ≡ s.me.0 ∷ []) where
   view_is : view_of old.views ≡ s.me.0
   view_is = ap (λ (t : Badge View). view_of t.views) (sym same) ∙ ap view_of views
 
@@ -203,13 +251,17 @@ module _ {K : Type 0} (b : Identity) (old r : Badge View) (s : Seat (Option (Box
     empty = empty;
   }
 
-module _ {K : Type 0} (b : Identity) (new : Badge View) (s : Seat (Option (Box (Held K) Global)) View) (table : new.table_id ≡ s.table_id) (views : new.views ≡ s.me.0 ∷ []) where
+module _ {K : Type 0} (b : Identity) (new : Badge View) (s : Seat (Option (Box (Held K) Global)) View) (table : new.table_id ≡ s.table_id)
+    (views : new.views ≡ s.me.0 ∷ []) where
   pub known_back : known s ≡ of_badge new
   known_back = λ i. knows (sym table i) (ap view_of (sym views) i)
 
   pub seated_back : Waits b s → IsSeated b new
   seated_back waits = record {
-    rests = record { one = views ∙ ap (λ (v : View). v ∷ []) (ap view_of (sym views)); away = ap (λ (vs : List View). (view_of vs).stage) views ∙ waits.away };
+    rests = record {
+      one = views ∙ ap (λ (v : View). v ∷ []) (ap view_of (sym views));
+      away = ap (λ (vs : List View). (view_of vs).stage) views ∙ waits.away;
+    };
     of = record { table = table ∙ waits.of.table; opening = ap (λ (vs : List View). (view_of vs).opening) views ∙ waits.of.opening };
   }
 
@@ -219,7 +271,8 @@ module _ {from s s' to : Known} where
   as_tokens P before after holds = subst (λ (k : Known). P k to) (sym before) (subst (P s) after holds)
 
 -- a seat that had the turn and gave it up waits again
-pub settled_waits : {K : Type 0} (b : Identity) (s s' : Seat (Option (Box (Held K) Global)) View) (v : View) → Holding b s → s'.table_id ≡ s.table_id → s'.me ≡ (having_left v, []) → v.opening ≡ s.me.0.opening → Waits b s'
+pub settled_waits : {K : Type 0} (b : Identity) (s s' : Seat (Option (Box (Held K) Global)) View) (v : View) → Holding b s
+    → s'.table_id ≡ s.table_id → s'.me ≡ (having_left v, []) → v.opening ≡ s.me.0.opening → Waits b s'
 settled_waits b s s' v holding table me same = record {
   of = record { table = table ∙ holding.of.table; opening = ap (λ m. m.0.opening) me ∙ (same ∙ holding.of.opening) };
   away = ap (λ m. m.0.stage) me;

@@ -24,7 +24,8 @@ use Rattle.scm_book.specs.Holds.{one_failed}
 use Rattle.scm_book.specs.Naming.{named_in}
 use Rattle.scm_book.specs.Steps.{owed_step}
 
-pub room_steps : (l : Limits) (f : Flat) (steps text : ℕ) (step : Step) → has_room l f steps text step ≡ true → steps + owed f + need f step ≤ l.steps
+pub room_steps : (l : Limits) (f : Flat) (steps text : ℕ) (step : Step) → has_room l f steps text step ≡ true → steps + owed f
+    + need f step ≤ l.steps
 room_steps l f steps text step has = leb-true (steps + owed f + need f step) l.steps (and_parts _ _ has).0
 
 pub room_text : (l : Limits) (f : Flat) (steps text : ℕ) (step : Step) → has_room l f steps text step ≡ true → text + text_of step ≤ l.text
@@ -40,11 +41,13 @@ pub text_kept : (step : Step) (now : Kept) → text_of (with_kept step now) ≡ 
 text_kept (Call caller asked append) now = refl
 text_kept step now = refl
 
-pub come_kept : (l : Limits) (f : Flat) (moment : ℕ) (step : Step) (now : Kept) → may_come l f moment (with_kept step now) ≡ may_come l f moment step
+pub come_kept : (l : Limits) (f : Flat) (moment : ℕ) (step : Step) (now : Kept)
+    → may_come l f moment (with_kept step now) ≡ may_come l f moment step
 come_kept l f moment (Call caller asked append) now = refl
 come_kept l f moment step now = refl
 
-pub has_kept : (l : Limits) (f : Flat) (steps text : ℕ) (step : Step) (now : Kept) → has_room l f steps text (with_kept step now) ≡ has_room l f steps text step
+pub has_kept : (l : Limits) (f : Flat) (steps text : ℕ) (step : Step) (now : Kept)
+    → has_room l f steps text (with_kept step now) ≡ has_room l f steps text step
 has_kept l f steps text (Call caller asked append) now = refl
 has_kept l f steps text step now = refl
 
@@ -59,24 +62,27 @@ made_kept room Tick now made = made
 made_kept room (Raised caller subtype) now made = made
 made_kept room step now made = tt
 
-pub made_for : (room : Option Step) (step : Step) → room ≡ Some (unkept step) → WasMadeFor room step
-made_for room (Call caller asked append) is = is
-made_for room (Joined principal) is = is
-made_for room Tick is = is
-made_for room (Raised caller subtype) is = is
-made_for room step is = tt
+pub prepared_for : (room : Option Step) (step : Step) → room ≡ Some (unkept step) → WasMadeFor room step
+prepared_for room (Call caller asked append) is = is
+prepared_for room (Joined principal) is = is
+prepared_for room Tick is = is
+prepared_for room (Raised caller subtype) is = is
+prepared_for room step is = tt
 
 -- a step that makes no change tells of none
-pub right_none : (l : Limits) (f : Flat) (step : Step) → change_of l f step ≡ None → keeps_right l f (with_kept step appended.NotAsked) ≡ true
+pub right_none : (l : Limits) (f : Flat) (step : Step) → change_of l f step ≡ None
+    → keeps_right l f (with_kept step appended.NotAsked) ≡ true
 right_none l f (Call caller asked append) none = ap (λ (change : Option Change). not (is_some change)) none
 right_none l f step none = refl
 
 -- and one that makes one tells what became of it
-pub right_kept : (l : Limits) (f : Flat) (step : Step) (change : Change) → change_of l f step ≡ Some change → keeps_right l f (with_kept step appended.Kept) ≡ true
+pub right_kept : (l : Limits) (f : Flat) (step : Step) (change : Change) → change_of l f step ≡ Some change
+    → keeps_right l f (with_kept step appended.Kept) ≡ true
 right_kept l f (Call caller asked append) change is = ap (λ (change : Option Change). is_some change) is
 right_kept l f step change is = absurd cc
 
-pub right_failed : (l : Limits) (f : Flat) (step : Step) (change : Change) → change_of l f step ≡ Some change → keeps_right l f (with_kept step appended.Failed) ≡ true
+pub right_failed : (l : Limits) (f : Flat) (step : Step) (change : Change) → change_of l f step ≡ Some change
+    → keeps_right l f (with_kept step appended.Failed) ≡ true
 right_failed l f (Call caller asked append) change is = ap (λ (change : Option Change). is_some change) is
 right_failed l f step change is = absurd cc
 

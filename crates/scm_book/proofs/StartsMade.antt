@@ -18,10 +18,15 @@ use Rattle.scm_book.proofs.InHandStill.{end_keeps, learnt_keeps}
 use Rattle.scm_book.proofs.Lasting.{keeps_seen}
 
 -- a pass's plan is there behind all that goes on from what it has seen
-pub always_there : (o : Opening) → Opens o → (k : Known) (caller plan : ℕ) → caller ≡ k.caller → HasPlan o k plan → AlwaysThere o k caller plan
+pub always_there : (o : Opening) → Opens o → (k : Known) (caller plan : ℕ) → caller ≡ k.caller → HasPlan o k plan
+    → AlwaysThere o k caller plan
 always_there o opens k caller plan whose has log longer runs claims =
     let kept = (keeps_seen o opens k (record k { seen = log }) longer runs.legal claims refl refl).plans plan has in
-    subst (λ (c : ℕ). IsThere o log k.names c plan) (sym whose) (record { mine = claims.caller has.caller; lives = claims.lives has.caller; there = kept.there })
+    subst (λ (c : ℕ). IsThere o log k.names c plan) (sym whose) (record {
+      mine = claims.caller has.caller;
+      lives = claims.lives has.caller;
+      there = kept.there;
+    })
 
 module _ (o : Opening) (opens : Opens o) (k k' : Known) (moment caller plan : ℕ) (whose : caller ≡ k.caller) where
   -- who answers a start is told a reply
@@ -31,10 +36,12 @@ module _ (o : Opening) (opens : Opens o) (k k' : Known) (moment caller plan : �
 
   pub looks_so : (r : Option Answer) (end : EndLook) → Ends o k moment caller plan k' r → EndTold r end → EndLooks o k moment plan k' end
   looks_so (Some told) end made said = subst (EndLooks o k moment plan k') (sym said.2)
-      (subst (λ (c : ℕ). Made o k moment (EndStart c plan) (answers.Reply said.0) k') whose (subst (λ (a : Answer). Made o k moment (EndStart caller plan) a k') said.1 made))
+      (subst (λ (c : ℕ). Made o k moment (EndStart c plan) (answers.Reply said.0) k') whose
+      (subst (λ (a : Answer). Made o k moment (EndStart caller plan) a k') said.1 made))
   looks_so None end looked said = subst (EndLooks o k moment plan k') (sym said) looked
 
 -- what the pass has in hand it has still
-pub looks_keep : (o : Opening) → Opens o → (k k' : Known) (moment plan : ℕ) (end : EndLook) → EndLooks o k moment plan k' end → EndKeeps o plan k k' end
+pub looks_keep : (o : Opening) → Opens o → (k k' : Known) (moment plan : ℕ) (end : EndLook) → EndLooks o k moment plan k' end
+    → EndKeeps o plan k k' end
 looks_keep o opens k k' moment plan (looks.Done reply) made = end_keeps o opens k k' moment plan (answers.Reply reply) made
 looks_keep o opens k k' moment plan looks.Again looked = learnt_keeps o opens k k' looked.0

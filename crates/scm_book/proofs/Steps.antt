@@ -33,7 +33,8 @@ state_one : (l : Limits) (f : Flat) (moment : ℕ) (step : Step) → state l f (
 unfolding state
 state_one l f moment step = refl
 
-pub answer_one : (l : Limits) (f : Flat) (moment : ℕ) (step : Step) → answer l f ((moment, step) ∷ []) 0 ≡ Some (step_of l f moment step).answer
+pub answer_one : (l : Limits) (f : Flat) (moment : ℕ) (step : Step) → answer l f ((moment, step) ∷ []) 0 ≡ Some
+    (step_of l f moment step).answer
 unfolding answer
 answer_one l f moment step = refl
 
@@ -47,7 +48,8 @@ pub grown : {K : Type 0} (h h' : Held K) (moment : ℕ) (step both copy : Step) 
 grown h h' moment step both copy told one other may trail says flat limits steps text = record {
   may = may;
   trail = trail ∙ ap (λ (s : Step). h.trail.entries ++ (moment, s) ∷ []) other;
-  flat = flat ∙ (ap (λ (s : Step). (step_of h.manager.limits h.manager.flat moment s).flat) one ∙ sym (state_one h.manager.limits h.manager.flat moment step));
+  flat = flat ∙ (ap (λ (s : Step). (step_of h.manager.limits h.manager.flat moment s).flat) one
+      ∙ sym (state_one h.manager.limits h.manager.flat moment step));
   answer = answer_one h.manager.limits h.manager.flat moment step
       ∙ ap (λ (a : Answer). Some a) (sym (says ∙ ap (λ (s : Step). (step_of h.manager.limits h.manager.flat moment s).answer) one));
   limits = limits;
@@ -77,16 +79,21 @@ rose_once n a b once rose = omega arith
 
 module _ {K : Type 0} (tells : K → Option (List ℕ)) (faulted : K → ℕ) (h h' : Held K) (step : Step) where
   -- with no change
-  bears_none : (change : Option Change) → change ≡ None → (good : Option (List ℕ)) → Bears good h.journal (tells h.keeper) → Bears (and_changes good (one_or_none change)) h.journal (tells h.keeper)
-  bears_none change none good bears = subst (λ (c : Option Change). Bears (and_changes good (one_or_none c)) h.journal (tells h.keeper)) (sym none) bears
+  bears_none : (change : Option Change) → change ≡ None → (good : Option (List ℕ)) → Bears good h.journal (tells h.keeper)
+      → Bears (and_changes good (one_or_none change)) h.journal (tells h.keeper)
+  bears_none change none good bears = subst (λ (c : Option Change). Bears (and_changes good (one_or_none c)) h.journal (tells h.keeper))
+      (sym none) bears
 
   pub keeps_none : h' ≡ h → Keeps tells faulted h h' (with_kept step appended.NotAsked)
   keeps_none same = subst (λ (g : Held K). Keeps tells faulted h g (with_kept step appended.NotAsked)) (sym same) (record {
-    bears = bears_none (kept_change h.manager.limits h.manager.flat (with_kept step appended.NotAsked)) ((law_of_kept h.manager.limits h.manager.flat).unasked h.manager.flat step);
-    faults = rose_none (one_failed (with_kept step appended.NotAsked)) (faulted h.keeper) (faulted h.keeper) (none_failed step) (omega arith);
+    bears = bears_none (kept_change h.manager.limits h.manager.flat (with_kept step appended.NotAsked))
+        ((law_of_kept h.manager.limits h.manager.flat).unasked h.manager.flat step);
+    faults = rose_none (one_failed (with_kept step appended.NotAsked)) (faulted h.keeper) (faulted h.keeper) (none_failed step)
+        (omega arith);
   })
 
-  pub keeps_kept : (change : Change) → change_of h.manager.limits h.manager.flat step ≡ Some change → BearsMore change h.journal (tells h.keeper) h'.journal (tells h'.keeper)
+  pub keeps_kept : (change : Change) → change_of h.manager.limits h.manager.flat step ≡ Some change
+      → BearsMore change h.journal (tells h.keeper) h'.journal (tells h'.keeper)
       → faulted h.keeper ≤ faulted h'.keeper → Keeps tells faulted h h' (with_kept step appended.Kept)
   unfolding BearsMore
   keeps_kept change is more grows = record {
@@ -95,7 +102,8 @@ module _ {K : Type 0} (tells : K → Option (List ℕ)) (faulted : K → ℕ) (h
     faults = rose_none (one_failed (with_kept step appended.Kept)) (faulted h.keeper) (faulted h'.keeper) (kept_failed step) grows;
   }
 
-  pub keeps_failed : BearsSame h.journal (tells h.keeper) h'.journal (tells h'.keeper) → Rose (faulted h.keeper) (faulted h'.keeper) → Keeps tells faulted h h' (with_kept step appended.Failed)
+  pub keeps_failed : BearsSame h.journal (tells h.keeper) h'.journal (tells h'.keeper) → Rose (faulted h.keeper) (faulted h'.keeper)
+      → Keeps tells faulted h h' (with_kept step appended.Failed)
   unfolding BearsSame
   keeps_failed stays rose = record {
     bears = λ good bears. subst (λ (c : Option Change). Bears (and_changes good (one_or_none c)) h'.journal (tells h'.keeper))
@@ -115,7 +123,8 @@ module _ {K : Type 0} (h mid h' : Held K) where
     text = ap (λ (m : Managed). m.text) manager ∙ was.text;
   }
 
-  pub still_as : IsAsItWas h mid → h'.manager ≡ mid.manager → h'.trail ≡ mid.trail → h'.journal ≡ mid.journal → h'.keeper ≡ mid.keeper → IsAsItWas h h'
+  pub still_as : IsAsItWas h mid → h'.manager ≡ mid.manager → h'.trail ≡ mid.trail → h'.journal ≡ mid.journal → h'.keeper ≡ mid.keeper
+      → IsAsItWas h h'
   still_as was manager trail journal keeper = record {
     none = none_as was.none manager trail;
     journal = journal ∙ was.journal;
@@ -138,13 +147,17 @@ module _ {K : Type 0} (h mid h' : Held K) where
   module _ (tells : K → Option (List ℕ)) (faulted : K → ℕ) (step : Step) (append : Kept) where
     keeps_from : IsAsItWas h mid → Keeps tells faulted mid h' (with_kept step append) → Keeps tells faulted h h' (with_kept step append)
     keeps_from was keeps = record {
-      bears = λ good bears. subst (λ (c : Option Change). Bears (and_changes good (one_or_none c)) h'.journal (tells h'.keeper)) (λ i. kept_change (was.none.limits i) (was.none.flat i) (with_kept step append))
-          (keeps.bears good (subst (λ (j : Journal). Bears good j (tells mid.keeper)) (sym was.journal) (subst (λ (k : K). Bears good h.journal (tells k)) (sym was.keeper) bears)));
+      bears = λ good bears. subst (λ (c : Option Change). Bears (and_changes good (one_or_none c)) h'.journal (tells h'.keeper))
+          (λ i. kept_change (was.none.limits i) (was.none.flat i) (with_kept step append))
+          (keeps.bears good (subst (λ (j : Journal). Bears good j (tells mid.keeper)) (sym was.journal)
+          (subst (λ (k : K). Bears good h.journal (tells k)) (sym was.keeper) bears)));
       faults = let f = ap faulted was.keeper in let k = keeps.faults in omega arith;
     }
 
-    pub prepared : has_room_in h step ≡ true → IsAsItWas h mid → WasMadeFor mid.manager.room step → owed h.manager.flat + debt h.manager.flat step ≤ mid.trail.room → 1 ≤ mid.trail.room
-        → text_of step ≤ mid.trail.text_room → h'.manager ≡ mid.manager → h'.trail ≡ mid.trail → Keeps tells faulted mid h' (with_kept step append)
+    pub prepared : has_room_in h step ≡ true → IsAsItWas h mid → WasMadeFor mid.manager.room step → owed h.manager.flat
+        + debt h.manager.flat step ≤ mid.trail.room → 1 ≤ mid.trail.room
+        → text_of step ≤ mid.trail.text_room → h'.manager ≡ mid.manager → h'.trail ≡ mid.trail
+        → Keeps tells faulted mid h' (with_kept step append)
         → IsTrue (keeps_right mid.manager.limits mid.manager.flat (with_kept step append)) → IsPrepared tells faulted h h' step append
     prepared free was made room one text manager trail keeps right = record {
       free = free;
@@ -157,22 +170,28 @@ module _ {K : Type 0} (h mid h' : Held K) where
       text_room = subst (λ (t : Trailed). text_of step ≤ t.text_room) (sym trail) text;
     }
 
-    pub made : (moment : ℕ) (told : Answer) → IsPrepared tells faulted h mid step append → Grows mid h' moment (with_kept step append) told → h'.journal ≡ mid.journal → h'.keeper ≡ mid.keeper
+    pub made : (moment : ℕ) (told : Answer) → IsPrepared tells faulted h mid step append → Grows mid h' moment (with_kept step append) told
+        → h'.journal ≡ mid.journal → h'.keeper ≡ mid.keeper
         → mid.trail.room ≤ h'.trail.room + 1 → Makes tells faulted h h' moment step told
     made moment told p grows journal keeper room = record {
       append = append;
       free = p.free;
       grows = grown_from moment (with_kept step append) told p.none grows;
       keeps = record {
-        bears = λ good bears. subst (λ (j : Journal). Bears (and_changes good (one_or_none (kept_change h.manager.limits h.manager.flat (with_kept step append)))) j (tells h'.keeper)) (sym journal)
-            (subst (λ (k : K). Bears (and_changes good (one_or_none (kept_change h.manager.limits h.manager.flat (with_kept step append)))) mid.journal (tells k)) (sym keeper) (p.keeps.bears good bears));
+        bears = λ good bears. subst (λ (j : Journal). Bears (and_changes good
+            (one_or_none (kept_change h.manager.limits h.manager.flat (with_kept step append)))) j (tells h'.keeper)) (sym journal)
+            (subst (λ (k : K). Bears (and_changes good (one_or_none (kept_change h.manager.limits h.manager.flat (with_kept step append))))
+            mid.journal (tells k)) (sym keeper) (p.keeps.bears good bears));
         faults = let f = ap faulted keeper in let k = p.keeps.faults in omega arith;
       };
       room = let r = p.room in omega arith;
     }
 
     -- what the step asks then
-    pub may_finish : (moment : ℕ) → IsPrepared tells faulted h mid step append → IsTrue (may_come h.manager.limits h.manager.flat moment step) → IsTrue (may mid.manager.limits mid.manager.flat moment (with_kept step append))
+    pub may_finish : (moment : ℕ) → IsPrepared tells faulted h mid step append
+        → IsTrue (may_come h.manager.limits h.manager.flat moment step)
+        → IsTrue (may mid.manager.limits mid.manager.flat moment (with_kept step append))
     may_finish moment p come = (λ i. may (p.none.limits i) (p.none.flat i) moment (with_kept step append))
-        ∙ and_both (may_come h.manager.limits h.manager.flat moment (with_kept step append)) (keeps_right h.manager.limits h.manager.flat (with_kept step append))
+        ∙ and_both (may_come h.manager.limits h.manager.flat moment (with_kept step append))
+        (keeps_right h.manager.limits h.manager.flat (with_kept step append))
         (come_kept h.manager.limits h.manager.flat moment step append ∙ come) p.right

@@ -1,5 +1,6 @@
 -- A step leaves the controls of each process whose bell it doesn't ring, and lists it as it was.
-use Rattle.std.proofs.Common.{ℕ, ◌≡◌, ◌∙◌, ◌<◌, ◌==◌, Bool, true, false, not, cond, List, Option, None, Some, find, filter, map, ap, sym, refl, subst}
+use Rattle.std.proofs.Common.{ℕ, ◌≡◌, ◌∙◌, ◌<◌, ◌==◌, Bool, true, false, not, cond, List, Option, None, Some, find, filter, map, ap, sym}
+use Rattle.std.proofs.Common.{refl, subst}
 use Rattle.std.specs.Prelude.{option_map}
 use Rattle.scm_model.specs.declared.calls.Request.{Request}
 use Rattle.scm_model.specs.declared.calls.Request.TheVariants as request
@@ -8,14 +9,16 @@ use Rattle.scm_model.specs.declared.flat.Flat.{Flat}
 use Rattle.scm_model.specs.declared.flat.Limits.{Limits}
 use Rattle.scm_model.specs.declared.flat.Phase.TheVariants as phases
 use Rattle.scm_model.specs.declared.flat.Process.{Process}
+use Rattle.scm_model.specs.declared.flat.Service.{Service}
 use Rattle.scm_model.specs.declared.steps.Kept.{Kept}
 use Rattle.scm_model.specs.declared.steps.Step.{Step}
-use Rattle.scm_model.specs.declared.steps.Step.TheVariants.{Call, LaunchTaken, Launched, LaunchFailed, Report, Ended, ControlTaken, Tick, Raised}
+use Rattle.scm_model.specs.declared.steps.Step.TheVariants.{Call, LaunchTaken, Launched, LaunchFailed, Report, Ended, ControlTaken, Tick}
+use Rattle.scm_model.specs.declared.steps.Step.TheVariants.{Raised}
 use Rattle.scm_model.specs.Changes.{with_moment}
 use Rattle.scm_model.specs.Entries.{with_kept}
 use Rattle.scm_model.specs.Rows.{held_service}
 use Rattle.scm_model.proofs.Found.{found_keeps}
-use Rattle.scm_rules.specs.Controls.{relieved_if}
+use Rattle.scm_rules.specs.Controls.{controlled_if, controlled_in, dequeued_if}
 use Rattle.scm_rules.specs.Failures.{failed_by}
 use Rattle.scm_rules.specs.Launches.{current_of, first_wanted, launched_if, taken_if, with_fallen, without_process}
 use Rattle.scm_rules.specs.Steps.{at_moment, effect_of}
@@ -24,11 +27,11 @@ use Rattle.scm_runs.proofs.Calls.{by_verdict}
 use Rattle.scm_runs.proofs.Failing.{failing_apart}
 use Rattle.scm_runs.proofs.Founds.{notify_apart, opened_keeps, started_keeps}
 use Rattle.scm_runs.proofs.Lists.{find_filter}
-use Rattle.scm_runs.proofs.Sound.{controls_fewer}
+use Rattle.scm_runs.proofs.Sound.{controls_fewer, controls_more}
 use Rattle.scm_history.proofs.Finds.{found_map}
-use Rattle.scm_history.proofs.Processes.{IsOf, after_effect, apart, has, launches, others_changed, takes}
+use Rattle.scm_history.proofs.Processes.{IsOf, after_effect, apart, has, launches, others_changed, takes, ticked_still}
 use Rattle.scm_book.specs.declared.ringing.Children.{Children}
-use Rattle.scm_book.specs.Ringing.{StirsNoOther, children_rung, controls_rung, is_rung}
+use Rattle.scm_book.specs.Ringing.{StirsNoOther, children_rung, controls_rung, is_rung, one_or_nobody}
 
 -- the controls of a process, if it is among these
 abbrev listed : ℕ → List Process → Option (List ℕ)
@@ -42,29 +45,43 @@ found_same change same None = refl
 found_same change same (Some row) = ap (λ (codes : List ℕ). Some codes) (same row)
 
 -- a change of anything but controls
-all_same : (number one : ℕ) (change : Process → Process) → IsOf one change → ((row : Process) → (change row).controls ≡ row.controls) → (rows : List Process)
+all_same : (number one : ℕ) (change : Process → Process) → IsOf one change → ((row : Process) → (change row).controls ≡ row.controls)
+    → (rows : List Process)
     → listed number (map change rows) ≡ listed number rows
 all_same number one change is same rows =
-    ap (option_map (λ (row : Process). row.controls)) (found_map (has number) change (λ row. ap (λ n. n == number) (is.number_same row)) rows)
+    ap (option_map (λ (row : Process). row.controls)) (found_map (has number) change
+    (λ row. ap (λ n. n == number) (is.number_same row)) rows)
     ∙ found_same change same (find (has number) rows)
 
 -- a change of another process
-others_same : (number one : ℕ) (change : Process → Process) → IsOf one change → (number == one) ≡ false → (rows : List Process) → listed number (map change rows) ≡ listed number rows
-others_same number one change is other rows = ap (option_map (λ (row : Process). row.controls)) (others_changed number one change rows is other)
+others_same : (number one : ℕ) (change : Process → Process) → IsOf one change → (number == one) ≡ false → (rows : List Process)
+    → listed number (map change rows) ≡ listed number rows
+others_same number one change is other rows = ap (option_map (λ (row : Process). row.controls))
+    (others_changed number one change rows is other)
 
 -- another process leaves
-others_left : (number one : ℕ) → (number == one) ≡ false → (rows : List Process) → listed number (filter (λ (row : Process). not (row.number == one)) rows) ≡ listed number rows
+others_left : (number one : ℕ) → (number == one) ≡ false → (rows : List Process)
+    → listed number (filter (λ (row : Process). not (row.number == one)) rows) ≡ listed number rows
 others_left number one other rows =
-    ap (option_map (λ (row : Process). row.controls)) (find_filter (has number) (λ (row : Process). not (row.number == one)) (λ row same. ap not (apart number one row other same)) rows)
+    ap (option_map (λ (row : Process). row.controls)) (find_filter (has number) (λ (row : Process). not (row.number == one))
+    (λ row same. ap not (apart number one row other same)) rows)
 
-relieves : (one : ℕ) → IsOf one (relieved_if one)
+queues : (limit one code : ℕ) → IsOf one (controlled_if limit one code)
+queues limit one code = record {
+  number_same = λ row. ap (λ (r : Process). r.number) (controls_more limit one code row);
+  others = λ row e. rw e refl;
+}
+
+relieves : (one : ℕ) → IsOf one (dequeued_if one)
 relieves one = record { number_same = λ row. ap (λ (r : Process). r.number) (controls_fewer one row); others = λ row e. rw e refl }
 
 taken_same : (one : ℕ) (row : Process) → (taken_if one row).controls ≡ row.controls
-taken_same one row = elim (row.number == one) as (λ b. (cond b (record row { phase = phases.Taken }) row).controls ≡ row.controls) [ true ↦ refl | false ↦ refl ]
+taken_same one row = elim (row.number == one) as (λ b. (cond b (record row { phase = phases.Taken }) row).controls ≡ row.controls)
+    [ true ↦ refl | false ↦ refl ]
 
 launched_same : (one pid : ℕ) (row : Process) → (launched_if one pid row).controls ≡ row.controls
-launched_same one pid row = elim (row.number == one) as (λ b. (cond b (record row { phase = phases.Launched; pid = pid }) row).controls ≡ row.controls) [ true ↦ refl | false ↦ refl ]
+launched_same one pid row = elim (row.number == one) as (λ b. (cond b (record row { phase = phases.Launched; pid = pid }) row).controls ≡
+    row.controls) [ true ↦ refl | false ↦ refl ]
 
 -- ## Calls
 
@@ -72,55 +89,84 @@ abbrev is_control : Request → Bool
 is_control (request.Control handle control) = true
 is_control asked = false
 
-done_same : (l : Limits) (f : Flat) (caller : ℕ) (asked : Request) → is_control asked ≡ false → (done_of l f caller asked).flat.processes ≡ f.processes
+done_same : (l : Limits) (f : Flat) (caller : ℕ) (asked : Request) → is_control asked ≡ false
+    → (done_of l f caller asked).flat.processes ≡ f.processes
 done_same l f caller (request.Control handle control) other = absurd cc
-done_same l f caller (request.OpenService handle name access) other = opened_keeps (λ (g : Flat). g.processes ≡ f.processes) f caller name access refl (λ row is. refl)
-done_same l f caller (request.Start handle words) other = started_keeps (λ (g : Flat). g.processes ≡ f.processes) f caller handle words refl (λ row is. refl)
-done_same l f caller (request.SetStatus handle status) other = failing_apart (λ (g : Flat). g.processes ≡ f.processes) (failed_by status (held_service f caller handle)) _ refl
-done_same l f caller (request.Notify handle mask) other = notify_apart (λ (g : Flat). g.processes ≡ f.processes) f caller handle mask (λ rows next. refl)
+done_same l f caller (request.OpenService handle name access) other = opened_keeps
+    (λ (g : Flat). g.processes ≡ f.processes) f caller name access refl (λ row is. refl)
+done_same l f caller (request.Start handle words) other = started_keeps (λ (g : Flat). g.processes ≡ f.processes) f caller handle words refl
+    (λ row is. refl)
+done_same l f caller (request.SetStatus handle status) other = failing_apart (λ (g : Flat). g.processes ≡ f.processes)
+    (failed_by status (held_service f caller handle)) _ refl
+done_same l f caller (request.Notify handle mask) other = notify_apart (λ (g : Flat). g.processes ≡ f.processes) f caller handle mask
+    (λ rows next. refl)
 done_same l f caller asked other = refl
 
 -- a call that is no control changes no process
-call_same : (l : Limits) (f : Flat) (caller : ℕ) (asked : Request) (append : Kept) → is_control asked ≡ false → (call_of l f caller asked append).flat.processes ≡ f.processes
+call_same : (l : Limits) (f : Flat) (caller : ℕ) (asked : Request) (append : Kept) → is_control asked ≡ false
+    → (call_of l f caller asked append).flat.processes ≡ f.processes
 call_same l f caller asked append other =
-    by_verdict (λ r. r.flat.processes ≡ f.processes) (verdict l f caller asked append) (told_refused f caller asked (verdict l f caller asked append)) f (done_of l f caller asked)
+    by_verdict (λ r. r.flat.processes ≡ f.processes) (verdict l f caller asked append)
+    (told_refused f caller asked (verdict l f caller asked append)) f (done_of l f caller asked)
     (λ e. done_same l f caller asked other) (λ e. refl)
 
-call_unstirred : (l : Limits) (f : Flat) (moment caller : ℕ) (asked : Request) (append : Kept) (number : ℕ) → is_rung (controls_rung asked) number ≡ false
+-- a control changes no process but that of its service
+control_unstirred : (l : Limits) (f : Flat) (control number : ℕ) (found : Option Service)
+    → is_rung (one_or_nobody (option_map (λ (row : Service). row.process) found)) number ≡ false
+    → listed number (controlled_in l control found f.processes) ≡ listed number f.processes
+control_unstirred l f control number None quiet = refl
+control_unstirred l f control number (Some row) quiet =
+    others_same number row.process (controlled_if l.controls row.process control) (queues l.controls row.process control) quiet
+    f.processes
+
+call_unstirred : (l : Limits) (f : Flat) (moment caller : ℕ) (asked : Request) (append : Kept) (number : ℕ)
+    → is_rung (controls_rung f caller asked) number ≡ false
     → listed number (call_of l (with_moment f moment) caller asked append).flat.processes ≡ listed number f.processes
-call_unstirred l f moment caller (request.Control handle control) append number quiet = absurd cc
-call_unstirred l f moment caller asked append number quiet = ap (listed number) (call_same l (with_moment f moment) caller asked append refl)
+call_unstirred l f moment caller (request.Control handle control) append number quiet =
+    let g = with_moment f moment in
+    let asked = request.Control handle control in
+    by_verdict (λ r. listed number r.flat.processes ≡ listed number f.processes) (verdict l g caller asked append)
+    (told_refused g caller asked (verdict l g caller asked append)) g (done_of l g caller asked)
+    (λ e. control_unstirred l f control number (held_service f caller handle) quiet) (λ e. refl)
+call_unstirred l f moment caller asked append number quiet = ap (listed number)
+    (call_same l (with_moment f moment) caller asked append refl)
 
 -- ## Steps
 
-effect_unstirred : (l : Limits) (f : Flat) (moment : ℕ) (step : Step) (number : ℕ) → is_rung (children_rung step) number ≡ false
+effect_unstirred : (l : Limits) (f : Flat) (moment : ℕ) (step : Step) (number : ℕ) → number < f.next.process
+    → is_rung (children_rung f step) number ≡ false
     → listed number (effect_of l (at_moment f moment step) step).flat.processes ≡ listed number f.processes
-effect_unstirred l f moment (Call caller asked append) number quiet = call_unstirred l f moment caller asked append number quiet
-effect_unstirred l f moment LaunchTaken number quiet =
-    found_keeps (λ (rows : List Process). listed number rows ≡ listed number f.processes) (λ process. map (taken_if process)) (first_wanted f.wanted) f.processes refl
+effect_unstirred l f moment (Call caller asked append) number low quiet = call_unstirred l f moment caller asked append number quiet
+effect_unstirred l f moment LaunchTaken number low quiet =
+    found_keeps (λ (rows : List Process). listed number rows ≡ listed number f.processes) (λ process. map (taken_if process))
+    (first_wanted f.wanted) f.processes refl
     (λ one is. all_same number one (taken_if one) (takes one) (taken_same one) f.processes)
-effect_unstirred l f moment (Launched process pid) number quiet = all_same number process (launched_if process pid) (launches process pid) (launched_same process pid) f.processes
-effect_unstirred l f moment (LaunchFailed process code) number quiet = others_left number process quiet f.processes
-effect_unstirred l f moment (Report process status) number quiet =
+effect_unstirred l f moment (Launched process pid) number low quiet =
+    all_same number process (launched_if process pid) (launches process pid) (launched_same process pid) f.processes
+effect_unstirred l f moment (LaunchFailed process code) number low quiet = others_left number process quiet f.processes
+effect_unstirred l f moment (Report process status) number low quiet =
     failing_apart (λ (g : Flat). listed number g.processes ≡ listed number f.processes) (failed_by status (current_of f process)) _ refl
-effect_unstirred l f moment (Ended process) number quiet =
+effect_unstirred l f moment (Ended process) number low quiet =
     failing_apart (λ (g : Flat). listed number (without_process g process).processes ≡ listed number f.processes) (current_of f process)
     (with_fallen (with_moment f moment) process ERROR_PROCESS_ABORTED) (others_left number process quiet f.processes)
-effect_unstirred l f moment (ControlTaken process) number quiet = others_same number process (relieved_if process) (relieves process) quiet f.processes
-effect_unstirred l f moment Tick number quiet = absurd cc
-effect_unstirred l f moment (Raised caller subtype) number quiet = absurd cc
-effect_unstirred l f moment step number quiet = refl
+effect_unstirred l f moment (ControlTaken process) number low quiet = others_same number process (dequeued_if process)
+    (relieves process) quiet f.processes
+effect_unstirred l f moment Tick number low quiet = ap (option_map (λ (row : Process). row.controls))
+    (ticked_still l (with_moment f moment) number low).same
+effect_unstirred l f moment (Raised caller subtype) number low quiet = absurd cc
+effect_unstirred l f moment step number low quiet = refl
 
 -- what became of a change plays no part
-rung_kept : (step : Step) (append : Kept) → children_rung (with_kept step append) ≡ children_rung step
-rung_kept (Call caller asked now) append = refl
-rung_kept step append = refl
+rung_kept : (f : Flat) (step : Step) (append : Kept) → children_rung f (with_kept step append) ≡ children_rung f step
+rung_kept f (Call caller asked now) append = refl
+rung_kept f step append = refl
 
-unstirred : (step : Step) → StirsNoOther step (children_rung step)
-unstirred step l f moment append process low quiet =
+unstirred : (f : Flat) (step : Step) → StirsNoOther f step (children_rung f step)
+unstirred f step l moment append process low quiet =
     let made = with_kept step append in
     ap (option_map (λ (row : Process). row.controls)) (after_effect l f moment made process low)
-    ∙ effect_unstirred l f moment made process (subst (λ (rung : Children). is_rung rung process ≡ false) (sym (rung_kept step append)) quiet)
+    ∙ effect_unstirred l f moment made process low (subst (λ (rung : Children). is_rung rung process ≡ false)
+    (sym (rung_kept f step append)) quiet)
 
-pub stirs_no_other : (step : Step) (rung : Children) → rung ≡ children_rung step → StirsNoOther step rung
-stirs_no_other step rung is = subst (StirsNoOther step) (sym is) (unstirred step)
+pub stirs_no_other : (f : Flat) (step : Step) (rung : Children) → rung ≡ children_rung f step → StirsNoOther f step rung
+stirs_no_other f step rung is = subst (StirsNoOther f step) (sym is) (unstirred f step)

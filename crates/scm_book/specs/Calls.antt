@@ -19,7 +19,15 @@ use Rattle.scm_book.specs.Passes.{Known, Made}
 
 -- the one pass of a new book
 abbrev pub IsFirstPass : Identity → Known → Opening → Type 0
-IsFirstPass b k o = (b.opening ≡ o) × (k ≡ record { table = b.table; opening = Some o; caller = 0; names = []; seen = []; own = []; alone = true })
+IsFirstPass b k o = (b.opening ≡ o) × (k ≡ record {
+  table = b.table;
+  opening = Some o;
+  caller = 0;
+  names = [];
+  seen = [];
+  own = [];
+  alone = true;
+})
 
 module _ {K : Type 0} (tells : K → Option (List ℕ)) (faulted : K → ℕ) where
   -- its history begins with the manager's state and with what the keeper holds

@@ -6,7 +6,7 @@ use Rattle.scm_model.specs.declared.steps.Step.TheVariants.{Call}
 use Rattle.scm_model.specs.Entries.{Entry, text_in}
 use Rattle.scm_model.specs.Rows.{is_caller}
 use Rattle.book_rule.specs.declared.view.Opening.{Opening}
-use Rattle.book_rule.specs.Ways.{Way}
+use Rattle.book_rule.specs.Ways.{Protocol}
 use Rattle.record_journal.specs.Bearing.{Bears, and_changes}
 use Rattle.scm_rules.specs.Histories.{Legal, state}
 use Rattle.scm_rules.specs.Opening.{IsOpening}
@@ -63,7 +63,7 @@ module _ {K : Type 0} (tells : K → Option (List ℕ)) (faulted : K → ℕ) wh
     -- the text is within its limit
     pub fits : text_in log ≤ o.limits.text
 
-  abbrev pub way_of : Way (Held K)
+  abbrev pub way_of : Protocol (Held K)
   way_of = record {
     opening = λ h. record { limits = h.manager.limits; first = h.manager.flat; bytes = tells h.keeper; faults = faulted h.keeper };
     trail = λ h. h.trail.entries;

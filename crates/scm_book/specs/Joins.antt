@@ -50,7 +50,8 @@ abbrev pub JoinEnds : Opening → Known → ℕ → Principal → Known → Resu
 JoinEnds o k moment principal k' (Ok number) = JoinsAs o k moment principal k' number
 JoinEnds o k moment principal k' (Err fault) = Learnt o k k' × JoinCause o k' principal fault
 
-abbrev pub JoinEndsAt : {K : Type 0} → Opening → Seat (Option (Box (Held K) Global)) View → ℕ → Principal → Seat (Option (Box (Held K) Global)) View → Result ℕ JoinFault → Type 0
+abbrev pub JoinEndsAt : {K : Type 0} → Opening → Seat (Option (Box (Held K) Global)) View → ℕ → Principal
+    → Seat (Option (Box (Held K) Global)) View → Result ℕ JoinFault → Type 0
 JoinEndsAt o s moment principal s' r = JoinEnds o (known s) moment principal (known s') r
 
 abbrev pub JoinEndsBy : Opening → Badge View → ℕ → Principal → Badge View → Result ℕ JoinFault → Type 0

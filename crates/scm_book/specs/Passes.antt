@@ -39,7 +39,15 @@ view_of [] = nobody
 view_of (v ∷ vs) = v
 
 abbrev pub knows : TableId → View → Known
-knows table v = record { table = table; opening = v.opening; caller = v.caller; names = v.names; seen = v.seen; own = v.own; alone = v.alone }
+knows table v = record {
+  table = table;
+  opening = v.opening;
+  caller = v.caller;
+  names = v.names;
+  seen = v.seen;
+  own = v.own;
+  alone = v.alone;
+}
 
 abbrev pub known_of : TableId → List View → Known
 known_of table views = knows table (view_of views)

@@ -47,17 +47,20 @@ module _ {K : Type 0} where
   abbrev pub HoldsLaunch : Held K → Held K → ℕ → TextWithRoom → TextWithRoom → Option TakenLaunch → Type 0
   HoldsLaunch h h' moment path path' None = (wants_launch h.manager.flat.wanted ≡ false) × (h' ≡ h) × (path' ≡ path)
   HoldsLaunch h h' moment path path' (Some taken) =
-      Adds h h' moment LaunchTaken (answers.Launch taken.process) × HandsOut (first_line h.manager.flat h.manager.flat.wanted) path path' taken.words
+      Adds h h' moment LaunchTaken (answers.Launch taken.process) × HandsOut
+      (first_line h.manager.flat h.manager.flat.wanted) path path' taken.words
 
   -- so it is with a seat that had the turn, and has given it up
   module _ (tells : K → Option (List ℕ)) (faulted : K → ℕ) (b : Identity) (s s' : Seat (Option (Box (Held K) Global)) View) where
     abbrev pub DidLaunch : ℕ → TextWithRoom → TextWithRoom → Option TakenLaunch → Type 0
     DidLaunch moment path path' None = LeftIt s s' × (is_wanted_behind b.opening s.me.0.seen ≡ false) × (path' ≡ path)
     DidLaunch moment path path' (Some taken) =
-        DidBy tells faulted b s s' moment LaunchTaken (answers.Launch taken.process) × HandsOut (line_behind b.opening s.me.0.seen) path path' taken.words
+        DidBy tells faulted b s s' moment LaunchTaken (answers.Launch taken.process)
+        × HandsOut (line_behind b.opening s.me.0.seen) path path' taken.words
 
 -- the pass has taken a process in hand, and its line is that of before
-pub record TakesInHand (o : Opening) (k : Known) (moment process : ℕ) (path path' : TextWithRoom) (words : List (List ℕ)) (k' : Known) : Type 0 where
+pub record TakesInHand (o : Opening) (k : Known) (moment process : ℕ) (path path' : TextWithRoom) (words : List (List ℕ))
+    (k' : Known) : Type 0 where
   pub made : Made o k moment LaunchTaken (answers.Launch process) k'
   pub line : HandsOut (line_behind o made.before) path path' words
 
@@ -67,7 +70,8 @@ TakesBy o k moment path path' None k' = Learnt o k k' × (is_wanted_behind o k'.
 TakesBy o k moment path path' (Some taken) k' = TakesInHand o k moment taken.process path path' taken.words k'
 
 abbrev pub LaunchEnds : Opening → Known → ℕ → LaunchRoom → LaunchRoom → LaunchLook → Known → Type 0
-LaunchEnds o k moment room room' (launches.Launch process) k' = TakesInHand o k moment process room.path room'.path room'.words k' × HoldsProcess o k' process phases.Taken
+LaunchEnds o k moment room room' (launches.Launch process) k' = TakesInHand o k moment process room.path room'.path room'.words k'
+    × HoldsProcess o k' process phases.Taken
 LaunchEnds o k moment room room' launches.Empty k' = Learnt o k k' × (is_wanted_behind o k'.seen ≡ false) × (room' ≡ room)
 
 -- ## ended
@@ -85,8 +89,10 @@ told_of_end ends.Taken = answers.Done
 told_of_end ends.Stale = answers.Stale
 
 abbrev pub EndedSo : Opening → Known → ℕ → ℕ → EndedEnd → Known → Type 0
-EndedSo o k moment process ends.Taken k' = (made : Made o k moment (Ended process) answers.Done k') × (is_current_behind o made.before process ≡ true)
-EndedSo o k moment process ends.Stale k' = (made : Made o k moment (Ended process) answers.Stale k') × (is_current_behind o made.before process ≡ false)
+EndedSo o k moment process ends.Taken k' = (made : Made o k moment (Ended process) answers.Done k')
+    × (is_current_behind o made.before process ≡ true)
+EndedSo o k moment process ends.Stale k' = (made : Made o k moment (Ended process) answers.Stale k')
+    × (is_current_behind o made.before process ≡ false)
 
 -- ## What a pass has in hand still
 

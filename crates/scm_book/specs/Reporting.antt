@@ -34,7 +34,8 @@ abbrev pub ReportEnds : Opening → Known → ℕ → ℕ → Status → ReportE
 ReportEnds o k moment process status reports.Taken k' =
     (so : MadeSo o k moment (Report process status) answers.Done k') × (is_current_behind o so.made.before process ≡ true)
 ReportEnds o k moment process status (reports.Refused code) k' =
-    (so : MadeSo o k moment (Report process status) (answers.Refused code) k') × (is_current_behind o so.made.before process ≡ true) × (code ≡ ERROR_INVALID_DATA)
+    (so : MadeSo o k moment (Report process status) (answers.Refused code) k') × (is_current_behind o so.made.before process ≡ true)
+    × (code ≡ ERROR_INVALID_DATA)
 ReportEnds o k moment process status reports.Stale k' =
     (so : MadeSo o k moment (Report process status) answers.Stale k') × (is_current_behind o so.made.before process ≡ false)
 ReportEnds o k moment process status reports.Full k' = FindsNoRoom o k (Report process status) k'
@@ -59,14 +60,17 @@ told_of_report reports.OutOfMemory = Err faults.OutOfMemory
 abbrev pub waiting_behind : Opening → List Entry → ℕ → Option ℕ
 waiting_behind o log process = waiting (state o.limits o.first log) process
 
--- the control that waited first was taken; or none waits for the process, or it isn't listed, in the state of the new history; or no step was made
+-- the control that waited first was taken; or none waits for the process, or it isn't listed, in the state of the new history; or no step
+-- was made
 -- though one waits there
 abbrev pub ControlEnds : Opening → Known → ℕ → ℕ → ControlLook → Known → Type 0
 ControlEnds o k moment process (controls.Control code) k' = MadeSo o k moment (ControlTaken process) (answers.Control code) k'
 ControlEnds o k moment process controls.Empty k' = Learnt o k k' × (waiting_behind o k'.seen process ≡ Some 0)
 ControlEnds o k moment process controls.Over k' = Learnt o k k' × (waiting_behind o k'.seen process ≡ None)
-ControlEnds o k moment process controls.Full k' = FindsNoRoom o k (ControlTaken process) k' × (may_behind o k'.seen moment (ControlTaken process) ≡ true)
-ControlEnds o k moment process controls.OutOfMemory k' = FindsNoMemory o k (ControlTaken process) k' × (may_behind o k'.seen moment (ControlTaken process) ≡ true)
+ControlEnds o k moment process controls.Full k' = FindsNoRoom o k (ControlTaken process) k'
+    × (may_behind o k'.seen moment (ControlTaken process) ≡ true)
+ControlEnds o k moment process controls.OutOfMemory k' = FindsNoMemory o k (ControlTaken process) k'
+    × (may_behind o k'.seen moment (ControlTaken process) ≡ true)
 
 -- within the turn: what the step comes to, and, where it may not come, how many controls wait there
 pub record LooksFor (o : Opening) (k : Known) (moment process : ℕ) (k' : Known) (looked : Looked) : Type 0 where

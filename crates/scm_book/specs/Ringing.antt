@@ -1,5 +1,5 @@
 -- Which bells a step rings, and that it leaves what is waited for at the others as it is.
-use Rattle.std.specs.Prelude.{ℕ, ◌≡◌, ◌<◌, ◌==◌, Bool, true, false, not, List, Option, option_map}
+use Rattle.std.specs.Prelude.{ℕ, ◌≡◌, ◌<◌, ◌==◌, Bool, true, false, not, List, Option, None, Some, option_map}
 use Rattle.scm_model.specs.declared.flat.Flat.{Flat}
 use Rattle.scm_model.specs.declared.flat.Limits.{Limits}
 use Rattle.scm_model.specs.declared.flat.Process.{Process}
@@ -7,11 +7,12 @@ use Rattle.scm_model.specs.declared.calls.Request.{Request}
 use Rattle.scm_model.specs.declared.calls.Request.TheVariants as request
 use Rattle.scm_model.specs.declared.steps.Kept.{Kept}
 use Rattle.scm_model.specs.declared.steps.Step.{Step}
-use Rattle.scm_model.specs.declared.steps.Step.TheVariants.{Joined, Call, LaunchFailed, Ended, ControlTaken, Tick, Raised, NoMemory}
+use Rattle.scm_model.specs.declared.steps.Step.TheVariants.{Joined, Call, LaunchFailed, Ended, ControlTaken, Raised, NoMemory}
 use Rattle.scm_model.specs.Entries.{Entry, with_kept}
 use Rattle.scm_rules.specs.Histories.{state}
 use Rattle.scm_rules.specs.Launches.{process_of}
 use Rattle.scm_rules.specs.Steps.{step_of}
+use Rattle.scm_core.specs.Managed.{process_held}
 use Rattle.book_rule.specs.declared.view.Opening.{Opening}
 use Rattle.scm_book.specs.declared.ringing.Children.{Children}
 use Rattle.scm_book.specs.declared.ringing.Children.TheVariants as children
@@ -61,20 +62,23 @@ StirsNobody step =
 
 -- ## The bells of processes
 
--- of calls only a control rings them
-abbrev pub controls_rung : Request → Children
-controls_rung (request.Control handle control) = children.All
-controls_rung asked = children.Nobody
+abbrev pub one_or_nobody : Option ℕ → Children
+one_or_nobody None = children.Nobody
+one_or_nobody (Some process) = children.One process
 
--- the processes whose bells a step rings
-abbrev pub children_rung : Step → Children
-children_rung (Call caller asked append) = controls_rung asked
-children_rung (LaunchFailed process code) = children.One process
-children_rung (Ended process) = children.One process
-children_rung (ControlTaken process) = children.One process
-children_rung Tick = children.All
-children_rung (Raised caller subtype) = children.All
-children_rung step = children.Nobody
+-- of calls only a control rings one, that of its process
+abbrev pub controls_rung : Flat → ℕ → Request → Children
+controls_rung f caller (request.Control handle control) = one_or_nobody (process_held f caller handle)
+controls_rung f caller asked = children.Nobody
+
+-- the processes whose bells a step rings in a state
+abbrev pub children_rung : Flat → Step → Children
+children_rung f (Call caller asked append) = controls_rung f caller asked
+children_rung f (LaunchFailed process code) = children.One process
+children_rung f (Ended process) = children.One process
+children_rung f (ControlTaken process) = children.One process
+children_rung f (Raised caller subtype) = children.All
+children_rung f step = children.Nobody
 
 abbrev pub is_rung : Children → ℕ → Bool
 is_rung children.Nobody process = false
@@ -86,12 +90,12 @@ abbrev pub controls_listed : Flat → ℕ → Option (List ℕ)
 controls_listed f process = option_map (λ (row : Process). row.controls) (process_of f process)
 
 -- a process that isn't rung, of those whose numbers were given, is listed after the step if it was, with the controls that it had
-abbrev pub StirsNoOther : Step → Children → Type 0
-StirsNoOther step rung =
-    (l : Limits) (f : Flat) (moment : ℕ) (append : Kept) (process : ℕ) → process < f.next.process → is_rung rung process ≡ false
+abbrev pub StirsNoOther : Flat → Step → Children → Type 0
+StirsNoOther f step rung =
+    (l : Limits) (moment : ℕ) (append : Kept) (process : ℕ) → process < f.next.process → is_rung rung process ≡ false
     → controls_listed (after l f moment step append) process ≡ controls_listed f process
 
 -- ## Both
 
-abbrev pub ring_of : Step → Ring
-ring_of step = record { common = rings_common step; children = children_rung step }
+abbrev pub ring_of : Flat → Step → Ring
+ring_of f step = record { common = rings_common step; children = children_rung f step }

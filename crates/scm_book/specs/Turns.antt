@@ -13,7 +13,7 @@ use Rattle.scm_model.specs.Entries.{Entry, with_kept}
 use Rattle.scm_rules.specs.Histories.{answer}
 use Rattle.book_rule.specs.declared.view.Opening.{Opening}
 use Rattle.book_rule.specs.declared.view.View.{View}
-use Rattle.book_rule.specs.Ways.{Has, Way}
+use Rattle.book_rule.specs.Ways.{Has, Protocol}
 use Rattle.book_rule.specs.Rule.{ClaimsOf}
 use Rattle.book_rule.specs.Seats.{Holding, Identity}
 use Rattle.book_rule.specs.Views.{having_left, having_made}
@@ -79,10 +79,12 @@ StepEnds o k moment step (Err fault) k' = Learnt o k k' × StepCause o k'.seen m
 abbrev pub StepEndsBy : Opening → Badge View → ℕ → Step → Badge View → Result Answer StepFault → Type 0
 StepEndsBy o badge moment step badge' r = StepEnds o (of_badge badge) moment step r (of_badge badge')
 
--- what a caller's call comes to: it was made, and told this; or there was room for it and no memory, and that stands in its place; or no step was made
+-- what a caller's call comes to: it was made, and told this; or there was room for it and no memory, and that stands in its place; or no
+-- step was made
 abbrev pub CallEnds : Opening → Known → ℕ → ℕ → Step → Result (Option Answer) MakeFault → Known → Type 0
 CallEnds o k moment caller call (Ok (Some told)) k' = MadeSo o k moment call told k'
-CallEnds o k moment caller call (Ok None) k' = (told : Answer) × (made : MadeSo o k moment (NoMemory caller) told k') × (room_behind o made.made.before call ≡ true)
+CallEnds o k moment caller call (Ok None) k' = (told : Answer) × (made : MadeSo o k moment (NoMemory caller) told k')
+    × (room_behind o made.made.before call ≡ true)
 CallEnds o k moment caller call (Err fault) k' = Learnt o k k' × MakeCause o k'.seen call fault
 
 abbrev pub CallEndsBy : Opening → Badge View → ℕ → ℕ → Step → Badge View → Result (Option Answer) MakeFault → Type 0
@@ -101,10 +103,11 @@ module _ {K : Type 0} where
   abbrev pub known : Seat (Option (Box (Held K) Global)) View → Known
   known s = knows s.table_id s.me.0
 
-  abbrev pub StepEndsAt : Opening → Seat (Option (Box (Held K) Global)) View → ℕ → Step → Seat (Option (Box (Held K) Global)) View → Result Answer StepFault → Type 0
+  abbrev pub StepEndsAt : Opening → Seat (Option (Box (Held K) Global)) View → ℕ → Step → Seat (Option (Box (Held K) Global)) View
+      → Result Answer StepFault → Type 0
   StepEndsAt o s moment step s' r = StepEnds o (known s) moment step r (known s')
 
-  module _ (w : Way (Held K)) (b : Identity) (s s' : Seat (Option (Box (Held K) Global)) View) where
+  module _ (w : Protocol (Held K)) (b : Identity) (s s' : Seat (Option (Box (Held K) Global)) View) where
     -- the seat, which had the turn, made this step, and has given the turn up
     pub record Did (moment : ℕ) (step : Step) (told : Answer) : Type 0 where
       pub table : s'.table_id ≡ s.table_id
@@ -118,10 +121,12 @@ module _ {K : Type 0} where
       pub did : Did moment (with_kept step append) told
       pub free : room_behind b.opening s.me.0.seen step ≡ true
 
-  abbrev pub DidBy : (K → Option (List ℕ)) → (K → ℕ) → Identity → Seat (Option (Box (Held K) Global)) View → Seat (Option (Box (Held K) Global)) View → ℕ → Step → Answer → Type 0
+  abbrev pub DidBy : (K → Option (List ℕ)) → (K → ℕ) → Identity → Seat (Option (Box (Held K) Global)) View
+      → Seat (Option (Box (Held K) Global)) View → ℕ → Step → Answer → Type 0
   DidBy tells faulted b s s' moment step told = Did (way_of tells faulted) b s s' moment step told
 
-  abbrev pub DidSoBy : (K → Option (List ℕ)) → (K → ℕ) → Identity → Seat (Option (Box (Held K) Global)) View → Seat (Option (Box (Held K) Global)) View → ℕ → Step → Answer → Type 0
+  abbrev pub DidSoBy : (K → Option (List ℕ)) → (K → ℕ) → Identity → Seat (Option (Box (Held K) Global)) View
+      → Seat (Option (Box (Held K) Global)) View → ℕ → Step → Answer → Type 0
   DidSoBy tells faulted b s s' moment step told = DidSo (way_of tells faulted) b s s' moment step told
 
   -- it made no step, and has given the turn up
@@ -142,5 +147,6 @@ module _ {K : Type 0} where
 
     abbrev pub DidCall : ℕ → ℕ → Step → Result (Option Answer) MakeFault → Type 0
     DidCall moment caller call (Ok (Some told)) = DidSo (way_of tells faulted) b s s' moment call told
-    DidCall moment caller call (Ok None) = (told : Answer) × DidSo (way_of tells faulted) b s s' moment (NoMemory caller) told × (room_behind b.opening s.me.0.seen call ≡ true)
+    DidCall moment caller call (Ok None) = (told : Answer) × DidSo (way_of tells faulted) b s s' moment (NoMemory caller) told
+        × (room_behind b.opening s.me.0.seen call ≡ true)
     DidCall moment caller call (Err fault) = LeftIt s s' × MakeCause b.opening s.me.0.seen call fault

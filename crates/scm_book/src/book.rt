@@ -17,7 +17,7 @@ use crate::answers::{CallEnd, EndLook, JoinFault, NotJoined, StartEnd};
 use crate::bell::Bell;
 use crate::bells::Bells;
 use crate::calling::{call_end, start_end};
-use crate::doubled::Doubled;
+use crate::doubled::PendingEntry;
 use crate::ending::end_look;
 use crate::fault::MakeFault;
 use crate::held::Held;
@@ -222,7 +222,7 @@ impl<K: Keeper> Book<K> {
         rt: &R,
         pass: &mut Pass,
         moment: u64,
-        call: &mut Doubled,
+        call: &mut PendingEntry,
     ) -> Result<Option<Answer>, MakeFault>
         requires book { IsOf self.now pass.old }
         requires caller { pass.old.caller ≢ 0 }
@@ -230,7 +230,8 @@ impl<K: Keeper> Book<K> {
         requires stays { LeavesWhose call.old.step }
         ensures book { IsOf self.now pass.new }
         ensures opens { Opens self.now.opening }
-        ensures asks { CallEnds self.now.opening pass.old moment pass.old.caller call.old.step result pass.new }
+        ensures asks { CallEnds self.now.opening pass.old moment pass.old.caller call.old.step
+            result pass.new }
         ensures same { result ≡ Ok None → call.new ≡ call.old }
     {
         let caller = pass.caller;
@@ -249,7 +250,7 @@ impl<K: Keeper> Book<K> {
         ensures calls { Calls self.now.opening pass.old moment request pass.new result }
         ensures keeps { KeepsAll self.now.opening pass.old pass.new }
     {
-        let mut call = Doubled {
+        let mut call = PendingEntry {
             step: Step::Call {
                 caller: pass.caller,
                 request,
@@ -272,7 +273,7 @@ impl<K: Keeper> Book<K> {
         ensures keeps { KeepsAll self.now.opening pass.old pass.new }
     {
         let caller = pass.caller;
-        let mut raise = Doubled::new(self.shared.alloc, Step::Raised { caller, subtype });
+        let mut raise = PendingEntry::new(self.shared.alloc, Step::Raised { caller, subtype });
         let ended = self.ask(rt, pass, moment, &mut raise);
         call_end(self.shared.alloc, &raise.step, ended)
     }
@@ -293,7 +294,7 @@ impl<K: Keeper> Book<K> {
         ensures starts { Starts self.now.opening pass.old moment request pass.new result }
         ensures keeps { KeepsAll self.now.opening pass.old pass.new }
     {
-        let mut call = Doubled {
+        let mut call = PendingEntry {
             step: Step::Call {
                 caller: pass.caller,
                 request,

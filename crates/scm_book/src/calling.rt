@@ -3,12 +3,13 @@ ghost use Rattle.std.specs.Prelude.{◌≡◌, None, Ok};
 ghost use Rattle.scm_model.specs.declared.steps.Answer.TheVariants as answers;
 ghost use Rattle.scm_model.specs.declared.steps.Step.TheVariants as steps;
 ghost use Rattle.book_rule.specs.Seats.{Waits};
-ghost use Rattle.scm_book.specs.Called.{Begun, CallTold, IfTold, IsBegun, IsReply, StartTold, refusal_of};
+ghost use Rattle.scm_book.specs.Called.{Begun, CallTold, IfTold, IsBegun, IsReply, StartTold};
+ghost use Rattle.scm_book.specs.Called.{refusal_of};
 ghost use Rattle.scm_book.specs.Turns.{AlwaysMay, CallEndsBy, DidCall, DidNone, HasTurn, IsSeated};
 ghost use Rattle.scm_book.specs.Turns.{MayMakeBy, of_badge};
 
 use crate::answers::{CallEnd, StartEnd};
-use crate::doubled::Doubled;
+use crate::doubled::PendingEntry;
 use crate::fault::MakeFault;
 use crate::held::Held;
 use crate::ringing::ring_of;
@@ -32,11 +33,12 @@ impl<K: Keeper> Shared<K> {
         seat: &mut TurnSeat<Held<K>>,
     ) -> Result<Option<Answer>, MakeFault>
         requires turn { HasTurn K.held K.faults self.now.turn seat.old held.value }
-        requires may { MayMakeBy self.now.turn.opening seat.old.me.0 moment (steps.NoMemory caller) }
+        requires may { MayMakeBy self.now.turn.opening seat.old.me.0 moment
+            (steps.NoMemory caller) }
         ensures did { DidNone K.held K.faults self.now.turn seat.old seat.new moment caller result }
         ensures waits { Waits self.now.turn seat.new }
     {
-        let mut none = Doubled::new(self.alloc, Step::NoMemory { caller });
+        let mut none = PendingEntry::new(self.alloc, Step::NoMemory { caller });
         match self.add_new(rt, moment, &mut none, held, seat) {
             Ok(_) => Ok(None),
             Err(_) => Err(MakeFault::OutOfMemory),
@@ -49,7 +51,7 @@ impl<K: Keeper> Shared<K> {
         &self,
         rt: &R,
         moment: u64,
-        call: &mut Doubled,
+        call: &mut PendingEntry,
         by: u64,
         mut held: Box<Held<K>>,
         seat: &mut TurnSeat<Held<K>>,
@@ -57,19 +59,20 @@ impl<K: Keeper> Shared<K> {
         requires turn { HasTurn K.held K.faults self.now.turn seat.old held.value }
         requires may { MayMakeBy self.now.turn.opening seat.old.me.0 moment call.old.step }
         requires none { MayMakeBy self.now.turn.opening seat.old.me.0 moment (steps.NoMemory by) }
-        ensures did { DidCall K.held K.faults self.now.turn seat.old seat.new moment by call.old.step result }
+        ensures did { DidCall K.held K.faults self.now.turn seat.old seat.new moment by
+            call.old.step result }
         ensures waits { Waits self.now.turn seat.new }
         ensures same { result ≡ Ok None → call.new ≡ call.old }
     {
-        let ring = ring_of(&call.step);
-        match held.make_doubled(moment, call) {
+        let ring = ring_of(&held.manager, &call.step);
+        match held.make_pending(moment, call) {
             Ok(told) => {
                 self.turn.commit(rt, seat, held);
                 self.bells.ring(rt, ring);
                 Ok(Some(told))
             }
             Err(MakeFault::Full) => {
-                self.turn.give_back(rt, seat, held);
+                self.turn.unlock(rt, seat, held);
                 Err(MakeFault::Full)
             }
             Err(MakeFault::OutOfMemory) => self.add_no_memory(rt, moment, by, held, seat),
@@ -82,15 +85,17 @@ impl<K: Keeper> Shared<K> {
         &self,
         rt: &R,
         moment: u64,
-        call: &mut Doubled,
+        call: &mut PendingEntry,
         caller: u64,
         badge: &mut Badge<View>,
     ) -> Result<Option<Answer>, MakeFault>
         requires badge { IsSeated self.now.turn badge.old }
         requires may { AlwaysMay self.now.turn.opening (of_badge badge.old) moment call.old.step }
-        requires none { AlwaysMay self.now.turn.opening (of_badge badge.old) moment (steps.NoMemory caller) }
+        requires none { AlwaysMay self.now.turn.opening (of_badge badge.old) moment
+            (steps.NoMemory caller) }
         ensures badge { IsSeated self.now.turn badge.new }
-        ensures ends { CallEndsBy self.now.turn.opening badge.old moment caller call.old.step badge.new result }
+        ensures ends { CallEndsBy self.now.turn.opening badge.old moment caller call.old.step
+            badge.new result }
         ensures same { result ≡ Ok None → call.new ≡ call.old }
     {
         let mut seat = self.sit(badge);

@@ -8,16 +8,16 @@ use std::alloc::Global;
 /// A step, and its note for the trail. The manager uses up the one, and the trail keeps the other.
 /// There is no note where there was no memory for it. It is made before the turn is taken, so that
 /// no request is copied with the turn held.
-pub struct Doubled {
+pub struct PendingEntry {
     pub step: Step,
     pub note: Option<Note>,
     ghost same: { ForSome note (λ other. other ≡ step) },
 }
 
 /// A drop of its own: a function that owns one drops it by a call, which is proved once.
-impl Drop for Doubled {
+impl Drop for PendingEntry {
     fn drop(self) {
-        let Doubled { step, note } = self;
+        let PendingEntry { step, note } = self;
         drop(step);
         drop(note);
     }
@@ -34,13 +34,13 @@ fn note_of(alloc: Global, step: &Step) -> Option<Note>
     }
 }
 
-impl Doubled {
+impl PendingEntry {
     #[inline(always)]
-    pub fn new(alloc: Global, step: Step) -> Doubled
+    pub fn new(alloc: Global, step: Step) -> PendingEntry
         ensures { result.step ≡ step }
     {
         let note = note_of(alloc, &step);
-        Doubled { step, note }
+        PendingEntry { step, note }
     }
 
     /// Makes the note of a step that has none, where the step lies.

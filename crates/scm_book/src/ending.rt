@@ -29,12 +29,13 @@ impl<K: Keeper> Shared<K> {
         seat: &mut TurnSeat<Held<K>>,
     ) -> Option<Answer>
         requires turn { HasTurn K.held K.faults self.now.turn seat.old held.value }
-        requires there { IsThere self.now.turn.opening seat.old.me.0.seen seat.old.me.0.names by plan }
+        requires there { IsThere self.now.turn.opening seat.old.me.0.seen seat.old.me.0.names by
+            plan }
         ensures did { DidEnd K.held K.faults self.now.turn seat.old seat.new moment by plan result }
         ensures waits { Waits self.now.turn seat.new }
     {
         if held.manager.decided(plan).is_none() {
-            self.turn.give_back(rt, seat, held);
+            self.turn.unlock(rt, seat, held);
             return None;
         }
         let owed = Owed::EndStart { caller: by, plan };

@@ -10,10 +10,10 @@ ghost use Rattle.scm_book.specs.Steps.{Adds, Grows, HasMemory, IsAsItWas, IsPrep
 ghost use Rattle.scm_book.specs.Steps.{Makes, TellsRight, Why, has_room_in, may_come_in, may_in};
 ghost use Rattle.scm_book.specs.Steps.{owed_step};
 
-use crate::doubled::Doubled;
+use crate::doubled::PendingEntry;
 use crate::fault::MakeFault;
 use crate::owed::Owed;
-use book_rule::Content;
+use book_rule::Guarded;
 use record_journal::{Journal, KeepFault, Keeper};
 use scm_core::Manager;
 use scm_model::{Answer, Kept, Step};
@@ -41,7 +41,7 @@ fn tell(step: &mut Step, now: Kept)
     }
 }
 
-impl<K: Keeper> Content for Held<K> {
+impl<K: Keeper> Guarded for Held<K> {
     ghost use Rattle.scm_book.specs.Holds.{way_of};
 
     ghost way = { way_of K.held K.faults };
@@ -157,7 +157,7 @@ impl<K: Keeper> Held<K> {
     /// Makes all that a step can use, appends its change where it makes one, and says what became
     /// of that.
     #[inline(always)]
-    fn prepare(&mut self, doubled: &Doubled) -> Result<Kept, MakeFault>
+    fn prepare(&mut self, doubled: &PendingEntry) -> Result<Kept, MakeFault>
         requires small { AreSmall self.old.manager.limits }
         ensures ok { IfOk result (IsPrepared K.held K.faults self.old self.new doubled.now.step) }
         ensures noted { OnOk result (IsSome doubled.now.note) }
@@ -180,11 +180,15 @@ impl<K: Keeper> Held<K> {
         }
     }
 
-    /// Makes a step that isn't owed, with a note of it that was made before, and uses both up. What it tells of what
-    /// became of its change plays no part: that is told by what the append of the change came to.
-    /// All memory is made first.
+    /// Makes a step that isn't owed, with a note of it that was made before, and uses both up. What
+    /// it tells of what became of its change plays no part: that is told by what the append of the
+    /// change came to. All memory is made first.
     #[inline(always)]
-    pub fn make_doubled(&mut self, moment: u64, doubled: &mut Doubled) -> Result<Answer, MakeFault>
+    pub fn make_pending(
+        &mut self,
+        moment: u64,
+        doubled: &mut PendingEntry,
+    ) -> Result<Answer, MakeFault>
         requires may { IsTrue (may_come_in self.old moment doubled.old.step) }
         requires small { AreSmall self.old.manager.limits }
         ensures ok { IfOk result (Makes K.held K.faults self.old self.new moment doubled.old.step) }
@@ -198,7 +202,7 @@ impl<K: Keeper> Held<K> {
 
     /// Does a step that was prepared.
     #[inline(always)]
-    fn finish(&mut self, moment: u64, doubled: &mut Doubled, kept: Kept) -> Answer
+    fn finish(&mut self, moment: u64, doubled: &mut PendingEntry, kept: Kept) -> Answer
         requires noted { IsSome doubled.old.note }
         requires may { IsTrue (may_in self.old moment (with_kept doubled.old.step kept)) }
         requires made { WasMadeFor self.old.manager.room doubled.old.step }
@@ -219,7 +223,7 @@ impl<K: Keeper> Held<K> {
         self.grow(moment, &mut doubled.step, note)
     }
 
-    /// Makes a step that isn't owed, as `make_doubled` does, and notes it itself.
+    /// Makes a step that isn't owed, as `make_pending` does, and notes it itself.
     pub fn make(&mut self, moment: u64, step: Step) -> Result<Answer, MakeFault>
         requires may { IsTrue (may_come_in self.old moment step) }
         requires small { AreSmall self.old.manager.limits }
@@ -227,8 +231,8 @@ impl<K: Keeper> Held<K> {
         ensures err { OnErr result (IsAsItWas self.old self.new) }
         ensures why { IfErr result (λ fault. Why self.old step fault) }
     {
-        let mut doubled = Doubled::new(self.alloc, step);
-        let made = self.make_doubled(moment, &mut doubled);
+        let mut doubled = PendingEntry::new(self.alloc, step);
+        let made = self.make_pending(moment, &mut doubled);
         drop(doubled);
         made
     }

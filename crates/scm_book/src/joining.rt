@@ -9,7 +9,7 @@ ghost use Rattle.scm_book.specs.Passes.{IsOf};
 ghost use Rattle.scm_book.specs.Turns.{IsSeated, KeepsAllBy, of_badge};
 
 use crate::answers::JoinFault;
-use crate::doubled::Doubled;
+use crate::doubled::PendingEntry;
 use crate::fault::StepFault;
 use crate::held::Held;
 use crate::pass::Pass;
@@ -45,7 +45,7 @@ impl<K: Keeper> Shared<K> {
         ensures seat { Waits self.now.turn seat.new }
         ensures ends { JoinEndsAt self.now.turn.opening seat.old moment principal seat.new result }
     {
-        let mut joined = Doubled::new(self.alloc, Step::Joined { principal });
+        let mut joined = PendingEntry::new(self.alloc, Step::Joined { principal });
         match self.make_at(rt, moment, &mut joined, seat) {
             Ok(told) => Ok(caller_of(told)),
             Err(StepFault::NotNow) => Err(JoinFault::TooMany),

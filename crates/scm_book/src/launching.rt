@@ -62,7 +62,8 @@ impl<K: Keeper> Held<K> {
         requires path { 2048 ≤ path.old.room }
         requires steps { self.old.manager.steps < 2 ^ 50 }
         requires text { self.old.manager.text < 2 ^ 63 }
-        requires room { IsTrue (wants_launch self.old.manager.flat.wanted) → 1 ≤ self.old.trail.room }
+        requires room { IsTrue (wants_launch self.old.manager.flat.wanted)
+            → 1 ≤ self.old.trail.room }
         ensures { HoldsLaunch self.old self.new moment path.old path.new result }
     {
         match self.manager.take_launch(moment, path) {
@@ -87,11 +88,12 @@ impl<K: Keeper> Shared<K> {
     ) -> Option<TakenLaunch>
         requires turn { HasTurn K.held K.faults self.now.turn seat.old held.value }
         requires path { 2048 ≤ path.old.room }
-        ensures did { DidLaunch K.held K.faults self.now.turn seat.old seat.new moment path.old path.new result }
+        ensures did { DidLaunch K.held K.faults self.now.turn seat.old seat.new moment path.old
+            path.new result }
         ensures waits { Waits self.now.turn seat.new }
     {
         let Some(taken) = held.take_launch(moment, path) else {
-            self.turn.give_back(rt, seat, held);
+            self.turn.unlock(rt, seat, held);
             return None;
         };
         self.turn.commit(rt, seat, held);
@@ -110,7 +112,8 @@ impl<K: Keeper> Shared<K> {
         requires badge { IsSeated self.now.turn badge.old }
         requires path { 2048 ≤ path.old.room }
         ensures badge { IsSeated self.now.turn badge.new }
-        ensures takes { TakesBy self.now.turn.opening (of_badge badge.old) moment path.old path.new result (of_badge badge.new) }
+        ensures takes { TakesBy self.now.turn.opening
+            (of_badge badge.old) moment path.old path.new result (of_badge badge.new) }
     {
         let mut seat = self.sit(badge);
         let held = self.turn.enter(rt, &mut seat);

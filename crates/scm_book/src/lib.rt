@@ -29,7 +29,7 @@ mod turning;
 pub use answers::{CallEnd, EndLook, JoinFault, NotJoined, StartEnd};
 pub use bell::Bell;
 pub use book::{Book, Closed, Opened};
-pub use doubled::Doubled;
+pub use doubled::PendingEntry;
 pub use fault::MakeFault;
 pub use held::Held;
 pub use launching::LaunchRoom;

@@ -65,7 +65,8 @@ impl<K: Keeper> Book<K> {
         requires book { IsOf self.now pass.old }
         requires process { HoldsProcess self.now.opening pass.old process phases.Taken }
         ensures book { IsOf self.now pass.new }
-        ensures made { Made self.now.opening pass.old moment (steps.Launched process pid) answers.Done pass.new }
+        ensures made { Made self.now.opening pass.old moment
+            (steps.Launched process pid) answers.Done pass.new }
         ensures process { HoldsProcess self.now.opening pass.new process phases.Launched }
         ensures rest { KeepsAllBut self.now.opening process pass.old pass.new }
     {
@@ -87,7 +88,8 @@ impl<K: Keeper> Book<K> {
         requires process { HoldsProcess self.now.opening pass.old process phases.Taken }
         requires code { code ≢ 0 }
         ensures book { IsOf self.now pass.new }
-        ensures made { Made self.now.opening pass.old moment (steps.LaunchFailed process code) answers.Done pass.new }
+        ensures made { Made self.now.opening pass.old moment
+            (steps.LaunchFailed process code) answers.Done pass.new }
         ensures rest { KeepsAllBut self.now.opening process pass.old pass.new }
     {
         let failed = Owed::LaunchFailed { process, code };

@@ -10,7 +10,7 @@ ghost use Rattle.scm_book.specs.Reporting.{told_of_tick};
 ghost use Rattle.scm_book.specs.Turns.{IsSeated};
 
 use crate::book::Book;
-use crate::doubled::Doubled;
+use crate::doubled::PendingEntry;
 use crate::fault::StepFault;
 use crate::pass::Pass;
 use crate::shared::Shared;
@@ -81,11 +81,12 @@ impl<K: Keeper> Book<K> {
         requires book { IsOf self.now pass.old }
         requires process { HoldsProcess self.now.opening pass.old process phases.Launched }
         ensures book { IsOf self.now pass.new }
-        ensures ends { ReportEnds self.now.opening pass.old moment process status.now result pass.new }
+        ensures ends { ReportEnds self.now.opening pass.old moment process status.now result
+            pass.new }
         ensures keeps { KeepsAll self.now.opening pass.old pass.new }
     {
         let status = *status;
-        let mut step = Doubled::new(self.shared.alloc, Step::Report { process, status });
+        let mut step = PendingEntry::new(self.shared.alloc, Step::Report { process, status });
         let ended = self.shared.make_by(rt, moment, &mut step, &mut pass.badge);
         report_of(ended)
     }
@@ -114,7 +115,7 @@ impl<K: Keeper> Book<K> {
         ensures ends { TickEnds self.now.opening pass.old moment result pass.new }
         ensures keeps { KeepsAll self.now.opening pass.old pass.new }
     {
-        let mut step = Doubled::new(self.shared.alloc, Step::Tick);
+        let mut step = PendingEntry::new(self.shared.alloc, Step::Tick);
         let ended = self.shared.make_by(rt, moment, &mut step, &mut pass.badge);
         tick_of(ended)
     }
@@ -134,7 +135,7 @@ impl<K: Keeper> Shared<K> {
         ensures badge { IsSeated self.now.turn badge.new }
         ensures looks { LooksForBy self.now.turn.opening badge.old moment process badge.new result }
     {
-        let mut control = Doubled::new(self.alloc, Step::ControlTaken { process });
+        let mut control = PendingEntry::new(self.alloc, Step::ControlTaken { process });
         let mut seat = self.sit(badge);
         let held = self.turn.enter(rt, &mut seat);
         let waiting = held.manager.waiting(process);

@@ -1,10 +1,12 @@
 // Which bells a step rings.
 ghost use Rattle.std.specs.Prelude.{◌≡◌, false};
+ghost use Rattle.scm_model.specs.declared.flat.Flat.{Flat};
 ghost use Rattle.scm_book.specs.Ringing.{StirsNoOther, StirsNobody, children_rung, controls_rung};
-ghost use Rattle.scm_book.specs.Ringing.{is_quiet, ring_of, rings_common};
+ghost use Rattle.scm_book.specs.Ringing.{is_quiet, one_or_nobody, ring_of, rings_common};
 ghost use Rattle.scm_book.specs.Steps.{owed_step};
 
 use crate::owed::Owed;
+use scm_core::Manager;
 use scm_model::{Request, Step};
 
 /// The processes whose bells a step rings.
@@ -58,48 +60,63 @@ pub fn rings_common(step: &Step) -> bool
     }
 }
 
-/// The processes whose bells a call rings: of calls only a control does.
-fn controls_rung(request: &Request) -> Children
-    ensures { result ≡ controls_rung request.now }
+/// The one process, if there is one.
+fn one_or_nobody(process: Option<u64>) -> Children
+    ensures { result ≡ one_or_nobody process }
+{
+    match process {
+        Some(process) => Children::One(process),
+        None => Children::Nobody,
+    }
+}
+
+/// The processes whose bells a call rings: of calls only a control rings one, that of its process.
+fn controls_rung(manager: &Manager, caller: u64, request: &Request) -> Children
+    ensures { result ≡ controls_rung manager.now.flat caller request.now }
 {
     match request {
-        Request::Control { .. } => Children::All,
+        Request::Control { handle, .. } => one_or_nobody(manager.process_held(caller, *handle)),
         _ => Children::Nobody,
     }
 }
 
-/// The processes whose bells a step rings. No other process gets a control by it, or ends.
+/// The processes whose bells a step rings when it is made next. No other process gets a control by
+/// it, or ends.
 #[tactic(auto, using(crate::proofs::Unstirred::stirs_no_other))]
-pub fn children_rung(step: &Step) -> Children
-    ensures rung { result ≡ children_rung step.now }
-    ensures others { StirsNoOther step.now result }
+pub fn children_rung(manager: &Manager, step: &Step) -> Children
+    ensures rung { result ≡ children_rung manager.now.flat step.now }
+    ensures others { StirsNoOther manager.now.flat step.now result }
 {
     match step {
-        Step::Call { request, .. } => controls_rung(request),
+        Step::Call {
+            caller,
+            request,
+            ..
+        } => controls_rung(manager, *caller, request),
         Step::LaunchFailed { process, code: _ }
         | Step::Ended { process }
         | Step::ControlTaken { process } => Children::One(*process),
-        Step::Tick | Step::Raised { .. } => Children::All,
+        Step::Raised { .. } => Children::All,
         _ => Children::Nobody,
     }
 }
 
-/// The bells that a step rings.
+/// The bells that a step rings when it is made next.
 #[inline(always)]
-pub fn ring_of(step: &Step) -> Ring
-    ensures { result ≡ ring_of step.now }
+pub fn ring_of(manager: &Manager, step: &Step) -> Ring
+    ensures { result ≡ ring_of manager.now.flat step.now }
 {
     Ring {
         common: rings_common(step),
-        children: children_rung(step),
+        children: children_rung(manager, step),
     }
 }
 
 impl Owed {
-    /// The bells that the step rings.
+    /// The bells that the step rings, in whatever state it is made.
     #[inline(always)]
     pub fn ring(self) -> Ring
-        ensures { result ≡ ring_of (owed_step self) }
+        ensures { (f : Flat) → result ≡ ring_of f (owed_step self) }
     {
         let children = match self {
             Owed::LaunchFailed { process, code: _ } | Owed::Ended { process } => {

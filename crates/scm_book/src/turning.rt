@@ -6,7 +6,7 @@ ghost use Rattle.scm_book.specs.Turns.{AlwaysMay, DidBy, DidSoBy, DidStep, HasTu
 ghost use Rattle.scm_book.specs.Turns.{LeftIt, MadeBy, MakeCause, MayMakeBy, NamesNoOther};
 ghost use Rattle.scm_book.specs.Turns.{StepEndsAt, StepEndsBy, of_badge};
 
-use crate::doubled::Doubled;
+use crate::doubled::PendingEntry;
 use crate::fault::{MakeFault, StepFault};
 use crate::held::Held;
 use crate::owed::Owed;
@@ -30,7 +30,8 @@ impl<K: Keeper> Shared<K> {
     ) -> Answer
         requires turn { HasTurn K.held K.faults self.now.turn seat.old held.value }
         requires may { MayMakeBy self.now.turn.opening seat.old.me.0 moment (owed_step owed) }
-        ensures did { DidBy K.held K.faults self.now.turn seat.old seat.new moment (owed_step owed) result }
+        ensures did { DidBy K.held K.faults self.now.turn seat.old seat.new moment
+            (owed_step owed) result }
         ensures waits { Waits self.now.turn seat.new }
     {
         let told = held.add(moment, owed);
@@ -48,9 +49,11 @@ impl<K: Keeper> Shared<K> {
         badge: &mut Badge<View>,
     ) -> Answer
         requires badge { IsSeated self.now.turn badge.old }
-        requires may { AlwaysMay self.now.turn.opening (of_badge badge.old) moment (owed_step owed) }
+        requires may { AlwaysMay self.now.turn.opening (of_badge badge.old) moment
+            (owed_step owed) }
         ensures badge { IsSeated self.now.turn badge.new }
-        ensures made { MadeBy self.now.turn.opening badge.old moment (owed_step owed) result badge.new }
+        ensures made { MadeBy self.now.turn.opening badge.old moment
+            (owed_step owed) result badge.new }
     {
         let mut seat = self.sit(badge);
         let held = self.turn.enter(rt, &mut seat);
@@ -64,26 +67,28 @@ impl<K: Keeper> Shared<K> {
         &self,
         rt: &R,
         moment: u64,
-        step: &mut Doubled,
+        step: &mut PendingEntry,
         mut held: Box<Held<K>>,
         seat: &mut TurnSeat<Held<K>>,
     ) -> Result<Answer, MakeFault>
         requires turn { HasTurn K.held K.faults self.now.turn seat.old held.value }
         requires may { MayMakeBy self.now.turn.opening seat.old.me.0 moment step.old.step }
-        ensures ok { IfOk result (DidSoBy K.held K.faults self.now.turn seat.old seat.new moment step.old.step) }
+        ensures ok { IfOk result (DidSoBy K.held K.faults self.now.turn seat.old seat.new moment
+            step.old.step) }
         ensures err { OnErr result (LeftIt seat.old seat.new) }
-        ensures why { IfErr result (MakeCause self.now.turn.opening seat.old.me.0.seen step.old.step) }
+        ensures why { IfErr result (MakeCause self.now.turn.opening seat.old.me.0.seen
+            step.old.step) }
         ensures waits { Waits self.now.turn seat.new }
     {
-        let ring = ring_of(&step.step);
-        match held.make_doubled(moment, step) {
+        let ring = ring_of(&held.manager, &step.step);
+        match held.make_pending(moment, step) {
             Ok(told) => {
                 self.turn.commit(rt, seat, held);
                 self.bells.ring(rt, ring);
                 Ok(told)
             }
             Err(fault) => {
-                self.turn.give_back(rt, seat, held);
+                self.turn.unlock(rt, seat, held);
                 Err(fault)
             }
         }
@@ -94,17 +99,18 @@ impl<K: Keeper> Shared<K> {
         &self,
         rt: &R,
         moment: u64,
-        step: &mut Doubled,
+        step: &mut PendingEntry,
         held: Box<Held<K>>,
         seat: &mut TurnSeat<Held<K>>,
     ) -> Result<Answer, StepFault>
         requires turn { HasTurn K.held K.faults self.now.turn seat.old held.value }
         requires own { NamesNoOther seat.old.me.0.names step.old.step }
-        ensures did { DidStep K.held K.faults self.now.turn seat.old seat.new moment step.old.step result }
+        ensures did { DidStep K.held K.faults self.now.turn seat.old seat.new moment step.old.step
+            result }
         ensures waits { Waits self.now.turn seat.new }
     {
         if !held.manager.may(moment, &step.step) {
-            self.turn.give_back(rt, seat, held);
+            self.turn.unlock(rt, seat, held);
             return Err(StepFault::NotNow);
         }
         match self.add_new(rt, moment, step, held, seat) {
@@ -119,13 +125,14 @@ impl<K: Keeper> Shared<K> {
         &self,
         rt: &R,
         moment: u64,
-        step: &mut Doubled,
+        step: &mut PendingEntry,
         seat: &mut TurnSeat<Held<K>>,
     ) -> Result<Answer, StepFault>
         requires seat { Waits self.now.turn seat.old }
         requires own { NamesNoOther seat.old.me.0.names step.old.step }
         ensures seat { Waits self.now.turn seat.new }
-        ensures ends { StepEndsAt self.now.turn.opening seat.old moment step.old.step seat.new result }
+        ensures ends { StepEndsAt self.now.turn.opening seat.old moment step.old.step seat.new
+            result }
     {
         let held = self.turn.enter(rt, seat);
         self.add_where_it_may(rt, moment, step, held, seat)
@@ -136,13 +143,14 @@ impl<K: Keeper> Shared<K> {
         &self,
         rt: &R,
         moment: u64,
-        step: &mut Doubled,
+        step: &mut PendingEntry,
         badge: &mut Badge<View>,
     ) -> Result<Answer, StepFault>
         requires badge { IsSeated self.now.turn badge.old }
         requires own { NamesNoOther (of_badge badge.old).names step.old.step }
         ensures badge { IsSeated self.now.turn badge.new }
-        ensures ends { StepEndsBy self.now.turn.opening badge.old moment step.old.step badge.new result }
+        ensures ends { StepEndsBy self.now.turn.opening badge.old moment step.old.step badge.new
+            result }
     {
         let mut seat = self.sit(badge);
         let ended = self.make_at(rt, moment, step, &mut seat);

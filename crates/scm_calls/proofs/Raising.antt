@@ -47,7 +47,8 @@ raise_read bytes subtype h =
     rw (le-ltb (length bytes) 16 (omega (arith, size)), ended_finished bytes 16 (inl size), whole) (ap (λ (b : List ℕ). Ok b) h.spelled)
 
 -- a code that is read is told by the body
-pub reply_found : (body : List ℕ) (result : Result ℕ BodyFault) → IsBytes body → Gives (λ code. code) result (raise_reply_at body) → IfOk result (λ code. IsRaiseReply body code)
+pub reply_found : (body : List ℕ) (result : Result ℕ BodyFault) → IsBytes body → Gives (λ code. code) result (raise_reply_at body)
+    → IfOk result (λ code. IsRaiseReply body code)
 reply_found body (Ok code) fits gives =
     let shape = reply_shape kind.Code in
     let a = bind_ok (body_values shape body) (λ vs. Ok (first_number vs)) code gives in

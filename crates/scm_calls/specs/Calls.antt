@@ -2,7 +2,11 @@
 use Rattle.std.specs.Prelude.{ℕ, ◌==◌, if◌then◌else◌, Option, Some, None}
 use Rattle.scm_model.specs.declared.calls.Request.{Request}
 use Rattle.scm_model.specs.declared.calls.Request.TheVariants as request
-use Rattle.scm_model.specs.declared.codes.TheConstants.{R_CLOSE_SERVICE_HANDLE, R_CONTROL_SERVICE, R_DELETE_SERVICE, R_GET_SERVICE_DISPLAY_NAME_W, R_GET_SERVICE_KEY_NAME_W, R_LOCK_SERVICE_DATABASE, R_OPEN_SC_MANAGER_W, R_OPEN_SERVICE_W, R_QUERY_SERVICE_LOCK_STATUS_W, R_QUERY_SERVICE_STATUS, R_SET_SERVICE_STATUS, R_START_SERVICE_W, R_UNLOCK_SERVICE_DATABASE}
+use Rattle.scm_model.specs.declared.codes.TheConstants.{R_CLOSE_SERVICE_HANDLE, R_CONTROL_SERVICE, R_DELETE_SERVICE}
+use Rattle.scm_model.specs.declared.codes.TheConstants.{R_GET_SERVICE_DISPLAY_NAME_W, R_GET_SERVICE_KEY_NAME_W, R_LOCK_SERVICE_DATABASE}
+use Rattle.scm_model.specs.declared.codes.TheConstants.{R_OPEN_SC_MANAGER_W, R_OPEN_SERVICE_W, R_QUERY_SERVICE_LOCK_STATUS_W}
+use Rattle.scm_model.specs.declared.codes.TheConstants.{R_QUERY_SERVICE_STATUS, R_SET_SERVICE_STATUS, R_START_SERVICE_W}
+use Rattle.scm_model.specs.declared.codes.TheConstants.{R_UNLOCK_SERVICE_DATABASE}
 use Rattle.scm_calls.specs.declared.calls.Call.{Call}
 use Rattle.scm_calls.specs.declared.calls.Call.TheVariants as call
 use Rattle.scm_calls.specs.declared.kinds.ReplyKind.{ReplyKind}

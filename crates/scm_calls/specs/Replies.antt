@@ -10,7 +10,8 @@ use Rattle.scm_shapes.specs.declared.item.Item.{Item}
 use Rattle.scm_shapes.specs.declared.item.Item.TheVariants as item
 use Rattle.scm_shapes.specs.declared.item.Value.{Value}
 use Rattle.scm_shapes.specs.declared.item.Value.TheVariants as value
-use Rattle.scm_shapes.specs.Shapes.{after, first_handle, first_number, first_text, first_some_text, first_some_number, first_size, first_bytes, first_lock, first_shown}
+use Rattle.scm_shapes.specs.Shapes.{after, first_handle, first_number, first_text, first_some_text, first_some_number, first_size}
+use Rattle.scm_shapes.specs.Shapes.{first_bytes, first_lock, first_shown}
 use Rattle.scm_calls.specs.declared.kinds.ReplyKind.{ReplyKind}
 use Rattle.scm_calls.specs.declared.kinds.ReplyKind.TheVariants as kind
 use Rattle.scm_calls.specs.Requests.{status_shape, status_from, status_values}
@@ -60,19 +61,26 @@ reply_from kind.State vs = reply.State (status_from vs) (first_number (after 7 v
 reply_from kind.Made vs = reply.Made (first_some_number vs) (first_handle (after 1 vs)) (first_number (after 2 vs))
 reply_from kind.Tag vs = reply.Tag (first_some_number vs) (first_number (after 1 vs))
 reply_from kind.Shown vs = reply.Shown (first_shown vs) (first_number (after 1 vs)) (first_number (after 2 vs))
-reply_from kind.LockState vs = reply.LockState (first_lock vs).0 (first_lock vs).1 (first_lock vs).2 (first_number (after 1 vs)) (first_number (after 2 vs))
+reply_from kind.LockState vs = reply.LockState (first_lock vs).0 (first_lock vs).1 (first_lock vs).2 (first_number (after 1 vs))
+    (first_number (after 2 vs))
 reply_from kind.Name vs = reply.Name (first_text vs) (first_number (after 1 vs)) (first_number (after 2 vs))
-reply_from kind.Listing vs = reply.Listing (first_size vs) (first_bytes vs) (first_number (after 1 vs)) (first_number (after 2 vs)) (first_number (after 3 vs))
-reply_from kind.Page vs = reply.Page (first_size vs) (first_bytes vs) (first_number (after 1 vs)) (first_number (after 2 vs)) (first_some_number (after 3 vs)) (first_number (after 4 vs))
+reply_from kind.Listing vs = reply.Listing (first_size vs) (first_bytes vs) (first_number (after 1 vs)) (first_number (after 2 vs))
+    (first_number (after 3 vs))
+reply_from kind.Page vs = reply.Page (first_size vs) (first_bytes vs) (first_number (after 1 vs)) (first_number (after 2 vs))
+    (first_some_number (after 3 vs)) (first_number (after 4 vs))
 reply_from kind.Bytes vs = reply.Bytes (first_size vs) (first_bytes vs) (first_number (after 1 vs)) (first_number (after 2 vs))
-reply_from kind.Notice vs = reply.Notice (first_number vs) (process_from (after 1 vs)) (first_some_text (after 10 vs)) (first_number (after 11 vs))
+reply_from kind.Notice vs = reply.Notice (first_number vs) (process_from (after 1 vs)) (first_some_text (after 10 vs))
+    (first_number (after 11 vs))
 
 -- replies with bytes up to a size, and notices
 abbrev pub filled_values : Reply → List Value
-filled_values (reply.Listing size bytes needed returned code) = value.Bytes size bytes ∷ value.Number needed ∷ value.Number returned ∷ value.Number code ∷ []
-filled_values (reply.Page size bytes needed returned resume code) = value.Bytes size bytes ∷ value.Number needed ∷ value.Number returned ∷ value.SomeNumber resume ∷ value.Number code ∷ []
+filled_values (reply.Listing size bytes needed returned code) = value.Bytes size bytes ∷ value.Number needed ∷ value.Number returned ∷
+    value.Number code ∷ []
+filled_values (reply.Page size bytes needed returned resume code) = value.Bytes size bytes ∷ value.Number needed ∷ value.Number returned ∷
+    value.SomeNumber resume ∷ value.Number code ∷ []
 filled_values (reply.Bytes size bytes needed code) = value.Bytes size bytes ∷ value.Number needed ∷ value.Number code ∷ []
-filled_values (reply.Notice mask status name code) = value.Number mask ∷ process_values status ++ value.SomeText name ∷ value.Number code ∷ []
+filled_values (reply.Notice mask status name code) = value.Number mask ∷ process_values status
+    ++ value.SomeText name ∷ value.Number code ∷ []
 filled_values _ = []
 
 abbrev pub reply_values : Reply → List Value
@@ -103,7 +111,8 @@ taken_by text = 2 * (length text + 1)
 
 -- how many bytes a configuration takes there: its numbers and its texts
 abbrev pub bytes_needed : Shown → ℕ
-bytes_needed shown = 36 + taken_by shown.path + taken_by shown.group + taken_by shown.needs + taken_by shown.account + taken_by shown.display
+bytes_needed shown = 36 + taken_by shown.path + taken_by shown.group + taken_by shown.needs + taken_by shown.account
+    + taken_by shown.display
 
 -- bytes that are told of a size are of the one that was asked for, and none is left out
 pub record IsWhole (size told : ℕ) (bytes : List ℕ) : Type 0 where
@@ -121,7 +130,8 @@ Fits size (reply.Bytes n bytes needed code) = IsWhole size n bytes
 Fits size (reply.Notice mask status name code) = IfSome name (λ name. length name ≤ 256)
 Fits size _ = Unit {0}
 
--- five texts share the units that a size leaves, their last 0s included. Each has at least one, and an odd count takes padding: most bytes come of
+-- five texts share the units that a size leaves, their last 0s included. Each has at least one, and an odd count takes padding: most bytes
+-- come of
 -- five odd counts.
 abbrev pub odd_below : ℕ → ℕ
 odd_below units = (units - 1) / 2 * 2 + 1

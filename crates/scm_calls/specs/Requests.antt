@@ -17,10 +17,19 @@ abbrev pub status_shape : List Item
 status_shape = item.Number ∷ item.Number ∷ item.Number ∷ item.Number ∷ item.Number ∷ item.Number ∷ item.Number ∷ []
 
 abbrev pub status_from : List Value → Status
-status_from vs = record { kind = first_number vs; state = first_number (after 1 vs); accepted = first_number (after 2 vs); win32 = first_number (after 3 vs); specific = first_number (after 4 vs); checkpoint = first_number (after 5 vs); hint = first_number (after 6 vs) }
+status_from vs = record {
+  kind = first_number vs;
+  state = first_number (after 1 vs);
+  accepted = first_number (after 2 vs);
+  win32 = first_number (after 3 vs);
+  specific = first_number (after 4 vs);
+  checkpoint = first_number (after 5 vs);
+  hint = first_number (after 6 vs);
+}
 
 abbrev pub status_values : Status → List Value
-status_values s = value.Number s.kind ∷ value.Number s.state ∷ value.Number s.accepted ∷ value.Number s.win32 ∷ value.Number s.specific ∷ value.Number s.checkpoint ∷ value.Number s.hint ∷ []
+status_values s = value.Number s.kind ∷ value.Number s.state ∷ value.Number s.accepted ∷ value.Number s.win32 ∷ value.Number s.specific ∷
+    value.Number s.checkpoint ∷ value.Number s.hint ∷ []
 
 -- the machine's name is read and not kept
 abbrev pub plain_shape : Call → List Item

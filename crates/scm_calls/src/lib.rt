@@ -2,9 +2,9 @@
 //! `RControlService`, `RDeleteService`, `RLockServiceDatabase`, `RQueryServiceStatus`,
 //! `RSetServiceStatus`, `RUnlockServiceDatabase`, `ROpenSCManagerW`, `ROpenServiceW`,
 //! `RQueryServiceLockStatusW`, `RStartServiceW`, `RGetServiceDisplayNameW` and
-//! `RGetServiceKeyNameW` of MS-SCMR. Those of replies of every kind are here too, with how long each
-//! can be. Bodies are read and written by them in `scm_bodies`. The bodies of the trigger interface's
-//! one method are read and written here.
+//! `RGetServiceKeyNameW` of MS-SCMR. Those of replies of every kind are here too, with how long
+//! each can be. Bodies are read and written by them in `scm_bodies`. The bodies of the trigger
+//! interface's one method are read and written here.
 #![tactic(auto)]
 
 mod calls;

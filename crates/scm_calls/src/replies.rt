@@ -4,7 +4,9 @@ ghost use Rattle.scm_shapes.specs.Written.{IsWritten};
 ghost use Rattle.scm_calls.specs.Requests.{status_values};
 ghost use Rattle.scm_shapes.specs.Shapes.{after, value_of};
 ghost use Rattle.scm_calls.specs.declared.kinds.ReplyKind.TheVariants as kind;
-ghost use Rattle.scm_calls.specs.Replies.{reply_shape, reply_from, reply_values, process_from, filled_values, process_values, asked_size, longest_shown, filled_width, longest};
+ghost use Rattle.scm_calls.specs.Replies.{reply_shape, reply_from, reply_values, process_from};
+ghost use Rattle.scm_calls.specs.Replies.{filled_values, process_values, asked_size, longest_shown};
+ghost use Rattle.scm_calls.specs.Replies.{filled_width, longest};
 
 use crate::kinds::ReplyKind;
 use crate::requests::status_of;
@@ -203,7 +205,8 @@ fn put_three(
     code: u32,
     out: Buffer<u8>,
 ) -> Result<Buffer<u8>, (OutOfMemory, Buffer<u8>)>
-    ensures { IsWritten (value_of piece.entry ∷ value.Number number ∷ value.Number code ∷ []) out result }
+    ensures { IsWritten (value_of piece.entry ∷ value.Number number ∷ value.Number code ∷ []) out
+        result }
 {
     write_pieces(&[piece, Piece::Number(number), Piece::Number(code)], out)
 }
@@ -216,7 +219,8 @@ fn put_notice(
     code: u32,
     out: Buffer<u8>,
 ) -> Result<Buffer<u8>, (OutOfMemory, Buffer<u8>)>
-    ensures { IsWritten (value.Number mask ∷ process_values status.now ++ value.SomeText name.now ∷ value.Number code ∷ []) out result }
+    ensures { IsWritten (value.Number mask ∷ process_values status.now
+        ++ value.SomeText name.now ∷ value.Number code ∷ []) out result }
 {
     write_pieces(
         &[
@@ -320,7 +324,8 @@ pub fn put_reply(reply: &Reply, out: Buffer<u8>) -> Result<Buffer<u8>, (OutOfMem
     }
 }
 
-/// The size in which a request asks for its reply, where that decides how long the reply can be, or 0.
+/// The size in which a request asks for its reply, where that decides how long the reply can be, or
+/// 0.
 pub fn asked_size(request: &Request) -> u32
     ensures { result ≡ asked_size request.now }
 {

@@ -5,7 +5,8 @@ ghost use Rattle.scm_shapes.specs.HandleBodies.{handle_body_values, is_handle_bo
 ghost use Rattle.scm_shapes.specs.Written.{IsWritten};
 ghost use Rattle.scm_model.specs.declared.calls.Request.TheVariants as request;
 ghost use Rattle.scm_calls.specs.declared.calls.Call.TheVariants as call;
-ghost use Rattle.scm_calls.specs.Requests.{plain_from, plain_shape, plain_values, status_from, status_values};
+ghost use Rattle.scm_calls.specs.Requests.{plain_from, plain_shape, plain_values, status_from};
+ghost use Rattle.scm_calls.specs.Requests.{status_values};
 
 use crate::calls::Call;
 use scm_model::codes::MAX_LOCK_STATUS_SIZE;
@@ -181,7 +182,8 @@ fn put_name(
     number: u32,
     out: Buffer<u8>,
 ) -> Result<Buffer<u8>, (OutOfMemory, Buffer<u8>)>
-    ensures { IsWritten (value.Handle handle ∷ value.Text name.now ∷ value.Number number ∷ []) out result }
+    ensures { IsWritten (value.Handle handle ∷ value.Text name.now ∷ value.Number number ∷ []) out
+        result }
 {
     write_pieces(
         &[
@@ -193,8 +195,8 @@ fn put_name(
     )
 }
 
-/// Writes the body of a request behind what the buffer holds, where its line is here. Without memory
-/// the buffer is given back as it was.
+/// Writes the body of a request behind what the buffer holds, where its line is here. Without
+/// memory the buffer is given back as it was.
 pub fn put_request(
     request: &Request,
     out: Buffer<u8>,

@@ -4,7 +4,8 @@ use Rattle.scm_model.specs.declared.calls.Request.{Request}
 use Rattle.scm_model.specs.declared.calls.Request.TheVariants as request
 use Rattle.scm_calls.specs.declared.kinds.ReplyKind.{ReplyKind}
 use Rattle.scm_calls.specs.declared.kinds.ReplyKind.TheVariants as kind
-use Rattle.scm_model.specs.declared.codes.TheConstants.{R_CHANGE_SERVICE_CONFIG2_W, R_CHANGE_SERVICE_CONFIG_W, R_CREATE_SERVICE_W, R_QUERY_SERVICE_CONFIG2_W, R_QUERY_SERVICE_CONFIG_W}
+use Rattle.scm_model.specs.declared.codes.TheConstants.{R_CHANGE_SERVICE_CONFIG2_W, R_CHANGE_SERVICE_CONFIG_W, R_CREATE_SERVICE_W}
+use Rattle.scm_model.specs.declared.codes.TheConstants.{R_QUERY_SERVICE_CONFIG2_W, R_QUERY_SERVICE_CONFIG_W}
 use Rattle.scm_calls_cfg.specs.declared.calls.Call.{Call}
 use Rattle.scm_calls_cfg.specs.declared.calls.Call.TheVariants as call
 

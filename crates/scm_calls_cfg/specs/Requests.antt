@@ -9,14 +9,17 @@ use Rattle.scm_shapes.specs.declared.item.Item.{Item}
 use Rattle.scm_shapes.specs.declared.item.Item.TheVariants as item
 use Rattle.scm_shapes.specs.declared.item.Value.{Value}
 use Rattle.scm_shapes.specs.declared.item.Value.TheVariants as value
-use Rattle.scm_shapes.specs.Shapes.{after, first_handle, first_number, first_text, first_some_text, first_some_number, first_some_bytes, first_info}
+use Rattle.scm_shapes.specs.Shapes.{after, first_handle, first_number, first_text, first_some_text, first_some_number, first_some_bytes}
+use Rattle.scm_shapes.specs.Shapes.{first_info}
 use Rattle.scm_calls_cfg.specs.declared.calls.Call.{Call}
 use Rattle.scm_calls_cfg.specs.declared.calls.Call.TheVariants as call
 
 -- the password is read and not kept
 abbrev pub config_shape : Call → List Item
-config_shape call.Change = item.Handle ∷ item.Number ∷ item.Number ∷ item.Number ∷ item.SomeText ∷ item.SomeText ∷ item.SomeNumber ∷ item.SomeBytes ∷ item.SomeText ∷ item.UnkeptBytes ∷ item.SomeText ∷ []
-config_shape call.Create = item.Handle ∷ item.Text ∷ item.SomeText ∷ item.Number ∷ item.Number ∷ item.Number ∷ item.Number ∷ item.Text ∷ item.SomeText ∷ item.SomeNumber ∷ item.SomeBytes ∷ item.SomeText ∷ item.UnkeptBytes ∷ []
+config_shape call.Change = item.Handle ∷ item.Number ∷ item.Number ∷ item.Number ∷ item.SomeText ∷ item.SomeText ∷ item.SomeNumber ∷
+    item.SomeBytes ∷ item.SomeText ∷ item.UnkeptBytes ∷ item.SomeText ∷ []
+config_shape call.Create = item.Handle ∷ item.Text ∷ item.SomeText ∷ item.Number ∷ item.Number ∷ item.Number ∷ item.Number ∷ item.Text ∷
+    item.SomeText ∷ item.SomeNumber ∷ item.SomeBytes ∷ item.SomeText ∷ item.UnkeptBytes ∷ []
 config_shape call.QueryConfig = item.Handle ∷ item.NumberTo MAX_CONFIG_SIZE ∷ []
 config_shape call.Change2 = item.Handle ∷ item.Info ∷ []
 config_shape call.QueryConfig2 = item.Handle ∷ item.Number ∷ item.NumberTo MAX_CONFIG_SIZE ∷ []
@@ -60,12 +63,14 @@ config_from call.QueryConfig2 vs = request.QueryConfig2 (first_handle vs) (first
 
 abbrev pub change_values : ChangeService → List Value
 change_values change =
-    value.Handle change.handle ∷ value.Number change.kind ∷ value.Number change.start ∷ value.Number change.error ∷ value.SomeText change.path ∷ value.SomeText change.group ∷ value.SomeNumber change.tag ∷ value.SomeBytes change.needs
+    value.Handle change.handle ∷ value.Number change.kind ∷ value.Number change.start ∷ value.Number change.error ∷ value.SomeText
+    change.path ∷ value.SomeText change.group ∷ value.SomeNumber change.tag ∷ value.SomeBytes change.needs
     ∷ value.SomeText change.account ∷ value.UnkeptBytes ∷ value.SomeText change.display ∷ []
 
 abbrev pub new_values : NewService → List Value
 new_values new =
-    value.Handle new.handle ∷ value.Text new.name ∷ value.SomeText new.display ∷ value.Number new.access ∷ value.Number new.kind ∷ value.Number new.start ∷ value.Number new.error ∷ value.Text new.path ∷ value.SomeText new.group
+    value.Handle new.handle ∷ value.Text new.name ∷ value.SomeText new.display ∷ value.Number new.access ∷ value.Number new.kind ∷
+    value.Number new.start ∷ value.Number new.error ∷ value.Text new.path ∷ value.SomeText new.group
     ∷ value.SomeNumber new.tag ∷ value.SomeBytes new.needs ∷ value.SomeText new.account ∷ value.UnkeptBytes ∷ []
 
 -- no values of a request whose line isn't here

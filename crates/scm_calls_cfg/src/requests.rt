@@ -1,7 +1,8 @@
 ghost use Rattle.std.specs.Prelude.{◌≡◌, IsTrue};
 ghost use Rattle.scm_shapes.specs.HandleBodies.{handle_body_values, is_handle_body};
 ghost use Rattle.scm_shapes.specs.Written.{IsWritten};
-ghost use Rattle.scm_calls_cfg.specs.Requests.{change_from, change_values, config_from, config_shape, config_values, new_from, new_values};
+ghost use Rattle.scm_calls_cfg.specs.Requests.{change_from, change_values, config_from};
+ghost use Rattle.scm_calls_cfg.specs.Requests.{config_shape, config_values, new_from, new_values};
 
 use crate::calls::Call;
 use scm_model::codes::MAX_CONFIG_SIZE;
@@ -188,8 +189,8 @@ fn put_new(new: &NewService, out: Buffer<u8>) -> Result<Buffer<u8>, (OutOfMemory
     )
 }
 
-/// Writes the body of a request behind what the buffer holds, where its line is here. Without memory
-/// the buffer is given back as it was.
+/// Writes the body of a request behind what the buffer holds, where its line is here. Without
+/// memory the buffer is given back as it was.
 pub fn put_request(
     request: &Request,
     out: Buffer<u8>,

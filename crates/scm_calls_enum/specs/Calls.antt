@@ -2,7 +2,8 @@
 use Rattle.std.specs.Prelude.{ℕ, ◌==◌, if◌then◌else◌, Option, Some, None}
 use Rattle.scm_model.specs.declared.calls.Request.{Request}
 use Rattle.scm_model.specs.declared.calls.Request.TheVariants as request
-use Rattle.scm_model.specs.declared.codes.TheConstants.{R_CLOSE_NOTIFY_HANDLE, R_ENUM_DEPENDENT_SERVICES_W, R_ENUM_SERVICES_STATUS_W, R_GET_NOTIFY_RESULTS, R_NOTIFY_SERVICE_STATUS_CHANGE, R_QUERY_SERVICE_STATUS_EX}
+use Rattle.scm_model.specs.declared.codes.TheConstants.{R_CLOSE_NOTIFY_HANDLE, R_ENUM_DEPENDENT_SERVICES_W, R_ENUM_SERVICES_STATUS_W}
+use Rattle.scm_model.specs.declared.codes.TheConstants.{R_GET_NOTIFY_RESULTS, R_NOTIFY_SERVICE_STATUS_CHANGE, R_QUERY_SERVICE_STATUS_EX}
 use Rattle.scm_calls.specs.declared.kinds.ReplyKind.{ReplyKind}
 use Rattle.scm_calls.specs.declared.kinds.ReplyKind.TheVariants as kind
 use Rattle.scm_calls_enum.specs.declared.calls.Call.{Call}

@@ -1,4 +1,5 @@
--- The bodies of requests for services and for what happens to them: their shapes, what is made of their values, and the values of a request.
+-- The bodies of requests for services and for what happens to them: their shapes, what is made of their values, and the values of a
+-- request.
 use Rattle.std.specs.Prelude.{List, [], ◌∷◌}
 use Rattle.scm_model.specs.declared.calls.Request.{Request}
 use Rattle.scm_model.specs.declared.calls.Request.TheVariants as request
@@ -21,7 +22,8 @@ enum_shape call.CloseNotify = item.Handle ∷ []
 
 abbrev pub enum_from : Call → List Value → Request
 enum_from call.EnumDependents vs = request.EnumDependents (first_handle vs) (first_number (after 1 vs)) (first_number (after 2 vs))
-enum_from call.EnumServices vs = request.EnumServices (first_handle vs) (first_number (after 1 vs)) (first_number (after 2 vs)) (first_number (after 3 vs)) (first_some_number (after 4 vs))
+enum_from call.EnumServices vs = request.EnumServices (first_handle vs) (first_number (after 1 vs)) (first_number (after 2 vs))
+    (first_number (after 3 vs)) (first_some_number (after 4 vs))
 enum_from call.QueryStatusEx vs = request.QueryStatusEx (first_handle vs) (first_number (after 1 vs)) (first_number (after 2 vs))
 enum_from call.Notify vs = request.Notify (first_handle vs) (first_number (after 1 vs))
 enum_from call.GetNotify vs = request.GetNotify (first_handle vs)
@@ -30,7 +32,8 @@ enum_from call.CloseNotify vs = request.CloseNotify (first_handle vs)
 -- no values of a request whose line isn't here
 abbrev pub enum_values : Request → List Value
 enum_values (request.EnumDependents handle states size) = value.Handle handle ∷ value.Number states ∷ value.Number size ∷ []
-enum_values (request.EnumServices handle kinds states size resume) = value.Handle handle ∷ value.Number kinds ∷ value.Number states ∷ value.Number size ∷ value.SomeNumber resume ∷ []
+enum_values (request.EnumServices handle kinds states size resume) = value.Handle handle ∷ value.Number kinds ∷ value.Number states ∷
+    value.Number size ∷ value.SomeNumber resume ∷ []
 enum_values (request.QueryStatusEx handle level size) = value.Handle handle ∷ value.Number level ∷ value.Number size ∷ []
 enum_values (request.Notify handle mask) = value.Handle handle ∷ value.Number mask ∷ []
 enum_values (request.GetNotify handle) = value.Handle handle ∷ []

@@ -1,7 +1,7 @@
 //! Lines of calls that list services and tell of what happens to them, as in `scm_calls`:
 //! `REnumDependentServicesW`, `REnumServicesStatusW` and `RQueryServiceStatusEx` of MS-SCMR, and
-//! `RNotifyServiceStatusChange`, `RGetNotifyResults` and `RCloseNotifyHandle`, whose bodies are this
-//! project's own.
+//! `RNotifyServiceStatusChange`, `RGetNotifyResults` and `RCloseNotifyHandle`, whose bodies are
+//! this project's own.
 #![tactic(auto)]
 
 mod calls;

@@ -8,12 +8,14 @@ use Rattle.scm_model.specs.declared.flat.Flat.{Flat}
 use Rattle.scm_model.specs.declared.flat.Limits.{Limits}
 use Rattle.scm_model.specs.declared.steps.Kept.{Kept}
 use Rattle.scm_model.specs.declared.steps.Step.{Step}
-use Rattle.scm_model.specs.declared.steps.Step.TheVariants.{Joined, Call, EndStart, LaunchTaken, Launched, LaunchFailed, Report, Ended, ControlTaken, Tick, Raised, Gone, NoMemory}
+use Rattle.scm_model.specs.declared.steps.Step.TheVariants.{Joined, Call, EndStart, LaunchTaken, Launched, LaunchFailed, Report, Ended}
+use Rattle.scm_model.specs.declared.steps.Step.TheVariants.{ControlTaken, Tick, Raised, Gone, NoMemory}
 use Rattle.scm_model.specs.declared.calls.Reply.{Reply}
 use Rattle.scm_model.specs.Refused.{answered}
 use Rattle.scm_model.specs.Entries.{unkept}
-use Rattle.scm_model.specs.Outcomes.{Done}
-use Rattle.scm_rules.specs.OtherName.{display_by_name, name_by_display, other_name_done, other_name_reply, other_name_told, other_name_verdict}
+use Rattle.scm_model.specs.Outcomes.{CallResult}
+use Rattle.scm_rules.specs.OtherName.{display_by_name, name_by_display, other_name_done, other_name_reply, other_name_told}
+use Rattle.scm_rules.specs.OtherName.{other_name_verdict}
 use Rattle.scm_rules.specs.EnumDependents.{enum_dependents_done, enum_dependents_told, enum_dependents_verdict}
 use Rattle.scm_rules.specs.EnumServices.{enum_services_done, enum_services_told, enum_services_verdict}
 use Rattle.scm_rules.specs.QueryStatusEx.{query_ex_done, query_ex_told, query_ex_verdict}
@@ -30,25 +32,31 @@ use Rattle.scm_rules.specs.Room.{is_started_at}
 use Rattle.scm_tables.specs.Firing.{CanFire, HasFires, HasPlanNumbers, HasStarts, starts_in}
 use Rattle.scm_tables.proofs.Placed.{fewer}
 use Rattle.scm_tables.specs.Tabled.{Spare, Tabled}
-use Rattle.scm_core.specs.declared.made.Made.{Made}
-use Rattle.scm_core.specs.Room.{HasNumbers, HasRoomFor, IsMadeFor, made_for, nothing_made}
+use Rattle.scm_core.specs.declared.made.Prepared.{Prepared}
+use Rattle.scm_core.specs.Room.{HasNumbers, HasRoomFor, IsMadeFor, prepared_for, nothing_made}
 use Rattle.scm_model.specs.declared.steps.Change.{Change}
 
 -- the reply of a call that changes nothing
-told_at : (code : ℕ) (told done : Reply) (f g : Flat) → (answered code told f (record { reply = done; flat = f })).reply ≡ (answered code told g (record { reply = done; flat = g })).reply
+told_at : (code : ℕ) (told done : Reply) (f g : Flat) → (answered code told f (record { reply = done; flat = f })).reply ≡
+    (answered code told g (record { reply = done; flat = g })).reply
 told_at code told done f g =
-    elim (code == 0) as (λ b. (cond {A = Done} b (record { reply = done; flat = f }) (record { reply = told; flat = f })).reply
-    ≡ (cond {A = Done} b (record { reply = done; flat = g }) (record { reply = told; flat = g })).reply) [ true ↦ refl | false ↦ refl ]
+    elim (code == 0) as (λ b. (cond {A = CallResult} b (record { reply = done; flat = f }) (record { reply = told; flat = f })).reply
+    ≡ (cond {A = CallResult} b (record { reply = done; flat = g }) (record { reply = told; flat = g })).reply) [
+      | true ↦ refl
+      | false ↦ refl
+    ]
 
-abbrev replying : Reply → Made
+abbrev replying : Reply → Prepared
 replying told = record nothing_made { reply = Some told }
 
-other_name_at : (f : Flat) (moment caller handle size : ℕ) (other : Option (List ℕ)) → replying (other_name_reply (with_moment f moment) caller handle size other) ≡ replying (other_name_reply f caller handle size other)
+other_name_at : (f : Flat) (moment caller handle size : ℕ) (other : Option (List ℕ))
+    → replying (other_name_reply (with_moment f moment) caller handle size other) ≡ replying (other_name_reply f caller handle size other)
 other_name_at f moment caller handle size other =
     let code = other_name_verdict f caller handle size other in
     ap replying (told_at code (other_name_told other code) (other_name_done f other).reply (with_moment f moment) f)
 
-made_at : (l : Limits) (f : Flat) (moment caller : ℕ) (asked : Request) → made_for l (with_moment f moment) caller asked ≡ made_for l f caller asked
+made_at : (l : Limits) (f : Flat) (moment caller : ℕ) (asked : Request)
+    → prepared_for l (with_moment f moment) caller asked ≡ prepared_for l f caller asked
 made_at l f moment caller (request.QueryConfig handle size) =
     let code = query_config_verdict f caller handle size in
     ap replying (told_at code (query_config_told f caller handle code) (query_config_done f caller handle).reply (with_moment f moment) f)
@@ -70,13 +78,16 @@ made_at l f moment caller (request.OpenService handle name access) = refl
 made_at l f moment caller (request.Start handle words) = refl
 made_at l f moment caller (request.EnumDependents handle states size) =
     let code = enum_dependents_verdict f caller handle states size in
-    ap replying (told_at code (enum_dependents_told f caller handle states size code) (enum_dependents_done f caller handle states size).reply (with_moment f moment) f)
+    ap replying (told_at code (enum_dependents_told f caller handle states size code)
+    (enum_dependents_done f caller handle states size).reply (with_moment f moment) f)
 made_at l f moment caller (request.EnumServices handle kinds states size resume) =
     let code = enum_services_verdict f caller handle kinds states size resume in
-    ap replying (told_at code (enum_services_told f kinds states size resume code) (enum_services_done f kinds states size resume).reply (with_moment f moment) f)
+    ap replying (told_at code (enum_services_told f kinds states size resume code) (enum_services_done f kinds states size resume).reply
+    (with_moment f moment) f)
 made_at l f moment caller (request.QueryConfig2 handle level size) =
     let code = query_config2_verdict f caller handle level size in
-    ap replying (told_at code (query_config2_told f caller handle level size code) (query_config2_done f caller handle level size).reply (with_moment f moment) f)
+    ap replying (told_at code (query_config2_told f caller handle level size code) (query_config2_done f caller handle level size).reply
+    (with_moment f moment) f)
 made_at l f moment caller (request.QueryStatusEx handle level size) =
     let code = query_ex_verdict f caller handle level size in
     ap replying (told_at code (query_ex_told size code) (query_ex_done f caller handle size).reply (with_moment f moment) f)
@@ -84,7 +95,8 @@ made_at l f moment caller (request.Notify handle mask) = refl
 made_at l f moment caller (request.GetNotify handle) = refl
 made_at l f moment caller (request.CloseNotify handle) = refl
 
-pub is_made_at : (l : Limits) (f : Flat) (moment : ℕ) (made : Made) (step : Step) → IsMadeFor l f made step → IsMadeFor l (at_moment f moment step) made step
+pub is_made_at : (l : Limits) (f : Flat) (moment : ℕ) (made : Prepared) (step : Step) → IsMadeFor l f made step
+    → IsMadeFor l (at_moment f moment step) made step
 is_made_at l f moment made (Call caller asked append) is = rw (made_at l f moment caller asked) is
 is_made_at l f moment made (Joined principal) is = tt
 is_made_at l f moment made (EndStart caller plan) is = tt
@@ -99,7 +111,8 @@ is_made_at l f moment made (Raised caller subtype) is = tt
 is_made_at l f moment made (Gone caller) is = tt
 is_made_at l f moment made (NoMemory caller) is = tt
 
-room_at : (t : Tabled) (moment caller : ℕ) (asked : Request) (append : Kept) → HasRoomFor t (Call caller asked append) → HasRoomFor (record t { flat = with_moment t.flat moment }) (Call caller asked append)
+room_at : (t : Tabled) (moment caller : ℕ) (asked : Request) (append : Kept) → HasRoomFor t (Call caller asked append)
+    → HasRoomFor (record t { flat = with_moment t.flat moment }) (Call caller asked append)
 room_at t moment caller (request.QueryConfig handle size) append has = has
 room_at t moment caller (request.DisplayName handle name size) append has = has
 room_at t moment caller (request.KeyName handle name size) append has = has
@@ -129,20 +142,26 @@ starts_at : (t : Tabled) (moment count : ℕ) → HasStarts count t → HasStart
 starts_at t moment count has = record { starts = has.starts; plans = has.plans; dues = has.dues; entries = has.entries }
 
 -- lists with these parts
-moved : (t u : Tabled) (moment : ℕ) (P : Tabled → Type 0) → u.flat ≡ with_moment t.flat moment → u.limits ≡ t.limits → u.spare ≡ t.spare → P (record t { flat = with_moment t.flat moment }) → P u
+moved : (t u : Tabled) (moment : ℕ) (P : Tabled → Type 0) → u.flat ≡ with_moment t.flat moment → u.limits ≡ t.limits → u.spare ≡ t.spare
+    → P (record t { flat = with_moment t.flat moment }) → P u
 moved t u moment P flat limits spare has =
     subst (λ s. P (record { flat = u.flat; limits = u.limits; spare = s })) (sym spare)
     (subst (λ l. P (record { flat = u.flat; limits = l; spare = t.spare })) (sym limits)
     (subst (λ f. P (record { flat = f; limits = t.limits; spare = t.spare })) (sym flat) has))
 
 -- the room of lists that moved on to the step's moment
-pub has_room_at : (t u : Tabled) (moment : ℕ) (step : Step) → u.flat ≡ at_moment t.flat moment step → u.limits ≡ t.limits → u.spare ≡ t.spare → HasRoomFor t step → HasRoomFor u step
+pub has_room_at : (t u : Tabled) (moment : ℕ) (step : Step) → u.flat ≡ at_moment t.flat moment step → u.limits ≡ t.limits
+    → u.spare ≡ t.spare → HasRoomFor t step → HasRoomFor u step
 has_room_at t u moment (Call caller asked append) flat limits spare has =
     moved t u moment (λ v. HasRoomFor v (Call caller asked append)) flat limits spare (room_at t moment caller asked append has)
 has_room_at t u moment Tick flat limits spare has =
-    moved t u moment HasFires flat limits spare (record { starts = starts_at t moment (starts_in t.flat.dues) has.starts; commands = has.commands })
+    moved t u moment HasFires flat limits spare (record {
+      starts = starts_at t moment (starts_in t.flat.dues) has.starts;
+      commands = has.commands;
+    })
 has_room_at t u moment (Raised caller subtype) flat limits spare has =
-    moved t u moment (λ v. HasRoomFor v (Raised caller subtype)) flat limits spare (starts_at t moment (raise_starts t.flat caller subtype) has)
+    moved t u moment (λ v. HasRoomFor v (Raised caller subtype)) flat limits spare
+    (starts_at t moment (raise_starts t.flat caller subtype) has)
 has_room_at t u moment (Joined principal) flat limits spare has = subst (λ (s : Spare). 1 ≤ s.callers) (sym spare) has
 has_room_at t u moment (EndStart caller plan) flat limits spare has = tt
 has_room_at t u moment LaunchTaken flat limits spare has = tt
@@ -155,7 +174,7 @@ has_room_at t u moment (Gone caller) flat limits spare has = tt
 has_room_at t u moment (NoMemory caller) flat limits spare has = tt
 
 -- nor on what is kept
-pub is_made_unkept : (l : Limits) (f : Flat) (made : Made) (step : Step) → IsMadeFor l f made step → IsMadeFor l f made (unkept step)
+pub is_made_unkept : (l : Limits) (f : Flat) (made : Prepared) (step : Step) → IsMadeFor l f made step → IsMadeFor l f made (unkept step)
 is_made_unkept l f made (Call caller asked append) is = is
 is_made_unkept l f made (Joined principal) is = tt
 is_made_unkept l f made (EndStart caller plan) is = tt
@@ -186,7 +205,8 @@ has_room_unkept t (Gone caller) has = tt
 has_room_unkept t (NoMemory caller) has = tt
 
 -- what was made for a call has the change that it makes
-change_made : (l : Limits) (f : Flat) (caller : ℕ) (asked : Request) → (made_for l f caller asked).change ≡ change_of_call l f caller asked
+change_made : (l : Limits) (f : Flat) (caller : ℕ) (asked : Request) → (prepared_for l f caller asked).change ≡ change_of_call l f caller
+    asked
 change_made l f caller (request.Change change) = refl
 change_made l f caller (request.Change2 handle asked) = refl
 change_made l f caller (request.Create new) = refl
@@ -194,12 +214,14 @@ change_made l f caller (request.Delete handle) = refl
 change_made l f caller _ = refl
 
 -- so has what is kept for a step that room was made for
-pub made_before : (l : Limits) (f : Flat) (made : Made) (room : Option Step) (step : Step) → KeepsMade l f made room → WasMadeFor room step → change_in made step ≡ change_of l f step
+pub made_before : (l : Limits) (f : Flat) (made : Prepared) (room : Option Step) (step : Step) → KeepsMade l f made room
+    → WasMadeFor room step → change_in made step ≡ change_of l f step
 made_before l f made room (Call caller asked append) keeps was =
-    ap (λ (m : Made). m.change) (subst (KeepsMade l f made) was keeps) ∙ change_made l f caller asked
+    ap (λ (m : Prepared). m.change) (subst (KeepsMade l f made) was keeps) ∙ change_made l f caller asked
 made_before l f made room _ keeps was = refl
 
-pub told_made : (l : Limits) (f : Flat) (made : Made) (room : Option Step) (step : Step) → KeepsMade l f made room → WasMadeFor room step → told_in made step ≡ keeps_right l f step
+pub told_made : (l : Limits) (f : Flat) (made : Prepared) (room : Option Step) (step : Step) → KeepsMade l f made room
+    → WasMadeFor room step → told_in made step ≡ keeps_right l f step
 told_made l f made room (Call caller asked append) keeps was =
     ap (λ (change : Option Change). tells_right (is_some change) append) (made_before l f made room (Call caller asked append) keeps was)
 told_made l f made room _ keeps was = refl
@@ -216,7 +238,8 @@ can_fire t room numbers limit few = record {
 
 raises_few : (f : Flat) (caller : ℕ) (subtype : List ℕ) → raise_starts f caller subtype ≤ length f.services
 raises_few f caller subtype =
-    elim (raise_verdict f caller == 0) as (λ b. cond b (started_among subtype f.services) 0 ≤ length f.services) [ true ↦ fewer (is_started_at subtype) f.services | false ↦ omega arith ]
+    elim (raise_verdict f caller == 0) as (λ b. cond b (started_among subtype f.services) 0 ≤ length f.services)
+    [ true ↦ fewer (is_started_at subtype) f.services | false ↦ omega arith ]
 
 -- what is raised has numbers
 pub raise_numbers : (f : Flat) (caller : ℕ) (subtype : List ℕ) → HasNumbers f → HasPlanNumbers (raise_starts f caller subtype) f

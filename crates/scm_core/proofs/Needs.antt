@@ -21,7 +21,10 @@ some_need services step = omega arith
 
 same_test : (a b l : ℕ) → (a ≤ l → b ≤ l) → (b ≤ l → a ≤ l) → nat_le a l ≡ nat_le b l
 same_test a b l there back = elim (cases_lt l a) [
-  | inl above ↦ lt-leb a l above ∙ sym (lt-leb b l (elim (cases_lt l b) [ inl lies ↦ lies | inr fits ↦ absurd (omega (arith, above, back fits)) ]))
+  | inl above ↦ lt-leb a l above ∙ sym (lt-leb b l (elim (cases_lt l b) [
+    | inl lies ↦ lies
+    | inr fits ↦ absurd (omega (arith, above, back fits))
+  ]))
   | inr fits ↦ le-leb a l fits ∙ sym (le-leb b l (there fits))
 ]
 

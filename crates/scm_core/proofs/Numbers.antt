@@ -1,5 +1,6 @@
 -- A step gives few numbers, and adds a service only where one more may be.
-use Rattle.std.proofs.Common.{ℕ, ◌≡◌, ◌∙◌, ◌+◌, ◌*◌, ◌<◌, ◌≤◌, ◌^◌, ◌==◌, ◌||◌, true, false, cond, not, List, [], ◌∷◌, ◌++◌, Option, None, Some, filter, length, map, length-append, refl, sym, subst, ap, arith, eqb-true}
+use Rattle.std.proofs.Common.{ℕ, ◌≡◌, ◌∙◌, ◌+◌, ◌*◌, ◌<◌, ◌≤◌, ◌^◌, ◌==◌, ◌||◌, true, false, cond, not, List, [], ◌∷◌, ◌++◌, Option, None}
+use Rattle.std.proofs.Common.{Some, filter, length, map, length-append, refl, sym, subst, ap, arith, eqb-true}
 use Rattle.std.specs.Prelude.{Bool, nat_le, unwrap_or}
 use Rattle.std.specs.List.{list_any}
 use Rattle.std.proofs.lemmas.Bool.Decides.{nat_tests}
@@ -22,11 +23,12 @@ use Rattle.scm_model.specs.declared.steps.Answer.{Answer}
 use Rattle.scm_model.specs.declared.steps.Answer.TheVariants as answer
 use Rattle.scm_model.specs.declared.steps.Kept.{Kept}
 use Rattle.scm_model.specs.declared.steps.Step.{Step}
-use Rattle.scm_model.specs.declared.steps.Step.TheVariants.{Joined, Call, EndStart, LaunchTaken, Launched, LaunchFailed, Report, Ended, ControlTaken, Tick, Raised, Gone, NoMemory}
+use Rattle.scm_model.specs.declared.steps.Step.TheVariants.{Joined, Call, EndStart, LaunchTaken, Launched, LaunchFailed, Report, Ended}
+use Rattle.scm_model.specs.declared.steps.Step.TheVariants.{ControlTaken, Tick, Raised, Gone, NoMemory}
 use Rattle.scm_model.specs.declared.codes.TheConstants.{SERVICE_CONTROL_STOP, SERVICE_TRIGGER_ACTION_SERVICE_START}
 use Rattle.scm_model.specs.Changes.{configured_if, marked_if, new_service, with_handle, with_moment}
 use Rattle.scm_model.specs.Found.{if_found}
-use Rattle.scm_model.specs.Outcomes.{Done}
+use Rattle.scm_model.specs.Outcomes.{CallResult}
 use Rattle.scm_model.specs.Purge.{leaves, purged}
 use Rattle.scm_model.specs.Refused.{answered}
 use Rattle.scm_model.specs.Rows.{held_service, named, service_of}
@@ -63,7 +65,8 @@ use Rattle.scm_tables.proofs.Placed.{fewer, fewer_pass}
 use Rattle.scm_arms_service.proofs.Judging.{created_few}
 use Rattle.scm_core.specs.Room.{HasNumbers}
 
--- of plans and of what becomes due, with the starts that stand, as many numbers as there are services and two; of processes as many as may be
+-- of plans and of what becomes due, with the starts that stand, as many numbers as there are services and two; of processes as many as may
+-- be
 -- listed; of all else one
 pub record NumbersRise (l : Limits) (old new : Flat) : Type 0 where
   pub handle : new.next.handle ≤ old.next.handle + 1
@@ -76,15 +79,27 @@ pub record NumbersRise (l : Limits) (old new : Flat) : Type 0 where
   pub few : length old.services ≤ l.services → length new.services ≤ l.services
 
 -- no number is given
-same : (l : Limits) (old new : Flat) → new.next ≡ old.next → new.dues ≡ old.dues → length new.services ≡ length old.services → NumbersRise l old new
+same : (l : Limits) (old new : Flat) → new.next ≡ old.next → new.dues ≡ old.dues → length new.services ≡ length old.services
+    → NumbersRise l old new
 same l old new e d s =
     subst (λ n. NumbersRise l old (record new { next = n })) (sym e)
     (subst (λ rows. NumbersRise l old (record new { next = old.next; dues = rows })) (sym d)
-    (record { handle = omega arith; caller = omega arith; service = omega arith; plan = omega arith; due = omega arith; registration = omega arith; process = omega arith; few = λ few. omega (arith, few, s) }))
+    (record {
+      handle = omega arith;
+      caller = omega arith;
+      service = omega arith;
+      plan = omega arith;
+      due = omega arith;
+      registration = omega arith;
+      process = omega arith;
+      few = λ few. omega (arith, few, s);
+    }))
 
 -- one number of a handle, or of a caller, or of a registration
-one : (l : Limits) (old new : Flat) → new.next.handle ≤ old.next.handle + 1 → new.next.caller ≤ old.next.caller + 1 → new.next.registration ≤ old.next.registration + 1 → new.next.service ≡ old.next.service
-    → new.next.plan ≡ old.next.plan → new.next.due ≡ old.next.due → new.next.process ≡ old.next.process → new.dues ≡ old.dues → new.services ≡ old.services → NumbersRise l old new
+one : (l : Limits) (old new : Flat) → new.next.handle ≤ old.next.handle + 1 → new.next.caller ≤ old.next.caller + 1
+    → new.next.registration ≤ old.next.registration + 1 → new.next.service ≡ old.next.service
+    → new.next.plan ≡ old.next.plan → new.next.due ≡ old.next.due → new.next.process ≡ old.next.process → new.dues ≡ old.dues
+    → new.services ≡ old.services → NumbersRise l old new
 one l old new handle caller registration service plan due process rows services =
     let starts = ap starts_in rows in
     record {
@@ -113,12 +128,23 @@ record Fails (f g : Flat) : Type 0 where
   services : length g.services ≡ length f.services
 
 fails_nothing : (f : Flat) → Fails f f
-fails_nothing f = record { handle = refl; caller = refl; service = refl; plan = refl; due = omega arith; registration = refl; process = refl; starts = omega arith; services = refl }
+fails_nothing f = record {
+  handle = refl;
+  caller = refl;
+  service = refl;
+  plan = refl;
+  due = omega arith;
+  registration = refl;
+  process = refl;
+  starts = omega arith;
+  services = refl;
+}
 
 one_row : (rows : List Due) (due : Due) → starts_in (rows ++ due ∷ []) ≤ starts_in rows + 1
 one_row [] due = elim (begins_plan due.kind) as (λ b. length (cond b (due ∷ []) []) ≤ 0 + 1) [ true ↦ omega arith | false ↦ omega arith ]
 one_row (row ∷ rows) due =
-    elim (begins_plan row.kind) as (λ b. length (cond b (row ∷ filter (λ (d : Due). begins_plan d.kind) (rows ++ due ∷ [])) (filter (λ (d : Due). begins_plan d.kind) (rows ++ due ∷ [])))
+    elim (begins_plan row.kind) as (λ b. length (cond b (row ∷ filter (λ (d : Due). begins_plan d.kind) (rows ++ due ∷ []))
+    (filter (λ (d : Due). begins_plan d.kind) (rows ++ due ∷ [])))
     ≤ length (cond b (row ∷ filter (λ (d : Due). begins_plan d.kind) rows) (filter (λ (d : Due). begins_plan d.kind) rows)) + 1)
     [ true ↦ omega (arith, one_row rows due) | false ↦ omega (arith, one_row rows due) ]
 
@@ -137,19 +163,25 @@ of_due f moment kind = record {
   due = omega arith;
   registration = refl;
   process = refl;
-  starts = omega (arith, one_row (beside kind f.dues) (record { moment = moment; number = f.next.due; kind = kind }), fewer_starts kind f.dues);
+  starts = omega (
+    arith,
+    one_row (beside kind f.dues) (record { moment = moment; number = f.next.due; kind = kind }),
+    fewer_starts kind f.dues,
+  );
   services = refl;
 }
 
 of_action : (number : ℕ) (f : Flat) (action : Option Action) → Fails f (if_found (with_action number) action f)
 of_action number f action =
     found_keeps (Fails f) (with_action number) action f (fails_nothing f)
-    (λ found is. found_keeps (Fails f) (λ kind g. with_due g (moment_after g.moment found.delay) kind) (due_action number found) f (fails_nothing f) (λ kind at. of_due f (moment_after f.moment found.delay) kind))
+    (λ found is. found_keeps (Fails f) (λ kind g. with_due g (moment_after g.moment found.delay) kind) (due_action number found) f
+    (fails_nothing f) (λ kind at. of_due f (moment_after f.moment found.delay) kind))
 
 of_failure : (row : Service) (f : Flat) → Fails f (with_failure row f)
 of_failure row f =
     let counting = counted_if row.number f.moment in
-    let r = of_action row.number (record f { services = map counting f.services }) (on_failure row.config row.failures row.last_failure f.moment).action in
+    let r = of_action row.number (record f { services = map counting f.services })
+    (on_failure row.config row.failures row.last_failure f.moment).action in
     record {
       handle = r.handle;
       caller = r.caller;
@@ -166,7 +198,8 @@ of_found : (found : Option Service) (f : Flat) → Fails f (if_found with_failur
 of_found found f = found_keeps (Fails f) with_failure found f (fails_nothing f) (λ row is. of_failure row f)
 
 -- after a change that gives no number
-failing : (l : Limits) (old f g : Flat) → f.next ≡ old.next → f.dues ≡ old.dues → length f.services ≡ length old.services → Fails f g → NumbersRise l old g
+failing : (l : Limits) (old f g : Flat) → f.next ≡ old.next → f.dues ≡ old.dues → length f.services ≡ length old.services → Fails f g
+    → NumbersRise l old g
 failing l old f g next rows services r =
     let starts = ap starts_in rows in
     record {
@@ -182,30 +215,40 @@ failing l old f g next rows services r =
 
 -- ## Calls
 
-of_answered : (l : Limits) (code : ℕ) (told : Reply) (f : Flat) (done : Done) → ((code == 0) ≡ true → NumbersRise l f done.flat) → NumbersRise l f (answered code told f done).flat
+of_answered : (l : Limits) (code : ℕ) (told : Reply) (f : Flat) (done : CallResult) → ((code == 0) ≡ true → NumbersRise l f done.flat)
+    → NumbersRise l f (answered code told f done).flat
 of_answered l code told f done rises =
-    elim (code == 0) as (λ b. ((code == 0) ≡ b → NumbersRise l f (cond {A = Done} b done (record { reply = told; flat = f })).flat)) [ true ↦ rises | false ↦ λ e. same l f f refl refl refl ] refl
+    elim (code == 0) as (λ b. ((code == 0) ≡ b → NumbersRise l f (cond {A = CallResult} b done (record { reply = told; flat = f })).flat))
+    [ true ↦ rises | false ↦ λ e. same l f f refl refl refl ] refl
 
-found_length : (change : Service → Service → Service) (found : Option Service) (rows : List Service) → length (if_found (λ (row : Service). map (change row)) found rows) ≡ length rows
+found_length : (change : Service → Service → Service) (found : Option Service) (rows : List Service)
+    → length (if_found (λ (row : Service). map (change row)) found rows) ≡ length rows
 found_length change None rows = refl
 found_length change (Some row) rows = length-map rows (change row)
 
-of_done : (l : Limits) (f : Flat) (caller : ℕ) (asked : Request) (append : Kept) → (verdict l f caller asked append == 0) ≡ true → NumbersRise l f (done_of l f caller asked).flat
+of_done : (l : Limits) (f : Flat) (caller : ℕ) (asked : Request) (append : Kept) → (verdict l f caller asked append == 0) ≡ true
+    → NumbersRise l f (done_of l f caller asked).flat
 of_done l f caller (request.Close handle) append ok = same l f (done_of l f caller (request.Close handle)).flat refl refl refl
-of_done l f caller (request.Control handle control) append ok = same l f (done_of l f caller (request.Control handle control)).flat refl refl refl
+of_done l f caller (request.Control handle control) append ok = same l f
+    (done_of l f caller (request.Control handle control)).flat refl refl refl
 of_done l f caller (request.Delete handle) append ok =
-    same l f (done_of l f caller (request.Delete handle)).flat refl refl (found_length (λ row. marked_if row.number) (held_service f caller handle) f.services)
-of_done l f caller (request.Lock handle) append ok = one l f (done_of l f caller (request.Lock handle)).flat (omega arith) (omega arith) (omega arith) refl refl refl refl refl refl
+    same l f (done_of l f caller (request.Delete handle)).flat refl refl
+    (found_length (λ row. marked_if row.number) (held_service f caller handle) f.services)
+of_done l f caller (request.Lock handle) append ok = one l f (done_of l f caller (request.Lock handle)).flat (omega arith) (omega arith)
+    (omega arith) refl refl refl refl refl refl
 of_done l f caller (request.SetStatus handle status) append ok =
     let service = held_service f caller handle in
     let before = taken_by_service f service status in
-    failing l f before (done_of l f caller (request.SetStatus handle status)).flat refl refl (found_length (λ row. reported_if row.process status) service f.services) (of_found (failed_by status service) before)
+    failing l f before (done_of l f caller (request.SetStatus handle status)).flat refl refl
+    (found_length (λ row. reported_if row.process status) service f.services) (of_found (failed_by status service) before)
 of_done l f caller (request.Unlock handle) append ok = same l f (done_of l f caller (request.Unlock handle)).flat refl refl refl
 of_done l f caller (request.QueryStatus handle) append ok = same l f f refl refl refl
 of_done l f caller (request.Change change) append ok =
-    same l f (done_of l f caller (request.Change change)).flat refl refl (found_length (λ row. configured_if row.number (new_config f change row)) (held_service f caller change.handle) f.services)
+    same l f (done_of l f caller (request.Change change)).flat refl refl
+    (found_length (λ row. configured_if row.number (new_config f change row)) (held_service f caller change.handle) f.services)
 of_done l f caller (request.Change2 handle asked) append ok =
-    same l f (done_of l f caller (request.Change2 handle asked)).flat refl refl (found_length (λ row. configured_if row.number (level_config asked row)) (held_service f caller handle) f.services)
+    same l f (done_of l f caller (request.Change2 handle asked)).flat refl refl
+    (found_length (λ row. configured_if row.number (level_config asked row)) (held_service f caller handle) f.services)
 of_done l f caller (request.Create new) append ok =
     let few = created_few l f caller new append (eqb-true (create_verdict l f caller new append) 0 ok) in
     record {
@@ -216,19 +259,40 @@ of_done l f caller (request.Create new) append ok =
       due = omega arith;
       registration = omega arith;
       process = omega arith;
-      few = λ held. omega (arith, few, length-append f.services (new_service f.next.service (created_config f new) (new_status new.kind) ∷ []));
+      few = λ held. omega (
+        arith,
+        few,
+        length-append f.services (new_service f.next.service (created_config f new) (new_status new.kind) ∷
+            []),
+      );
     }
-of_done l f caller (request.OpenManager database access) append ok = one l f (done_of l f caller (request.OpenManager database access)).flat (omega arith) (omega arith) (omega arith) refl refl refl refl refl refl
+of_done l f caller (request.OpenManager database access) append ok = one l f (done_of l f caller (request.OpenManager database access)).flat
+    (omega arith) (omega arith) (omega arith) refl refl refl refl refl refl
 of_done l f caller (request.OpenService handle name access) append ok =
-    found_keeps (NumbersRise l f) (with_opened caller (unwrap_or (service_granted f caller access) 0)) (named f name) f (same l f f refl refl refl)
-    (λ row is. one l f (with_opened caller (unwrap_or (service_granted f caller access) 0) row f) (omega arith) (omega arith) (omega arith) refl refl refl refl refl refl)
+    found_keeps (NumbersRise l f) (with_opened caller (unwrap_or (service_granted f caller access) 0)) (named f name) f
+    (same l f f refl refl refl)
+    (λ row is. one l f (with_opened caller (unwrap_or (service_granted f caller access) 0) row f) (omega arith) (omega arith)
+    (omega arith) refl refl refl refl refl refl)
 of_done l f caller (request.QueryConfig handle size) append ok = same l f f refl refl refl
 of_done l f caller (request.QueryLock handle size) append ok = same l f f refl refl refl
 of_done l f caller (request.Start handle words) append ok =
     found_keeps (NumbersRise l f) (with_start caller (unwrap_or words [])) (held_service f caller handle) f (same l f f refl refl refl)
     (λ row is.
-    let starts = not_counted begins_plan f.dues (record { moment = deadline_at f.moment; number = f.next.due; kind = dues.Deadline f.next.plan }) refl in
-    record { handle = omega arith; caller = omega arith; service = omega arith; plan = omega (arith, starts); due = omega (arith, starts); registration = omega arith; process = omega arith; few = λ few. few })
+    let starts = not_counted begins_plan f.dues (record {
+      moment = deadline_at f.moment;
+      number = f.next.due;
+      kind = dues.Deadline f.next.plan;
+    }) refl in
+    record {
+      handle = omega arith;
+      caller = omega arith;
+      service = omega arith;
+      plan = omega (arith, starts);
+      due = omega (arith, starts);
+      registration = omega arith;
+      process = omega arith;
+      few = λ few. few;
+    })
 of_done l f caller (request.DisplayName handle name size) append ok = same l f f refl refl refl
 of_done l f caller (request.KeyName handle name size) append ok = same l f f refl refl refl
 of_done l f caller (request.EnumDependents handle states size) append ok = same l f f refl refl refl
@@ -236,16 +300,20 @@ of_done l f caller (request.EnumServices handle kinds states size resume) append
 of_done l f caller (request.QueryConfig2 handle level size) append ok = same l f f refl refl refl
 of_done l f caller (request.QueryStatusEx handle level size) append ok = same l f f refl refl refl
 of_done l f caller (request.Notify handle mask) append ok =
-    elim (watched f caller handle) as (λ of. NumbersRise l f (with_handle (registered f caller handle mask of) caller (kinds.Notify f.next.registration) 0)) [
-      | None ↦ one l f (with_handle (registered f caller handle mask None) caller (kinds.Notify f.next.registration) 0) (omega arith) (omega arith) (omega arith) refl refl refl refl refl refl
-      | Some of ↦ one l f (with_handle (registered f caller handle mask (Some of)) caller (kinds.Notify f.next.registration) 0) (omega arith) (omega arith) (omega arith) refl refl refl refl refl refl
+    elim (watched f caller handle) as (λ of. NumbersRise l f (with_handle (registered f caller handle mask of) caller
+    (kinds.Notify f.next.registration) 0)) [
+      | None ↦ one l f (with_handle (registered f caller handle mask None) caller (kinds.Notify f.next.registration) 0) (omega arith)
+          (omega arith) (omega arith) refl refl refl refl refl refl
+      | Some of ↦ one l f (with_handle (registered f caller handle mask (Some of)) caller (kinds.Notify f.next.registration) 0)
+          (omega arith) (omega arith) (omega arith) refl refl refl refl refl refl
     ]
 of_done l f caller (request.GetNotify handle) append ok = same l f (done_of l f caller (request.GetNotify handle)).flat refl refl refl
 of_done l f caller (request.CloseNotify handle) append ok = same l f (done_of l f caller (request.CloseNotify handle)).flat refl refl refl
 
 of_call : (l : Limits) (f : Flat) (caller : ℕ) (asked : Request) (append : Kept) → NumbersRise l f (call_of l f caller asked append).flat
 of_call l f caller asked append =
-    of_answered l (verdict l f caller asked append) (told_refused f caller asked (verdict l f caller asked append)) f (done_of l f caller asked) (of_done l f caller asked append)
+    of_answered l (verdict l f caller asked append) (told_refused f caller asked (verdict l f caller asked append)) f
+    (done_of l f caller asked) (of_done l f caller asked append)
 
 -- ## What is due
 
@@ -298,8 +366,22 @@ of_command l f g found r =
     ] refl)
 
 -- a state from which the row has left, in whose place it gives a number more where it is a start
-of_kind : (l : Limits) (f g : Flat) (kind : DueKind) → Ticks l f (record g { next = record g.next { plan = g.next.plan + one_if (begins_plan kind); due = g.next.due + one_if (begins_plan kind) } }) → Ticks l f (fire l kind g)
-of_kind l f g (dues.Deadline plan) r = record { handle = r.handle; caller = r.caller; service = r.service; plan = omega (arith, r.plan); due = omega (arith, r.due); registration = r.registration; alike = r.alike; process = r.process; services = r.services }
+of_kind : (l : Limits) (f g : Flat) (kind : DueKind) → Ticks l f (record g {
+  next =
+      record g.next { plan = g.next.plan + one_if (begins_plan kind); due = g.next.due + one_if (begins_plan kind) };
+})
+    → Ticks l f (fire l kind g)
+of_kind l f g (dues.Deadline plan) r = record {
+  handle = r.handle;
+  caller = r.caller;
+  service = r.service;
+  plan = omega (arith, r.plan);
+  due = omega (arith, r.due);
+  registration = r.registration;
+  alike = r.alike;
+  process = r.process;
+  services = r.services;
+}
 of_kind l f g (dues.Start service) r =
     let b = found_restarts (service_of g service) g in
     let n = restart_next (service_of g service) g in
@@ -315,19 +397,59 @@ of_kind l f g (dues.Start service) r =
       services = b.services ∙ r.services;
     }
 of_kind l f g (dues.Command service) r =
-    of_command l f g (service_of g service) (record { handle = r.handle; caller = r.caller; service = r.service; plan = omega (arith, r.plan); due = omega (arith, r.due); registration = r.registration; alike = r.alike; process = r.process; services = r.services })
-of_kind l f g (dues.Reboot service) r = record { handle = r.handle; caller = r.caller; service = r.service; plan = omega (arith, r.plan); due = omega (arith, r.due); registration = r.registration; alike = r.alike; process = r.process; services = r.services }
+    of_command l f g (service_of g service) (record {
+      handle = r.handle;
+      caller = r.caller;
+      service = r.service;
+      plan = omega (arith, r.plan);
+      due = omega (arith, r.due);
+      registration = r.registration;
+      alike = r.alike;
+      process = r.process;
+      services = r.services;
+    })
+of_kind l f g (dues.Reboot service) r = record {
+  handle = r.handle;
+  caller = r.caller;
+  service = r.service;
+  plan = omega (arith, r.plan);
+  due = omega (arith, r.due);
+  registration = r.registration;
+  alike = r.alike;
+  process = r.process;
+  services = r.services;
+}
 
 of_row : (l : Limits) (f g : Flat) (row : Due) → next_due g ≡ Some row → Ticks l f g → Ticks l f (fired l row g)
 of_row l f g row is r =
     let left = first_leaves begins_plan g row is in
     of_kind l f (without_due row.number g) row.kind
-    (record { handle = r.handle; caller = r.caller; service = r.service; plan = omega (arith, r.plan, left); due = omega (arith, r.due, left); registration = r.registration; alike = r.alike; process = r.process; services = r.services })
+    (record {
+      handle = r.handle;
+      caller = r.caller;
+      service = r.service;
+      plan = omega (arith, r.plan, left);
+      due = omega (arith, r.due, left);
+      registration = r.registration;
+      alike = r.alike;
+      process = r.process;
+      services = r.services;
+    })
 
 of_tick : (l : Limits) (f : Flat) → Ticks l f (ticked l f)
 of_tick l f =
     ticked_keeps (Ticks l f) l (of_row l f) f
-    (record { handle = refl; caller = refl; service = refl; plan = omega arith; due = omega arith; registration = refl; alike = refl; process = omega arith; services = refl })
+    (record {
+      handle = refl;
+      caller = refl;
+      service = refl;
+      plan = omega arith;
+      due = omega arith;
+      registration = refl;
+      alike = refl;
+      process = omega arith;
+      services = refl;
+    })
 
 -- ## A raise
 
@@ -344,9 +466,20 @@ record Raises (count : ℕ) (f g : Flat) : Type 0 where
   services : g.services ≡ f.services
 
 raises_more : (count : ℕ) (f g : Flat) → Raises count f g → Raises (1 + count) f g
-raises_more count f g r = record { handle = r.handle; caller = r.caller; service = r.service; plan = omega (arith, r.plan); due = omega (arith, r.due); registration = r.registration; process = r.process; starts = r.starts; services = r.services }
+raises_more count f g r = record {
+  handle = r.handle;
+  caller = r.caller;
+  service = r.service;
+  plan = omega (arith, r.plan);
+  due = omega (arith, r.due);
+  registration = r.registration;
+  process = r.process;
+  starts = r.starts;
+  services = r.services;
+}
 
-of_triggered : (l : Limits) (count : ℕ) (f g : Flat) (row : Service) (action : ℕ) → Raises count f g → Raises (1 + count) f (triggered l row action g)
+of_triggered : (l : Limits) (count : ℕ) (f g : Flat) (row : Service) (action : ℕ) → Raises count f g
+    → Raises (1 + count) f (triggered l row action g)
 of_triggered l count f g row action r =
     elim (action == SERVICE_TRIGGER_ACTION_SERVICE_START) as (λ b. Raises (1 + count) f (cond b (with_restart row g) (with_stop l row g))) [
       | true ↦
@@ -365,24 +498,67 @@ of_triggered l count f g row action r =
           }
       | false ↦
           let m = raises_more count f g r in
-          elim (gets_stop l g row) as (λ b. Raises (1 + count) f (cond b (record g { processes = map (controlled_if l.controls row.process SERVICE_CONTROL_STOP) g.processes }) g)) [
-            | true ↦ record { handle = m.handle; caller = m.caller; service = m.service; plan = m.plan; due = m.due; registration = m.registration; process = m.process; starts = m.starts; services = m.services }
+          elim (gets_stop l g row) as (λ b. Raises (1 + count) f (cond b
+          (record g { processes = map (controlled_if l.controls row.process SERVICE_CONTROL_STOP) g.processes }) g)) [
+            | true ↦ record {
+              handle = m.handle;
+              caller = m.caller;
+              service = m.service;
+              plan = m.plan;
+              due = m.due;
+              registration = m.registration;
+              process = m.process;
+              starts = m.starts;
+              services = m.services;
+            }
             | false ↦ m
           ]
     ]
 
-of_all : (l : Limits) (subtype : List ℕ) (rows : List Service) (count : ℕ) (f g : Flat) → Raises count f g → Raises (length rows + count) f (all_triggered l subtype rows g)
-of_all l subtype [] count f g r = record { handle = r.handle; caller = r.caller; service = r.service; plan = omega (arith, r.plan); due = omega (arith, r.due); registration = r.registration; process = r.process; starts = r.starts; services = r.services }
+of_all : (l : Limits) (subtype : List ℕ) (rows : List Service) (count : ℕ) (f g : Flat) → Raises count f g
+    → Raises (length rows + count) f (all_triggered l subtype rows g)
+of_all l subtype [] count f g r = record {
+  handle = r.handle;
+  caller = r.caller;
+  service = r.service;
+  plan = omega (arith, r.plan);
+  due = omega (arith, r.due);
+  registration = r.registration;
+  process = r.process;
+  starts = r.starts;
+  services = r.services;
+}
 of_all l subtype (row ∷ rows) count f g r =
-    let one = found_keeps (Raises (1 + count) f) (triggered l row) (matching row.config subtype) g (raises_more count f g r) (λ action is. of_triggered l count f g row action r) in
+    let one = found_keeps (Raises (1 + count) f) (triggered l row) (matching row.config subtype) g (raises_more count f g r)
+    (λ action is. of_triggered l count f g row action r) in
     let rest = of_all l subtype rows (1 + count) f (if_found (triggered l row) (matching row.config subtype) g) one in
-    record { handle = rest.handle; caller = rest.caller; service = rest.service; plan = omega (arith, rest.plan); due = omega (arith, rest.due); registration = rest.registration; process = rest.process; starts = rest.starts; services = rest.services }
+    record {
+      handle = rest.handle;
+      caller = rest.caller;
+      service = rest.service;
+      plan = omega (arith, rest.plan);
+      due = omega (arith, rest.due);
+      registration = rest.registration;
+      process = rest.process;
+      starts = rest.starts;
+      services = rest.services;
+    }
 
 of_raise : (l : Limits) (f : Flat) (caller : ℕ) (subtype : List ℕ) → NumbersRise l f (raised l f caller subtype)
 of_raise l f caller subtype =
     elim (raise_verdict f caller == 0) as (λ b. NumbersRise l f (cond b (all_triggered l subtype f.services f) f)) [
       | true ↦
-          let r = of_all l subtype f.services 0 f f (record { handle = refl; caller = refl; service = refl; plan = omega arith; due = omega arith; registration = refl; process = refl; starts = refl; services = refl }) in
+          let r = of_all l subtype f.services 0 f f (record {
+            handle = refl;
+            caller = refl;
+            service = refl;
+            plan = omega arith;
+            due = omega arith;
+            registration = refl;
+            process = refl;
+            starts = refl;
+            services = refl;
+          }) in
           record {
             handle = omega (arith, r.handle);
             caller = omega (arith, r.caller);
@@ -399,19 +575,32 @@ of_raise l f caller subtype =
 -- ## Steps
 
 of_effect : (l : Limits) (f : Flat) (step : Step) → NumbersRise l f (effect_of l f step).flat
-of_effect l f (Joined principal) = one l f (effect_of l f (Joined principal)).flat (omega arith) (omega arith) (omega arith) refl refl refl refl refl refl
+of_effect l f (Joined principal) = one l f (effect_of l f (Joined principal)).flat (omega arith) (omega arith)
+    (omega arith) refl refl refl refl refl refl
 of_effect l f (Call caller asked append) = of_call l f caller asked append
 of_effect l f (EndStart caller plan) = same l f (effect_of l f (EndStart caller plan)).flat refl refl refl
 of_effect l f LaunchTaken = same l f (effect_of l f LaunchTaken).flat refl refl refl
 of_effect l f (Launched process pid) = same l f (effect_of l f (Launched process pid)).flat refl refl refl
-of_effect l f (LaunchFailed process code) = same l f (effect_of l f (LaunchFailed process code)).flat refl refl (length-map f.services (fallen_if process code))
+of_effect l f (LaunchFailed process code) = same l f (effect_of l f (LaunchFailed process code)).flat refl refl
+    (length-map f.services (fallen_if process code))
 of_effect l f (Report process status) =
     let before = taken_by f process status in
-    failing l f before (effect_of l f (Report process status)).flat refl refl (length-map f.services (reported_if process status)) (of_found (failed_by status (current_of f process)) before)
+    failing l f before (effect_of l f (Report process status)).flat refl refl (length-map f.services (reported_if process status))
+    (of_found (failed_by status (current_of f process)) before)
 of_effect l f (Ended process) =
     let before = with_fallen f process 1067 in
-    let r = failing l f before (with_end f process) refl refl (length-map f.services (fallen_if process 1067)) (of_found (current_of f process) before) in
-    record { handle = r.handle; caller = r.caller; service = r.service; plan = r.plan; due = r.due; registration = r.registration; process = r.process; few = r.few }
+    let r = failing l f before (with_end f process) refl refl (length-map f.services (fallen_if process 1067))
+    (of_found (current_of f process) before) in
+    record {
+      handle = r.handle;
+      caller = r.caller;
+      service = r.service;
+      plan = r.plan;
+      due = r.due;
+      registration = r.registration;
+      process = r.process;
+      few = r.few;
+    }
 of_effect l f (ControlTaken process) = same l f (effect_of l f (ControlTaken process)).flat refl refl refl
 of_effect l f Tick =
     let r = of_tick l f in
@@ -449,7 +638,15 @@ at_keeps P f moment (Gone caller) still moved = moved
 pub numbers_at : (f g : Flat) (moment : ℕ) (step : Step) → g ≡ at_moment f moment step → HasNumbers f → HasNumbers g
 numbers_at f g moment step e has =
     rw e (at_keeps HasNumbers f moment step has
-    (record { handle = has.handle; caller = has.caller; service = has.service; plan = has.plan; due = has.due; registration = has.registration; starts = record { plans = has.starts.plans; dues = has.starts.dues } }))
+    (record {
+      handle = has.handle;
+      caller = has.caller;
+      service = has.service;
+      plan = has.plan;
+      due = has.due;
+      registration = has.registration;
+      starts = record { plans = has.starts.plans; dues = has.starts.dues };
+    }))
 
 pub processes_at : (f g : Flat) (moment : ℕ) (step : Step) → g ≡ at_moment f moment step → f.next.process ≤ 2 ^ 62 → g.next.process ≤ 2 ^ 62
 processes_at f g moment step e few = rw e (at_keeps (λ (x : Flat). x.next.process ≤ 2 ^ 62) f moment step few few)
@@ -494,7 +691,18 @@ of_settled : (l : Limits) (f : Flat) → Rises l f (settled l f)
 of_settled l f =
     let all = settle_all l f f.plans in
     let r = (keeps_all l (Rises l f) (λ plan. Unit {0}) (rises l f) f f.plans
-    (record { alike = refl; bounded = omega arith; handle = refl; caller = refl; service = refl; plan = refl; due = refl; registration = refl; starts = omega arith; services = refl }) (all_units f.plans)).flat in
+    (record {
+      alike = refl;
+      bounded = omega arith;
+      handle = refl;
+      caller = refl;
+      service = refl;
+      plan = refl;
+      due = refl;
+      registration = refl;
+      starts = omega arith;
+      services = refl;
+    }) (all_units f.plans)).flat in
     let fewer = fewer_pass (λ (due : Due). begins_plan due.kind) (λ (due : Due). is_due_still (filter stays all.1) due.kind) all.0.dues in
     record {
       alike = r.alike;
@@ -526,7 +734,8 @@ finished_keeps P f answer.Done still left = still
 -- ## A whole step
 
 -- there are numbers of processes left after a step's effect
-pub numbers_left : (l : Limits) (f g : Flat) (step : Step) → g ≡ (effect_of l f step).flat → l.processes < 2 ^ 32 → f.next.process ≤ 2 ^ 62 → HasProcessNumbers l g
+pub numbers_left : (l : Limits) (f g : Flat) (step : Step) → g ≡ (effect_of l f step).flat → l.processes < 2 ^ 32 → f.next.process ≤ 2 ^ 62
+    → HasProcessNumbers l g
 numbers_left l f g step e limit few =
     let same_next = ap (λ (x : Flat). x.next.process) e in
     omega (arith, same_next, (of_effect l f step).process, limit, few)
@@ -542,13 +751,15 @@ pub record StepRises (l : Limits) (old new : Flat) : Type 0 where
   pub few : length old.services ≤ l.services → length new.services ≤ l.services
 
 -- neither what ends a start nor who leaves gives one
-stepped : (l : Limits) (f : Flat) (step : Step) → StepRises l f (purged (finished (settled l (effect_of l f step).flat) (effect_of l f step).answer).flat)
+stepped : (l : Limits) (f : Flat) (step : Step) → StepRises l f (purged
+    (finished (settled l (effect_of l f step).flat) (effect_of l f step).answer).flat)
 stepped l f step =
     let done = effect_of l f step in
     let still = settled l done.flat in
     let e = of_effect l f step in
     let s = of_settled l done.flat in
-    let ends = finished_keeps (λ (g : Flat). (g.next ≡ still.next) × (g.dues ≡ still.dues) × (g.services ≡ still.services)) still done.answer (refl, refl, refl) (λ plan. (refl, refl, refl)) in
+    let ends = finished_keeps (λ (g : Flat). (g.next ≡ still.next) × (g.dues ≡ still.dues)
+    × (g.services ≡ still.services)) still done.answer (refl, refl, refl) (λ plan. (refl, refl, refl)) in
     let all = (finished still done.answer).flat in
     let starts = ap starts_in ends.1 in
     let services = ap (λ (rs : List Service). length rs) ends.2 in
@@ -567,7 +778,17 @@ stepped l f step =
 -- a step gives few numbers of each kind
 pub of_step : (l : Limits) (f : Flat) (moment : ℕ) (step : Step) → StepRises l f (step_of l f moment step).flat
 of_step l f moment step =
-    at_keeps (λ (begun : Flat). StepRises l begun (step_of l f moment step).flat → StepRises l f (step_of l f moment step).flat) f moment step
+    at_keeps (λ (begun : Flat). StepRises l begun (step_of l f moment step).flat
+    → StepRises l f (step_of l f moment step).flat) f moment step
     (λ r. r)
-    (λ r. record { handle = r.handle; caller = r.caller; service = r.service; plan = r.plan; due = r.due; registration = r.registration; process = r.process; few = r.few })
+    (λ r. record {
+      handle = r.handle;
+      caller = r.caller;
+      service = r.service;
+      plan = r.plan;
+      due = r.due;
+      registration = r.registration;
+      process = r.process;
+      few = r.few;
+    })
     (stepped l (at_moment f moment step) step)

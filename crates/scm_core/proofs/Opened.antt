@@ -48,7 +48,8 @@ opens_empty l moment = record { groups = []; configs = []; moment = moment; can 
 
 -- ## What a manager begins with is sound
 
-pub opened_sound : (a : Inside) (l : Limits) (groups : List (List ℕ)) (configs : List Config) (moment : ℕ) → a.tables.flat ≡ opening l groups configs moment → a.tables.limits ≡ l → a.steps ≡ 0 → promised a.room ≡ None
+pub opened_sound : (a : Inside) (l : Limits) (groups : List (List ℕ)) (configs : List Config) (moment : ℕ)
+    → a.tables.flat ≡ opening l groups configs moment → a.tables.limits ≡ l → a.steps ≡ 0 → promised a.room ≡ None
     → CanOpen l configs → AreSmall l → IsSound a
 opened_sound a l groups configs moment flat limits steps room can small =
     let few = can.few in

@@ -6,15 +6,15 @@ use Rattle.scm_model.specs.declared.steps.Step.{Step}
 use Rattle.scm_model.specs.Entries.{unkept}
 use Rattle.scm_tables.specs.Firing.{starts_in}
 use Rattle.scm_tables.specs.Tabled.{Tabled}
-use Rattle.scm_core.specs.declared.made.Made.{Made}
+use Rattle.scm_core.specs.declared.made.Prepared.{Prepared}
 use Rattle.scm_core.specs.declared.manager.Manager.TheInside.{Inside}
-use Rattle.scm_core.specs.declared.promised.Promised.{Promised}
+use Rattle.scm_core.specs.declared.promised.Reservation.{Reservation}
 use Rattle.scm_core.specs.Managed.{Managed}
 use Rattle.scm_core.specs.Room.{HasRoomFor, IsMadeFor}
 
 -- the step that room was made for, before it is known whether its change was kept
-abbrev pub promised : Option Promised → Option Step
-promised room = option_map (λ (p : Promised). unkept p.step) room
+abbrev pub promised : Option Reservation → Option Step
+promised room = option_map (λ (p : Reservation). unkept p.step) room
 
 abbrev pub managed : Inside → Managed
 managed a = record { flat = a.tables.flat; limits = a.tables.limits; steps = a.steps; text = a.text; room = promised a.room }
@@ -25,7 +25,7 @@ KeepsRoom t None = Unit {0}
 KeepsRoom t (Some step) = HasRoomFor t step
 
 -- what is made beforehand was made for the step in this state
-abbrev pub KeepsMade : Limits → Flat → Made → Option Step → Type 0
+abbrev pub KeepsMade : Limits → Flat → Prepared → Option Step → Type 0
 KeepsMade l f made None = Unit {0}
 KeepsMade l f made (Some step) = IsMadeFor l f made step
 

@@ -1,11 +1,13 @@
 -- What contracts see of a manager.
-use Rattle.std.specs.Prelude.{ℕ, ◌≡◌, ◌≤◌, ◌+◌, List, Option, None, Some}
+use Rattle.std.specs.Prelude.{ℕ, ◌≡◌, ◌≤◌, ◌+◌, List, Option, None, Some, option_map}
 use Rattle.scm_text.specs.TextWithRoom.{TextWithRoom}
 use Rattle.scm_model.specs.declared.flat.Flat.{Flat}
 use Rattle.scm_model.specs.declared.flat.Limits.{Limits}
+use Rattle.scm_model.specs.declared.flat.Service.{Service}
 use Rattle.scm_model.specs.declared.steps.Step.{Step}
 use Rattle.scm_model.specs.declared.steps.Step.TheVariants.{Joined, Call, LaunchTaken, Raised, Tick}
 use Rattle.scm_model.specs.Entries.{unkept}
+use Rattle.scm_model.specs.Rows.{held_service}
 use Rattle.scm_rules.specs.Launches.{first_wanted}
 use Rattle.scm_rules.specs.Steps.{step_of}
 use Rattle.scm_tables.specs.Lines.{first_line}
@@ -36,6 +38,10 @@ pub record AreSmall (limits : Limits) : Type 0 where
   pub controls : limits.controls ≤ 16
   pub steps : limits.steps ≤ 4194304
   pub text : limits.text ≤ 268435456
+
+-- the process of the service that a caller's handle is of
+abbrev pub process_held : Flat → ℕ → ℕ → Option ℕ
+process_held f caller handle = option_map (λ (row : Service). row.process) (held_service f caller handle)
 
 -- ## A launch that is taken with its line
 

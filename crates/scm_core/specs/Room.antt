@@ -22,12 +22,14 @@ use Rattle.scm_arms_start.specs.Entries.{start_entries}
 use Rattle.scm_arms_process.specs.Raised.{raise_starts}
 use Rattle.scm_tables.specs.Firing.{HasFires, HasPlanNumbers, HasStarts, starts_in}
 use Rattle.scm_tables.specs.Tabled.{HasNeedRoom, Tabled}
-use Rattle.scm_core.specs.declared.made.Made.{Made}
+use Rattle.scm_core.specs.declared.made.Prepared.{Prepared}
 
--- the rows that a call may add find room, and so do the texts and needs of a service that comes or changes; a plan also has room for what it will have tried
+-- the rows that a call may add find room, and so do the texts and needs of a service that comes or changes; a plan also has room for what
+-- it will have tried
 abbrev pub HasRoomForCall : Tabled → ℕ → Request → Type 0
 HasRoomForCall t caller (request.Lock handle) = 1 ≤ t.spare.handles
-HasRoomForCall t caller (request.Create new) = (1 ≤ t.spare.handles) × (1 ≤ t.spare.services) × HasNeedRoom t.spare (created_config t.flat new)
+HasRoomForCall t caller (request.Create new) = (1 ≤ t.spare.handles) × (1 ≤ t.spare.services)
+    × HasNeedRoom t.spare (created_config t.flat new)
 HasRoomForCall t caller (request.Change change) = IfSome (asked_config t.flat caller change) (HasNeedRoom t.spare)
 HasRoomForCall t caller (request.Change2 handle asked) = IfSome (asked_level t.flat caller handle asked) (HasNeedRoom t.spare)
 HasRoomForCall t caller (request.OpenManager database access) = 1 ≤ t.spare.handles
@@ -47,30 +49,58 @@ HasRoomFor t step = Unit {0}
 
 -- ## What is made beforehand, so that the step takes no memory
 
-abbrev pub nothing_made : Made
+abbrev pub nothing_made : Prepared
 nothing_made = record { name = None; config = None; code = 0; change = None; entries = None; reply = None }
 
 -- for a creation and a change the new configuration, and what they are refused with if they are kept; for what may change the
 -- configurations the change; for a start the services that it goes by; for a query of the lock the owner's name; for another call that only
 -- reads, and has texts or bytes in its reply, the reply
-abbrev pub made_for : Limits → Flat → ℕ → Request → Made
-made_for l f caller (request.Change change) = record nothing_made { config = asked_config f caller change; code = change_verdict f caller change appended.Kept; change = change_of_call l f caller (request.Change change) }
-made_for l f caller (request.Change2 handle asked) = record nothing_made { config = asked_level f caller handle asked; code = change2_verdict f caller handle asked appended.Kept; change = change_of_call l f caller (request.Change2 handle asked) }
-made_for l f caller (request.Create new) = record nothing_made { config = Some (created_config f new); code = create_verdict l f caller new appended.Kept; change = change_of_call l f caller (request.Create new) }
-made_for l f caller (request.Delete handle) = record nothing_made { change = change_of_call l f caller (request.Delete handle) }
-made_for l f caller (request.QueryConfig handle size) = record nothing_made { reply = Some (query_config_reply f caller handle size) }
-made_for l f caller (request.QueryLock handle size) = record nothing_made { name = Some (lock_owner f) }
-made_for l f caller (request.Start handle words) = record nothing_made { entries = Some (start_entries f caller handle words) }
-made_for l f caller (request.DisplayName handle name size) = record nothing_made { reply = Some (other_name_reply f caller handle size (display_by_name f name)) }
-made_for l f caller (request.KeyName handle name size) = record nothing_made { reply = Some (other_name_reply f caller handle size (name_by_display f name)) }
-made_for l f caller (request.EnumDependents handle states size) = record nothing_made { reply = Some (enum_dependents_reply f caller handle states size) }
-made_for l f caller (request.EnumServices handle kinds states size resume) = record nothing_made { reply = Some (enum_services_reply f caller handle kinds states size resume) }
-made_for l f caller (request.QueryConfig2 handle level size) = record nothing_made { reply = Some (query_config2_reply f caller handle level size) }
-made_for l f caller (request.QueryStatusEx handle level size) = record nothing_made { reply = Some (query_ex_reply f caller handle level size) }
-made_for l f caller asked = nothing_made
+abbrev pub prepared_for : Limits → Flat → ℕ → Request → Prepared
+prepared_for l f caller (request.Change change) = record nothing_made {
+  config = asked_config f caller change;
+  code = change_verdict f caller change appended.Kept;
+  change = change_of_call l f caller (request.Change change);
+}
+prepared_for l f caller (request.Change2 handle asked) = record nothing_made {
+  config = asked_level f caller handle asked;
+  code = change2_verdict f caller handle asked appended.Kept;
+  change = change_of_call l f caller (request.Change2 handle asked);
+}
+prepared_for l f caller (request.Create new) = record nothing_made {
+  config = Some (created_config f new);
+  code = create_verdict l f caller new appended.Kept;
+  change = change_of_call l f caller (request.Create new);
+}
+prepared_for l f caller (request.Delete handle) = record nothing_made { change = change_of_call l f caller (request.Delete handle) }
+prepared_for l f caller (request.QueryConfig handle size) = record nothing_made { reply = Some (query_config_reply f caller handle size) }
+prepared_for l f caller (request.QueryLock handle size) = record nothing_made { name = Some (lock_owner f) }
+prepared_for l f caller (request.Start handle words) = record nothing_made { entries = Some (start_entries f caller handle words) }
+prepared_for l f caller (request.DisplayName handle name size) = record nothing_made {
+  reply =
+      Some (other_name_reply f caller handle size (display_by_name f name));
+}
+prepared_for l f caller (request.KeyName handle name size) = record nothing_made {
+  reply =
+      Some (other_name_reply f caller handle size (name_by_display f name));
+}
+prepared_for l f caller (request.EnumDependents handle states size) = record nothing_made {
+  reply =
+      Some (enum_dependents_reply f caller handle states size);
+}
+prepared_for l f caller (request.EnumServices handle kinds states size resume) =
+    record nothing_made { reply = Some (enum_services_reply f caller handle kinds states size resume) }
+prepared_for l f caller (request.QueryConfig2 handle level size) = record nothing_made {
+  reply =
+      Some (query_config2_reply f caller handle level size);
+}
+prepared_for l f caller (request.QueryStatusEx handle level size) = record nothing_made {
+  reply =
+      Some (query_ex_reply f caller handle level size);
+}
+prepared_for l f caller asked = nothing_made
 
-abbrev pub IsMadeFor : Limits → Flat → Made → Step → Type 0
-IsMadeFor l f made (Call caller asked append) = made ≡ made_for l f caller asked
+abbrev pub IsMadeFor : Limits → Flat → Prepared → Step → Type 0
+IsMadeFor l f made (Call caller asked append) = made ≡ prepared_for l f caller asked
 IsMadeFor l f made step = Unit {0}
 
 -- the next numbers can still be given; of plans and what becomes due also those of each start that is due or raised

@@ -1,9 +1,10 @@
 ghost use Rattle.std.specs.Prelude.{◌≡◌, ◌≤◌, ◌<◌, ◌^◌};
 ghost use Rattle.scm_model.specs.declared.steps.Step.TheVariants.{Call};
 ghost use Rattle.scm_rules.specs.Steps.{at_moment, effect_of, finished, step_of};
-ghost use Rattle.scm_core.specs.Room.{HasNumbers, HasRoomFor, HasRoomForCall, IsMadeFor, made_for};
+ghost use Rattle.scm_core.specs.Room.{HasNumbers, HasRoomFor, HasRoomForCall, IsMadeFor};
+ghost use Rattle.scm_core.specs.Room.{prepared_for};
 
-use super::made::Made;
+use super::made::Prepared;
 use scm_arms_handle::{close, join, leave, lock, open_manager, open_service, query_lock, unlock};
 use scm_arms_notify::{close_notify, get_notify, notify};
 use scm_arms_process::{control, end, raise, report, set_status, take_control};
@@ -28,14 +29,16 @@ fn call(
     caller: u64,
     request: &mut Request,
     kept: Kept,
-    made: &mut Made,
+    made: &mut Prepared,
 ) -> Answer
-    requires made { made.old ≡ made_for tables.old.limits tables.old.flat caller request.old }
+    requires made { made.old ≡ prepared_for tables.old.limits tables.old.flat caller request.old }
     requires room { HasRoomForCall tables.old caller request.old }
     requires numbers { HasNumbers tables.old.flat }
     requires controls { tables.old.limits.controls ≤ 16 }
-    ensures answer { result ≡ (effect_of tables.old.limits tables.old.flat (Call caller request.old kept)).answer }
-    ensures flat { tables.new.flat ≡ (effect_of tables.old.limits tables.old.flat (Call caller request.old kept)).flat }
+    ensures answer { result ≡ (effect_of tables.old.limits tables.old.flat
+        (Call caller request.old kept)).answer }
+    ensures flat { tables.new.flat ≡ (effect_of tables.old.limits tables.old.flat
+        (Call caller request.old kept)).flat }
     ensures limits { tables.new.limits ≡ tables.old.limits }
 {
     let limits = tables.limits();
@@ -124,7 +127,7 @@ fn begin(tables: &mut Tables, moment: u64, step: &Step)
 
 #[tactic(auto, using(crate::proofs::Beforehand::can_fire, crate::proofs::Beforehand::raise_numbers))]
 /// Does what a step does before the plans are settled and marked services leave.
-fn effect(tables: &mut Tables, alloc: Global, step: &mut Step, made: &mut Made) -> Answer
+fn effect(tables: &mut Tables, alloc: Global, step: &mut Step, made: &mut Prepared) -> Answer
     requires made { IsMadeFor tables.old.limits tables.old.flat made.old step.old }
     requires room { HasRoomFor tables.old step.old }
     requires numbers { HasNumbers tables.old.flat }
@@ -182,14 +185,14 @@ fn finish_begun(tables: &mut Tables, answer: &mut Answer)
 }
 
 #[tactic(auto, using(crate::proofs::Beforehand::is_made_at, crate::proofs::Beforehand::has_room_at, crate::proofs::Numbers::numbers_at, crate::proofs::Numbers::processes_at, crate::proofs::Numbers::numbers_left))]
-/// Does a step: its effect, then the plans are settled, a start that this decided is answered, and marked services leave. `made` was
-/// made for it beforehand.
+/// Does a step: its effect, then the plans are settled, a start that this decided is answered, and
+/// marked services leave. `made` was made for it beforehand.
 pub fn act(
     tables: &mut Tables,
     alloc: Global,
     moment: u64,
     step: &mut Step,
-    made: &mut Made,
+    made: &mut Prepared,
 ) -> Answer
     requires made { IsMadeFor tables.old.limits tables.old.flat made.old step.old }
     requires room { HasRoomFor tables.old step.old }
@@ -198,7 +201,8 @@ pub fn act(
     requires controls { tables.old.limits.controls ≤ 16 }
     requires processes { tables.old.flat.next.process ≤ 2 ^ 62 }
     ensures answer { result ≡ (step_of tables.old.limits tables.old.flat moment step.old).answer }
-    ensures flat { tables.new.flat ≡ (step_of tables.old.limits tables.old.flat moment step.old).flat }
+    ensures flat { tables.new.flat ≡ (step_of tables.old.limits tables.old.flat moment
+        step.old).flat }
     ensures limits { tables.new.limits ≡ tables.old.limits }
 {
     begin(tables, moment, step);

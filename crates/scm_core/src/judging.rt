@@ -3,7 +3,7 @@ ghost use Rattle.scm_rules.specs.Steps.{may_come};
 ghost use Rattle.scm_core.specs.Judged.{change_in, told_in};
 ghost use Rattle.scm_rules.specs.Verdicts.{change_of, change_of_call, tells_right};
 
-use super::made::Made;
+use super::made::Prepared;
 use scm_arms_service::{changed, changed2, created, removed};
 use scm_model::{Change, Kept, Request, Step};
 use scm_tables::Tables;
@@ -38,7 +38,7 @@ pub fn may_come(tables: &Tables, moment: u64, step: &Step) -> bool
 }
 
 /// The change of the configurations that a step for which this was made makes, if it is kept.
-pub fn change_in<'a>(step: &Step, made: &'a Made) -> Option<&'a Change>
+pub fn change_in<'a>(step: &Step, made: &'a Prepared) -> Option<&'a Change>
     ensures { option_copied result ≡ change_in made.now step.now }
 {
     match step {
@@ -57,8 +57,9 @@ fn tells_right(changes: bool, kept: Kept) -> bool
     }
 }
 
-/// Whether a step for which this was made tells that a change was kept or not exactly where it makes one.
-pub fn is_told(step: &Step, made: &Made) -> bool
+/// Whether a step for which this was made tells that a change was kept or not exactly where it
+/// makes one.
+pub fn is_told(step: &Step, made: &Prepared) -> bool
     ensures { result ≡ told_in made.now step.now }
 {
     match step {
@@ -78,7 +79,8 @@ fn change_of_call(
     request: &Request,
     alloc: Global,
 ) -> Result<Option<Change>, OutOfMemory>
-    ensures { IfOk result (λ change. change ≡ change_of_call tables.now.limits tables.now.flat caller request.now) }
+    ensures { IfOk result (λ change. change ≡ change_of_call tables.now.limits tables.now.flat
+        caller request.now) }
 {
     match request {
         Request::Create(new) => created(tables, &tables.limits(), caller, new, alloc),

@@ -1,8 +1,8 @@
-ghost use Rattle.std.specs.Prelude.{◌≡◌, IfOk, IsTrue, OnOk, Some};
+ghost use Rattle.std.specs.Prelude.{◌≡◌, IfOk, IsTrue, Some};
 ghost use Rattle.scm_model.specs.declared.calls.Request.TheVariants as request;
 ghost use Rattle.scm_model.specs.declared.steps.Change.TheVariants.{Created};
 ghost use Rattle.scm_rules.specs.Verdicts.{unless_refused};
-ghost use Rattle.scm_core.specs.Room.{IsMadeFor, made_for, nothing_made};
+ghost use Rattle.scm_core.specs.Room.{prepared_for, nothing_made};
 
 use scm_arms_enum::{enum_dependents, enum_services, query_config2, query_status_ex};
 use scm_arms_handle::lock_owner;
@@ -11,13 +11,13 @@ use scm_arms_service::{
     display_name, judged, judged2, key_name, query_config, removed,
 };
 use scm_arms_start::start_entries;
-use scm_model::{Change, ChangeService, Config, Info, NewService, Reply, Request, Step};
+use scm_model::{Change, ChangeService, Config, Info, NewService, Reply, Request};
 use scm_tables::Tables;
 use scm_text::{Items, OutOfMemory, WText};
 use std::alloc::Global;
 
 /// What is made for a step beforehand, so that the step itself takes no memory.
-pub struct Made {
+pub struct Prepared {
     /// The name of who holds the lock.
     pub name: Option<WText>,
     /// The configuration that a service gets.
@@ -33,9 +33,9 @@ pub struct Made {
 }
 
 /// A drop of its own: a function that owns one drops it by a call, which is proved once.
-impl Drop for Made {
+impl Drop for Prepared {
     fn drop(self) {
-        let Made {
+        let Prepared {
             name,
             config,
             code: _code,
@@ -52,10 +52,10 @@ impl Drop for Made {
 }
 
 #[inline(always)]
-pub fn nothing_made() -> Made
+pub fn nothing_made() -> Prepared
     ensures { result ≡ nothing_made }
 {
-    Made {
+    Prepared {
         name: None,
         config: None,
         code: 0,
@@ -65,10 +65,10 @@ pub fn nothing_made() -> Made
     }
 }
 
-fn made_of_name(name: WText) -> Made
+fn made_of_name(name: WText) -> Prepared
     ensures { result ≡ record nothing_made { name = Some name } }
 {
-    Made {
+    Prepared {
         name: Some(name),
         config: None,
         code: 0,
@@ -78,10 +78,10 @@ fn made_of_name(name: WText) -> Made
     }
 }
 
-fn made_of_config(config: Option<Config>, code: u32, change: Option<Change>) -> Made
+fn made_of_config(config: Option<Config>, code: u32, change: Option<Change>) -> Prepared
     ensures { result ≡ record nothing_made { config = config; code = code; change = change } }
 {
-    Made {
+    Prepared {
         name: None,
         config,
         code,
@@ -91,16 +91,16 @@ fn made_of_config(config: Option<Config>, code: u32, change: Option<Change>) -> 
     }
 }
 
-fn made_of_removal(change: Option<Change>) -> Made
+fn made_of_removal(change: Option<Change>) -> Prepared
     ensures { result ≡ record nothing_made { change = change } }
 {
     made_of_config(None, 0, change)
 }
 
-fn made_of_entries(entries: Items<u64>) -> Made
+fn made_of_entries(entries: Items<u64>) -> Prepared
     ensures { result ≡ record nothing_made { entries = Some entries } }
 {
-    Made {
+    Prepared {
         name: None,
         config: None,
         code: 0,
@@ -110,10 +110,10 @@ fn made_of_entries(entries: Items<u64>) -> Made
     }
 }
 
-fn made_of_reply(reply: Reply) -> Made
+fn made_of_reply(reply: Reply) -> Prepared
     ensures { result ≡ record nothing_made { reply = Some reply } }
 {
-    Made {
+    Prepared {
         name: None,
         config: None,
         code: 0,
@@ -139,8 +139,9 @@ fn make_for_create(
     caller: u64,
     new: &NewService,
     alloc: Global,
-) -> Result<Made, OutOfMemory>
-    ensures { IfOk result (λ made. made ≡ made_for tables.now.limits tables.now.flat caller (request.Create new.now)) }
+) -> Result<Prepared, OutOfMemory>
+    ensures { IfOk result (λ made. made ≡ prepared_for tables.now.limits tables.now.flat caller
+        (request.Create new.now)) }
 {
     let config = config_of(tables, new, alloc)?;
     let code = create_verdict(tables, &tables.limits(), caller, new, &config, alloc)?;
@@ -154,8 +155,9 @@ fn make_for_change(
     caller: u64,
     change: &ChangeService,
     alloc: Global,
-) -> Result<Made, OutOfMemory>
-    ensures { IfOk result (λ made. made ≡ made_for tables.now.limits tables.now.flat caller (request.Change change.now)) }
+) -> Result<Prepared, OutOfMemory>
+    ensures { IfOk result (λ made. made ≡ prepared_for tables.now.limits tables.now.flat caller
+        (request.Change change.now)) }
 {
     let config = asked_config(tables, caller, change, alloc)?;
     let code = change_verdict(tables, caller, change, alloc)?;
@@ -170,8 +172,9 @@ fn make_for_change2(
     handle: u64,
     info: &Info,
     alloc: Global,
-) -> Result<Made, OutOfMemory>
-    ensures { IfOk result (λ made. made ≡ made_for tables.now.limits tables.now.flat caller (request.Change2 handle info.now)) }
+) -> Result<Prepared, OutOfMemory>
+    ensures { IfOk result (λ made. made ≡ prepared_for tables.now.limits tables.now.flat caller
+        (request.Change2 handle info.now)) }
 {
     let config = asked_level(tables, caller, handle, info, alloc)?;
     let code = change2_verdict(tables, caller, handle, info, alloc)?;
@@ -180,13 +183,14 @@ fn make_for_change2(
 }
 
 /// Makes what a call needs.
-fn make_for_call(
+pub fn make_for_call(
     tables: &Tables,
     caller: u64,
     request: &Request,
     alloc: Global,
-) -> Result<Made, OutOfMemory>
-    ensures { IfOk result (λ made. made ≡ made_for tables.now.limits tables.now.flat caller request.now) }
+) -> Result<Prepared, OutOfMemory>
+    ensures { IfOk result (λ made. made ≡ prepared_for tables.now.limits tables.now.flat caller
+        request.now) }
 {
     match request {
         Request::Create(new) => make_for_create(tables, caller, new, alloc),
@@ -240,19 +244,19 @@ fn make_for_call(
 
 /// Keeps what was made for a step.
 #[inline(always)]
-fn keep(made: &mut Made, now: Made)
+pub fn keep(made: &mut Prepared, now: Prepared)
     ensures { made.new ≡ now }
 {
     *made = now;
 }
 
 /// Whether nothing was made.
-fn is_nothing(made: &Made) -> bool
+fn is_nothing(made: &Prepared) -> bool
     ensures { IsTrue result → made.now ≡ nothing_made }
 {
     matches!(
         made,
-        Made {
+        Prepared {
             name: None,
             config: None,
             code: 0,
@@ -265,78 +269,17 @@ fn is_nothing(made: &Made) -> bool
 
 /// Lets go what was made before.
 #[inline(never)]
-fn let_go(made: &mut Made)
+fn discard(made: &mut Prepared)
     ensures { made.new ≡ nothing_made }
 {
     keep(made, nothing_made());
 }
 
 /// The same. Mostly nothing was made, and then nothing is written.
-fn clear(made: &mut Made)
+pub fn clear(made: &mut Prepared)
     ensures { made.new ≡ nothing_made }
 {
     if !is_nothing(made) {
-        let_go(made);
-    }
-}
-
-/// Makes what a call needs that may need something, in place of what was made before. It stands
-/// alone because of its frame, which is large.
-#[inline(never)]
-fn make_anew(
-    tables: &Tables,
-    caller: u64,
-    request: &Request,
-    alloc: Global,
-    made: &mut Made,
-) -> Result<(), OutOfMemory>
-    ensures { OnOk result (made.new ≡ made_for tables.now.limits tables.now.flat caller request.now) }
-{
-    keep(made, make_for_call(tables, caller, request, alloc)?);
-    Ok(())
-}
-
-/// Makes what a call needs, in place of what was made before.
-fn remake(
-    tables: &Tables,
-    caller: u64,
-    request: &Request,
-    alloc: Global,
-    made: &mut Made,
-) -> Result<(), OutOfMemory>
-    ensures { OnOk result (made.new ≡ made_for tables.now.limits tables.now.flat caller request.now) }
-{
-    match request {
-        Request::Close { .. }
-        | Request::Control { .. }
-        | Request::Lock { .. }
-        | Request::QueryStatus { .. }
-        | Request::SetStatus { .. }
-        | Request::Unlock { .. }
-        | Request::OpenManager { .. }
-        | Request::OpenService { .. } => {
-            clear(made);
-            Ok(())
-        }
-        _ => make_anew(tables, caller, request, alloc, made),
-    }
-}
-
-/// Makes what a step needs, in place of what was made before.
-pub fn make_for(
-    tables: &Tables,
-    step: &Step,
-    alloc: Global,
-    made: &mut Made,
-) -> Result<(), OutOfMemory>
-    ensures { OnOk result (IsMadeFor tables.now.limits tables.now.flat made.new step.now) }
-{
-    match step {
-        Step::Call {
-            caller,
-            request,
-            kept: _,
-        } => remake(tables, *caller, request, alloc, made),
-        _ => Ok(()),
+        discard(made);
     }
 }

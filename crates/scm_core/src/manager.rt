@@ -1,4 +1,5 @@
-ghost use Rattle.std.specs.Prelude.{◌≡◌, ◌+◌, ◌<◌, ◌≤◌, ◌==◌, ◌^◌, max, nat_le, IsTrue, OnOk, OnErr, IfOk, None, Some, length, filter, is_some, option_copied, []};
+ghost use Rattle.std.specs.Prelude.{◌≡◌, ◌+◌, ◌<◌, ◌≤◌, ◌==◌, ◌^◌, max, nat_le, IsTrue, OnOk, OnErr};
+ghost use Rattle.std.specs.Prelude.{IfOk, None, Some, length, filter, is_some, option_copied, []};
 ghost use Rattle.std.specs.List.{list_any};
 ghost use Rattle.scm_rules.specs.Controls.{waiting};
 ghost use Rattle.scm_rules.specs.Needs.{need_rows};
@@ -10,14 +11,14 @@ ghost use Rattle.scm_model.specs.Texts.{text_of};
 ghost use Rattle.scm_rules.specs.Verdicts.{change_of};
 ghost use Rattle.scm_model.specs.Entries.{unkept};
 ghost use Rattle.scm_core.specs.Inside.{promised};
-ghost use Rattle.scm_core.specs.Managed.{AreSmall, TakesLaunch, WasMadeFor};
+ghost use Rattle.scm_core.specs.Managed.{AreSmall, TakesLaunch, WasMadeFor, process_held};
 ghost use Rattle.scm_model.specs.declared.codes.TheConstants.{SERVICE_RUNNING};
 
 use super::effect::act;
 use super::judging::{change_in, change_of, is_told, may_come};
-use super::made::{Made, make_for, nothing_made};
-use super::promised::Promised;
-use super::room::reserve;
+use super::made::{Prepared, nothing_made};
+use super::promised::Reservation;
+use super::room::prepare;
 use dependency_index::DependencyIndex;
 use scm_model::{Answer, Change, Config, Limits, Step};
 use scm_tables::Tables;
@@ -31,8 +32,8 @@ pub struct Manager {
     pub(crate) tables: Tables,
     pub(crate) steps: u64,
     pub(crate) text: u64,
-    room: Option<Promised>,
-    made: Made,
+    room: Option<Reservation>,
+    made: Prepared,
     alloc: Global,
 }
 
@@ -67,22 +68,22 @@ impl Model for Manager {
 }
 
 /// Lets the room of a step go.
-fn forget(room: &mut Option<Promised>)
+fn forget(room: &mut Option<Reservation>)
     ensures { room.new ≡ None }
 {
     *room = None;
 }
 
 /// Promises the room of a step.
-fn promise(room: &mut Option<Promised>, step: &Step)
+fn promise(room: &mut Option<Reservation>, step: &Step)
     ensures { promised room.new ≡ Some (unkept step.now) }
 {
-    *room = Some(Promised::of(step));
+    *room = Some(Reservation::of(step));
 }
 
 impl Manager {
-    /// A manager with a service for each configuration, which never ran, and with no callers. Those start by themselves that are automatic,
-    /// those of the listed groups first.
+    /// A manager with a service for each configuration, which never ran, and with no callers. Those
+    /// start by themselves that are automatic, those of the listed groups first.
     pub fn new(
         alloc: Global,
         limits: Limits,
@@ -94,7 +95,8 @@ impl Manager {
         requires limits { AreSmall limits }
         ensures flat { IfOk result (λ manager. manager.flat ≡ opening limits groups configs moment) }
         ensures limits { IfOk result (λ manager. manager.limits ≡ limits) }
-        ensures fresh { IfOk result (λ manager. (manager.steps ≡ 0) × (manager.text ≡ 0) × (manager.room ≡ None)) }
+        ensures fresh { IfOk result (λ manager. (manager.steps ≡ 0) × (manager.text ≡ 0)
+            × (manager.room ≡ None)) }
     {
         Ok(Manager {
             tables: Tables::new(alloc, limits, groups.as_slice(), configs, moment)?,
@@ -118,7 +120,8 @@ impl Manager {
 
     /// How many services are RUNNING.
     pub fn running(&self) -> u64
-        ensures { result ≡ length (filter (λ row. row.status.state == SERVICE_RUNNING) self.now.flat.services) }
+        ensures { result ≡ length (filter (λ row. row.status.state == SERVICE_RUNNING)
+            self.now.flat.services) }
     {
         self.tables.running() as u64
     }
@@ -141,19 +144,22 @@ impl Manager {
     pub fn fits(&self, step: &Step) -> bool
         ensures steps { IsTrue result → self.now.steps < 2 ^ 50 }
         ensures text { IsTrue result → self.now.text + text_of step.now < 2 ^ 63 }
-        ensures fits { self.now.steps < 2 ^ 50 → self.now.text + text_of step.now < 2 ^ 63 → IsTrue result }
+        ensures fits { self.now.steps < 2 ^ 50 → self.now.text + text_of step.now < 2 ^ 63
+            → IsTrue result }
     {
         self.has_steps(1) && (self.text as u128).saturating_add(step.text()) < (1 << 63)
     }
 
-    /// Whether a step may be done at a moment, whatever it tells of what was kept. It takes no memory.
+    /// Whether a step may be done at a moment, whatever it tells of what was kept. It takes no
+    /// memory.
     pub fn may(&self, moment: u64, step: &Step) -> bool
         ensures { result ≡ may_come self.now.limits self.now.flat moment step.now }
     {
         may_come(&self.tables, moment, step)
     }
 
-    /// Whether a step that room was made for may be done at a moment, apart from the number and text of the steps. It takes no memory.
+    /// Whether a step that room was made for may be done at a moment, apart from the number and
+    /// text of the steps. It takes no memory.
     pub fn admits(&self, moment: u64, step: &Step) -> bool
         requires { WasMadeFor self.now.room step.now }
         ensures { result ≡ may self.now.limits self.now.flat moment step.now }
@@ -168,7 +174,8 @@ impl Manager {
         self.tables.decided(plan)
     }
 
-    /// The caller of a plan, or 0 where no caller began it; none where it is absent. It takes no memory.
+    /// The caller of a plan, or 0 where no caller began it; none where it is absent. It takes no
+    /// memory.
     pub fn owner_of(&self, plan: u64) -> Option<u64>
         ensures { result ≡ plan_caller self.now.flat.plans plan }
     {
@@ -189,14 +196,25 @@ impl Manager {
         self.tables.waiting(process)
     }
 
-    /// Whether something is due at a moment, or at the moment up to which the manager has come. It takes no memory.
+    /// The process of the service that a caller's handle is of, or 0 if the service has none;
+    /// `None` if the handle is of no service. It takes no memory.
+    pub fn process_held(&self, caller: u64, handle: u64) -> Option<u64>
+        ensures { result ≡ process_held self.now.flat caller handle }
+    {
+        let row = self.tables.held_service(caller, handle)?;
+        Some(row.process)
+    }
+
+    /// Whether something is due at a moment, or at the moment up to which the manager has come. It
+    /// takes no memory.
     pub fn due(&self, moment: u64) -> bool
         ensures { result ≡ list_any (is_due (max self.now.flat.moment moment)) self.now.flat.dues }
     {
         self.tables.is_due(self.tables.moment().max(moment))
     }
 
-    /// Whether a step that room was made for changes the configurations, if it is kept. It takes no memory.
+    /// Whether a step that room was made for changes the configurations, if it is kept. It takes no
+    /// memory.
     pub fn makes_change(&self, step: &Step) -> bool
         requires { WasMadeFor self.now.room step.now }
         ensures { result ≡ is_some (change_of self.now.limits self.now.flat step.now) }
@@ -204,8 +222,8 @@ impl Manager {
         change_in(step, &self.made).is_some()
     }
 
-    /// The change of the configurations that a step that room was made for makes, if it is kept. It was judged when the room was
-    /// made, and takes no memory.
+    /// The change of the configurations that a step that room was made for makes, if it is kept. It
+    /// was judged when the room was made, and takes no memory.
     pub fn change_made(&self, step: &Step) -> Option<&Change>
         requires { WasMadeFor self.now.room step.now }
         ensures { option_copied result ≡ change_of self.now.limits self.now.flat step.now }
@@ -220,14 +238,13 @@ impl Manager {
         change_of(&self.tables, step, self.alloc)
     }
 
-    /// Makes the room that a step uses. Where there is no memory, all but the room stays as it was.
+    /// Makes the room that a step uses, in place of that of another step. Where there is no memory,
+    /// all stays as it was, and so does the room for the other step.
     pub fn reserve_for(&mut self, step: &Step) -> Result<(), OutOfMemory>
         ensures ok { OnOk result (self.new ≡ record self.old { room = Some (unkept step.now) }) }
-        ensures err { OnErr result (self.new ≡ record self.old { room = None }) }
+        ensures err { OnErr result (self.new ≡ self.old) }
     {
-        forget(&mut self.room);
-        make_for(&self.tables, step, self.alloc, &mut self.made)?;
-        reserve(&mut self.tables, step, &self.made)?;
+        prepare(&mut self.tables, step, self.alloc, &mut self.made)?;
         promise(&mut self.room, step);
         Ok(())
     }
@@ -269,8 +286,9 @@ impl Manager {
         act(&mut self.tables, self.alloc, moment, step, &mut self.made)
     }
 
-    /// Takes the launch that is wanted first in a step, leaves its path in `path`, and gives the process and the words. `None` where
-    /// nothing is wanted; nothing then changes. It takes no memory.
+    /// Takes the launch that is wanted first in a step, leaves its path in `path`, and gives the
+    /// process and the words. `None` where nothing is wanted; nothing then changes. It takes no
+    /// memory.
     pub fn take_launch(&mut self, moment: u64, path: &mut TextRoom) -> Option<(u64, Items<WText>)>
         requires path { 2048 ≤ path.old.room }
         requires steps { self.old.steps < 2 ^ 50 }

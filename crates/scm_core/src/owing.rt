@@ -1,7 +1,8 @@
 ghost use Rattle.std.specs.Prelude.{◌≡◌, ◌+◌, ◌*◌, ◌-◌, ◌^◌, min, nat_le};
 ghost use Rattle.scm_model.specs.Texts.{text_of};
 ghost use Rattle.scm_rules.specs.Owed.{owed};
-ghost use Rattle.scm_rules.specs.Room.{cost, debt, has_room, is_owed, need, need_of_call, need_of_start, need_of_starts, need_with, owed_by_raise};
+ghost use Rattle.scm_rules.specs.Room.{cost, debt, has_room, is_owed, need, need_of_call};
+ghost use Rattle.scm_rules.specs.Room.{need_of_start, need_of_starts, need_with, owed_by_raise};
 
 use super::manager::Manager;
 use scm_arms_process::started_in;
@@ -74,8 +75,8 @@ impl Manager {
         self.tables.owed()
     }
 
-    /// How many steps a step needs: itself, and those that it may make owed. 2^64 - 1 where they are
-    /// more. It takes no memory.
+    /// How many steps a step needs: itself, and those that it may make owed. 2^64 - 1 where they
+    /// are more. It takes no memory.
     pub fn need(&self, step: &Step) -> u64
         ensures { result ≡ min (need self.now.flat step.now) (2 ^ 64 - 1) }
     {
@@ -116,10 +117,11 @@ impl Manager {
         if is_owed(step) { 0 } else { self.need(step) }
     }
 
-    /// Whether the limits have room for a step, with all that is owed and that it may make owed, and
-    /// for its text. It takes no memory.
+    /// Whether the limits have room for a step, with all that is owed and that it may make owed,
+    /// and for its text. It takes no memory.
     pub fn room(&self, step: &Step) -> bool
-        ensures { result ≡ has_room self.now.limits self.now.flat self.now.steps self.now.text step.now }
+        ensures { result ≡ has_room self.now.limits self.now.flat self.now.steps self.now.text
+            step.now }
     {
         self.room_beside(self.owed(), step)
     }
@@ -127,7 +129,8 @@ impl Manager {
     /// The same where it was asked before how many steps are owed.
     pub fn room_beside(&self, owing: u64, step: &Step) -> bool
         requires { owing ≡ min (owed self.now.flat) (2 ^ 64 - 1) }
-        ensures { result ≡ has_room self.now.limits self.now.flat self.now.steps self.now.text step.now }
+        ensures { result ≡ has_room self.now.limits self.now.flat self.now.steps self.now.text
+            step.now }
     {
         self.has_steps_for(owing, step) && self.has_text_for(step)
     }
@@ -135,7 +138,8 @@ impl Manager {
     /// Whether the limit of steps has room.
     fn has_steps_for(&self, owing: u64, step: &Step) -> bool
         requires { owing ≡ min (owed self.now.flat) (2 ^ 64 - 1) }
-        ensures { result ≡ nat_le (self.now.steps + owed self.now.flat + need self.now.flat step.now) self.now.limits.steps }
+        ensures { result ≡ nat_le (self.now.steps + owed self.now.flat
+            + need self.now.flat step.now) self.now.limits.steps }
     {
         let before = self.steps as u128 + owing as u128;
         before.saturating_add(self.need_of(step)) <= self.most_steps() as u128

@@ -9,25 +9,25 @@ use std::marker::Model;
 
 /// A step as contracts see it. It has no bytes and owns nothing.
 #[derive(Drop)]
-pub struct Promised {
+pub struct Reservation {
     pub ghost step: { Step },
 }
 
-impl Model for Promised {
+impl Model for Reservation {
     ghost also_owns = { λ _. ftrue };
 }
 
 // SAFETY: it owns nothing, so it may go to any thread, and any thread may share it.
-unsafe impl Send for Promised {}
+unsafe impl Send for Reservation {}
 
-unsafe impl Sync for Promised {}
+unsafe impl Sync for Reservation {}
 
-impl Promised {
+impl Reservation {
     /// The step as it now is.
-    pub fn of(step: &Step) -> Promised
+    pub fn of(step: &Step) -> Reservation
         ensures { result.step ≡ step.now }
     {
         let _ = step;
-        Promised {}
+        Reservation {}
     }
 }

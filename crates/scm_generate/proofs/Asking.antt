@@ -1,5 +1,6 @@
 -- A start is asked for, and its first service is entered.
-use Rattle.std.proofs.Common.{ℕ, ◌≡◌, ◌∙◌, ◌+◌, ◌/◌, ◌<◌, ◌≤◌, ◌^◌, ◌==◌, ◌||◌, ◌&&◌, true, false, not, cond, List, [], ◌∷◌, None, Some, ap, sym, refl, subst, arith, ne_eqb, eq-eqb}
+use Rattle.std.proofs.Common.{ℕ, ◌≡◌, ◌∙◌, ◌+◌, ◌/◌, ◌<◌, ◌≤◌, ◌^◌, ◌==◌, ◌||◌, ◌&&◌, true, false, not, cond, List, [], ◌∷◌, None, Some, ap}
+use Rattle.std.proofs.Common.{sym, refl, subst, arith, ne_eqb, eq-eqb}
 use Rattle.std.specs.Prelude.{is_none, option_and_then}
 use Rattle.std.specs.List.{list_any}
 use Rattle.std.proofs.lemmas.Bool.{eqb-false}
@@ -32,7 +33,8 @@ use Rattle.scm_generate.proofs.Graph.{IsLine, half_within, order_is, positive}
 use Rattle.scm_generate.proofs.Settling.{IsAtRest, at_one, enters_first, found_named, found_service, pending, plan_with, under_way}
 use Rattle.scm_generate.proofs.Shape.{Live, first_handle, graph_is, handle_at, resting, row_at}
 
-module _ (l : Limits) (n : ℕ) (look : ℕ → Live) (i process plan due : ℕ) (small : n < 2 ^ 64) (some : 0 < i) (lt : i ≤ n) (still : (k : ℕ) → IsAtRest (look k)) where
+module _ (l : Limits) (n : ℕ) (look : ℕ → Live) (i process plan due : ℕ) (small : n < 2 ^ 64) (some : 0 < i) (lt : i ≤ n) (still : (k : ℕ)
+    → IsAtRest (look k)) where
   abbrev rest : Flat
   rest = resting n look process plan due
 
@@ -49,10 +51,12 @@ module _ (l : Limits) (n : ℕ) (look : ℕ → Live) (i process plan due : ℕ)
   held_is = ap (option_and_then (λ (of : Opened). service_of rest of.service)) opened_is ∙ found_service look n i some lt
 
   none_missing : lacks_need rest (Some (row_at i (look i))) ≡ false
-  none_missing = elim (i / 2 == 0) as (λ b. (i / 2 == 0) ≡ b → list_any (is_missing rest) (cond b [] (needs.Service (nth_name (i / 2)) ∷ [])) ≡ false) [
-    | true ↦ λ e. refl
-    | false ↦ λ e. ap (λ o. (is_none o || is_marked o) || false) (found_named look n (i / 2) small (positive (i / 2) (eqb-false (i / 2) 0 e)) (half_within i n lt))
-  ] refl
+  none_missing = elim (i / 2 == 0) as (λ b. (i / 2 == 0) ≡ b → list_any (is_missing rest)
+      (cond b [] (needs.Service (nth_name (i / 2)) ∷ [])) ≡ false) [
+        | true ↦ λ e. refl
+        | false ↦ λ e. ap (λ o. (is_none o || is_marked o) || false) (found_named look n (i / 2) small
+            (positive (i / 2) (eqb-false (i / 2) 0 e)) (half_within i n lt))
+      ] refl
 
   verdict_is : start_verdict rest 1 (i + 1) (Some []) ≡ 0
   verdict_is = all_pass (start_refusals rest 1 (i + 1) (Some [])) (
@@ -97,12 +101,17 @@ module _ (l : Limits) (n : ℕ) (look : ℕ → Live) (i process plan due : ℕ)
   begins entries is = ap (λ o. if_found (with_start 1 []) o rest) held_is ∙ ap begun is
 
   pub asks : (t : ℕ) (more : List ℕ) → start_order rest i ≡ t ∷ more → t / 2 ≡ 0 → 0 < t → t ≤ n → 0 < l.processes
-      → Goes l rest (asked_start i ∷ []) (under_way n (at_one look t (pending process)) (wanted_process process t ∷ []) (wanted_row process [] ∷ []) plan i (t ∷ more) (t ∷ []) (process + 1) due)
+      → Goes l rest (asked_start i ∷ []) (under_way n (at_one look t (pending process)) (wanted_process process t ∷ [])
+      (wanted_row process [] ∷ []) plan i (t ∷ more) (t ∷ []) (process + 1) due)
   asks t more is half first within space =
-      let g = under_way n (at_one look t (pending process)) (wanted_process process t ∷ []) (wanted_row process [] ∷ []) plan i (t ∷ more) (t ∷ []) (process + 1) due in
+      let g = under_way n (at_one look t (pending process)) (wanted_process process t ∷ []) (wanted_row process [] ∷ []) plan i (t ∷ more)
+      (t ∷ []) (process + 1) due in
       goes_one l rest g (Call 1 asked appended.NotAsked) refl refl
       (stepped l rest (Call 1 asked appended.NotAsked) (record { answer = answer.Begun plan; flat = begun (t ∷ more) }) g g
-      (called_well l rest asked appended.NotAsked verdict_is ∙ ap (λ f. record { answer = answer.Begun plan; flat = f }) (begins (t ∷ more) is))
-      (enters_first l n look [] plan i t more [] process due small first within (still t) (λ apart. absurd (eqb-false (t / 2) 0 apart half)) refl space)
-      (ap (λ b. left_by g plan (option_and_then (λ (p : Plan). p.code) (cond b (Some (plan_with plan i (t ∷ more) (t ∷ []) None)) None))) (eq-eqb plan plan refl))
+      (called_well l rest asked appended.NotAsked verdict_is ∙ ap (λ f. record { answer = answer.Begun plan; flat = f })
+      (begins (t ∷ more) is))
+      (enters_first l n look [] plan i t more [] process due small first within (still t)
+      (λ apart. absurd (eqb-false (t / 2) 0 apart half)) refl space)
+      (ap (λ b. left_by g plan (option_and_then (λ (p : Plan). p.code) (cond b (Some (plan_with plan i (t ∷ more) (t ∷ []) None)) None)))
+      (eq-eqb plan plan refl))
       (all_stay g (at_one look t (pending process)) n refl refl))

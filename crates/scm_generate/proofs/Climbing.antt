@@ -1,5 +1,6 @@
 -- All services of a start are launched, one after another.
-use Rattle.std.proofs.Common.{eqb, ℕ, zero, suc, ◌≡◌, ◌∙◌, ◌+◌, ◌/◌, ◌<◌, ◌≤◌, ◌^◌, ◌==◌, ◌||◌, ◌&&◌, ◌⊎◌, inl, inr, true, false, cond, List, [], ◌∷◌, ◌++◌, length, ap, sym, refl, subst, arith, ne_eqb, eq-eqb}
+use Rattle.std.proofs.Common.{eqb, ℕ, zero, suc, ◌≡◌, ◌∙◌, ◌+◌, ◌/◌, ◌<◌, ◌≤◌, ◌^◌, ◌==◌, ◌||◌, ◌&&◌, ◌⊎◌, inl, inr, true, false, cond}
+use Rattle.std.proofs.Common.{List, [], ◌∷◌, ◌++◌, length, ap, sym, refl, subst, arith, ne_eqb, eq-eqb}
 use Rattle.std.proofs.lemmas.Bool.{or_from}
 use Rattle.std.proofs.lemmas.List.Folds.{list_any-append}
 use Rattle.scm_model.specs.declared.flat.Flat.{Flat}
@@ -13,7 +14,8 @@ use Rattle.scm_rules.specs.Reports.{current_of, report_told}
 use Rattle.scm_generate.specs.Listed.{at_once, told, up, ups}
 use Rattle.scm_generate.proofs.Goes.{Goes, all_stay, goes_both, goes_on, goes_one, stepped}
 use Rattle.scm_generate.proofs.Graph.{Climbs}
-use Rattle.scm_generate.proofs.Launching.{Climbing, IsRun, goes_up, launched_found, length_ran, ran, reports_all, takes, taking, told_report, up_last}
+use Rattle.scm_generate.proofs.Launching.{Climbing, IsRun, goes_up, launched_found, length_ran, ran, reports_all, takes, taking}
+use Rattle.scm_generate.proofs.Launching.{told_report, up_last}
 use Rattle.scm_generate.proofs.Settling.{HasUp, IsAtRest, at_one, decided, enters_next, pending, runs, under_way}
 use Rattle.scm_generate.proofs.Shape.{Live, rows}
 use Rattle.scm_generate.proofs.Untold.{report_alone}
@@ -24,11 +26,16 @@ Untried tried s = (k : ℕ) → s < k → has tried k ≡ false
 
 weaker_on : (first p q : ℕ) (live : Live) → p ≤ q → IsAtRest live ⊎ IsRun first p live → IsAtRest live ⊎ IsRun first q live
 weaker_on first p q live le (inl rests) = inl rests
-weaker_on first p q live le (inr run) = inr (record { status = run.status; low = run.low; high = (let h = run.high in omega (arith, h, le)) })
+weaker_on first p q live le (inr run) = inr (record {
+  status = run.status;
+  low = run.low;
+  high = (let h = run.high in omega (arith, h, le));
+})
 
 module _ (l : Limits) (n : ℕ) (look : ℕ → Live) (plan target s t : ℕ) (rest tried done : List ℕ) (first due : ℕ)
     (small : n < 2 ^ 64) (low : 0 < first) (some : 0 < s) (lt : s ≤ n) (climbing : Climbing look first s done)
-    (half : t / 2 ≡ s) (within : t ≤ n) (passed : (target == s) ≡ false) (untried : Untried tried s) (space : length (s ∷ done) < l.processes) where
+    (half : t / 2 ≡ s) (within : t ≤ n) (passed : (target == s) ≡ false) (untried : Untried tried s)
+    (space : length (s ∷ done) < l.processes) where
   abbrev p : ℕ
   p = first + length done
 
@@ -50,7 +57,8 @@ module _ (l : Limits) (n : ℕ) (look : ℕ → Live) (plan target s t : ℕ) (r
 
   abbrev next_wanting : ℕ → Flat
   next_wanting process =
-      under_way n (next_looked process) (ran first (s ∷ done) ++ wanted_process process t ∷ []) (wanted_row process [] ∷ []) plan target (t ∷ rest) (tried ++ t ∷ []) (process + 1) due
+      under_way n (next_looked process) (ran first (s ∷ done) ++ wanted_process process t ∷ []) (wanted_row process [] ∷ []) plan target
+      (t ∷ rest) (tried ++ t ∷ []) (process + 1) due
 
   running_here : (looked s).status.state ≡ 4
   running_here = ap (λ b. (cond b (runs p) (look s)).status.state) (eq-eqb s s refl)
@@ -65,13 +73,19 @@ module _ (l : Limits) (n : ℕ) (look : ℕ → Live) (plan target s t : ℕ) (r
   runs_next = goes_one l launched (next_wanting (p + 1)) (Report p (told 4 1))
       (ap (λ o. is_launched o && true) (launched_found l n look plan target s (t ∷ rest) tried done first due low some lt climbing)) refl
       (stepped l launched (Report p (told 4 1))
-      (record { answer = report_told (current_of launched p) (told 4 1); flat = under_way n looked (ran first (s ∷ done)) [] plan target (s ∷ t ∷ rest) tried (p + 1) due })
+      (record {
+        answer = report_told (current_of launched p) (told 4 1);
+        flat = under_way n looked (ran first (s ∷ done)) [] plan target (s ∷ t ∷ rest) tried (p + 1) due;
+      })
       (next_wanting (p + 1)) (next_wanting (p + 1))
       (ap (λ f. record { answer = report_told (current_of launched p) (told 4 1); flat = f })
-      (report_alone launched p (told 4 1) (rows looked n) refl refl (reports_all l n look plan target s (t ∷ rest) tried done first due low some lt climbing)))
+      (report_alone launched p (told 4 1) (rows looked n) refl refl (reports_all l n look plan target s
+      (t ∷ rest) tried done first due low some lt climbing)))
       (enters_next l n looked (ran first (s ∷ done)) plan target s t rest tried (p + 1) due small some lt running_here passed
-      (let a = above in omega (arith, a)) within still up_for (untried t above) (let e = length_ran first (s ∷ done) in omega (arith, e, space)))
-      (told_report (next_wanting (p + 1)) (current_of launched p) (told 4 1)) (all_stay (next_wanting (p + 1)) (next_looked (p + 1)) n refl refl))
+      (let a = above in omega (arith, a)) within still up_for (untried t above)
+      (let e = length_ran first (s ∷ done) in omega (arith, e, space)))
+      (told_report (next_wanting (p + 1)) (current_of launched p) (told 4 1))
+      (all_stay (next_wanting (p + 1)) (next_looked (p + 1)) n refl refl))
 
   abbrev wanting : Flat
   wanting = under_way n look (ran first done ++ wanted_process p s ∷ []) (wanted_row p [] ∷ []) plan target (s ∷ t ∷ rest) tried (p + 1) due
@@ -82,17 +96,22 @@ module _ (l : Limits) (n : ℕ) (look : ℕ → Live) (plan target s t : ℕ) (r
   pub up_next : Goes l wanting (up p) (next_wanting (first + length (s ∷ done)))
   up_next =
       subst (λ m. Goes l wanting (up p) (next_wanting m)) next_number
-      (goes_on l wanting (taking l n look plan target s (t ∷ rest) tried done first due low some lt climbing) (next_wanting (p + 1)) LaunchTaken
+      (goes_on l wanting (taking l n look plan target s (t ∷ rest) tried done first due low some lt climbing)
+      (next_wanting (p + 1)) LaunchTaken
       (at_once (Launched p p) ∷ at_once (Report p (told 4 1)) ∷ [])
       (takes l n look plan target s (t ∷ rest) tried done first due low some lt climbing)
-      (goes_on l (taking l n look plan target s (t ∷ rest) tried done first due low some lt climbing) launched (next_wanting (p + 1)) (Launched p p) (at_once (Report p (told 4 1)) ∷ [])
+      (goes_on l (taking l n look plan target s (t ∷ rest) tried done first due low some lt climbing) launched (next_wanting (p + 1))
+      (Launched p p) (at_once (Report p (told 4 1)) ∷ [])
       (goes_up l n look plan target s (t ∷ rest) tried done first due low some lt climbing passed) runs_next))
 
   -- how the services stand then
-  others : (k : ℕ) → (k == t) ≡ false → IsAtRest (next_looked (first + length (s ∷ done)) k) ⊎ IsRun first (first + length (s ∷ done)) (next_looked (first + length (s ∷ done)) k)
+  others : (k : ℕ) → (k == t) ≡ false → IsAtRest (next_looked (first + length (s ∷ done)) k)
+      ⊎ IsRun first (first + length (s ∷ done)) (next_looked (first + length (s ∷ done)) k)
   others k other =
-      subst (λ b. IsAtRest (cond b (pending (first + length (s ∷ done))) (looked k)) ⊎ IsRun first (first + length (s ∷ done)) (cond b (pending (first + length (s ∷ done))) (looked k))) (sym other)
-      (elim (k == s) as (λ b. (k == s) ≡ b → IsAtRest (cond b (runs p) (look k)) ⊎ IsRun first (first + length (s ∷ done)) (cond b (runs p) (look k))) [
+      subst (λ b. IsAtRest (cond b (pending (first + length (s ∷ done))) (looked k))
+      ⊎ IsRun first (first + length (s ∷ done)) (cond b (pending (first + length (s ∷ done))) (looked k))) (sym other)
+      (elim (k == s) as (λ b. (k == s) ≡ b → IsAtRest (cond b (runs p) (look k))
+      ⊎ IsRun first (first + length (s ∷ done)) (cond b (runs p) (look k))) [
         | true ↦ λ e. inr (record { status = refl; low = omega arith; high = omega arith })
         | false ↦ λ e. weaker_on first p (first + length (s ∷ done)) (look k) (omega arith) (climbing.others k e)
       ] refl)
@@ -113,7 +132,8 @@ module _ (l : Limits) (n : ℕ) (look : ℕ → Live) (plan target s t : ℕ) (r
   pub untried_on : Untried (tried ++ t ∷ []) t
   untried_on k far =
       list_any-append (eqb k) tried (t ∷ [])
-      ∙ or_from (has tried k) (eqb k t || false) (untried k (let a = above in omega (arith, far, a))) (or_from (eqb k t) false (ne_eqb k t (λ e. omega (arith, e, far))) refl)
+      ∙ or_from (has tried k) (eqb k t || false) (untried k (let a = above in omega (arith, far, a)))
+      (or_from (eqb k t) false (ne_eqb k t (λ e. omega (arith, e, far))) refl)
 
 -- ## All of them
 
@@ -141,13 +161,16 @@ pub record HasClimbed (l : Limits) (n first plan target due total : ℕ) (f : Fl
   pub goes : Goes l f es (decided n look (ran first done) plan target entries tried (first + length done) due)
 
 -- the last one runs
-last_climbed : (l : Limits) (n : ℕ) (look : ℕ → Live) (plan target s : ℕ) (tried done : List ℕ) (first due : ℕ) → 0 < first → 0 < s → s ≤ n → Climbing look first s done → s ≡ target
+last_climbed : (l : Limits) (n : ℕ) (look : ℕ → Live) (plan target s : ℕ) (tried done : List ℕ) (first due : ℕ) → 0 < first → 0 < s → s ≤ n
+    → Climbing look first s done → s ≡ target
     → HasClimbed l n first plan target due (length done + 1)
-    (under_way n look (ran first done ++ wanted_process (first + length done) s ∷ []) (wanted_row (first + length done) [] ∷ []) plan target (s ∷ []) tried (first + length done + 1) due)
+    (under_way n look (ran first done ++ wanted_process (first + length done) s ∷ []) (wanted_row (first + length done) [] ∷ []) plan target
+    (s ∷ []) tried (first + length done + 1) due)
     (ups (first + length done) 1)
 last_climbed l n look plan target s tried done first due low some lt climbing is =
     let p = first + length done in
-    let wanting = under_way n look (ran first done ++ wanted_process p s ∷ []) (wanted_row p [] ∷ []) plan target (s ∷ []) tried (p + 1) due in
+    let wanting = under_way n look (ran first done ++ wanted_process p s ∷ []) (wanted_row p [] ∷ []) plan target (s ∷ []) tried (p
+    + 1) due in
     let number : p + 1 ≡ first + length (s ∷ done) = omega arith in
     record {
       look = at_one look s (runs p);
@@ -155,17 +178,21 @@ last_climbed l n look plan target s tried done first due low some lt climbing is
       tried = tried;
       entries = s ∷ [];
       long = omega arith;
-      each = λ k. elim (k == s) as (λ b. (k == s) ≡ b → IsAtRest (cond b (runs p) (look k)) ⊎ IsRun first (first + length (s ∷ done)) (cond b (runs p) (look k))) [
-        | true ↦ λ e. inr (record { status = refl; low = omega arith; high = omega arith })
-        | false ↦ λ e. weaker_on first p (first + length (s ∷ done)) (look k) (omega arith) (climbing.others k e)
-      ] refl;
-      goes = subst (λ es. Goes l wanting es (decided n (at_one look s (runs p)) (ran first (s ∷ done)) plan target (s ∷ []) tried (first + length (s ∷ done)) due)) (sym (ups_front p 0))
-          (subst (λ m. Goes l wanting (up p) (decided n (at_one look s (runs p)) (ran first (s ∷ done)) plan target (s ∷ []) tried m due)) number
+      each = λ k. elim (k == s) as (λ b. (k == s) ≡ b → IsAtRest (cond b (runs p) (look k))
+          ⊎ IsRun first (first + length (s ∷ done)) (cond b (runs p) (look k))) [
+            | true ↦ λ e. inr (record { status = refl; low = omega arith; high = omega arith })
+            | false ↦ λ e. weaker_on first p (first + length (s ∷ done)) (look k) (omega arith) (climbing.others k e)
+          ] refl;
+      goes = subst (λ es. Goes l wanting es (decided n (at_one look s (runs p)) (ran first (s ∷ done)) plan target (s ∷ []) tried (first
+          + length (s ∷ done)) due)) (sym (ups_front p 0))
+          (subst (λ m. Goes l wanting (up p) (decided n (at_one look s (runs p)) (ran first (s ∷ done)) plan target (s ∷ []) tried m due))
+          number
           (up_last l n look plan target s [] tried done first due low some lt climbing (eq-eqb target s (sym is))));
     }
 
 -- more entries before those of a climb
-climbed_more : (l : Limits) (n first plan target due total more : ℕ) (f g : Flat) (xs ys es : List Entry) → Goes l f xs g → HasClimbed l n first plan target due total g ys → xs ++ ys ≡ es → total ≡ more
+climbed_more : (l : Limits) (n first plan target due total more : ℕ) (f g : Flat) (xs ys es : List Entry) → Goes l f xs g
+    → HasClimbed l n first plan target due total g ys → xs ++ ys ≡ es → total ≡ more
     → HasClimbed l n first plan target due more f es
 climbed_more l n first plan target due total more f g xs ys es before rest is same = record {
   look = rest.look;
@@ -174,15 +201,19 @@ climbed_more l n first plan target due total more f g xs ys es before rest is sa
   entries = rest.entries;
   long = rest.long ∙ same;
   each = rest.each;
-  goes = subst (λ zs. Goes l f zs (decided n rest.look (ran first rest.done) plan target rest.entries rest.tried (first + length rest.done) due)) is (goes_both l f g _ xs ys before rest.goes);
+  goes = subst (λ zs. Goes l f zs (decided n rest.look (ran first rest.done) plan target rest.entries rest.tried (first
+      + length rest.done) due)) is (goes_both l f g _ xs ys before rest.goes);
 }
 
-pub climbs_all : (l : Limits) (n : ℕ) (look : ℕ → Live) (plan target s : ℕ) (rest tried done : List ℕ) (first due : ℕ) → n < 2 ^ 64 → 0 < first → 0 < s → s ≤ n → Climbs n s rest target
+pub climbs_all : (l : Limits) (n : ℕ) (look : ℕ → Live) (plan target s : ℕ) (rest tried done : List ℕ) (first due : ℕ) → n < 2 ^ 64
+    → 0 < first → 0 < s → s ≤ n → Climbs n s rest target
     → Climbing look first s done → Untried tried s → length done + suc (length rest) ≤ l.processes
     → HasClimbed l n first plan target due (length done + suc (length rest))
-    (under_way n look (ran first done ++ wanted_process (first + length done) s ∷ []) (wanted_row (first + length done) [] ∷ []) plan target (s ∷ rest) tried (first + length done + 1) due)
+    (under_way n look (ran first done ++ wanted_process (first + length done) s ∷ []) (wanted_row (first + length done) [] ∷ []) plan target
+    (s ∷ rest) tried (first + length done + 1) due)
     (ups (first + length done) (suc (length rest)))
-climbs_all l n look plan target s [] tried done first due small low some lt is climbing untried space = last_climbed l n look plan target s tried done first due low some lt climbing is
+climbs_all l n look plan target s [] tried done first due small low some lt is climbing untried space =
+    last_climbed l n look plan target s tried done first due low some lt climbing is
 climbs_all l n look plan target s (t ∷ rest) tried done first due small low some lt climbs climbing untried space =
     let p = first + length done in
     let half : t / 2 ≡ s = climbs.0 in
@@ -191,10 +222,13 @@ climbs_all l n look plan target s (t ∷ rest) tried done first due small low so
     let room : length (s ∷ done) < l.processes = omega (arith, space) in
     let q = first + length (s ∷ done) in
     let number : p + 1 ≡ q = omega arith in
-    climbed_more l n first plan target due (length (s ∷ done) + suc (length rest)) (length done + suc (length (t ∷ rest))) _ _ (up p) (ups q (suc (length rest))) (ups p (suc (length (t ∷ rest))))
+    climbed_more l n first plan target due (length (s ∷ done) + suc (length rest)) (length done + suc (length (t ∷ rest))) _ _ (up p)
+    (ups q (suc (length rest))) (ups p (suc (length (t ∷ rest))))
     (up_next l n look plan target s t rest tried done first due small low some lt climbing half climbs.2 passed untried room)
-    (climbs_all l n (at_one (at_one look s (runs p)) t (pending q)) plan target t rest (tried ++ t ∷ []) (s ∷ done) first due small low climbs.1 climbs.2 climbs.3
+    (climbs_all l n (at_one (at_one look s (runs p)) t (pending q)) plan target t rest (tried ++ t ∷ [])
+    (s ∷ done) first due small low climbs.1 climbs.2 climbs.3
     (climbs_on l n look plan target s t rest tried done first due small low some lt climbing half climbs.2 passed untried room)
-    (untried_on l n look plan target s t rest tried done first due small low some lt climbing half climbs.2 passed untried room) (omega (arith, space)))
+    (untried_on l n look plan target s t rest tried done first due small low some lt climbing half climbs.2 passed untried room)
+    (omega (arith, space)))
     (ap (λ m. up p ++ ups m (suc (length rest))) (sym number) ∙ sym (ups_front p (suc (length rest))))
     (omega arith)

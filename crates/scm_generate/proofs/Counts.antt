@@ -2,7 +2,8 @@
 use Rattle.std.proofs.Common.{ℕ, zero, suc, ◌≡◌, ◌+◌, ◌*◌, List, [], ◌∷◌, ◌++◌, length, length-append, refl, ◌∙◌, arith}
 use Rattle.scm_model.specs.Entries.{Entry}
 use Rattle.scm_model.specs.declared.steps.Step.TheVariants.{EndStart, Gone}
-use Rattle.scm_generate.specs.Listed.{at_once, opening_calls, creation_of, creations, downs, generated, depth_of, lines_to, start_of, starts, up, ups}
+use Rattle.scm_generate.specs.Listed.{at_once, opening_calls, creation_of, creations, downs, generated, depth_of, lines_to, start_of}
+use Rattle.scm_generate.specs.Listed.{starts, up, ups}
 use Rattle.scm_generate.specs.Summary.{launches}
 
 launches_both : (xs ys : List Entry) → launches (xs ++ ys) ≡ launches xs + launches ys
@@ -54,7 +55,8 @@ all_steps n =
 
 launched_creations : (n : ℕ) → launches (creations n) ≡ 0
 launched_creations zero = refl
-launched_creations (suc n) = launches_both (creations n) (creation_of (suc n) ∷ []) ∙ (let rest = launched_creations n in omega (arith, rest))
+launched_creations (suc n) = launches_both (creations n) (creation_of (suc n) ∷ [])
+    ∙ (let rest = launched_creations n in omega (arith, rest))
 
 launched_ups : (first k : ℕ) → launches (ups first k) ≡ k
 launched_ups first zero = refl

@@ -1,5 +1,6 @@
 -- The services are created.
-use Rattle.std.proofs.Common.{eqb, ℕ, zero, suc, ◌≡◌, ◌∙◌, ◌+◌, ◌/◌, ◌<◌, ◌≤◌, ◌^◌, ◌==◌, ◌||◌, ◌&&◌, true, false, cond, List, [], ◌∷◌, ◌++◌, None, Some, filter, length, ap, sym, refl, arith, ne_eqb}
+use Rattle.std.proofs.Common.{eqb, ℕ, zero, suc, ◌≡◌, ◌∙◌, ◌+◌, ◌/◌, ◌<◌, ◌≤◌, ◌^◌, ◌==◌, ◌||◌, ◌&&◌, true, false, cond, List, [], ◌∷◌}
+use Rattle.std.proofs.Common.{◌++◌, None, Some, filter, length, ap, sym, refl, arith, ne_eqb}
 use Rattle.std.specs.Prelude.{is_none, is_some, option_and_then, nat_le}
 use Rattle.std.proofs.lemmas.Bool.{or_from, lt-leb, lt-ltb}
 use Rattle.scm_text.specs.Fold.{same_text}
@@ -84,8 +85,10 @@ module _ (l : Limits) (n : ℕ) (wide : IsWide l (suc n)) where
 
   unshown : is_shown (created n) (nth_name (suc n)) ≡ false
   unshown =
-      any_built (λ (row : Service). same_text row.config.name (nth_name (suc n)) || same_text row.config.display (nth_name (suc n))) [] (λ k. row_at k (fresh k)) n refl
-      (λ k some le. or_from (same_text (nth_name k) (nth_name (suc n))) (same_text (nth_name k) (nth_name (suc n))) (other k some le) (other k some le))
+      any_built (λ (row : Service). same_text row.config.name (nth_name (suc n)) || same_text row.config.display (nth_name (suc n))) []
+      (λ k. row_at k (fresh k)) n refl
+      (λ k some le. or_from (same_text (nth_name k) (nth_name (suc n))) (same_text (nth_name k) (nth_name (suc n))) (other k some le)
+      (other k some le))
 
   not_there : has (numbers_of (graph n)) (suc n) ≡ false
   not_there =
@@ -101,7 +104,8 @@ module _ (l : Limits) (n : ℕ) (wide : IsWide l (suc n)) where
       ∙ not_cyclic (suc n) less
 
   mask_is : manager_mask (created n) 1 1 ≡ Some 0xF003F
-  mask_is = ap (option_and_then mask_of_manager) (find_base (λ (row : HandleRow). row.caller == 1 && row.number == 1) (first_handle ∷ []) handle_at first_handle n refl)
+  mask_is = ap (option_and_then mask_of_manager) (find_base (λ (row : HandleRow). row.caller == 1 && row.number == 1)
+      (first_handle ∷ []) handle_at first_handle n refl)
 
   room : (nat_le l.services (length (rows fresh n)) || nat_le l.handles (held_by (created n) 1)) ≡ false
   room =
@@ -126,7 +130,8 @@ module _ (l : Limits) (n : ℕ) (wide : IsWide l (suc n)) where
       (
         ap (λ v. v == 123) good,
         (
-          or_from (check_new (created_config (created n) (nth_service (suc n))) None == 87 || false) _ (ap (λ v. v == 87 || false) good) (needs_readable (suc n / 2) half_less),
+          or_from (check_new (created_config (created n) (nth_service (suc n))) None == 87 || false) _ (ap (λ v. v == 87 || false) good)
+              (needs_readable (suc n / 2) half_less),
           (
             ap (λ v. v == 1057) good,
             (
@@ -175,7 +180,8 @@ module _ (l : Limits) (n : ℕ) (wide : IsWide l (suc n)) where
   creates = goes_one l (created n) (created (suc n)) (Call 1 new appended.Kept)
       (ap (λ code. tells_right (is_some (unless_refused code (create_change (created n) (nth_service (suc n))))) appended.Kept) verdict_is)
       refl
-      (stepped l (created n) (Call 1 new appended.Kept) (record { answer = answer.Reply told; flat = created (suc n) }) (created (suc n)) (created (suc n))
+      (stepped l (created n) (Call 1 new appended.Kept) (record { answer = answer.Reply told; flat = created (suc n) }) (created (suc n))
+      (created (suc n))
       (called_well l (created n) new appended.Kept verdict_is ∙ ap (λ g. record { answer = answer.Reply told; flat = g }) made_is)
       refl refl (all_stay (created (suc n)) fresh (suc n) refl refl))
 
@@ -190,7 +196,8 @@ narrower l n wide = record {
 pub creates_all : (l : Limits) (n : ℕ) → IsWide l n → Goes l (created 0) (creations n) (created n)
 creates_all l zero wide = goes_none l (created 0)
 creates_all l (suc n) wide =
-    goes_both l (created 0) (created n) (created (suc n)) (creations n) (creation_of (suc n) ∷ []) (creates_all l n (narrower l n wide)) (creates l n wide)
+    goes_both l (created 0) (created n) (created (suc n)) (creations n) (creation_of (suc n) ∷ []) (creates_all l n (narrower l n wide))
+    (creates l n wide)
 
 -- ## Who joins, and opens the manager
 
@@ -212,8 +219,10 @@ opens_verdict l wide = all_pass (open_manager_refusals l joined 1 None 0x0200000
 
 opens_manager : (l : Limits) → IsWide l 0 → Goes l joined (called opens_it appended.NotAsked ∷ []) (created 0)
 opens_manager l wide = goes_one l joined (created 0) (Call 1 opens_it appended.NotAsked) refl refl
-    (stepped l joined (Call 1 opens_it appended.NotAsked) (record { answer = answer.Reply (reply.Handle 1 0); flat = created 0 }) (created 0) (created 0)
+    (stepped l joined (Call 1 opens_it appended.NotAsked) (record { answer = answer.Reply (reply.Handle 1 0); flat = created 0 })
+    (created 0) (created 0)
     (called_well l joined opens_it appended.NotAsked (opens_verdict l wide)) refl refl (all_stay (created 0) fresh 0 refl refl))
 
 pub begins : (l : Limits) → IsWide l 0 → Goes l (opening l [] [] 0) opening_calls (created 0)
-begins l wide = goes_on l (opening l [] [] 0) joined (created 0) (Joined Admin) (called opens_it appended.NotAsked ∷ []) (joins l wide) (opens_manager l wide)
+begins l wide = goes_on l (opening l [] [] 0) joined (created 0) (Joined Admin) (called opens_it appended.NotAsked ∷ []) (joins l wide)
+    (opens_manager l wide)

@@ -18,7 +18,14 @@ use Rattle.scm_generate.specs.Summary.{four_lines, launch_in, launches, running,
 
 -- the state and the counts behind a list
 abbrev behind : Progress → List Entry → Progress
-behind p h = record { flat = run_state p.limits p.flat h; limits = p.limits; steps = p.steps + length h; text = p.text + text_in h; launches = p.launches + launches h }
+behind p h = record {
+  flat = run_state p.limits p.flat h;
+  limits = p.limits;
+  steps = p.steps + length h;
+  text = p.text
+      + text_in h;
+  launches = p.launches + launches h;
+}
 
 run_through : (p : Progress) (h : List Entry) → progress_after p h ≡ behind p h
 unfolding after_one
@@ -31,9 +38,24 @@ run_through p (e ∷ es) =
     let text : p.text + text_of e.1 + text_in es ≡ p.text + text_in (e ∷ es) = omega arith in
     let count : p.launches + launch_in e.1 + launches es ≡ p.launches + launches (e ∷ es) = omega arith in
     run_through (after_one p e) es
-    ∙ ap (λ n. record { flat = last; limits = p.limits; steps = n; text = p.text + text_of e.1 + text_in es; launches = p.launches + launch_in e.1 + launches es }) steps
-    ∙ ap (λ n. record { flat = last; limits = p.limits; steps = p.steps + length (e ∷ es); text = n; launches = p.launches + launch_in e.1 + launches es }) text
-    ∙ ap (λ n. record { flat = last; limits = p.limits; steps = p.steps + length (e ∷ es); text = p.text + text_in (e ∷ es); launches = n }) count
+    ∙ ap (λ n. record {
+      flat = last;
+      limits = p.limits;
+      steps = n;
+      text = p.text + text_of e.1 + text_in es;
+      launches = p.launches
+          + launch_in e.1 + launches es;
+    }) steps
+    ∙ ap (λ n. record {
+      flat = last;
+      limits = p.limits;
+      steps = p.steps + length (e ∷ es);
+      text = n;
+      launches = p.launches + launch_in e.1
+          + launches es;
+    }) text
+    ∙ ap (λ n. record { flat = last; limits = p.limits; steps = p.steps + length (e ∷ es); text = p.text + text_in (e ∷ es); launches = n })
+    count
 
 -- what a run tells at its end is the summary of its list
 pub sums_up : (l : Limits) (h : List Entry) → summed_up (progress_after (at_first l) h) ≡ summary l (opening l [] [] 0) h
@@ -57,6 +79,7 @@ open_first l n p small ample few e =
     subst (λ q. IsOpenTo q (generated n)) (sym e)
     (record {
       can = ample_made l n ample few;
-      steps = (let fits = legal_fits l (opening l [] [] 0) (generated n) (ample_legal l n ample few) in let most = small.steps in omega (arith, fits, most));
+      steps = (let fits = legal_fits l (opening l [] [] 0) (generated n) (ample_legal l n ample few) in let most = small.steps in
+          omega (arith, fits, most));
       text = (let short = short_text n few in omega (arith, short));
     })

@@ -1,5 +1,6 @@
 -- A start is answered, and its processes end.
-use Rattle.std.proofs.Common.{ℕ, ◌≡◌, ◌∙◌, ◌+◌, ◌<◌, ◌≤◌, ◌==◌, ◌&&◌, ◌⊎◌, inl, inr, true, false, not, cond, List, [], ◌∷◌, ◌++◌, Option, None, Some, filter, find, length, ap, refl, arith, ne_eqb, eq-eqb, eqb-true}
+use Rattle.std.proofs.Common.{ℕ, ◌≡◌, ◌∙◌, ◌+◌, ◌<◌, ◌≤◌, ◌==◌, ◌&&◌, ◌⊎◌, inl, inr, true, false, not, cond, List, [], ◌∷◌, ◌++◌, Option}
+use Rattle.std.proofs.Common.{None, Some, filter, find, length, ap, refl, arith, ne_eqb, eq-eqb, eqb-true}
 use Rattle.std.specs.Prelude.{is_some, option_and_then, option_map, unwrap_or}
 use Rattle.std.proofs.lemmas.Bool.{eqb-false}
 use Rattle.std.proofs.lemmas.List.{append-nil}
@@ -34,17 +35,22 @@ abbrev pub falling : (n : ℕ) (look : ℕ → Live) (first : ℕ) (done : List 
 falling n look first done process plan due = standing n look (ran first done) [] [] [] process plan due
 
 pub answers : (l : Limits) (n : ℕ) (look : ℕ → Live) (first plan target : ℕ) (done entries tried : List ℕ) (process due : ℕ)
-    → Goes l (decided n look (ran first done) plan target entries tried process due) (at_once (EndStart 1 plan) ∷ []) (falling n look first done process (plan + 1) (due + 1))
+    → Goes l (decided n look (ran first done) plan target entries tried process due) (at_once (EndStart 1 plan) ∷ [])
+    (falling n look first done process (plan + 1) (due + 1))
 answers l n look first plan target done entries tried process due =
     let f = decided n look (ran first done) plan target entries tried process due in
     let g = falling n look first done process (plan + 1) (due + 1) in
     let p = plan_with plan target entries tried (Some 0) in
     let same = eq-eqb plan plan refl in
     goes_one l f g (EndStart 1 plan)
-    (ap (λ b. (is_caller_of (option_map (λ (q : Plan). q.caller) (cond b (Some p) None)) 1 && is_some (option_and_then (λ (q : Plan). q.code) (cond b (Some p) None))) && true) same)
+    (ap (λ b. (is_caller_of (option_map (λ (q : Plan). q.caller) (cond b (Some p) None)) 1
+    && is_some (option_and_then (λ (q : Plan). q.code) (cond b (Some p) None))) && true) same)
     refl
     (stepped l f (EndStart 1 plan) (record { answer = answer.Reply (reply.Code (unwrap_or (code_of f.plans plan) 0)); flat = g }) g g
-    (ap (λ b. record { answer = answer.Reply (reply.Code (unwrap_or (code_of f.plans plan) 0)); flat = record g { plans = cond (not b) (p ∷ []) [] } }) same)
+    (ap (λ b. record {
+      answer = answer.Reply (reply.Code (unwrap_or (code_of f.plans plan) 0));
+      flat = record g { plans = cond (not b) (p ∷ []) [] };
+    }) same)
     refl refl (all_stay g look n refl refl))
 
 told_end : (f : Flat) (found : Option Service) → (finished f (end_told found)).flat ≡ f
@@ -55,12 +61,15 @@ abbrev stopped : Live
 stopped = record { status = told 1 0; process = 0 }
 
 -- the others stay
-kept_ran : (first p : ℕ) (done : List ℕ) → first + length done ≤ p → filter (λ (row : Process). not (row.number == p)) (ran first done) ≡ ran first done
+kept_ran : (first p : ℕ) (done : List ℕ) → first + length done ≤ p → filter (λ (row : Process). not (row.number == p))
+    (ran first done) ≡ ran first done
 kept_ran first p [] le = refl
 kept_ran first p (s ∷ done) le =
     filter-append (λ (row : Process). not (row.number == p)) (ran first done) (running_process (first + length done) s ∷ [])
-    ∙ ap (λ xs. xs ++ filter (λ (row : Process). not (row.number == p)) (running_process (first + length done) s ∷ [])) (kept_ran first p done (omega (arith, le)))
-    ∙ ap (λ b. ran first done ++ cond (not b) (running_process (first + length done) s ∷ []) []) (ne_eqb (first + length done) p (λ e. omega (arith, e, le)))
+    ∙ ap (λ xs. xs ++ filter (λ (row : Process). not (row.number == p)) (running_process (first + length done) s ∷ []))
+    (kept_ran first p done (omega (arith, le)))
+    ∙ ap (λ b. ran first done ++ cond (not b) (running_process (first + length done) s ∷ []) [])
+    (ne_eqb (first + length done) p (λ e. omega (arith, e, le)))
 
 module _ (l : Limits) (n : ℕ) (look : ℕ → Live) (first s : ℕ) (done : List ℕ) (process plan due : ℕ) (low : 0 < first)
     (each : (k : ℕ) → IsAtRest (look k) ⊎ IsRun first (first + length (s ∷ done)) (look k)) where
@@ -79,14 +88,18 @@ module _ (l : Limits) (n : ℕ) (look : ℕ → Live) (first s : ℕ) (done : Li
   abbrev after : Flat
   after = falling n looked first done process plan due
 
-  ran_its : (live : Live) → (live.process == p) ≡ true → IsAtRest live ⊎ IsRun first (first + length (s ∷ done)) live → live.status ≡ told 4 1
+  ran_its : (live : Live) → (live.process == p) ≡ true → IsAtRest live ⊎ IsRun first (first + length (s ∷ done)) live
+      → live.status ≡ told 4 1
   ran_its live e (inl still) = absurd (let is = eqb-true live.process p e in let none = still.process in omega (arith, is, none, low))
   ran_its live e (inr run) = run.status
 
   stops_row : Each (λ k. reported_if p (told 1 0) (row_at k (look k)) ≡ row_at k (looked k)) n
   stops_row k some le =
-      elim ((look k).process == p) as (λ b. ((look k).process == p) ≡ b → cond b (moved_by (row_at k (look k)) (take_report (look k).status (told 1 0))) (row_at k (look k)) ≡ row_at k (cond b stopped (look k))) [
-        | true ↦ λ e. ap (λ (status : Status). moved_by (row_at k (record { status = status; process = (look k).process })) (take_report status (told 1 0))) (ran_its (look k) e (each k))
+      elim ((look k).process == p) as (λ b. ((look k).process == p) ≡ b
+      → cond b (moved_by (row_at k (look k)) (take_report (look k).status (told 1 0))) (row_at k (look k)) ≡ row_at k
+      (cond b stopped (look k))) [
+        | true ↦ λ e. ap (λ (status : Status). moved_by (row_at k (record { status = status; process = (look k).process }))
+            (take_report status (told 1 0))) (ran_its (look k) e (each k))
         | false ↦ λ e. refl
       ] refl
 
@@ -95,9 +108,11 @@ module _ (l : Limits) (n : ℕ) (look : ℕ → Live) (first s : ℕ) (done : Li
 
   stops : Goes l before (at_once (Report p (told 1 0)) ∷ []) reported
   stops = goes_one l before reported (Report p (told 1 0)) (ap (λ o. is_launched o && true) found) refl
-      (stepped l before (Report p (told 1 0)) (record { answer = report_told (current_of before p) (told 1 0); flat = reported }) reported reported
+      (stepped l before (Report p (told 1 0)) (record { answer = report_told (current_of before p) (told 1 0); flat = reported }) reported
+      reported
       (ap (λ f. record { answer = report_told (current_of before p) (told 1 0); flat = f })
-      (report_alone before p (told 1 0) (rows looked n) refl refl (map_built (reported_if p (told 1 0)) [] (λ k. row_at k (look k)) [] (λ k. row_at k (looked k)) n refl stops_row)))
+      (report_alone before p (told 1 0) (rows looked n) refl refl (map_built (reported_if p (told 1 0)) [] (λ k. row_at k (look k)) []
+      (λ k. row_at k (looked k)) n refl stops_row)))
       refl (told_report reported (current_of before p) (told 1 0)) (all_stay reported looked n refl refl))
 
   has_other : (k : ℕ) → ((looked k).process == p) ≡ false
@@ -109,7 +124,8 @@ module _ (l : Limits) (n : ℕ) (look : ℕ → Live) (first s : ℕ) (done : Li
 
   falls_row : Each (λ k. fallen_if p 1067 (row_at k (looked k)) ≡ row_at k (looked k)) n
   falls_row k some le =
-      ap (λ b. cond b (record (row_at k (looked k)) { status = take_end (looked k).status 1067; process = 0 }) (row_at k (looked k))) (has_other k)
+      ap (λ b. cond b (record (row_at k (looked k)) { status = take_end (looked k).status 1067; process = 0 }) (row_at k (looked k)))
+      (has_other k)
 
   -- it is no service's current one any more
   nobody : current_of reported p ≡ None
@@ -118,27 +134,35 @@ module _ (l : Limits) (n : ℕ) (look : ℕ → Live) (first s : ℕ) (done : Li
   leaves : filter (λ (row : Process). not (row.number == p)) (ran first (s ∷ done)) ≡ ran first done
   leaves =
       filter-append (λ (row : Process). not (row.number == p)) (ran first done) (running_process p s ∷ [])
-      ∙ ap (λ b. filter (λ (row : Process). not (row.number == p)) (ran first done) ++ cond (not b) (running_process p s ∷ []) []) (eq-eqb p p refl)
+      ∙ ap (λ b. filter (λ (row : Process). not (row.number == p)) (ran first done) ++ cond (not b) (running_process p s ∷ []) [])
+      (eq-eqb p p refl)
       ∙ append-nil (filter (λ (row : Process). not (row.number == p)) (ran first done)) ∙ kept_ran first p done (omega arith)
 
   ends : Goes l reported (at_once (Ended p) ∷ []) after
   ends = goes_one l reported after (Ended p) (ap (λ o. is_launched o && true) found) refl
       (stepped l reported (Ended p) (record { answer = end_told (current_of reported p); flat = after }) after after
       (ap (λ f. record { answer = end_told (current_of reported p); flat = without_process f p })
-      (end_alone reported p (rows looked n) refl nobody (map_built (fallen_if p 1067) [] (λ k. row_at k (looked k)) [] (λ k. row_at k (looked k)) n refl falls_row))
+      (end_alone reported p (rows looked n) refl nobody (map_built (fallen_if p 1067) [] (λ k. row_at k (looked k)) []
+      (λ k. row_at k (looked k)) n refl falls_row))
       ∙ ap (λ ps. record { answer = end_told (current_of reported p); flat = record reported { processes = ps } }) leaves)
       refl (told_end after (current_of reported p)) (all_stay after looked n refl refl))
 
   pub goes_down : Goes l before (down p) after
   goes_down = goes_on l before reported after (Report p (told 1 0)) (at_once (Ended p) ∷ []) stops ends
 
-  fewer_run : (live : Live) → (live.process == p) ≡ false → IsAtRest live ⊎ IsRun first (first + length (s ∷ done)) live → IsAtRest live ⊎ IsRun first p live
+  fewer_run : (live : Live) → (live.process == p) ≡ false → IsAtRest live ⊎ IsRun first (first + length (s ∷ done)) live → IsAtRest live
+      ⊎ IsRun first p live
   fewer_run live other (inl still) = inl still
-  fewer_run live other (inr run) = inr (record { status = run.status; low = run.low; high = (let h = run.high in let apart = eqb-false live.process p other in omega (arith, h, apart)) })
+  fewer_run live other (inr run) = inr (record {
+    status = run.status;
+    low = run.low;
+    high = (let h = run.high in let apart = eqb-false live.process p other in omega (arith, h, apart));
+  })
 
   pub each_still : (k : ℕ) → IsAtRest (looked k) ⊎ IsRun first p (looked k)
   each_still k =
-      elim ((look k).process == p) as (λ b. ((look k).process == p) ≡ b → IsAtRest (cond b stopped (look k)) ⊎ IsRun first p (cond b stopped (look k))) [
+      elim ((look k).process == p) as (λ b. ((look k).process == p) ≡ b → IsAtRest (cond b stopped (look k))
+      ⊎ IsRun first p (cond b stopped (look k))) [
         | true ↦ λ e. inl (record { state = refl; kind = refl; process = refl })
         | false ↦ λ e. fewer_run (look k) e (each k)
       ] refl
@@ -153,12 +177,24 @@ all_rest : (first : ℕ) (live : Live) → IsAtRest live ⊎ IsRun first (first 
 all_rest first live (inl still) = still
 all_rest first live (inr run) = absurd (let a = run.low in let b = run.high in omega (arith, a, b))
 
-fallen_more : (l : Limits) (n process plan due : ℕ) (f g : Flat) (xs ys : List Entry) → Goes l f xs g → HasFallen l n process plan due g ys → HasFallen l n process plan due f (xs ++ ys)
-fallen_more l n process plan due f g xs ys first rest = record { look = rest.look; still = rest.still; goes = goes_both l f g _ xs ys first rest.goes }
+fallen_more : (l : Limits) (n process plan due : ℕ) (f g : Flat) (xs ys : List Entry) → Goes l f xs g → HasFallen l n process plan due g ys
+    → HasFallen l n process plan due f (xs ++ ys)
+fallen_more l n process plan due f g xs ys first rest = record {
+  look = rest.look;
+  still = rest.still;
+  goes = goes_both l f g _ xs ys first rest.goes;
+}
 
-pub falls_all : (l : Limits) (n : ℕ) (look : ℕ → Live) (first : ℕ) (done : List ℕ) (process plan due : ℕ) → 0 < first → ((k : ℕ) → IsAtRest (look k) ⊎ IsRun first (first + length done) (look k))
+pub falls_all : (l : Limits) (n : ℕ) (look : ℕ → Live) (first : ℕ) (done : List ℕ) (process plan due : ℕ) → 0 < first
+    → ((k : ℕ) → IsAtRest (look k) ⊎ IsRun first (first + length done) (look k))
     → HasFallen l n process plan due (falling n look first done process plan due) (downs first (length done))
-falls_all l n look first [] process plan due low each = record { look = look; still = λ k. all_rest first (look k) (each k); goes = goes_none l _ }
+falls_all l n look first [] process plan due low each = record {
+  look = look;
+  still = λ k. all_rest first (look k) (each k);
+  goes = goes_none l _;
+}
 falls_all l n look first (s ∷ done) process plan due low each =
-    fallen_more l n process plan due _ _ (down (first + length done)) (downs first (length done)) (goes_down l n look first s done process plan due low each)
-    (falls_all l n (looked l n look first s done process plan due low each) first done process plan due low (each_still l n look first s done process plan due low each))
+    fallen_more l n process plan due _ _ (down (first + length done)) (downs first (length done))
+    (goes_down l n look first s done process plan due low each)
+    (falls_all l n (looked l n look first s done process plan due low each) first done process plan due low
+    (each_still l n look first s done process plan due low each))

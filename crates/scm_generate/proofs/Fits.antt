@@ -1,5 +1,6 @@
 -- The limits have room for the whole list.
-use Rattle.std.proofs.Common.{ℕ, zero, suc, ◌≡◌, ◌+◌, ◌*◌, ◌/◌, ◌≤◌, ◌^◌, ◌==◌, ◌⊎◌, inl, inr, true, false, not, cond, IsTrue, List, [], ◌∷◌, ◌++◌, None, Some, length, length-append, map, ap, refl, arith}
+use Rattle.std.proofs.Common.{ℕ, zero, suc, ◌≡◌, ◌+◌, ◌*◌, ◌/◌, ◌≤◌, ◌^◌, ◌==◌, ◌⊎◌, inl, inr, true, false, not, cond, IsTrue, List, []}
+use Rattle.std.proofs.Common.{◌∷◌, ◌++◌, None, Some, length, length-append, map, ap, refl, arith}
 use Rattle.std.proofs.lemmas.List.{length-map}
 use Rattle.std.proofs.Math.Nat.{suc-mul}
 use Rattle.std.proofs.lemmas.Nat.{mul-le}
@@ -34,7 +35,8 @@ use Rattle.scm_owed.specs.Paying.{FoundRoom, LawOfOwed}
 use Rattle.scm_owed.proofs.Histories.{found_legal}
 use Rattle.scm_owed.proofs.Whole.{gives as gives_owed, opened_owes}
 use Rattle.scm_generate.specs.Ample.{IsAmple}
-use Rattle.scm_generate.specs.Listed.{alone, asked_start, at_once, creation_of, creations, depth_of, down, downs, generated, nth_name, nth_need, opening_calls, start_of, starts, up, ups, wide_bytes}
+use Rattle.scm_generate.specs.Listed.{alone, asked_start, at_once, creation_of, creations, depth_of, down, downs, generated, nth_name}
+use Rattle.scm_generate.specs.Listed.{nth_need, opening_calls, start_of, starts, up, ups, wide_bytes}
 
 -- ## How many services a run can have
 
@@ -43,11 +45,13 @@ creations_at (Call caller (request.Create new) append) = 1
 creations_at step = 0
 
 few_created : (f : Flat) (step : Step) (told : Answer) → length (created f step told) ≤ creations_at step
-few_created f (Call caller (request.Create new) append) told = elim (succeeds told) as (λ b. length (cond b (f.next.service ∷ []) []) ≤ 1) [ true ↦ omega arith | false ↦ omega arith ]
+few_created f (Call caller (request.Create new) append) told = elim (succeeds told) as (λ b. length (cond b (f.next.service ∷ []) []) ≤ 1)
+    [ true ↦ omega arith | false ↦ omega arith ]
 few_created f step told = omega arith
 
 -- a step adds no more services than it creates
-few_more : (l : Limits) (f : Flat) (e : Entry) (told : Answer) (after : Flat) → LawOfLeaving l f e told after → length after.services ≤ length f.services + creations_at e.1
+few_more : (l : Limits) (f : Flat) (e : Entry) (told : Answer) (after : Flat) → LawOfLeaving l f e told after
+    → length after.services ≤ length f.services + creations_at e.1
 few_more l f e told after law =
     let stood = ap length law.stood in
     let before = length-map (before_leaving l f e).services (λ (row : Service). row.number) in
@@ -83,7 +87,8 @@ sum_of m [] = 0
 sum_of m (e ∷ es) = m e.1 + sum_of m es
 
 -- each entry finds room where there is room for what all cost
-fills : (l : Limits) (f : Flat) (es : List Entry) (steps text : ℕ) → EachStep (LawOfLeaving l) l f es → EachStep LawOfOwed l f es → length f.services + sum_of creations_at es ≤ 512
+fills : (l : Limits) (f : Flat) (es : List Entry) (steps text : ℕ) → EachStep (LawOfLeaving l) l f es → EachStep LawOfOwed l f es
+    → length f.services + sum_of creations_at es ≤ 512
     → steps + owed f + sum_of cost_at es ≤ l.steps → text + sum_of text_of es ≤ l.text → FoundRoom l f steps text es
 fills l f [] steps text leaving owing few fits short = tt
 fills l f (e ∷ es) steps text leaving owing few fits short =
@@ -93,17 +98,23 @@ fills l f (e ∷ es) steps text leaving owing few fits short =
     let few_then : length after.services + sum_of creations_at es ≤ 512 = omega (arith, few, more) in
     let short_then : text + text_of e.1 + sum_of text_of es ≤ l.text = omega (arith, short) in
     let pays : owed after + 1 ≤ owed f + debt f e.1 = owing.0.pays in
-    elim (is_owed e.1) as (λ b. is_owed e.1 ≡ b → ((is_owed e.1 ≡ true) ⊎ IsTrue (has_room l f steps text e.1)) × FoundRoom l after (steps + 1) (text + text_of e.1) es) [
+    elim (is_owed e.1) as (λ b. is_owed e.1 ≡ b → ((is_owed e.1 ≡ true) ⊎ IsTrue (has_room l f steps text e.1))
+    × FoundRoom l after (steps + 1) (text + text_of e.1) es) [
       | true ↦ λ is.
           let none = owed_debt f e.1 is in
-          let costs : cost_at e.1 ≡ 0 = ap (λ b. cond b 0 (need_with 512 e.1)) is in
-          (inl is, fills l after es (steps + 1) (text + text_of e.1) leaving.1 owing.1 few_then (omega (arith, fits, pays, none, costs)) short_then)
+          let costs : cost_at e.1 ≡ 0 = ap (λ b. cond b 0 (need_with 512 e.1)) is in (
+            inl is,
+            fills l after es (steps + 1) (text + text_of e.1) leaving.1 owing.1 few_then
+                (omega (arith, fits, pays, none, costs)) short_then,
+          )
       | false ↦ λ is.
           let costs : cost_at e.1 ≡ need_with 512 e.1 = ap (λ b. cond b 0 (need_with 512 e.1)) is in
           let needs : need f e.1 ≤ need_with 512 e.1 = need_more (length f.services) 512 e.1 (omega (arith, few)) in
           let debts = owing.0.fits is in (
-            inr (and_from _ _ (le-leb (steps + owed f + need f e.1) l.steps (omega (arith, fits, costs, needs))) (le-leb (text + text_of e.1) l.text (omega (arith, short)))),
-            fills l after es (steps + 1) (text + text_of e.1) leaving.1 owing.1 few_then (omega (arith, fits, pays, debts, costs, needs)) short_then,
+            inr (and_from _ _ (le-leb (steps + owed f + need f e.1) l.steps (omega (arith, fits, costs, needs)))
+                (le-leb (text + text_of e.1) l.text (omega (arith, short)))),
+            fills l after es (steps + 1) (text + text_of e.1) leaving.1 owing.1 few_then
+                (omega (arith, fits, pays, debts, costs, needs)) short_then,
           )
     ] refl
 
@@ -223,7 +234,10 @@ short_need j few =
     let long = length-append (wide_bytes (nth_name j)) (0 ∷ 0 ∷ 0 ∷ 0 ∷ []) in
     let twice = long_bytes (nth_name j) in
     let name = short_name j few in
-    elim (j == 0) as (λ b. some_bytes (cond b None (Some (alone (nth_name j)))) ≤ 12) [ true ↦ omega arith | false ↦ omega (arith, long, twice, name) ]
+    elim (j == 0) as (λ b. some_bytes (cond b None (Some (alone (nth_name j)))) ≤ 12) [
+      | true ↦ omega arith
+      | false ↦ omega (arith, long, twice, name)
+    ]
 
 short_creation : (i : ℕ) → i ≤ 512 → text_of (creation_of i).1 ≤ 38
 short_creation i few =
@@ -246,7 +260,8 @@ sum_texts n few =
 pub short_text : (n : ℕ) → n ≤ 512 → text_in (generated n) ≤ 2 ^ 18
 short_text n few = let same = text_sum (generated n) in let short = sum_texts n few in omega (arith, same, short)
 
-pub all_fits : (l : Limits) (n : ℕ) → IsAmple l → n ≤ 512 → IsLegal l (opening l [] [] 0) (generated n) → IsOpening l (opening l [] [] 0) → Legal l (opening l [] [] 0) (generated n)
+pub all_fits : (l : Limits) (n : ℕ) → IsAmple l → n ≤ 512 → IsLegal l (opening l [] [] 0) (generated n) → IsOpening l (opening l [] [] 0)
+    → Legal l (opening l [] [] 0) (generated n)
 all_fits l n ample few legal opens =
     let f = opening l [] [] 0 in
     let clear = clear_begun l f opens in

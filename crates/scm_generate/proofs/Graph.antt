@@ -1,5 +1,6 @@
 -- What the services of the list need, and the order in which they are started.
-use Rattle.std.proofs.Common.{ℕ, zero, suc, ◌≡◌, ◌∙◌, ◌+◌, ◌/◌, ◌<◌, ◌≤◌, ◌^◌, ◌==◌, ◌||◌, Bool, true, false, cond, List, [], ◌∷◌, ◌++◌, Some, find, length, length-append, ap, sym, refl, subst, arith, eqb, eqb-true, ne_eqb, eq-eqb, inl, inr, ◌⊎◌}
+use Rattle.std.proofs.Common.{ℕ, zero, suc, ◌≡◌, ◌∙◌, ◌+◌, ◌/◌, ◌<◌, ◌≤◌, ◌^◌, ◌==◌, ◌||◌, Bool, true, false, cond, List, [], ◌∷◌, ◌++◌}
+use Rattle.std.proofs.Common.{Some, find, length, length-append, ap, sym, refl, subst, arith, eqb, eqb-true, ne_eqb, eq-eqb, inl, inr, ◌⊎◌}
 use Rattle.std.proofs.lemmas.Bool.{eqb-false, cases_lt}
 use Rattle.std.proofs.lemmas.Int.Digits.{length-digits_of_step}
 use Rattle.scm_model.specs.declared.flat.Need.TheVariants as needs
@@ -19,7 +20,8 @@ abbrev pub needed : ℕ → List ℕ
 needed j = cond (j == 0) [] (j ∷ [])
 
 found_row : (n i : ℕ) → 0 < i → i ≤ n → find (λ (row : NeedRow). row.number == i) (graph n) ≡ Some (need_row_at i)
-found_row n i some lt = find_built (λ (row : NeedRow). row.number == i) [] need_row_at i n some lt refl (eq-eqb i i refl) (λ k s le other. other)
+found_row n i some lt = find_built (λ (row : NeedRow). row.number == i) [] need_row_at i n some lt refl (eq-eqb i i refl)
+    (λ k s le other. other)
 
 met_one : (n j : ℕ) → n < 2 ^ 64 → 0 < j → j ≤ n → met_by (graph n) (needs.Service (nth_name j)) ≡ j ∷ []
 met_one n j small some lt =
@@ -39,7 +41,8 @@ half_within i n lt = omega (arith, lt)
 pub needs_here : (n i : ℕ) → n < 2 ^ 64 → 0 < i → i ≤ n → needs_of (graph n) i ≡ needed (i / 2)
 needs_here n i small some lt =
     ap (λ o. met_by_all (graph n) (row_needs o)) (found_row n i some lt)
-    ∙ elim (i / 2 == 0) as (λ b. (i / 2 == 0) ≡ b → met_by_all (graph n) (cond b [] (needs.Service (nth_name (i / 2)) ∷ [])) ≡ cond b [] (i / 2 ∷ [])) [
+    ∙ elim (i / 2 == 0) as (λ b. (i / 2 == 0) ≡ b → met_by_all (graph n) (cond b [] (needs.Service (nth_name (i / 2)) ∷ [])) ≡ cond b []
+    (i / 2 ∷ [])) [
       | true ↦ λ e. refl
       | false ↦ λ e.
           let apart = eqb-false (i / 2) 0 e in
@@ -55,7 +58,10 @@ in_needed : (j to : ℕ) → has (needed j) to ≡ true → to ≡ j
 in_needed j to h =
     elim (j == 0) as (λ b. has (cond b [] (j ∷ [])) to ≡ true → to ≡ j) [
       | true ↦ λ g. absurd cc
-      | false ↦ λ g. elim (eqb to j) as (λ b. eqb to j ≡ b → (b || false) ≡ true → to ≡ j) [ true ↦ λ e r. eqb-true to j e | false ↦ λ e r. absurd cc ] refl g
+      | false ↦ λ g. elim (eqb to j) as (λ b. eqb to j ≡ b → (b || false) ≡ true → to ≡ j) [
+        | true ↦ λ e r. eqb-true to j e
+        | false ↦ λ e r. absurd cc
+      ] refl g
     ] h
 
 needed_some : (j to : ℕ) → has (needed j) to ≡ true → 0 < j
@@ -93,7 +99,8 @@ abbrev pub Climbs : (n from : ℕ) → List ℕ → ℕ → Type 0
 Climbs n from [] last = from ≡ last
 Climbs n from (s ∷ rest) last = (s / 2 ≡ from) × (0 < s) × (s ≤ n) × Climbs n s rest last
 
-climbs_push : (n from : ℕ) (es : List ℕ) (last s : ℕ) → Climbs n from es last → s / 2 ≡ last → 0 < s → s ≤ n → Climbs n from (es ++ s ∷ []) s
+climbs_push : (n from : ℕ) (es : List ℕ) (last s : ℕ) → Climbs n from es last → s / 2 ≡ last → 0 < s → s ≤ n
+    → Climbs n from (es ++ s ∷ []) s
 climbs_push n from [] last s h half some lt = (half ∙ sym h, some, lt, refl)
 climbs_push n from (e ∷ es) last s h half some lt = (h.0, h.1, h.2, climbs_push n e es last s h.3 half some lt)
 
@@ -108,7 +115,8 @@ listed n i some lt =
     ∙ any_there (eqb i) [] (λ k. k) i n some lt (eq-eqb i i refl)
 
 -- with one digit more, the line of half the number, and the number
-visit_is : (n : ℕ) (skipped : ℕ → Bool) (i : ℕ) → n < 2 ^ 64 → 0 < i → i ≤ n → skipped i ≡ false → visit (graph n) skipped [] i ≡ visit_all (graph n) skipped [] (needed (i / 2)) ++ i ∷ []
+visit_is : (n : ℕ) (skipped : ℕ → Bool) (i : ℕ) → n < 2 ^ 64 → 0 < i → i ≤ n → skipped i ≡ false
+    → visit (graph n) skipped [] i ≡ visit_all (graph n) skipped [] (needed (i / 2)) ++ i ∷ []
 visit_is n skipped i small some lt idle =
     as_written (graph n) skipped [] i (no_cycle n small) (listed n i some lt)
     ∙ ap (λ b. cond (b || false) [] (visit_all (graph n) skipped [] (needs_of (graph n) i) ++ i ∷ [])) idle
@@ -126,7 +134,8 @@ line_more n i es line some lt = record {
 line_none : (n : ℕ) → IsLine n 0 []
 line_none n = record { climbs = refl; long = refl }
 
-line_from : (n : ℕ) (skipped : ℕ → Bool) → n < 2 ^ 64 → Each (λ k. skipped k ≡ false) n → (fuel i : ℕ) → i ≤ fuel → 0 < i → i ≤ n → IsLine n i (visit (graph n) skipped [] i)
+line_from : (n : ℕ) (skipped : ℕ → Bool) → n < 2 ^ 64 → Each (λ k. skipped k ≡ false) n → (fuel i : ℕ) → i ≤ fuel → 0 < i → i ≤ n
+    → IsLine n i (visit (graph n) skipped [] i)
 line_from n skipped small idle zero i le some lt = absurd (omega (arith, le, some))
 line_from n skipped small idle (suc fuel) i le some lt =
     subst (IsLine n i) (sym (visit_is n skipped i small some lt (idle i some lt)))
@@ -134,9 +143,11 @@ line_from n skipped small idle (suc fuel) i le some lt =
     (elim (i / 2 == 0) as (λ b. (i / 2 == 0) ≡ b → IsLine n (i / 2) (visit_all (graph n) skipped [] (cond b [] (i / 2 ∷ [])))) [
       | true ↦ λ e. subst (λ h. IsLine n h []) (sym (eqb-true (i / 2) 0 e)) (line_none n)
       | false ↦ λ e.
-          line_from n skipped small idle fuel (i / 2) (shorter i fuel le some) (positive (i / 2) (eqb-false (i / 2) 0 e)) (half_within i n lt)
+          line_from n skipped small idle fuel (i / 2) (shorter i fuel le some) (positive (i / 2) (eqb-false (i / 2) 0 e))
+          (half_within i n lt)
     ] refl) some lt)
 
 -- the start order of a service, where none runs
-pub order_is : (n : ℕ) (state_of : ℕ → ℕ) (i : ℕ) → n < 2 ^ 64 → Each (λ k. runs_in state_of k ≡ false) n → 0 < i → i ≤ n → IsLine n i (order_in (graph n) state_of i)
+pub order_is : (n : ℕ) (state_of : ℕ → ℕ) (i : ℕ) → n < 2 ^ 64 → Each (λ k. runs_in state_of k ≡ false) n → 0 < i → i ≤ n
+    → IsLine n i (order_in (graph n) state_of i)
 order_is n state_of i small idle some lt = line_from n (runs_in state_of) small idle i i (omega arith) some lt

@@ -1,5 +1,7 @@
 -- A process of a start is launched, and runs.
-use Rattle.std.proofs.Common.{ℕ, ◌≡◌, ◌∙◌, ◌+◌, ◌<◌, ◌≤◌, ◌==◌, ◌&&◌, ◌⊎◌, inl, inr, Bool, true, false, not, cond, List, [], ◌∷◌, ◌++◌, Option, None, Some, Result, Ok, Err, filter, find, length, length-append, map, ap, sym, refl, subst, arith, ne_eqb, eq-eqb, eqb-true}
+use Rattle.std.proofs.Common.{ℕ, ◌≡◌, ◌∙◌, ◌+◌, ◌<◌, ◌≤◌, ◌==◌, ◌&&◌, ◌⊎◌, inl, inr, Bool, true, false, not, cond, List, [], ◌∷◌, ◌++◌}
+use Rattle.std.proofs.Common.{Option, None, Some, Result, Ok, Err, filter, find, length, length-append, map, ap, sym, refl, subst, arith}
+use Rattle.std.proofs.Common.{ne_eqb, eq-eqb, eqb-true}
 use Rattle.std.specs.Prelude.{option_map}
 use Rattle.std.proofs.lemmas.List.{map-append}
 use Rattle.scm_model.specs.declared.flat.Flat.{Flat}
@@ -40,37 +42,46 @@ ran first (s ∷ done) = ran first done ++ running_process (first + length done)
 
 pub length_ran : (first : ℕ) (done : List ℕ) → length (ran first done) ≡ length done
 length_ran first [] = refl
-length_ran first (s ∷ done) = length-append (ran first done) (running_process (first + length done) s ∷ []) ∙ (let rest = length_ran first done in omega (arith, rest))
+length_ran first (s ∷ done) = length-append (ran first done) (running_process (first + length done) s ∷ [])
+    ∙ (let rest = length_ran first done in omega (arith, rest))
 
 -- a number that none of them has
 pub none_ran : (first p : ℕ) (done : List ℕ) → first + length done ≤ p → find (λ (row : Process). row.number == p) (ran first done) ≡ None
 none_ran first p [] le = refl
 none_ran first p (s ∷ done) le =
-    find_right (λ (row : Process). row.number == p) (ran first done) (running_process (first + length done) s ∷ []) (none_ran first p done (omega (arith, le)))
+    find_right (λ (row : Process). row.number == p) (ran first done) (running_process (first + length done) s ∷ [])
+    (none_ran first p done (omega (arith, le)))
     ∙ ap (λ b. cond b (Some (running_process (first + length done) s)) None) (ne_eqb (first + length done) p (λ e. omega (arith, e, le)))
 
-pub last_found : (first p : ℕ) (done : List ℕ) (last : Process) → first + length done ≤ p → last.number ≡ p → find (λ (row : Process). row.number == p) (ran first done ++ last ∷ []) ≡ Some last
+pub last_found : (first p : ℕ) (done : List ℕ) (last : Process) → first + length done ≤ p → last.number ≡ p
+    → find (λ (row : Process). row.number == p) (ran first done ++ last ∷ []) ≡ Some last
 last_found first p done last le is =
-    find_right (λ (row : Process). row.number == p) (ran first done) (last ∷ []) (none_ran first p done le) ∙ ap (λ b. cond b (Some last) None) (eq-eqb last.number p is)
+    find_right (λ (row : Process). row.number == p) (ran first done) (last ∷ []) (none_ran first p done le)
+    ∙ ap (λ b. cond b (Some last) None) (eq-eqb last.number p is)
 
 -- a change of the one with a number leaves the others
-same_ran : (change : Process → Process) (first p : ℕ) → ((row : Process) → (row.number == p) ≡ false → change row ≡ row) → (done : List ℕ) → first + length done ≤ p → map change (ran first done) ≡ ran first done
+same_ran : (change : Process → Process) (first p : ℕ) → ((row : Process) → (row.number == p) ≡ false → change row ≡ row) → (done : List ℕ)
+    → first + length done ≤ p → map change (ran first done) ≡ ran first done
 same_ran change first p keeps [] le = refl
 same_ran change first p keeps (s ∷ done) le =
     map-append change (ran first done) (running_process (first + length done) s ∷ [])
     ∙ ap (λ xs. xs ++ change (running_process (first + length done) s) ∷ []) (same_ran change first p keeps done (omega (arith, le)))
-    ∙ ap (λ x. ran first done ++ x ∷ []) (keeps (running_process (first + length done) s) (ne_eqb (first + length done) p (λ e. omega (arith, e, le))))
+    ∙ ap (λ x. ran first done ++ x ∷ []) (keeps (running_process (first + length done) s)
+    (ne_eqb (first + length done) p (λ e. omega (arith, e, le))))
 
-last_changed : (change : Process → Process) (first p : ℕ) (done : List ℕ) (last now : Process) → ((row : Process) → (row.number == p) ≡ false → change row ≡ row) → first + length done ≤ p → change last ≡ now
+last_changed : (change : Process → Process) (first p : ℕ) (done : List ℕ) (last now : Process)
+    → ((row : Process) → (row.number == p) ≡ false → change row ≡ row) → first + length done ≤ p → change last ≡ now
     → map change (ran first done ++ last ∷ []) ≡ ran first done ++ now ∷ []
 last_changed change first p done last now keeps le is =
-    map-append change (ran first done) (last ∷ []) ∙ ap (λ xs. xs ++ change last ∷ []) (same_ran change first p keeps done le) ∙ ap (λ x. ran first done ++ x ∷ []) is
+    map-append change (ran first done) (last ∷ []) ∙ ap (λ xs. xs ++ change last ∷ []) (same_ran change first p keeps done le)
+    ∙ ap (λ x. ran first done ++ x ∷ []) is
 
 -- ## Steps
 
 pub told_report : (f : Flat) (found : Option Service) (status : Status) → (finished f (report_told found status)).flat ≡ f
 told_report f None status = refl
-told_report f (Some row) status = elim (take_report row.status status) as (λ (r : Result Status ℕ). (finished f (report_answer r)).flat ≡ f) [ Ok now ↦ refl | Err code ↦ refl ]
+told_report f (Some row) status = elim (take_report row.status status) as (λ (r : Result Status ℕ). (finished f (report_answer r)).flat ≡ f)
+    [ Ok now ↦ refl | Err code ↦ refl ]
 
 -- how a service stands that ran in this start, or didn't
 pub record IsRun (first p : ℕ) (live : Live) : Type 0 where
@@ -84,7 +95,8 @@ pub record Climbing (look : ℕ → Live) (first s : ℕ) (done : List ℕ) : Ty
   pub others : (k : ℕ) → (k == s) ≡ false → IsAtRest (look k) ⊎ IsRun first (first + length done) (look k)
   pub above : (k : ℕ) → s < k → IsAtRest (look k)
 
-module _ (l : Limits) (n : ℕ) (look : ℕ → Live) (plan target s : ℕ) (rest tried done : List ℕ) (first due : ℕ) (low : 0 < first) (some : 0 < s) (lt : s ≤ n) (climbing : Climbing look first s done) where
+module _ (l : Limits) (n : ℕ) (look : ℕ → Live) (plan target s : ℕ) (rest tried done : List ℕ) (first due : ℕ) (low : 0 < first)
+    (some : 0 < s) (lt : s ≤ n) (climbing : Climbing look first s done) where
   abbrev p : ℕ
   p = first + length done
 
@@ -102,14 +114,22 @@ module _ (l : Limits) (n : ℕ) (look : ℕ → Live) (plan target s : ℕ) (res
 
   taken_last : map (taken_if p) (ran first done ++ wanted_process p s ∷ []) ≡ ran first done ++ taken_process p s ∷ []
   taken_last =
-      last_changed (taken_if p) first p done (wanted_process p s) (taken_process p s) (λ row e. ap (λ b. cond b (record row { phase = phases.Taken }) row) e) (omega arith)
+      last_changed (taken_if p) first p done (wanted_process p s) (taken_process p s)
+      (λ row e. ap (λ b. cond b (record row { phase = phases.Taken }) row) e) (omega arith)
       (ap (λ b. cond b (taken_process p s) (wanted_process p s)) (eq-eqb p p refl))
 
   pub takes : Goes l wanting (at_once LaunchTaken ∷ []) taking
   takes = goes_one l wanting taking LaunchTaken refl refl
       (stepped l wanting LaunchTaken (record { answer = answer.Launch p; flat = taking }) taking taking
-      (ap (λ ps. record { answer = answer.Launch p; flat = record wanting { processes = ps; wanted = wanted_of_others p (wanted_row p [] ∷ []) } }) taken_last
-      ∙ ap (λ b. record { answer = answer.Launch p; flat = record taking { wanted = cond (not b) (wanted_row p [] ∷ []) [] } }) (eq-eqb p p refl))
+      (ap (λ ps. record {
+        answer = answer.Launch p;
+        flat = record wanting {
+          processes = ps;
+          wanted = wanted_of_others p (wanted_row p [] ∷ []);
+        };
+      }) taken_last
+      ∙ ap (λ b. record { answer = answer.Launch p; flat = record taking { wanted = cond (not b) (wanted_row p [] ∷ []) [] } })
+      (eq-eqb p p refl))
       (waits l n look (ran first done ++ taken_process p s ∷ []) [] plan target s rest tried (p + 1) due some lt starting)
       refl (all_stay taking look n refl refl))
 
@@ -118,7 +138,8 @@ module _ (l : Limits) (n : ℕ) (look : ℕ → Live) (plan target s : ℕ) (res
 
   launched_last : map (launched_if p p) (ran first done ++ taken_process p s ∷ []) ≡ ran first (s ∷ done)
   launched_last =
-      last_changed (launched_if p p) first p done (taken_process p s) (running_process p s) (λ row e. ap (λ b. cond b (record row { phase = phases.Launched; pid = p }) row) e) (omega arith)
+      last_changed (launched_if p p) first p done (taken_process p s) (running_process p s)
+      (λ row e. ap (λ b. cond b (record row { phase = phases.Launched; pid = p }) row) e) (omega arith)
       (ap (λ b. cond b (running_process p s) (taken_process p s)) (eq-eqb p p refl))
 
   -- the plan is decided where this is its target
@@ -127,9 +148,13 @@ module _ (l : Limits) (n : ℕ) (look : ℕ → Live) (plan target s : ℕ) (res
 
   launches : (b : Bool) → (target == s) ≡ b → launched taking p p ≡ launched_with b
   launches b is =
-      ap (λ o. record taking { processes = map (launched_if p p) (ran first done ++ taken_process p s ∷ []); plans = if_found (λ service. decided_in (aims_at service) 0) o (plan_with plan target (s ∷ rest) tried None ∷ []) })
+      ap (λ o. record taking {
+        processes = map (launched_if p p) (ran first done ++ taken_process p s ∷ []);
+        plans = if_found (λ service. decided_in (aims_at service) 0) o (plan_with plan target (s ∷ rest) tried None ∷ []);
+      })
       (ap (option_map (λ (row : Process). row.service)) found)
-      ∙ ap (λ ps. record taking { processes = ps; plans = decided_in (aims_at s) 0 (plan_with plan target (s ∷ rest) tried None ∷ []) }) launched_last
+      ∙ ap (λ ps. record taking { processes = ps; plans = decided_in (aims_at s) 0 (plan_with plan target (s ∷ rest) tried None ∷ []) })
+      launched_last
       ∙ ap launched_with is
 
   may_launch : may l taking 0 (Launched p p) ≡ true
@@ -167,8 +192,10 @@ module _ (l : Limits) (n : ℕ) (look : ℕ → Live) (plan target s : ℕ) (res
         | true ↦ λ e.
             let is : look k ≡ pending p = subst (λ m. look m ≡ pending p) (sym (eqb-true k s e)) climbing.here in
             ap (λ live. reported_if p (told 4 1) (row_at k live)) is
-            ∙ ap (λ b. cond b (moved_by (row_at k (pending p)) (take_report (pending p).status (told 4 1))) (row_at k (pending p))) (eq-eqb p p refl)
-        | false ↦ λ e. ap (λ b. cond b (moved_by (row_at k (look k)) (take_report (look k).status (told 4 1))) (row_at k (look k))) (not_its k (climbing.others k e))
+            ∙ ap (λ b. cond b (moved_by (row_at k (pending p)) (take_report (pending p).status (told 4 1))) (row_at k (pending p)))
+            (eq-eqb p p refl)
+        | false ↦ λ e. ap (λ b. cond b (moved_by (row_at k (look k)) (take_report (look k).status (told 4 1))) (row_at k (look k)))
+            (not_its k (climbing.others k e))
       ] refl
 
   pub reports_all : map (reported_if p (told 4 1)) (rows look n) ≡ rows running n
@@ -183,8 +210,10 @@ module _ (l : Limits) (n : ℕ) (look : ℕ → Live) (plan target s : ℕ) (res
 
   runs_last : Goes l succeeded (at_once (Report p (told 4 1)) ∷ []) finished_all
   runs_last = goes_one l succeeded finished_all (Report p (told 4 1)) (ap (λ o. is_launched o && true) launched_found) refl
-      (stepped l succeeded (Report p (told 4 1)) (record { answer = report_told (current_of succeeded p) (told 4 1); flat = finished_all }) finished_all finished_all
-      (ap (λ f. record { answer = report_told (current_of succeeded p) (told 4 1); flat = f }) (report_alone succeeded p (told 4 1) (rows running n) refl refl reports_all))
+      (stepped l succeeded (Report p (told 4 1)) (record { answer = report_told (current_of succeeded p) (told 4 1); flat = finished_all })
+      finished_all finished_all
+      (ap (λ f. record { answer = report_told (current_of succeeded p) (told 4 1); flat = f })
+      (report_alone succeeded p (told 4 1) (rows running n) refl refl reports_all))
       refl (told_report finished_all (current_of succeeded p) (told 4 1)) (all_stay finished_all running n refl refl))
 
   pub up_last : (target == s) ≡ true → Goes l wanting (up p) finished_all

@@ -1,5 +1,6 @@
 -- The names of the services of the list, their configurations, and what they need.
-use Rattle.std.proofs.Common.{ℕ, zero, suc, ◌≡◌, ◌∙◌, ◌+◌, ◌*◌, ◌/◌, ◌%◌, ◌<◌, ◌≤◌, ◌^◌, ◌==◌, ◌||◌, Bool, true, false, cond, List, [], ◌∷◌, ◌++◌, None, Some, Ok, length, ap, sym, refl, arith, eqb-true, ne_eqb, eq-eqb}
+use Rattle.std.proofs.Common.{ℕ, zero, suc, ◌≡◌, ◌∙◌, ◌+◌, ◌*◌, ◌/◌, ◌%◌, ◌<◌, ◌≤◌, ◌^◌, ◌==◌, ◌||◌, Bool, true, false, cond, List, [], ◌∷◌}
+use Rattle.std.proofs.Common.{◌++◌, None, Some, Ok, length, ap, sym, refl, arith, eqb-true, ne_eqb, eq-eqb}
 use Rattle.std.specs.Prelude.{codes, decimal, option_map, option_and_then, unwrap_or, is_none}
 use Rattle.std.specs.List.{list_any}
 use Rattle.std.specs.Char.Utf16.{utf16_chars}
@@ -72,7 +73,8 @@ unit_again u = omega arith
 units_again : (units : List ℕ) → units_in_bytes (wide_bytes units ++ 0 ∷ 0 ∷ 0 ∷ 0 ∷ []) ≡ Some (units ++ 0 ∷ 0 ∷ [])
 units_again [] = refl
 units_again (u ∷ units) =
-    ap (option_map (λ more. (u % 256 + 256 * (u / 256)) ∷ more)) (units_again units) ∙ ap (λ n. Some (n ∷ units ++ 0 ∷ 0 ∷ [])) (unit_again u)
+    ap (option_map (λ more. (u % 256 + 256 * (u / 256)) ∷ more)) (units_again units)
+    ∙ ap (λ n. Some (n ∷ units ++ 0 ∷ 0 ∷ [])) (unit_again u)
 
 abbrev AreUnits : List ℕ → Type 0
 AreUnits [] = Unit {0}
@@ -107,7 +109,8 @@ need_read j small =
     ∙ ap needs_read (name_read (decimal j) (decimal_digits j small))
 
 pub needs_are : (j : ℕ) → j < 2 ^ 64 → needs_or [] (nth_need j) ≡ needs_at j
-needs_are j small = elim (j == 0) as (λ b. needs_or [] (cond b None (Some (alone (nth_name j)))) ≡ cond b [] (needs.Service (nth_name j) ∷ []))
+needs_are j small = elim (j == 0) as (λ b. needs_or [] (cond b None (Some (alone (nth_name j)))) ≡ cond b []
+    (needs.Service (nth_name j) ∷ []))
     [ true ↦ refl | false ↦ ap (λ o. unwrap_or o []) (need_read j small) ]
 
 pub needs_readable : (j : ℕ) → j < 2 ^ 64 → are_unreadable (nth_need j) ≡ false
@@ -151,7 +154,8 @@ names_good i small =
     let empty : (length (nth_name i) == 0) ≡ false = ne_eqb (length (nth_name i)) 0 (λ e. omega (arith, e)) in
     or_from (is_bad_name (nth_name i)) (is_longer 256 (nth_name i))
     (or_from (length (nth_name i) == 0 || is_longer 256 (nth_name i)) (list_any (λ u. u == 47 || u == 92) (nth_name i))
-    (or_from (length (nth_name i) == 0) (is_longer 256 (nth_name i)) empty (name_not_long i small)) (no_slash (decimal i) (decimal_digits i small)))
+    (or_from (length (nth_name i) == 0) (is_longer 256 (nth_name i)) empty (name_not_long i small))
+    (no_slash (decimal i) (decimal_digits i small)))
     (name_not_long i small)
 
 line_good : is_bad_line (codes "/bin/true") ≡ false

@@ -1,5 +1,6 @@
 -- What becomes of the plan of a start that is under way.
-use Rattle.std.proofs.Common.{ℕ, ◌≡◌, ◌∙◌, ◌+◌, ◌/◌, ◌<◌, ◌≤◌, ◌^◌, ◌==◌, ◌||◌, ◌&&◌, Bool, true, false, not, cond, List, [], ◌∷◌, ◌++◌, Option, None, Some, find, length, map, ap, sym, refl, subst, arith, eq-eqb, eqb-true}
+use Rattle.std.proofs.Common.{ℕ, ◌≡◌, ◌∙◌, ◌+◌, ◌/◌, ◌<◌, ◌≤◌, ◌^◌, ◌==◌, ◌||◌, ◌&&◌, Bool, true, false, not, cond, List, [], ◌∷◌, ◌++◌}
+use Rattle.std.proofs.Common.{Option, None, Some, find, length, map, ap, sym, refl, subst, arith, eq-eqb, eqb-true}
 use Rattle.std.specs.Prelude.{is_some}
 use Rattle.std.specs.List.{list_all}
 use Rattle.std.proofs.lemmas.Bool.{lt-leb, and_right, eqb-false}
@@ -19,7 +20,8 @@ use Rattle.scm_model.specs.Rows.{service_of}
 use Rattle.start_plan.specs.declared.settling.Move.TheVariants as moves
 use Rattle.start_plan.specs.Entered.{started_if, starting_in, wanted_process, wanted_row, with_entered}
 use Rattle.start_plan.specs.Moves.{cause_at, cause_of, entering_at, has, is_full, is_pending, move_by, move_of}
-use Rattle.start_plan.specs.Settle.{dropped, move_code, moved, settle_all, settle_entries, settle_plan, settled, tidied, with_tried, words_for}
+use Rattle.start_plan.specs.Settle.{dropped, move_code, moved, settle_all, settle_entries, settle_plan, settled, tidied, with_tried}
+use Rattle.start_plan.specs.Settle.{words_for}
 use Rattle.scm_generate.specs.Listed.{nth_name, told}
 use Rattle.scm_generate.proofs.Built.{Each, find_built, map_built}
 use Rattle.scm_generate.proofs.Graph.{half_within, positive}
@@ -29,10 +31,13 @@ use Rattle.scm_generate.proofs.Untold.{start_untold}
 
 -- ## Look-ups
 
-pub found_service : (look : ℕ → Live) (n i : ℕ) → 0 < i → i ≤ n → find (λ (row : Service). row.number == i) (rows look n) ≡ Some (row_at i (look i))
-found_service look n i some lt = find_built (λ (row : Service). row.number == i) [] (λ k. row_at k (look k)) i n some lt refl (eq-eqb i i refl) (λ k s le other. other)
+pub found_service : (look : ℕ → Live) (n i : ℕ) → 0 < i → i ≤ n → find (λ (row : Service). row.number == i) (rows look n) ≡ Some
+    (row_at i (look i))
+found_service look n i some lt = find_built (λ (row : Service). row.number == i) [] (λ k. row_at k (look k)) i n some lt refl
+    (eq-eqb i i refl) (λ k s le other. other)
 
-pub found_named : (look : ℕ → Live) (n i : ℕ) → n < 2 ^ 64 → 0 < i → i ≤ n → find (λ (row : Service). same_text row.config.name (nth_name i)) (rows look n) ≡ Some (row_at i (look i))
+pub found_named : (look : ℕ → Live) (n i : ℕ) → n < 2 ^ 64 → 0 < i → i ≤ n
+    → find (λ (row : Service). same_text row.config.name (nth_name i)) (rows look n) ≡ Some (row_at i (look i))
 found_named look n i small some lt =
     find_built (λ (row : Service). same_text row.config.name (nth_name i)) [] (λ k. row_at k (look k)) i n some lt refl (same_name i)
     (λ k s le other. other_names k i (omega (arith, le, small)) (omega (arith, lt, small)) other)
@@ -40,24 +45,37 @@ found_named look n i small some lt =
 -- ## A start that is under way
 
 abbrev pub plan_with : (plan target : ℕ) (entries tried : List ℕ) (code : Option ℕ) → Plan
-plan_with plan target entries tried code = record { number = plan; caller = 1; target = target; entries = entries; tried = tried; words = []; code = code }
+plan_with plan target entries tried code = record {
+  number = plan;
+  caller = 1;
+  target = target;
+  entries = entries;
+  tried = tried;
+  words = [];
+  code = code;
+}
 
 abbrev pub deadline : (plan due : ℕ) → Due
 deadline plan due = record { moment = 120000; number = due; kind = dues.Deadline plan }
 
 -- it isn't decided
-abbrev pub under_way : (n : ℕ) (look : ℕ → Live) (processes : List Process) (wanted : List Wanted) (plan target : ℕ) (entries tried : List ℕ) (process due : ℕ) → Flat
+abbrev pub under_way : (n : ℕ) (look : ℕ → Live) (processes : List Process) (wanted : List Wanted) (plan target : ℕ)
+    (entries tried : List ℕ) (process due : ℕ) → Flat
 under_way n look processes wanted plan target entries tried process due =
     standing n look processes wanted (plan_with plan target entries tried None ∷ []) (deadline plan due ∷ []) process (plan + 1) (due + 1)
 
 -- it has succeeded, and is to be answered
-abbrev pub decided : (n : ℕ) (look : ℕ → Live) (processes : List Process) (plan target : ℕ) (entries tried : List ℕ) (process due : ℕ) → Flat
+abbrev pub decided : (n : ℕ) (look : ℕ → Live) (processes : List Process) (plan target : ℕ) (entries tried : List ℕ) (process due : ℕ)
+    → Flat
 decided n look processes plan target entries tried process due =
     standing n look processes [] (plan_with plan target entries tried (Some 0) ∷ []) [] process (plan + 1) (due + 1)
 
 -- how a service stands that is being started, and one that runs
 abbrev pub pending : ℕ → Live
-pending process = record { status = record { kind = 0x10; state = 2; accepted = 0; win32 = 0; specific = 0; checkpoint = 0; hint = 0 }; process = process }
+pending process = record {
+  status = record { kind = 0x10; state = 2; accepted = 0; win32 = 0; specific = 0; checkpoint = 0; hint = 0 };
+  process = process;
+}
 
 abbrev pub runs : ℕ → Live
 runs process = record { status = told 4 1; process = process }
@@ -73,36 +91,45 @@ pub record IsAtRest (live : Live) : Type 0 where
 
 -- ## What settles
 
-settles_one : (l : Limits) (f : Flat) (plan : Plan) (to : Flat × Plan) → f.plans ≡ plan ∷ [] → settle_plan l f plan ≡ to → settled l f ≡ tidied to.0 (to.1 ∷ [])
+settles_one : (l : Limits) (f : Flat) (plan : Plan) (to : Flat × Plan) → f.plans ≡ plan ∷ [] → settle_plan l f plan ≡ to
+    → settled l f ≡ tidied to.0 (to.1 ∷ [])
 settles_one l f plan to is e =
     ap (λ plans. tidied (settle_all l f plans).0 (settle_all l f plans).1) is
     ∙ ap (λ (r : Flat × Plan). tidied r.0 (r.1 ∷ [])) e
 
-tidy : (n : ℕ) (look : ℕ → Live) (processes : List Process) (wanted : List Wanted) (plans : List Plan) (plan target : ℕ) (entries tried : List ℕ) (process due : ℕ)
-    → tidied (standing n look processes wanted plans (deadline plan due ∷ []) process (plan + 1) (due + 1)) (plan_with plan target entries tried None ∷ [])
+tidy : (n : ℕ) (look : ℕ → Live) (processes : List Process) (wanted : List Wanted) (plans : List Plan) (plan target : ℕ)
+    (entries tried : List ℕ) (process due : ℕ)
+    → tidied (standing n look processes wanted plans (deadline plan due ∷ []) process (plan + 1) (due + 1))
+    (plan_with plan target entries tried None ∷ [])
     ≡ under_way n look processes wanted plan target entries tried process due
 tidy n look processes wanted plans plan target entries tried process due =
-    ap (λ b. standing n look processes wanted (plan_with plan target entries tried None ∷ []) (cond ((b && true) || false) (deadline plan due ∷ []) []) process (plan + 1) (due + 1)) (eq-eqb plan plan refl)
+    ap (λ b. standing n look processes wanted (plan_with plan target entries tried None ∷ [])
+    (cond ((b && true) || false) (deadline plan due ∷ []) []) process (plan + 1) (due + 1)) (eq-eqb plan plan refl)
 
 -- a plan waits whose front is about to move
-pub waits : (l : Limits) (n : ℕ) (look : ℕ → Live) (processes : List Process) (wanted : List Wanted) (plan target s : ℕ) (rest tried : List ℕ) (process due : ℕ)
+pub waits : (l : Limits) (n : ℕ) (look : ℕ → Live) (processes : List Process) (wanted : List Wanted) (plan target s : ℕ)
+    (rest tried : List ℕ) (process due : ℕ)
     → 0 < s → s ≤ n → (look s).status.state ≡ 2
-    → settled l (under_way n look processes wanted plan target (s ∷ rest) tried process due) ≡ under_way n look processes wanted plan target (s ∷ rest) tried process due
+    → settled l (under_way n look processes wanted plan target (s ∷ rest) tried process due) ≡ under_way n look processes wanted plan target
+    (s ∷ rest) tried process due
 waits l n look processes wanted plan target s rest tried process due some lt state =
     let f = under_way n look processes wanted plan target (s ∷ rest) tried process due in
     let p = plan_with plan target (s ∷ rest) tried None in
     let stands : state_of f s ≡ 2 = ap state_in (found_service look n s some lt) ∙ state in
     let move : move_of l f tried s ≡ moves.Waits =
-    ap (λ v. cond (v == 4) moves.Passes (cond (is_pending v) moves.Waits (move_by (entering_at (cause_of l f (has tried s) s) (is_some f.lock))))) stands in
+    ap (λ v. cond (v == 4) moves.Passes (cond (is_pending v) moves.Waits
+    (move_by (entering_at (cause_of l f (has tried s) s) (is_some f.lock))))) stands in
     let settles : settle_plan l f p ≡ (f, p) = ap (λ m. moved f p s (settle_entries l f (dropped p s rest (move_code m)) rest) m) move in
     settles_one l f p (f, p) refl settles ∙ tidy n look processes wanted (p ∷ []) plan target (s ∷ rest) tried process due
 
 -- a plan that is decided loses its deadline
 pub decides : (l : Limits) (n : ℕ) (look : ℕ → Live) (processes : List Process) (plan target s : ℕ) (rest tried : List ℕ) (process due : ℕ)
-    → settled l (standing n look processes [] (plan_with plan target (s ∷ rest) tried (Some 0) ∷ []) (deadline plan due ∷ []) process (plan + 1) (due + 1))
+    → settled l (standing n look processes [] (plan_with plan target (s ∷ rest) tried (Some 0) ∷ []) (deadline plan due ∷ []) process (plan
+    + 1) (due + 1))
     ≡ decided n look processes plan target (s ∷ rest) tried process due
 decides l n look processes plan target s rest tried process due =
-    ap (λ b. standing n look processes [] (plan_with plan target (s ∷ rest) tried (Some 0) ∷ []) (cond (b || false) (deadline plan due ∷ []) []) process (plan + 1) (due + 1))
+    ap (λ b. standing n look processes [] (plan_with plan target (s ∷ rest) tried (Some 0) ∷ [])
+    (cond (b || false) (deadline plan due ∷ []) []) process (plan + 1) (due + 1))
     (and_right (plan == plan) false refl)
 
 -- ## A service is entered
@@ -118,8 +145,10 @@ no_words false = refl
 abbrev pub HasUp : (look : ℕ → Live) → ℕ → Type 0
 HasUp look t = (t / 2 == 0) ≡ false → (look (t / 2)).status.state ≡ 4
 
-module _ (l : Limits) (n : ℕ) (look : ℕ → Live) (processes : List Process) (held : List Plan) (plan target t : ℕ) (rest tried : List ℕ) (process due : ℕ)
-    (small : n < 2 ^ 64) (some : 0 < t) (lt : t ≤ n) (still : IsAtRest (look t)) (up : HasUp look t) (untried : has tried t ≡ false) (space : length processes < l.processes) where
+module _ (l : Limits) (n : ℕ) (look : ℕ → Live) (processes : List Process) (held : List Plan) (plan target t : ℕ) (rest tried : List ℕ)
+    (process due : ℕ)
+    (small : n < 2 ^ 64) (some : 0 < t) (lt : t ≤ n) (still : IsAtRest (look t)) (up : HasUp look t) (untried : has tried t ≡ false)
+    (space : length processes < l.processes) where
   abbrev before : Flat
   before = standing n look processes [] held (deadline plan due ∷ []) process (plan + 1) (due + 1)
 
@@ -127,24 +156,29 @@ module _ (l : Limits) (n : ℕ) (look : ℕ → Live) (processes : List Process)
   at_front = plan_with plan target (t ∷ rest) tried None
 
   ready : is_ready before (row_at t (look t)) ≡ true
-  ready = elim (t / 2 == 0) as (λ b. (t / 2 == 0) ≡ b → list_all (is_fulfilled before) (cond b [] (needs.Service (nth_name (t / 2)) ∷ [])) ≡ true) [
-    | true ↦ λ e. refl
-    | false ↦ λ e.
-        let there = found_named look n (t / 2) small (positive (t / 2) (eqb-false (t / 2) 0 e)) (half_within t n lt) in
-        ap (λ o. is_up o && true) there ∙ ap (λ v. (v == 4) && true) (up e)
-  ] refl
+  ready = elim (t / 2 == 0) as (λ b. (t / 2 == 0) ≡ b → list_all (is_fulfilled before)
+      (cond b [] (needs.Service (nth_name (t / 2)) ∷ [])) ≡ true) [
+        | true ↦ λ e. refl
+        | false ↦ λ e.
+            let there = found_named look n (t / 2) small (positive (t / 2) (eqb-false (t / 2) 0 e)) (half_within t n lt) in
+            ap (λ o. is_up o && true) there ∙ ap (λ v. (v == 4) && true) (up e)
+      ] refl
 
   cause : cause_of l before (has tried t) t ≡ 0
   cause =
       ap (cause_at l before (has tried t)) (found_service look n t some lt)
-      ∙ ap (λ b. first_refusal ((false, 1072) ∷ (false, 1058) ∷ (not b || not ((look t).status.state == 1) || has tried t, 1068) ∷ (is_full l before, 1054) ∷ [])) ready
-      ∙ ap (λ v. first_refusal ((false, 1072) ∷ (false, 1058) ∷ (not (v == 1) || has tried t, 1068) ∷ (is_full l before, 1054) ∷ [])) still.state
+      ∙ ap (λ b. first_refusal ((false, 1072) ∷ (false, 1058) ∷ (not b || not ((look t).status.state == 1) || has tried t, 1068) ∷
+      (is_full l before, 1054) ∷ [])) ready
+      ∙ ap (λ v. first_refusal ((false, 1072) ∷ (false, 1058) ∷ (not (v == 1) || has tried t, 1068) ∷ (is_full l before, 1054) ∷ []))
+      still.state
       ∙ ap (λ b. first_refusal ((false, 1072) ∷ (false, 1058) ∷ (b, 1068) ∷ (is_full l before, 1054) ∷ [])) untried
-      ∙ ap (λ b. first_refusal ((false, 1072) ∷ (false, 1058) ∷ (false, 1068) ∷ (b, 1054) ∷ [])) (lt-leb l.processes (length processes) space)
+      ∙ ap (λ b. first_refusal ((false, 1072) ∷ (false, 1058) ∷ (false, 1068) ∷ (b, 1054) ∷ []))
+      (lt-leb l.processes (length processes) space)
 
   move : move_of l before tried t ≡ moves.Enters
   move =
-      ap (λ v. cond (v == 4) moves.Passes (cond (is_pending v) moves.Waits (move_by (entering_at (cause_of l before (has tried t) t) false)))) (ap state_in (found_service look n t some lt) ∙ still.state)
+      ap (λ v. cond (v == 4) moves.Passes (cond (is_pending v) moves.Waits
+      (move_by (entering_at (cause_of l before (has tried t) t) false)))) (ap state_in (found_service look n t some lt) ∙ still.state)
       ∙ ap (λ c. move_by (entering_at c false)) cause
 
   starts_row : Each (λ k. started_if t process (row_at k (look k)) ≡ row_at k (at_one look t (pending process) k)) n
@@ -157,19 +191,36 @@ module _ (l : Limits) (n : ℕ) (look : ℕ → Live) (processes : List Process)
             let kind : (look k).status.kind ≡ 0x10 = subst (λ m. (look m).status.kind ≡ 0x10) (sym same) still.kind in
             ap (λ b. cond (b && (look k).status.state == 1) (starting_in process row) row) e
             ∙ ap (λ v. cond (v == 1) (starting_in process row) row) state
-            ∙ ap (λ v. row_at k (record { status = record { kind = v; state = 2; accepted = 0; win32 = 0; specific = 0; checkpoint = 0; hint = 0 }; process = process })) kind
+            ∙ ap (λ v. row_at k (record {
+              status = record {
+                kind = v;
+                state = 2;
+                accepted = 0;
+                win32 = 0;
+                specific = 0;
+                checkpoint = 0;
+                hint = 0;
+              };
+              process = process;
+            })) kind
         | false ↦ λ e. ap (λ b. cond (b && (look k).status.state == 1) (starting_in process (row_at k (look k))) (row_at k (look k))) e
       ] refl
 
   abbrev after : Flat
   after =
-      standing n (at_one look t (pending process)) (processes ++ wanted_process process t ∷ []) (wanted_row process [] ∷ []) held (deadline plan due ∷ []) (process + 1) (plan + 1) (due + 1)
+      standing n (at_one look t (pending process)) (processes ++ wanted_process process t ∷ []) (wanted_row process [] ∷ []) held
+      (deadline plan due ∷ []) (process + 1) (plan + 1) (due + 1)
 
   entered : with_entered before t (words_for at_front t) ≡ after
   entered =
-      ap (λ heard. record after { services = map (started_if t process) (rows look n); registrations = heard; wanted = wanted_row process (cond (target == t) [] []) ∷ [] }) (start_untold t process (service_of before t))
+      ap (λ heard. record after {
+        services = map (started_if t process) (rows look n);
+        registrations = heard;
+        wanted = wanted_row process (cond (target == t) [] []) ∷ [];
+      }) (start_untold t process (service_of before t))
       ∙ ap (λ all. record after { services = all; wanted = wanted_row process (cond (target == t) [] []) ∷ [] })
-      (map_built (started_if t process) [] (λ k. row_at k (look k)) [] (λ k. row_at k (at_one look t (pending process) k)) n refl starts_row)
+      (map_built (started_if t process) [] (λ k. row_at k (look k)) [] (λ k. row_at k (at_one look t (pending process) k)) n refl
+      starts_row)
       ∙ ap (λ words. record after { wanted = wanted_row process words ∷ [] }) (no_words (target == t))
 
   abbrev now_tried : Plan
@@ -182,28 +233,35 @@ module _ (l : Limits) (n : ℕ) (look : ℕ → Live) (processes : List Process)
       ∙ ap (λ words. (after, record now_tried { words = words })) (no_words (target == t))
 
 -- the first service of a start is entered
-pub enters_first : (l : Limits) (n : ℕ) (look : ℕ → Live) (processes : List Process) (plan target t : ℕ) (rest tried : List ℕ) (process due : ℕ)
+pub enters_first : (l : Limits) (n : ℕ) (look : ℕ → Live) (processes : List Process) (plan target t : ℕ) (rest tried : List ℕ)
+    (process due : ℕ)
     → n < 2 ^ 64 → 0 < t → t ≤ n → IsAtRest (look t) → HasUp look t → has tried t ≡ false → length processes < l.processes
     → settled l (under_way n look processes [] plan target (t ∷ rest) tried process due)
-    ≡ under_way n (at_one look t (pending process)) (processes ++ wanted_process process t ∷ []) (wanted_row process [] ∷ []) plan target (t ∷ rest) (tried ++ t ∷ []) (process + 1) due
+    ≡ under_way n (at_one look t (pending process)) (processes ++ wanted_process process t ∷ []) (wanted_row process [] ∷ []) plan target
+    (t ∷ rest) (tried ++ t ∷ []) (process + 1) due
 enters_first l n look processes plan target t rest tried process due small some lt still up untried space =
     let held = plan_with plan target (t ∷ rest) tried None ∷ [] in
-    settles_one l (under_way n look processes [] plan target (t ∷ rest) tried process due) (plan_with plan target (t ∷ rest) tried None) _ refl
+    settles_one l (under_way n look processes [] plan target (t ∷ rest) tried process due)
+    (plan_with plan target (t ∷ rest) tried None) _ refl
     (enters l n look processes held plan target t rest tried process due small some lt still up untried space)
-    ∙ tidy n (at_one look t (pending process)) (processes ++ wanted_process process t ∷ []) (wanted_row process [] ∷ []) held plan target (t ∷ rest) (tried ++ t ∷ []) (process + 1) due
+    ∙ tidy n (at_one look t (pending process)) (processes ++ wanted_process process t ∷ []) (wanted_row process [] ∷ []) held plan target
+    (t ∷ rest) (tried ++ t ∷ []) (process + 1) due
 
 -- the next one is, once the one before it runs
-pub enters_next : (l : Limits) (n : ℕ) (look : ℕ → Live) (processes : List Process) (plan target s t : ℕ) (rest tried : List ℕ) (process due : ℕ)
+pub enters_next : (l : Limits) (n : ℕ) (look : ℕ → Live) (processes : List Process) (plan target s t : ℕ) (rest tried : List ℕ)
+    (process due : ℕ)
     → n < 2 ^ 64 → 0 < s → s ≤ n → (look s).status.state ≡ 4 → (target == s) ≡ false
     → 0 < t → t ≤ n → IsAtRest (look t) → HasUp look t → has tried t ≡ false → length processes < l.processes
     → settled l (under_way n look processes [] plan target (s ∷ t ∷ rest) tried process due)
-    ≡ under_way n (at_one look t (pending process)) (processes ++ wanted_process process t ∷ []) (wanted_row process [] ∷ []) plan target (t ∷ rest) (tried ++ t ∷ []) (process + 1) due
+    ≡ under_way n (at_one look t (pending process)) (processes ++ wanted_process process t ∷ []) (wanted_row process [] ∷ []) plan target
+    (t ∷ rest) (tried ++ t ∷ []) (process + 1) due
 enters_next l n look processes plan target s t rest tried process due small some lt running passed first within still up untried space =
     let p = plan_with plan target (s ∷ t ∷ rest) tried None in
     let f = under_way n look processes [] plan target (s ∷ t ∷ rest) tried process due in
     let stands : state_of f s ≡ 4 = ap state_in (found_service look n s some lt) ∙ running in
     let move : move_of l f tried s ≡ moves.Passes =
-    ap (λ v. cond (v == 4) moves.Passes (cond (is_pending v) moves.Waits (move_by (entering_at (cause_of l f (has tried s) s) (is_some f.lock))))) stands in
+    ap (λ v. cond (v == 4) moves.Passes (cond (is_pending v) moves.Waits
+    (move_by (entering_at (cause_of l f (has tried s) s) (is_some f.lock))))) stands in
     let passes : settle_plan l f p ≡ settle_entries l f (dropped p s (t ∷ rest) 0) (t ∷ rest) =
     ap (λ m. moved f p s (settle_entries l f (dropped p s (t ∷ rest) (move_code m)) (t ∷ rest)) m) move in
     let drops : dropped p s (t ∷ rest) 0 ≡ plan_with plan target (t ∷ rest) tried None =
@@ -211,4 +269,5 @@ enters_next l n look processes plan target s t rest tried process due small some
     settles_one l f p _ refl
     (passes ∙ ap (λ (q : Plan). settle_entries l f q (t ∷ rest)) drops
     ∙ enters l n look processes (p ∷ []) plan target t rest tried process due small first within still up untried space)
-    ∙ tidy n (at_one look t (pending process)) (processes ++ wanted_process process t ∷ []) (wanted_row process [] ∷ []) (p ∷ []) plan target (t ∷ rest) (tried ++ t ∷ []) (process + 1) due
+    ∙ tidy n (at_one look t (pending process)) (processes ++ wanted_process process t ∷ []) (wanted_row process [] ∷ [])
+    (p ∷ []) plan target (t ∷ rest) (tried ++ t ∷ []) (process + 1) due

@@ -23,7 +23,15 @@ pub record Live : Type 0 where
   pub process : ℕ
 
 abbrev pub row_at : ℕ → Live → Service
-row_at i live = record { number = i; config = config_at i; status = live.status; marked = false; process = live.process; failures = 0; last_failure = 0 }
+row_at i live = record {
+  number = i;
+  config = config_at i;
+  status = live.status;
+  marked = false;
+  process = live.process;
+  failures = 0;
+  last_failure = 0;
+}
 
 abbrev pub rows : (ℕ → Live) → ℕ → List Service
 rows look n = built [] (λ k. row_at k (look k)) n
@@ -39,12 +47,22 @@ abbrev pub handles_to : ℕ → List HandleRow
 handles_to n = built (first_handle ∷ []) handle_at n
 
 abbrev pub numbers_at : (n process plan due : ℕ) → Next
-numbers_at n process plan due = record { service = n + 1; handle = n + 1 + 1; process = process; plan = plan; registration = 1; due = due; caller = 2 }
+numbers_at n process plan due = record {
+  service = n + 1;
+  handle = n + 1
+      + 1;
+  process = process;
+  plan = plan;
+  registration = 1;
+  due = due;
+  caller = 2;
+}
 
 abbrev pub only_caller : Caller
 only_caller = record { number = 1; principal = Admin }
 
-abbrev pub standing : (n : ℕ) (look : ℕ → Live) (processes : List Process) (wanted : List Wanted) (plans : List Plan) (dues : List Due) (process plan due : ℕ) → Flat
+abbrev pub standing : (n : ℕ) (look : ℕ → Live) (processes : List Process) (wanted : List Wanted) (plans : List Plan) (dues : List Due)
+    (process plan due : ℕ) → Flat
 standing n look processes wanted plans dues process plan due = record {
   services = rows look n;
   handles = handles_to n;

@@ -1,39 +1,44 @@
 -- Where nobody is registered, nobody is told, and what is no failure is not counted.
-use Rattle.std.proofs.Common.{ℕ, ◌≡◌, ◌∙◌, ◌==◌, ◌&&◌, Bool, true, false, not, cond, List, [], ◌∷◌, Option, None, Some, map, ap, sym, refl, subst}
+use Rattle.std.proofs.Common.{ℕ, ◌≡◌, ◌∙◌, ◌==◌, ◌&&◌, Bool, true, false, not, cond, List, [], ◌∷◌, Option, None, Some, map, ap, sym, refl}
+use Rattle.std.proofs.Common.{subst}
 use Rattle.scm_model.specs.Found.{if_found}
-use Rattle.scm_model.specs.Notices.{Event, all_noted, event_of_state, noted, pid_of, told_of_move}
+use Rattle.scm_model.specs.Notices.{Event, all_noted, event_of_state, noted, pid_of, notified_of_move}
 use Rattle.scm_model.specs.declared.codes.TheConstants.{ERROR_PROCESS_ABORTED, SERVICE_STOPPED}
 use Rattle.scm_model.specs.declared.flat.Flat.{Flat}
 use Rattle.scm_model.specs.declared.flat.Process.{Process}
 use Rattle.scm_model.specs.declared.flat.Registration.{Registration}
 use Rattle.scm_model.specs.declared.flat.Service.{Service}
 use Rattle.scm_model.specs.declared.flat.Status.{Status}
-use Rattle.start_plan.specs.Entered.{started_if, told_of_start}
+use Rattle.start_plan.specs.Entered.{started_if, notified_of_start}
 use Rattle.status_machine.specs.Moves.{takes}
 use Rattle.scm_rules.specs.Ends.{with_end}
 use Rattle.scm_rules.specs.Failures.{failed_by, is_failure, with_failure}
-use Rattle.scm_rules.specs.Launches.{current_of, fallen_if, told_of_fall, with_fallen}
-use Rattle.scm_rules.specs.Reports.{reported_if, told_of_report, with_report}
+use Rattle.scm_rules.specs.Launches.{current_of, fallen_if, notified_of_fall, with_fallen}
+use Rattle.scm_rules.specs.Reports.{reported_if, notified_of_report, with_report}
 
 pub events_untold : (events : List Event) → all_noted events [] ≡ []
 events_untold [] = refl
 events_untold (event ∷ events) = events_untold events
 
-move_untold : (pid : ℕ) (old new : Service) → told_of_move pid old new [] ≡ []
+move_untold : (pid : ℕ) (old new : Service) → notified_of_move pid old new [] ≡ []
 move_untold pid old new =
-    elim (old.status.state == new.status.state) as (λ (b : Bool). cond b [] (noted (event_of_state pid new) []) ≡ []) [ true ↦ refl | false ↦ refl ]
+    elim (old.status.state == new.status.state) as (λ (b : Bool). cond b [] (noted (event_of_state pid new) []) ≡ []) [
+      | true ↦ refl
+      | false ↦ refl
+    ]
 
-pub start_untold : (number process : ℕ) (found : Option Service) → told_of_start number process found [] ≡ []
+pub start_untold : (number process : ℕ) (found : Option Service) → notified_of_start number process found [] ≡ []
 start_untold number process None = refl
 start_untold number process (Some row) = move_untold 0 row (started_if number process row)
 
-fall_untold : (process code : ℕ) (found : Option Service) → told_of_fall process code found [] ≡ []
+fall_untold : (process code : ℕ) (found : Option Service) → notified_of_fall process code found [] ≡ []
 fall_untold process code None = refl
 fall_untold process code (Some row) = move_untold 0 row (fallen_if process code row)
 
-report_untold : (processes : List Process) (report : Status) (found : Option Service) → told_of_report processes report found [] ≡ []
+report_untold : (processes : List Process) (report : Status) (found : Option Service) → notified_of_report processes report found [] ≡ []
 report_untold processes report None = refl
-report_untold processes report (Some row) = move_untold (pid_of processes (reported_if row.process report row)) row (reported_if row.process report row)
+report_untold processes report (Some row) = move_untold (pid_of processes (reported_if row.process report row)) row
+    (reported_if row.process report row)
 
 -- ## Failures
 
@@ -54,25 +59,33 @@ none_fails report (Some row) none = ap (λ (b : Bool). cond b (Some row) None) (
 -- ## What changes
 
 -- a report without an error changes the services alone
-pub report_alone : (f : Flat) (process : ℕ) (report : Status) (services : List Service) → report.win32 ≡ 0 → f.registrations ≡ [] → map (reported_if process report) f.services ≡ services
+pub report_alone : (f : Flat) (process : ℕ) (report : Status) (services : List Service) → report.win32 ≡ 0 → f.registrations ≡ []
+    → map (reported_if process report) f.services ≡ services
     → with_report f process report ≡ record f { services = services }
 report_alone f process report services right none changes =
-    let same : told_of_report f.processes report (current_of f process) f.registrations ≡ f.registrations =
-    subst (λ (rows : List Registration). told_of_report f.processes report (current_of f process) rows ≡ rows) (sym none) (report_untold f.processes report (current_of f process)) in
-    let moved : Flat = record f { services = map (reported_if process report) f.services; registrations = told_of_report f.processes report (current_of f process) f.registrations } in
+    let same : notified_of_report f.processes report (current_of f process) f.registrations ≡ f.registrations =
+    subst (λ (rows : List Registration). notified_of_report f.processes report (current_of f process) rows ≡ rows) (sym none)
+    (report_untold f.processes report (current_of f process)) in
+    let moved : Flat = record f {
+      services = map (reported_if process report) f.services;
+      registrations = notified_of_report f.processes report (current_of f process) f.registrations;
+    } in
     ap (λ (found : Option Service). if_found with_failure found moved) (none_fails report (current_of f process) right)
     ∙ ap (λ (rows : List Registration). record f { services = map (reported_if process report) f.services; registrations = rows }) same
     ∙ ap (λ (all : List Service). record f { services = all }) changes
 
-fall_alone : (f : Flat) (process code : ℕ) (services : List Service) → f.registrations ≡ [] → map (fallen_if process code) f.services ≡ services → with_fallen f process code ≡ record f { services = services }
+fall_alone : (f : Flat) (process code : ℕ) (services : List Service) → f.registrations ≡ []
+    → map (fallen_if process code) f.services ≡ services → with_fallen f process code ≡ record f { services = services }
 fall_alone f process code services none changes =
-    let same : told_of_fall process code (current_of f process) f.registrations ≡ f.registrations =
-    subst (λ (rows : List Registration). told_of_fall process code (current_of f process) rows ≡ rows) (sym none) (fall_untold process code (current_of f process)) in
+    let same : notified_of_fall process code (current_of f process) f.registrations ≡ f.registrations =
+    subst (λ (rows : List Registration). notified_of_fall process code (current_of f process) rows ≡ rows) (sym none)
+    (fall_untold process code (current_of f process)) in
     ap (λ (rows : List Registration). record f { services = map (fallen_if process code) f.services; registrations = rows }) same
     ∙ ap (λ (all : List Service). record f { services = all }) changes
 
 -- so does an end of a process that is no service's current one
-pub end_alone : (f : Flat) (process : ℕ) (services : List Service) → f.registrations ≡ [] → current_of f process ≡ None → map (fallen_if process ERROR_PROCESS_ABORTED) f.services ≡ services
+pub end_alone : (f : Flat) (process : ℕ) (services : List Service) → f.registrations ≡ [] → current_of f process ≡ None
+    → map (fallen_if process ERROR_PROCESS_ABORTED) f.services ≡ services
     → with_end f process ≡ record f { services = services }
 end_alone f process services none stale changes =
     ap (λ (found : Option Service). if_found with_failure found (with_fallen f process ERROR_PROCESS_ABORTED)) stale

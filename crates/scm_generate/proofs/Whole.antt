@@ -1,5 +1,6 @@
 -- The whole list.
-use Rattle.std.proofs.Common.{ℕ, zero, suc, ◌≡◌, ◌+◌, ◌<◌, ◌≤◌, ◌^◌, ◌||◌, ◌⊎◌, inl, append_assoc, false, cond, List, [], ◌∷◌, ◌++◌, length, ap, sym, refl, subst, arith, ne_eqb, eq-eqb}
+use Rattle.std.proofs.Common.{ℕ, zero, suc, ◌≡◌, ◌+◌, ◌<◌, ◌≤◌, ◌^◌, ◌||◌, ◌⊎◌, inl, append_assoc, false, cond, List, [], ◌∷◌, ◌++◌, length}
+use Rattle.std.proofs.Common.{ap, sym, refl, subst, arith, ne_eqb, eq-eqb}
 use Rattle.std.proofs.lemmas.Int.Digits.{length-digits_of-le}
 use Rattle.scm_model.specs.declared.flat.Flat.{Flat}
 use Rattle.scm_model.specs.declared.flat.Limits.{Limits}
@@ -34,14 +35,16 @@ widens l n wide = record {
 }
 
 -- a start with so many processes, all of which rest again
-module _ (l : Limits) (n : ℕ) (look : ℕ → Live) (i process plan due : ℕ) (small : n < 2 ^ 64) (low : 0 < process) (some : 0 < i) (lt : i ≤ n) (still : (k : ℕ) → IsAtRest (look k))
+module _ (l : Limits) (n : ℕ) (look : ℕ → Live) (i process plan due : ℕ) (small : n < 2 ^ 64) (low : 0 < process) (some : 0 < i)
+    (lt : i ≤ n) (still : (k : ℕ) → IsAtRest (look k))
     (space : depth_of i ≤ l.processes) where
   abbrev rest : Flat
   rest = resting n look process plan due
 
   -- the state in which the first service is being launched
   abbrev wanting : (t : ℕ) (more : List ℕ) (m : ℕ) → Flat
-  wanting t more m = under_way n (at_one look t (pending m)) (wanted_process m t ∷ []) (wanted_row m [] ∷ []) plan i (t ∷ more) (t ∷ []) (m + 1) due
+  wanting t more m = under_way n (at_one look t (pending m)) (wanted_process m t ∷ []) (wanted_row m [] ∷ []) plan i (t ∷ more) (t ∷ []) (m
+      + 1) due
 
   none_yet : process + 0 ≡ process
   none_yet = omega arith
@@ -49,13 +52,17 @@ module _ (l : Limits) (n : ℕ) (look : ℕ → Live) (i process plan due : ℕ)
   begun : (t : ℕ) → Climbing (at_one look t (pending (process + 0))) process t []
   begun t = record {
     here = ap (λ b. cond b (pending (process + 0)) (look t)) (eq-eqb t t refl);
-    others = λ k other. subst (λ b. IsAtRest (cond b (pending (process + 0)) (look k)) ⊎ IsRun process (process + 0) (cond b (pending (process + 0)) (look k))) (sym other) (inl (still k));
-    above = λ k far. subst (λ b. IsAtRest (cond b (pending (process + 0)) (look k))) (sym (ne_eqb k t (λ e. omega (arith, e, far)))) (still k);
+    others = λ k other. subst (λ b. IsAtRest (cond b (pending (process + 0)) (look k))
+        ⊎ IsRun process (process + 0) (cond b (pending (process + 0)) (look k))) (sym other) (inl (still k));
+    above = λ k far. subst (λ b. IsAtRest (cond b (pending (process + 0)) (look k))) (sym (ne_eqb k t (λ e. omega (arith, e, far))))
+        (still k);
   }
 
-  climbed : (t : ℕ) (more : List ℕ) → 0 < t → t ≤ n → Climbs n t more i → suc (length more) ≡ depth_of i → HasClimbed l n process plan i due (depth_of i) (wanting t more process) (ups process (depth_of i))
+  climbed : (t : ℕ) (more : List ℕ) → 0 < t → t ≤ n → Climbs n t more i → suc (length more) ≡ depth_of i
+      → HasClimbed l n process plan i due (depth_of i) (wanting t more process) (ups process (depth_of i))
   climbed t more first within climbs long =
-      let all : HasClimbed l n process plan i due (0 + suc (length more)) (wanting t more (process + 0)) (ups (process + 0) (suc (length more))) =
+      let all : HasClimbed l n process plan i due (0 + suc (length more)) (wanting t more (process + 0))
+      (ups (process + 0) (suc (length more))) =
       climbs_all l n (at_one look t (pending (process + 0))) plan i t more (t ∷ []) [] process due small low first within climbs (begun t)
       (λ k far. ap (λ b. b || false) (ne_eqb k t (λ e. omega (arith, e, far)))) (omega (arith, long, space)) in
       let count : 0 + suc (length more) ≡ depth_of i = omega (arith, long) in
@@ -67,30 +74,37 @@ module _ (l : Limits) (n : ℕ) (look : ℕ → Live) (i process plan due : ℕ)
   fallen : (f : Flat) → Goes l rest (asked_start i ∷ []) f → HasClimbed l n process plan i due (depth_of i) f (ups process (depth_of i))
       → HasFallen l n (process + depth_of i) (plan + 1) (due + 1) rest (start_of i process plan)
   fallen f asked climbed =
-      let run = decided n climbed.look (ran process climbed.done) plan i climbed.entries climbed.tried (process + length climbed.done) due in
+      let run = decided n climbed.look (ran process climbed.done) plan i climbed.entries climbed.tried (process
+      + length climbed.done) due in
       let down = falls_all l n climbed.look process climbed.done (process + length climbed.done) (plan + 1) (due + 1) low climbed.each in
-      let answered = answers l n climbed.look process plan i climbed.done climbed.entries climbed.tried (process + length climbed.done) due in
-      subst (λ c. HasFallen l n (process + c) (plan + 1) (due + 1) rest (asked_start i ∷ (ups process (depth_of i) ++ (at_once (EndStart 1 plan) ∷ downs process c)))) climbed.long
+      let answered = answers l n climbed.look process plan i climbed.done climbed.entries climbed.tried (process
+      + length climbed.done) due in
+      subst (λ c. HasFallen l n (process + c) (plan + 1) (due + 1) rest
+      (asked_start i ∷ (ups process (depth_of i) ++ (at_once (EndStart 1 plan) ∷ downs process c)))) climbed.long
       (record {
         look = down.look;
         still = down.still;
-        goes = goes_both l rest f _ (asked_start i ∷ []) (ups process (depth_of i) ++ (at_once (EndStart 1 plan) ∷ downs process (length climbed.done))) asked
+        goes = goes_both l rest f _ (asked_start i ∷ []) (ups process (depth_of i)
+            ++ (at_once (EndStart 1 plan) ∷ downs process (length climbed.done))) asked
             (goes_both l f run _ (ups process (depth_of i)) (at_once (EndStart 1 plan) ∷ downs process (length climbed.done)) climbed.goes
             (goes_both l run _ _ (at_once (EndStart 1 plan) ∷ []) (downs process (length climbed.done)) answered down.goes));
       })
 
-  started_by : (entries : List ℕ) → start_order rest i ≡ entries → IsLine n i entries → HasFallen l n (process + depth_of i) (plan + 1) (due + 1) rest (start_of i process plan)
+  started_by : (entries : List ℕ) → start_order rest i ≡ entries → IsLine n i entries
+      → HasFallen l n (process + depth_of i) (plan + 1) (due + 1) rest (start_of i process plan)
   started_by [] is line = absurd (let none = line.climbs in omega (arith, none, some))
   started_by (t ∷ more) is line =
       let climbs = line.climbs in
-      fallen (wanting t more process) (asks l n look i process plan due small some lt still t more is climbs.0 climbs.1 climbs.2 (let long = line.long in omega (arith, long, space)))
+      fallen (wanting t more process) (asks l n look i process plan due small some lt still t more is climbs.0 climbs.1 climbs.2
+      (let long = line.long in omega (arith, long, space)))
       (climbed t more climbs.1 climbs.2 climbs.3 line.long)
 
   pub started : HasFallen l n (process + depth_of i) (plan + 1) (due + 1) rest (start_of i process plan)
   started = started_by (start_order rest i) refl (line l n look i process plan due small some lt still)
 
 -- after all starts the caller goes
-pub starts_all : (l : Limits) (n : ℕ) (look : ℕ → Live) (i process plan due : ℕ) → n < 2 ^ 64 → 0 < process → i ≤ n → ((k : ℕ) → IsAtRest (look k)) → ((k : ℕ) → k ≤ n → depth_of k ≤ l.processes)
+pub starts_all : (l : Limits) (n : ℕ) (look : ℕ → Live) (i process plan due : ℕ) → n < 2 ^ 64 → 0 < process → i ≤ n
+    → ((k : ℕ) → IsAtRest (look k)) → ((k : ℕ) → k ≤ n → depth_of k ≤ l.processes)
     → (g : Flat) × Goes l (resting n look process plan due) (starts i process plan ++ (at_once (Gone 1) ∷ [])) g
 starts_all l n look zero process plan due small low lt still space =
     let f = resting n look process plan due in
@@ -101,22 +115,26 @@ starts_all l n look (suc i) process plan due small low lt still space =
     let rest = starts_all l n first.look i next (plan + 1) (due + 1) small (omega (arith, low)) (omega (arith, lt)) first.still space in
     let f = resting n look process plan due in (
       rest.0,
-      subst (λ es. Goes l f es rest.0) (sym (append_assoc (start_of (suc i) process plan) (starts i next (plan + 1)) (at_once (Gone 1) ∷ [])))
+      subst (λ es. Goes l f es rest.0) (sym (append_assoc (start_of (suc i) process plan) (starts i next (plan + 1))
+          (at_once (Gone 1) ∷ [])))
           (goes_both l f _ rest.0 (start_of (suc i) process plan) (starts i next (plan + 1) ++ (at_once (Gone 1) ∷ [])) first.goes rest.1),
     )
 
-pub all_goes : (l : Limits) (n : ℕ) → IsWide l n → ((k : ℕ) → k ≤ n → depth_of k ≤ l.processes) → (g : Flat) × Goes l (opening l [] [] 0) (generated n) g
+pub all_goes : (l : Limits) (n : ℕ) → IsWide l n → ((k : ℕ) → k ≤ n → depth_of k ≤ l.processes) → (g : Flat)
+    × Goes l (opening l [] [] 0) (generated n) g
 unfolding generated
 all_goes l n wide space =
     let w = wide.small in
-    let last = starts_all l n fresh n 1 1 1 (omega (arith, w)) (omega arith) (omega arith) (λ k. record { state = refl; kind = refl; process = refl }) space in
+    let last = starts_all l n fresh n 1 1 1 (omega (arith, w)) (omega arith) (omega arith)
+    (λ k. record { state = refl; kind = refl; process = refl }) space in
     let ends = at_once (Gone 1) ∷ [] in (
       last.0,
       goes_both l (opening l [] [] 0) (created 0) last.0 opening_calls (creations n ++ (starts n 1 1 ++ ends)) (begins l (widens l n wide))
           (goes_both l (created 0) (created n) last.0 (creations n) (starts n 1 1 ++ ends) (creates_all l n wide) last.1),
     )
 
-pub can_be_made : (l : Limits) (n : ℕ) → IsWide l n → ((k : ℕ) → k ≤ n → depth_of k ≤ l.processes) → CanBeMade l (opening l [] [] 0) (generated n)
+pub can_be_made : (l : Limits) (n : ℕ) → IsWide l n → ((k : ℕ) → k ≤ n → depth_of k ≤ l.processes)
+    → CanBeMade l (opening l [] [] 0) (generated n)
 can_be_made l n wide space = let all = (all_goes l n wide space).1 in record { legal = all.legal; quiet = all.quiet }
 
 -- up to 512 have ten digits at most

@@ -1,6 +1,7 @@
 -- The stated list of steps for n services, S1 to Sn, in which Si needs Sj, where j is half of i: all are created, then each is
 -- started with what it needs, runs, and stops again.
-use Rattle.std.specs.Prelude.{ℕ, zero, suc, ◌+◌, ◌/◌, ◌%◌, ◌==◌, List, [], ◌∷◌, ◌++◌, length, Option, None, Some, codes, decimal, if◌then◌else◌}
+use Rattle.std.specs.Prelude.{ℕ, zero, suc, ◌+◌, ◌/◌, ◌%◌, ◌==◌, List, [], ◌∷◌, ◌++◌, length, Option, None, Some, codes, decimal}
+use Rattle.std.specs.Prelude.{if◌then◌else◌}
 use Rattle.std.specs.Int.Digits.{digits_of}
 use Rattle.scm_model.specs.declared.flat.Principal.TheVariants.{Admin}
 use Rattle.scm_model.specs.declared.flat.Status.{Status}

@@ -22,7 +22,13 @@ pub record Progress : Type 0 where
   pub launches : ℕ
 
 abbrev pub progress : Inside → Progress
-progress run = record { flat = run.manager.flat; limits = run.manager.limits; steps = run.steps; text = run.manager.text; launches = run.launches }
+progress run = record {
+  flat = run.manager.flat;
+  limits = run.manager.limits;
+  steps = run.steps;
+  text = run.manager.text;
+  launches = run.launches;
+}
 
 -- the run counts as many steps as its manager
 pub record IsCounted (run : Inside) : Type 0 where
@@ -35,7 +41,14 @@ at_first l = record { flat = opening l [] [] 0; limits = l; steps = 0; text = 0;
 
 -- one entry further
 unfoldable pub after_one : Progress → Entry → Progress
-after_one p e = record { flat = (step_of p.limits p.flat e.0 e.1).flat; limits = p.limits; steps = p.steps + 1; text = p.text + text_of e.1; launches = p.launches + launch_in e.1 }
+after_one p e = record {
+  flat = (step_of p.limits p.flat e.0 e.1).flat;
+  limits = p.limits;
+  steps = p.steps + 1;
+  text = p.text
+      + text_of e.1;
+  launches = p.launches + launch_in e.1;
+}
 
 -- some entries further
 abbrev pub progress_after : Progress → List Entry → Progress

@@ -53,8 +53,8 @@ fn summary_of(alloc: Global, limits: Limits, services: u32) -> Result<Items<u8>,
 }
 
 /// Makes the stated list of steps for so many services over a manager of its own, one step after
-/// another, and prints its summary. Each step may be made in its state (`the_list_is_legal`), so that
-/// none is tested: only what wants memory ends the run before the summary is printed.
+/// another, and prints its summary. Each step may be made in its state (`the_list_is_legal`), so
+/// that none is tested: only what wants memory ends the run before the summary is printed.
 pub fn generate<O: Sink>(alloc: Global, limits: Limits, services: u32, output: &mut O) -> Generated
     requires small { AreSmall limits }
     requires ample { IsAmple limits }

@@ -14,8 +14,9 @@ pub fn law_of_counts(services: u32)
     ensures launches { launches (generated services) ≡ lines_to services }
 {}
 
-/// The law of the list: for up to 512 services it is a legal history from the state without services
-/// on, each of its steps may be made in its state, and no launch is wanted where a start is ended.
+/// The law of the list: for up to 512 services it is a legal history from the state without
+/// services on, each of its steps may be made in its state, and no launch is wanted where a start
+/// is ended.
 pub fn the_list_is_legal(limits: &Limits, services: u32)
     requires limits { IsAmple limits.now }
     requires few { services ≤ 512 }

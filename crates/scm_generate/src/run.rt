@@ -16,8 +16,8 @@ use std::marker::Model;
 /// The moment at which every step takes place, in milliseconds.
 const MOMENT: u64 = 0;
 
-/// A run of steps over a manager of its own, which counts its steps and the launches that it took in
-/// hand.
+/// A run of steps over a manager of its own, which counts its steps and the launches that it took
+/// in hand.
 #[derive(Drop)]
 pub struct Run {
     manager: Manager,

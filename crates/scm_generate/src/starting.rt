@@ -1,5 +1,6 @@
 ghost use Rattle.std.specs.Prelude.{◌≡◌, ◌<◌, ◌≤◌, ◌+◌, ◌^◌, ◌∷◌, [], IfOk, OnOk};
-ghost use Rattle.scm_generate.specs.Listed.{asked_start, down, downs, depth_of, start_of, starts, told, up, ups};
+ghost use Rattle.scm_generate.specs.Listed.{asked_start, down, downs, depth_of, start_of, starts};
+ghost use Rattle.scm_generate.specs.Listed.{told, up, ups};
 ghost use Rattle.scm_generate.specs.Progress.{IsOpenTo, Makes};
 
 use super::creating::CALLER;

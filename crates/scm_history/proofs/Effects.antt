@@ -29,7 +29,8 @@ use Rattle.scm_model.specs.declared.steps.Step.TheVariants.{Joined, Call, Report
 use Rattle.scm_model.specs.declared.codes.TheConstants.{ERROR_PROCESS_ABORTED, SERVICE_CONTROL_STOP}
 
 -- a change of the controls alone leaves all else
-pub controls_apart : (change : Process → Process) → IsOfControls change → (rows : List Process) → map apart_from_controls (map change rows) ≡ map apart_from_controls rows
+pub controls_apart : (change : Process → Process) → IsOfControls change → (rows : List Process)
+    → map apart_from_controls (map change rows) ≡ map apart_from_controls rows
 controls_apart change only rows = map_same change apart_from_controls (λ row. ap apart_from_controls (only row)) rows
 
 -- callers and processes are as they were, apart from controls, with the next numbers of both
@@ -44,35 +45,56 @@ spared f = record { callers = refl; processes = refl; next_caller = refl; next_p
 
 of_done : (l : Limits) (f : Flat) (caller : ℕ) (asked : Request) → Spares f (done_of l f caller asked).flat
 of_done l f caller (request.OpenService handle name access) =
-    opened_keeps (Spares f) f caller name access (spared f) (λ row is. record { callers = refl; processes = refl; next_caller = refl; next_process = refl })
+    opened_keeps (Spares f) f caller name access (spared f) (λ row is. record {
+      callers = refl;
+      processes = refl;
+      next_caller = refl;
+      next_process = refl;
+    })
 of_done l f caller (request.Start handle words) =
-    started_keeps (Spares f) f caller handle words (spared f) (λ row is. record { callers = refl; processes = refl; next_caller = refl; next_process = refl })
+    started_keeps (Spares f) f caller handle words (spared f) (λ row is.
+    record { callers = refl; processes = refl; next_caller = refl; next_process = refl })
 of_done l f caller (request.Control handle control) = record {
   callers = refl;
-  processes = found_keeps (λ (rows : List Process). map apart_from_controls rows ≡ map apart_from_controls f.processes) (λ (row : Service). map (controlled_if l.controls row.process control))
-      (held_service f caller handle) f.processes refl (λ row is. controls_apart (controlled_if l.controls row.process control) (controls_more l.controls row.process control) f.processes);
+  processes = found_keeps (λ (rows : List Process). map apart_from_controls rows ≡ map apart_from_controls f.processes)
+      (λ (row : Service). map (controlled_if l.controls row.process control))
+      (held_service f caller handle) f.processes refl (λ row is. controls_apart (controlled_if l.controls row.process control)
+      (controls_more l.controls row.process control) f.processes);
   next_caller = refl;
   next_process = refl;
 }
 of_done l f caller (request.SetStatus handle status) =
-    failing_apart (Spares f) (failed_by status (held_service f caller handle)) _ (record { callers = refl; processes = refl; next_caller = refl; next_process = refl })
+    failing_apart (Spares f) (failed_by status (held_service f caller handle)) _
+    (record { callers = refl; processes = refl; next_caller = refl; next_process = refl })
 of_done l f caller (request.Notify handle mask) =
-    notify_apart (Spares f) f caller handle mask (λ rows next. record { callers = refl; processes = refl; next_caller = refl; next_process = refl })
+    notify_apart (Spares f) f caller handle mask (λ rows next. record {
+      callers = refl;
+      processes = refl;
+      next_caller = refl;
+      next_process = refl;
+    })
 of_done l f caller asked = record { callers = refl; processes = refl; next_caller = refl; next_process = refl }
 
 -- so it is with each call
 pub of_call : (l : Limits) (f : Flat) (caller : ℕ) (asked : Request) (append : Kept) → Spares f (call_of l f caller asked append).flat
 of_call l f caller asked append =
-    by_verdict (λ r. Spares f r.flat) (verdict l f caller asked append) (told_refused f caller asked (verdict l f caller asked append)) f (done_of l f caller asked)
+    by_verdict (λ r. Spares f r.flat) (verdict l f caller asked append) (told_refused f caller asked (verdict l f caller asked append)) f
+    (done_of l f caller asked)
     (λ e. of_done l f caller asked) (λ e. spared f)
 
 -- and with a raise: starts begin, and controls wait
 pub of_raise : (l : Limits) (f : Flat) (caller : ℕ) (subtype : List ℕ) → Spares f (raised l f caller subtype)
 of_raise l f caller subtype = raised_by (Spares f) l subtype (record {
-  starts = λ g row there can p. record { callers = p.callers; processes = p.processes; next_caller = p.next_caller; next_process = p.next_process };
+  starts = λ g row there can p. record {
+    callers = p.callers;
+    processes = p.processes;
+    next_caller = p.next_caller;
+    next_process = p.next_process;
+  };
   stops = λ g row action there is stops gets p. record {
     callers = p.callers;
-    processes = controls_apart (controlled_if l.controls row.process SERVICE_CONTROL_STOP) (controls_more l.controls row.process SERVICE_CONTROL_STOP) g.processes ∙ p.processes;
+    processes = controls_apart (controlled_if l.controls row.process SERVICE_CONTROL_STOP)
+        (controls_more l.controls row.process SERVICE_CONTROL_STOP) g.processes ∙ p.processes;
     next_caller = p.next_caller;
     next_process = p.next_process;
   };
@@ -91,15 +113,19 @@ pub record HasCallers (f g : Flat) : Type 0 where
   pub rows : g.callers ≡ f.callers
   pub next : g.next.caller ≡ f.next.caller
 
-pub callers_left : (l : Limits) (f : Flat) (moment : ℕ) (step : Step) → moves_callers step ≡ false → HasCallers f (effect_of l (at_moment f moment step) step).flat
+pub callers_left : (l : Limits) (f : Flat) (moment : ℕ) (step : Step) → moves_callers step ≡ false
+    → HasCallers f (effect_of l (at_moment f moment step) step).flat
 callers_left l f moment (Joined principal) e = absurd cc
 callers_left l f moment (Gone caller) e = absurd cc
 callers_left l f moment (Call caller asked append) e =
     let spares = of_call l (with_moment f moment) caller asked append in
     record { rows = spares.callers; next = spares.next_caller }
-callers_left l f moment (Report process status) e = failing_apart (HasCallers f) (failed_by status (current_of f process)) _ (record { rows = refl; next = refl })
+callers_left l f moment (Report process status) e = failing_apart (HasCallers f) (failed_by status (current_of f process)) _
+    (record { rows = refl; next = refl })
 callers_left l f moment (Ended process) e =
-    failing_apart (λ (g : Flat). HasCallers f (without_process g process)) (current_of f process) (with_fallen (with_moment f moment) process ERROR_PROCESS_ABORTED) (record { rows = refl; next = refl })
+    failing_apart (λ (g : Flat). HasCallers f (without_process g process)) (current_of f process)
+    (with_fallen (with_moment f moment) process ERROR_PROCESS_ABORTED) (record { rows = refl; next = refl })
 callers_left l f moment Tick e = ticked_apart (HasCallers f) l (with_moment f moment) (record { rows = refl; next = refl })
-callers_left l f moment (Raised caller subtype) e = raised_apart (HasCallers f) l (with_moment f moment) caller subtype (record { rows = refl; next = refl })
+callers_left l f moment (Raised caller subtype) e = raised_apart (HasCallers f) l (with_moment f moment) caller subtype
+    (record { rows = refl; next = refl })
 callers_left l f moment step e = record { rows = refl; next = refl }

@@ -14,13 +14,15 @@ use Rattle.scm_rules.specs.Verdicts.{change_of}
 use Rattle.scm_model.specs.declared.steps.Step.{Step}
 use Rattle.scm_model.specs.declared.steps.Step.TheVariants.{Call}
 
-kept_behind : (l : Limits) (f : Flat) (front rest : List Entry) → kept_changes l f (front ++ rest) ≡ kept_changes l f front ++ kept_changes l (run_state l f front) rest
+kept_behind : (l : Limits) (f : Flat) (front rest : List Entry) → kept_changes l f (front ++ rest) ≡ kept_changes l f front
+    ++ kept_changes l (run_state l f front) rest
 unfolding kept_changes
 kept_behind l f [] rest = refl
 kept_behind l f (e ∷ front) rest =
     let after = (step_of l f e.0 e.1).flat in
     let one = one_or_none (kept_change l f e.1) in
-    ap (λ (changes : List Change). one ++ changes) (kept_behind l after front rest) ∙ sym (append_assoc one (kept_changes l after front) (kept_changes l (run_state l after front) rest))
+    ap (λ (changes : List Change). one ++ changes) (kept_behind l after front rest)
+    ∙ sym (append_assoc one (kept_changes l after front) (kept_changes l (run_state l after front) rest))
 
 kept_one : (l : Limits) (g : Flat) (e : Entry) → kept_changes l g (e ∷ []) ≡ one_or_none (kept_change l g e.1)
 unfolding kept_changes
@@ -49,5 +51,6 @@ law_of_kept l f = record {
   unasked = not_asked l;
   none = kept_none l f;
   more = λ es e. kept_behind l f es (e ∷ [])
-      ∙ ap (λ (changes : List Change). kept_changes l f es ++ changes) (kept_one l (run_state l f es) e ∙ ap (λ g. one_or_none (kept_change l g e.1)) (sym (state_is l f es)));
+      ∙ ap (λ (changes : List Change). kept_changes l f es ++ changes) (kept_one l (run_state l f es) e
+      ∙ ap (λ g. one_or_none (kept_change l g e.1)) (sym (state_is l f es)));
 }

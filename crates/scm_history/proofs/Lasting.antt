@@ -1,5 +1,6 @@
 -- Facts of plans that each step keeps.
-use Rattle.std.proofs.Common.{ℕ, ◌≡◌, ◌∙◌, ◌<◌, ◌==◌, Bool, true, false, cond, List, [], ◌∷◌, ◌++◌, Option, None, Some, find, map, filter, ap, sym, refl, subst, arith, ne_eqb}
+use Rattle.std.proofs.Common.{ℕ, ◌≡◌, ◌∙◌, ◌<◌, ◌==◌, Bool, true, false, cond, List, [], ◌∷◌, ◌++◌, Option, None, Some, find, map, filter}
+use Rattle.std.proofs.Common.{ap, sym, refl, subst, arith, ne_eqb}
 use Rattle.std.specs.Prelude.{IfSome, Result, Ok, Err, option_map}
 use Rattle.scm_model.specs.declared.flat.DueKind.{DueKind}
 use Rattle.scm_model.specs.declared.flat.DueKind.TheVariants as dues
@@ -15,7 +16,8 @@ use Rattle.scm_model.specs.declared.steps.Answer.{Answer}
 use Rattle.scm_model.specs.declared.steps.Answer.TheVariants as answer
 use Rattle.scm_model.specs.declared.steps.Kept.{Kept}
 use Rattle.scm_model.specs.declared.steps.Step.{Step}
-use Rattle.scm_model.specs.declared.steps.Step.TheVariants.{Call, EndStart, Launched, LaunchFailed, Report, Ended, Tick, Raised, Gone, LaunchTaken, ControlTaken}
+use Rattle.scm_model.specs.declared.steps.Step.TheVariants.{Call, EndStart, Launched, LaunchFailed, Report, Ended, Tick, Raised, Gone}
+use Rattle.scm_model.specs.declared.steps.Step.TheVariants.{LaunchTaken, ControlTaken}
 use Rattle.scm_model.specs.Changes.{with_moment}
 use Rattle.start_plan.specs.Decided.{aims_at, code_of, decided_if, decided_in, is_numbered, without_plan, without_plans_of}
 use Rattle.start_plan.specs.Settle.{settle_all, settle_plan, settled, stays}
@@ -56,29 +58,41 @@ Allows Over Left step = Unit {0}
 
 -- ## Effects
 
-decides : (number : ℕ) (Over Left : ℕ → Type 0) (P : List Plan → Type 0) → Lasts number Over Left P → (test : Plan → Bool) (code : ℕ) (plans : List Plan) → P plans → P (decided_in test code plans)
+decides : (number : ℕ) (Over Left : ℕ → Type 0) (P : List Plan → Type 0) → Lasts number Over Left P
+    → (test : Plan → Bool) (code : ℕ) (plans : List Plan) → P plans → P (decided_in test code plans)
 decides number Over Left P lasts test code plans p = lasts.tidies (map (decided_if test code) plans) (lasts.codes test code plans p)
 
-expires : (number : ℕ) (Over Left : ℕ → Type 0) (P : List Plan → Type 0) → Lasts number Over Left P → (plans : List Plan) (kind : DueKind) → P plans → P (expired plans kind)
+expires : (number : ℕ) (Over Left : ℕ → Type 0) (P : List Plan → Type 0) → Lasts number Over Left P → (plans : List Plan) (kind : DueKind)
+    → P plans → P (expired plans kind)
 expires number Over Left P lasts plans (dues.Deadline plan) p = decides number Over Left P lasts (is_numbered plan) 1053 plans p
 expires number Over Left P lasts plans kind p = p
 
-starts_decided : (number : ℕ) (Over Left : ℕ → Type 0) (P : List Plan → Type 0) → Lasts number Over Left P → (target : Option ℕ) (code : ℕ) (plans : List Plan) → P plans
+starts_decided : (number : ℕ) (Over Left : ℕ → Type 0) (P : List Plan → Type 0) → Lasts number Over Left P
+    → (target : Option ℕ) (code : ℕ) (plans : List Plan) → P plans
     → P (if_found (λ service. decided_in (aims_at service) code) target plans)
 starts_decided number Over Left P lasts target code plans p =
-    found_keeps P (λ service. decided_in (aims_at service) code) target plans p (λ one is. decides number Over Left P lasts (aims_at one) code plans p)
+    found_keeps P (λ service. decided_in (aims_at service) code) target plans p
+    (λ one is. decides number Over Left P lasts (aims_at one) code plans p)
 
-of_done : (number : ℕ) (Over Left : ℕ → Type 0) (P : List Plan → Type 0) → Lasts number Over Left P → (l : Limits) (f : Flat) (caller : ℕ) (asked : Request) → (f.next.plan == number) ≡ false → P f.plans → P (done_of l f caller asked).flat.plans
-of_done number Over Left P lasts l f caller (request.OpenService handle name access) other p = opened_keeps (λ (g : Flat). P g.plans) f caller name access p (λ row is. p)
-of_done number Over Left P lasts l f caller (request.Start handle words) other p = started_keeps (λ (g : Flat). P g.plans) f caller handle words p (λ row is. lasts.begins f.plans _ other p)
-of_done number Over Left P lasts l f caller (request.SetStatus handle status) other p = failing_apart (λ (g : Flat). P g.plans) (failed_by status (held_service f caller handle)) _ p
-of_done number Over Left P lasts l f caller (request.Notify handle mask) other p = notify_apart (λ (g : Flat). P g.plans) f caller handle mask (λ rows next. p)
+of_done : (number : ℕ) (Over Left : ℕ → Type 0) (P : List Plan → Type 0) → Lasts number Over Left P
+    → (l : Limits) (f : Flat) (caller : ℕ) (asked : Request) → (f.next.plan == number) ≡ false → P f.plans
+    → P (done_of l f caller asked).flat.plans
+of_done number Over Left P lasts l f caller (request.OpenService handle name access) other p =
+    opened_keeps (λ (g : Flat). P g.plans) f caller name access p (λ row is. p)
+of_done number Over Left P lasts l f caller (request.Start handle words) other p =
+    started_keeps (λ (g : Flat). P g.plans) f caller handle words p (λ row is. lasts.begins f.plans _ other p)
+of_done number Over Left P lasts l f caller (request.SetStatus handle status) other p =
+    failing_apart (λ (g : Flat). P g.plans) (failed_by status (held_service f caller handle)) _ p
+of_done number Over Left P lasts l f caller (request.Notify handle mask) other p =
+    notify_apart (λ (g : Flat). P g.plans) f caller handle mask (λ rows next. p)
 of_done number Over Left P lasts l f caller asked other p = p
 
-of_call : (number : ℕ) (Over Left : ℕ → Type 0) (P : List Plan → Type 0) → Lasts number Over Left P → (l : Limits) (f : Flat) (caller : ℕ) (asked : Request) (append : Kept) → (f.next.plan == number) ≡ false → P f.plans
+of_call : (number : ℕ) (Over Left : ℕ → Type 0) (P : List Plan → Type 0) → Lasts number Over Left P
+    → (l : Limits) (f : Flat) (caller : ℕ) (asked : Request) (append : Kept) → (f.next.plan == number) ≡ false → P f.plans
     → P (call_of l f caller asked append).flat.plans
 of_call number Over Left P lasts l f caller asked append other p =
-    by_verdict (λ r. P r.flat.plans) (verdict l f caller asked append) (told_refused f caller asked (verdict l f caller asked append)) f (done_of l f caller asked)
+    by_verdict (λ r. P r.flat.plans) (verdict l f caller asked append) (told_refused f caller asked (verdict l f caller asked append)) f
+    (done_of l f caller asked)
     (λ e. of_done number Over Left P lasts l f caller asked other p) (λ e. p)
 
 later : (number next : ℕ) → number < next → (next == number) ≡ false
@@ -89,16 +103,25 @@ abbrev LastsIn : ℕ → (List Plan → Type 0) → Flat → Type 0
 LastsIn number P f = (number < f.next.plan) × P f.plans
 
 -- a start that no caller asks for has another number
-start_lasts : (number : ℕ) (Over Left : ℕ → Type 0) (P : List Plan → Type 0) → Lasts number Over Left P → (g : Flat) (row : Service) → LastsIn number P g → LastsIn number P (with_start 0 [] row g)
-start_lasts number Over Left P lasts g row q = ((let low = q.0 in omega (arith, low)), lasts.begins g.plans _ (later number g.next.plan q.0) q.1)
+start_lasts : (number : ℕ) (Over Left : ℕ → Type 0) (P : List Plan → Type 0) → Lasts number Over Left P → (g : Flat) (row : Service)
+    → LastsIn number P g → LastsIn number P (with_start 0 [] row g)
+start_lasts number Over Left P lasts g row q = (
+  (let low = q.0 in omega (arith, low)),
+  lasts.begins g.plans _ (later number g.next.plan q.0) q.1,
+)
 
-of_effect : (number : ℕ) (Over Left : ℕ → Type 0) (P : List Plan → Type 0) → Lasts number Over Left P → (l : Limits) (f : Flat) (moment : ℕ) (step : Step) → number < f.next.plan → Allows Over Left step → P f.plans
+of_effect : (number : ℕ) (Over Left : ℕ → Type 0) (P : List Plan → Type 0) → Lasts number Over Left P
+    → (l : Limits) (f : Flat) (moment : ℕ) (step : Step) → number < f.next.plan → Allows Over Left step → P f.plans
     → P (effect_of l (at_moment f moment step) step).flat.plans
-of_effect number Over Left P lasts l f moment (Call caller asked append) low allowed p = of_call number Over Left P lasts l (with_moment f moment) caller asked append (later number f.next.plan low) p
+of_effect number Over Left P lasts l f moment (Call caller asked append) low allowed p =
+    of_call number Over Left P lasts l (with_moment f moment) caller asked append (later number f.next.plan low) p
 of_effect number Over Left P lasts l f moment (EndStart caller plan) low allowed p = lasts.ends plan f.plans allowed p
-of_effect number Over Left P lasts l f moment (Launched process pid) low allowed p = starts_decided number Over Left P lasts (service_of_process f process) 0 f.plans p
-of_effect number Over Left P lasts l f moment (LaunchFailed process code) low allowed p = starts_decided number Over Left P lasts (service_of_process f process) code f.plans p
-of_effect number Over Left P lasts l f moment (Report process status) low allowed p = failing_apart (λ (g : Flat). P g.plans) (failed_by status (current_of f process)) _ p
+of_effect number Over Left P lasts l f moment (Launched process pid) low allowed p =
+    starts_decided number Over Left P lasts (service_of_process f process) 0 f.plans p
+of_effect number Over Left P lasts l f moment (LaunchFailed process code) low allowed p =
+    starts_decided number Over Left P lasts (service_of_process f process) code f.plans p
+of_effect number Over Left P lasts l f moment (Report process status) low allowed p =
+    failing_apart (λ (g : Flat). P g.plans) (failed_by status (current_of f process)) _ p
 of_effect number Over Left P lasts l f moment (Ended process) low allowed p =
     failing_apart (λ (g : Flat). P g.plans) (current_of f process) (with_fallen (with_moment f moment) process ERROR_PROCESS_ABORTED) p
 of_effect number Over Left P lasts l f moment Tick low allowed p = (ticked_by (LastsIn number P) l (record {
@@ -108,7 +131,10 @@ of_effect number Over Left P lasts l f moment Tick low allowed p = (ticked_by (L
   reboots = λ g q. q;
 }) (with_moment f moment) (low, p)).1
 of_effect number Over Left P lasts l f moment (Raised caller subtype) low allowed p =
-    (raised_by (LastsIn number P) l subtype (record { starts = λ g row there can q. start_lasts number Over Left P lasts g row q; stops = λ g row action there is stops gets q. q }) (with_moment f moment) caller (low, p)).1
+    (raised_by (LastsIn number P) l subtype (record {
+      starts = λ g row there can q. start_lasts number Over Left P lasts g row q;
+      stops = λ g row action there is stops gets q. q;
+    }) (with_moment f moment) caller (low, p)).1
 of_effect number Over Left P lasts l f moment (Gone caller) low allowed p = lasts.leaves caller f.plans allowed p
 of_effect number Over Left P lasts l f moment step low allowed p = p
 
@@ -143,7 +169,8 @@ control_none P None = tt
 control_none P (Some code) = tt
 
 -- a plan that begins has the next number
-pub begins_next : (l : Limits) (f : Flat) (moment : ℕ) (step : Step) → IfSome (plan_made (effect_of l (at_moment f moment step) step).answer) (λ number. number ≡ f.next.plan)
+pub begins_next : (l : Limits) (f : Flat) (moment : ℕ) (step : Step) → IfSome
+    (plan_made (effect_of l (at_moment f moment step) step).answer) (λ number. number ≡ f.next.plan)
 begins_next l f moment (Call caller asked append) =
     let g = with_moment f moment in
     answers_next (tells_plan asked (verdict l g caller asked append)) f.next.plan (call_of l g caller asked append).reply
@@ -153,11 +180,13 @@ begins_next l f moment LaunchTaken = launch_none (λ number. number ≡ f.next.p
 begins_next l f moment (ControlTaken process) = control_none (λ number. number ≡ f.next.plan) (first_control (controls_of f process))
 begins_next l f moment step = tt
 
-left : (number : ℕ) (Over Left : ℕ → Type 0) (P : List Plan → Type 0) → Lasts number Over Left P → (g : Flat) (plan : ℕ) (code : Option ℕ) → Over plan → P g.plans → P (left_by g plan code).plans
+left : (number : ℕ) (Over Left : ℕ → Type 0) (P : List Plan → Type 0) → Lasts number Over Left P → (g : Flat) (plan : ℕ) (code : Option ℕ)
+    → Over plan → P g.plans → P (left_by g plan code).plans
 left number Over Left P lasts g plan None ended p = p
 left number Over Left P lasts g plan (Some code) ended p = lasts.ends plan g.plans ended p
 
-finishes : (number : ℕ) (Over Left : ℕ → Type 0) (P : List Plan → Type 0) → Lasts number Over Left P → (g : Flat) (told : Answer) → IfSome (plan_made told) Over → P g.plans → P (finished g told).flat.plans
+finishes : (number : ℕ) (Over Left : ℕ → Type 0) (P : List Plan → Type 0) → Lasts number Over Left P → (g : Flat) (told : Answer)
+    → IfSome (plan_made told) Over → P g.plans → P (finished g told).flat.plans
 finishes number Over Left P lasts g (answer.Begun plan) ended p = left number Over Left P lasts g plan (code_of g.plans plan) ended p
 finishes number Over Left P lasts g told ended p = p
 
@@ -167,12 +196,14 @@ next_ended Over next (Some plan) is ended = subst Over (sym is) ended
 
 -- ## Steps
 
-pub of_step : (number : ℕ) (Over Left : ℕ → Type 0) (P : List Plan → Type 0) → Lasts number Over Left P → (l : Limits) (f : Flat) (moment : ℕ) (step : Step) → number < f.next.plan → Over f.next.plan → Allows Over Left step
+pub of_step : (number : ℕ) (Over Left : ℕ → Type 0) (P : List Plan → Type 0) → Lasts number Over Left P
+    → (l : Limits) (f : Flat) (moment : ℕ) (step : Step) → number < f.next.plan → Over f.next.plan → Allows Over Left step
     → P f.plans → P (step_of l f moment step).flat.plans
 of_step number Over Left P lasts l f moment step low last allowed p =
     let done = effect_of l (at_moment f moment step) step in
     let effect = of_effect number Over Left P lasts l f moment step low allowed p in
-    finishes number Over Left P lasts (settled l done.flat) done.answer (next_ended Over f.next.plan (plan_made done.answer) (begins_next l f moment step) last)
+    finishes number Over Left P lasts (settled l done.flat) done.answer
+    (next_ended Over f.next.plan (plan_made done.answer) (begins_next l f moment step) last)
     (lasts.tidies (settle_all l done.flat done.flat.plans).1 (lasts.settles l done.flat done.flat.plans effect))
 
 -- ## What settling leaves of a plan
@@ -192,7 +223,8 @@ keeps_same l plan = record {
 
 settles_one : (l : Limits) (f : Flat) (plan : Plan) → IsSame plan (settle_plan l f plan).1
 settles_one l f plan =
-    (keeps_all l (λ f. Unit {0}) (IsSame plan) (keeps_same l plan) f (plan ∷ []) tt ((record { number = refl; caller = refl; target = refl }), tt)).plans.0
+    (keeps_all l (λ f. Unit {0}) (IsSame plan) (keeps_same l plan) f (plan ∷ []) tt
+    ((record { number = refl; caller = refl; target = refl }), tt)).plans.0
 
 -- the caller and the target of a plan
 abbrev pub sides : Plan → ℕ × ℕ
@@ -201,21 +233,27 @@ sides plan = (plan.caller, plan.target)
 abbrev pub sides_of : List Plan → ℕ → Option (ℕ × ℕ)
 sides_of plans number = option_map sides (find (is_numbered number) plans)
 
-pub settled_sides : (l : Limits) (f : Flat) (plans : List Plan) (number : ℕ) → sides_of (settle_all l f plans).1 number ≡ sides_of plans number
+pub settled_sides : (l : Limits) (f : Flat) (plans : List Plan) (number : ℕ)
+    → sides_of (settle_all l f plans).1 number ≡ sides_of plans number
 settled_sides l f [] number = refl
 settled_sides l f (plan ∷ plans) number =
     let first = settle_plan l f plan in
     let rest = settled_sides l first.0 plans number in
     let same = settles_one l f plan in
     ap (λ n. option_map sides (cond (n == number) (Some first.1) (find (is_numbered number) (settle_all l first.0 plans).1))) same.number
-    ∙ elim (plan.number == number) as (λ b. option_map sides (cond b (Some first.1) (find (is_numbered number) (settle_all l first.0 plans).1)) ≡ option_map sides (cond b (Some plan) (find (is_numbered number) plans))) [
+    ∙ elim (plan.number == number) as (λ b. option_map sides (cond b (Some first.1)
+    (find (is_numbered number) (settle_all l first.0 plans).1)) ≡ option_map sides
+    (cond b (Some plan) (find (is_numbered number) plans))) [
       | true ↦ ap (λ c. Some (c, first.1.target)) same.caller ∙ ap (λ t. Some (plan.caller, t)) same.target
       | false ↦ rest
     ]
 
-pub coded_sides : (test : Plan → Bool) (code : ℕ) (plans : List Plan) (number : ℕ) → sides_of (map (decided_if test code) plans) number ≡ sides_of plans number
+pub coded_sides : (test : Plan → Bool) (code : ℕ) (plans : List Plan) (number : ℕ)
+    → sides_of (map (decided_if test code) plans) number ≡ sides_of plans number
 coded_sides test code [] number = refl
 coded_sides test code (plan ∷ plans) number =
     let rest = coded_sides test code plans number in
-    elim (plan.number == number) as (λ b. option_map sides (cond b (Some (decided_if test code plan)) (find (is_numbered number) (map (decided_if test code) plans))) ≡ option_map sides (cond b (Some plan) (find (is_numbered number) plans)))
+    elim (plan.number == number) as (λ b. option_map sides (cond b (Some (decided_if test code plan))
+    (find (is_numbered number) (map (decided_if test code) plans))) ≡ option_map sides
+    (cond b (Some plan) (find (is_numbered number) plans)))
     [ true ↦ refl | false ↦ rest ]

@@ -1,8 +1,9 @@
 -- Numbers are given once.
-use Rattle.std.proofs.Common.{ℕ, ◌≡◌, ◌∙◌, ◌<◌, ◌≤◌, ◌==◌, Bool, true, false, not, cond, List, Option, None, Some, ap, sym, refl, subst, arith, leb, leb-true, leb-false, eqb-true, unwrap_or, []}
+use Rattle.std.proofs.Common.{ℕ, ◌≡◌, ◌∙◌, ◌<◌, ◌≤◌, ◌==◌, Bool, true, false, not, cond, List, Option, None, Some, ap, sym, refl, subst}
+use Rattle.std.proofs.Common.{arith, leb, leb-true, leb-false, eqb-true, unwrap_or, []}
 use Rattle.std.specs.Prelude.{IfSome, is_some}
 use Rattle.scm_model.specs.declared.flat.Flat.{Flat}
-use Rattle.scm_model.specs.Outcomes.{Done}
+use Rattle.scm_model.specs.Outcomes.{CallResult}
 use Rattle.scm_model.specs.declared.flat.Limits.{Limits}
 use Rattle.scm_model.specs.declared.flat.Plan.{Plan}
 use Rattle.scm_model.specs.declared.calls.Request.{Request}
@@ -11,7 +12,8 @@ use Rattle.scm_model.specs.declared.steps.Answer.{Answer}
 use Rattle.scm_model.specs.declared.steps.Answer.TheVariants as answer
 use Rattle.scm_model.specs.declared.steps.Kept.{Kept}
 use Rattle.scm_model.specs.declared.steps.Step.{Step}
-use Rattle.scm_model.specs.declared.steps.Step.TheVariants.{Joined, Call, EndStart, Report, Ended, Gone, LaunchTaken, ControlTaken, Tick, Raised}
+use Rattle.scm_model.specs.declared.steps.Step.TheVariants.{Joined, Call, EndStart, Report, Ended, Gone, LaunchTaken, ControlTaken, Tick}
+use Rattle.scm_model.specs.declared.steps.Step.TheVariants.{Raised}
 use Rattle.scm_model.specs.Changes.{with_moment}
 use Rattle.start_plan.specs.Decided.{code_of, is_callers, is_numbered, plan_of}
 use Rattle.start_plan.specs.Settle.{settled, stays}
@@ -26,7 +28,8 @@ use Rattle.scm_rules.specs.Named.{caller_made, plan_made}
 use Rattle.scm_history.specs.Numbers.{AreMadeOnce, IsGiven}
 use Rattle.scm_history.proofs.Callers.{next_after, rising, stays_out}
 use Rattle.scm_history.proofs.Finds.{find_push, is_some-map, none_filter}
-use Rattle.scm_history.proofs.Lasting.{Allows, Lasts, coded_sides, end_none, of_step, report_none, settled_sides, sides, control_none, launch_none}
+use Rattle.scm_history.proofs.Lasting.{Allows, Lasts, coded_sides, end_none, of_step, report_none, settled_sides, sides, control_none}
+use Rattle.scm_history.proofs.Lasting.{launch_none}
 use Rattle.scm_history.proofs.Processes.{after_effect, none_effect, process_rises}
 use Rattle.scm_runs.proofs.Frames.{framed}
 use Rattle.scm_model.specs.Found.{if_found}
@@ -47,9 +50,11 @@ IsNone number plans = is_some (plan_of plans number) ≡ false
 
 pub none_last : (number : ℕ) → Lasts number (λ plan. Unit {0}) (λ gone. Unit {0}) (IsNone number)
 none_last number = record {
-  codes = λ test code plans none. sym (is_some-map sides (plan_of _ number)) ∙ ap is_some (coded_sides test code plans number) ∙ is_some-map sides (plan_of plans number) ∙ none;
+  codes = λ test code plans none. sym (is_some-map sides (plan_of _ number)) ∙ ap is_some (coded_sides test code plans number)
+      ∙ is_some-map sides (plan_of plans number) ∙ none;
   tidies = λ plans none. none_filter (is_numbered number) stays plans none;
-  settles = λ l f plans none. sym (is_some-map sides (plan_of _ number)) ∙ ap is_some (settled_sides l f plans number) ∙ is_some-map sides (plan_of plans number) ∙ none;
+  settles = λ l f plans none. sym (is_some-map sides (plan_of _ number)) ∙ ap is_some (settled_sides l f plans number)
+      ∙ is_some-map sides (plan_of plans number) ∙ none;
   begins = λ plans plan other none. ap is_some (find_push (is_numbered number) plans plan other) ∙ none;
   ends = λ one plans other none. none_filter (is_numbered number) (λ (plan : Plan). not (is_numbered one plan)) plans none;
   leaves = λ gone plans other none. none_filter (is_numbered number) (λ (plan : Plan). not (is_callers gone plan)) plans none;
@@ -61,35 +66,54 @@ all_allowed (Gone caller) = tt
 all_allowed step = tt
 
 -- a number that was given and has no plan has none later
-pub stays_none : (l : Limits) (f : Flat) (moment : ℕ) (step : Step) (number : ℕ) → number < f.next.plan → is_some (plan_of f.plans number) ≡ false → is_some (plan_of (step_of l f moment step).flat.plans number) ≡ false
-stays_none l f moment step number low none = of_step number (λ plan. Unit {0}) (λ gone. Unit {0}) (IsNone number) (none_last number) l f moment step low tt (all_allowed step) none
+pub stays_none : (l : Limits) (f : Flat) (moment : ℕ) (step : Step) (number : ℕ) → number < f.next.plan
+    → is_some (plan_of f.plans number) ≡ false → is_some (plan_of (step_of l f moment step).flat.plans number) ≡ false
+stays_none l f moment step number low none = of_step number (λ plan. Unit {0}) (λ gone. Unit {0}) (IsNone number)
+    (none_last number) l f moment step low tt (all_allowed step) none
 
 -- ## The next plan
 
 plan_done : (l : Limits) (f : Flat) (caller : ℕ) (asked : Request) → f.next.plan ≤ (done_of l f caller asked).flat.next.plan
-plan_done l f caller (request.OpenService handle name access) = opened_keeps (λ (g : Flat). f.next.plan ≤ g.next.plan) f caller name access (omega arith) (λ row is. omega arith)
-plan_done l f caller (request.Start handle words) = started_keeps (λ (g : Flat). f.next.plan ≤ g.next.plan) f caller handle words (omega arith) (λ row is. omega arith)
-plan_done l f caller (request.SetStatus handle status) = failing_apart (λ (g : Flat). f.next.plan ≤ g.next.plan) (failed_by status (held_service f caller handle)) _ (omega arith)
-plan_done l f caller (request.Notify handle mask) = notify_apart (λ (g : Flat). f.next.plan ≤ g.next.plan) f caller handle mask (λ rows next. omega arith)
+plan_done l f caller (request.OpenService handle name access) = opened_keeps (λ (g : Flat). f.next.plan ≤ g.next.plan) f caller name access
+    (omega arith) (λ row is. omega arith)
+plan_done l f caller (request.Start handle words) = started_keeps (λ (g : Flat). f.next.plan ≤ g.next.plan) f caller handle words
+    (omega arith) (λ row is. omega arith)
+plan_done l f caller (request.SetStatus handle status) = failing_apart (λ (g : Flat). f.next.plan ≤ g.next.plan)
+    (failed_by status (held_service f caller handle)) _ (omega arith)
+plan_done l f caller (request.Notify handle mask) = notify_apart (λ (g : Flat). f.next.plan ≤ g.next.plan) f caller handle mask
+    (λ rows next. omega arith)
 plan_done l f caller asked = omega arith
 
-plan_call : (l : Limits) (f : Flat) (caller : ℕ) (asked : Request) (append : Kept) → f.next.plan ≤ (call_of l f caller asked append).flat.next.plan
+plan_call : (l : Limits) (f : Flat) (caller : ℕ) (asked : Request) (append : Kept)
+    → f.next.plan ≤ (call_of l f caller asked append).flat.next.plan
 plan_call l f caller asked append =
-    by_verdict (λ r. f.next.plan ≤ r.flat.next.plan) (verdict l f caller asked append) (told_refused f caller asked (verdict l f caller asked append)) f (done_of l f caller asked)
+    by_verdict (λ r. f.next.plan ≤ r.flat.next.plan) (verdict l f caller asked append)
+    (told_refused f caller asked (verdict l f caller asked append)) f (done_of l f caller asked)
     (λ e. plan_done l f caller asked) (λ e. omega arith)
 
 plan_effect : (l : Limits) (f : Flat) (moment : ℕ) (step : Step) → f.next.plan ≤ (effect_of l (at_moment f moment step) step).flat.next.plan
 plan_effect l f moment (Call caller asked append) = plan_call l (with_moment f moment) caller asked append
-plan_effect l f moment (Report process status) = failing_apart (λ (g : Flat). f.next.plan ≤ g.next.plan) (failed_by status (current_of f process)) _ (omega arith)
-plan_effect l f moment (Ended process) = failing_apart (λ (g : Flat). f.next.plan ≤ g.next.plan) (current_of f process) (with_fallen (with_moment f moment) process ERROR_PROCESS_ABORTED) (omega arith)
+plan_effect l f moment (Report process status) = failing_apart (λ (g : Flat). f.next.plan ≤ g.next.plan)
+    (failed_by status (current_of f process)) _ (omega arith)
+plan_effect l f moment (Ended process) = failing_apart (λ (g : Flat). f.next.plan ≤ g.next.plan) (current_of f process)
+    (with_fallen (with_moment f moment) process ERROR_PROCESS_ABORTED) (omega arith)
 plan_effect l f moment Tick =
     ticked_by (λ (g : Flat). f.next.plan ≤ g.next.plan) l
-    (record { spends = λ g row is up. up; starts = λ g row there can up. omega (arith, up); runs = λ g row there can up. up; reboots = λ g up. up }) (with_moment f moment) (omega arith)
+    (record {
+      spends = λ g row is up. up;
+      starts = λ g row there can up. omega (arith, up);
+      runs = λ g row there can up. up;
+      reboots = λ g up. up;
+    }) (with_moment f moment) (omega arith)
 plan_effect l f moment (Raised caller subtype) =
-    raised_by (λ (g : Flat). f.next.plan ≤ g.next.plan) l subtype (record { starts = λ g row there can up. omega (arith, up); stops = λ g row action there is stops gets up. up }) (with_moment f moment) caller (omega arith)
+    raised_by (λ (g : Flat). f.next.plan ≤ g.next.plan) l subtype (record {
+      starts = λ g row there can up. omega (arith, up);
+      stops = λ g row action there is stops gets up. up;
+    }) (with_moment f moment) caller (omega arith)
 plan_effect l f moment step = omega arith
 
-plan_after : (l : Limits) (f : Flat) (moment : ℕ) (step : Step) → (step_of l f moment step).flat.next.plan ≡ (effect_of l (at_moment f moment step) step).flat.next.plan
+plan_after : (l : Limits) (f : Flat) (moment : ℕ) (step : Step) → (step_of l f moment step).flat.next.plan ≡
+    (effect_of l (at_moment f moment step) step).flat.next.plan
 plan_after l f moment step = ap (λ (x : Flat). x.next.plan) (framed l f moment step)
 
 pub plan_rises : (l : Limits) (f : Flat) (moment : ℕ) (step : Step) → f.next.plan ≤ (step_of l f moment step).flat.next.plan
@@ -98,13 +122,18 @@ plan_rises l f moment step = (let same = plan_after l f moment step in let up = 
 -- ## The plan that begins
 
 begun_call : (l : Limits) (f : Flat) (moment caller : ℕ) (asked : Request) (append : Kept)
-    → IfSome (plan_made (effect_of l (with_moment f moment) (Call caller asked append)).answer) (IsGiven f.next.plan (effect_of l (with_moment f moment) (Call caller asked append)).flat.next.plan)
+    → IfSome (plan_made (effect_of l (with_moment f moment) (Call caller asked append)).answer)
+    (IsGiven f.next.plan (effect_of l (with_moment f moment) (Call caller asked append)).flat.next.plan)
 begun_call l f moment caller (request.Start handle words) append =
     let g = with_moment f moment in
     let done = start_done g caller handle words in
-    let refusal : Done = record { reply = told_refused g caller (request.Start handle words) (start_verdict g caller handle words); flat = g } in
+    let refusal : CallResult = record {
+      reply = told_refused g caller (request.Start handle words) (start_verdict g caller handle words);
+      flat = g;
+    } in
     elim (start_verdict g caller handle words == 0) as (λ b. (start_verdict g caller handle words == 0) ≡ b
-    → IfSome (plan_made (cond b (answer.Begun f.next.plan) (answer.Reply (cond b done refusal).reply))) (IsGiven f.next.plan (cond b done refusal).flat.next.plan)) [
+    → IfSome (plan_made (cond b (answer.Begun f.next.plan) (answer.Reply (cond b done refusal).reply)))
+    (IsGiven f.next.plan (cond b done refusal).flat.next.plan)) [
       | true ↦ λ e. record {
         is_next = refl;
         below = (let held = start_held g caller handle words (eqb-true (start_verdict g caller handle words) 0 e) in
@@ -114,11 +143,14 @@ begun_call l f moment caller (request.Start handle words) append =
     ] refl
 begun_call l f moment caller asked append = tt
 
-begun_effect : (l : Limits) (f : Flat) (moment : ℕ) (step : Step) → IfSome (plan_made (effect_of l (at_moment f moment step) step).answer) (IsGiven f.next.plan (effect_of l (at_moment f moment step) step).flat.next.plan)
+begun_effect : (l : Limits) (f : Flat) (moment : ℕ) (step : Step) → IfSome (plan_made (effect_of l (at_moment f moment step) step).answer)
+    (IsGiven f.next.plan (effect_of l (at_moment f moment step) step).flat.next.plan)
 begun_effect l f moment (Call caller asked append) = begun_call l f moment caller asked append
 begun_effect l f moment (Report process status) =
-    report_none (IsGiven f.next.plan (effect_of l (with_moment f moment) (Report process status)).flat.next.plan) (current_of f process) status
-begun_effect l f moment (Ended process) = end_none (IsGiven f.next.plan (effect_of l (with_moment f moment) (Ended process)).flat.next.plan) (current_of f process)
+    report_none (IsGiven f.next.plan (effect_of l (with_moment f moment) (Report process status)).flat.next.plan)
+    (current_of f process) status
+begun_effect l f moment (Ended process) = end_none (IsGiven f.next.plan (effect_of l (with_moment f moment) (Ended process)).flat.next.plan)
+    (current_of f process)
 begun_effect l f moment LaunchTaken = launch_none (IsGiven f.next.plan f.next.plan) (first_wanted f.wanted)
 begun_effect l f moment (ControlTaken process) = control_none (IsGiven f.next.plan f.next.plan) (first_control (controls_of f process))
 begun_effect l f moment step = tt
@@ -132,7 +164,8 @@ finishes : (P : ℕ → Type 0) (g : Flat) (told : Answer) → IfSome (plan_made
 finishes P g (answer.Begun plan) p = answered P plan (code_of g.plans plan) p
 finishes P g told p = p
 
-pub begun : (l : Limits) (f : Flat) (moment : ℕ) (step : Step) → IfSome (plan_made (step_of l f moment step).answer) (IsGiven f.next.plan (step_of l f moment step).flat.next.plan)
+pub begun : (l : Limits) (f : Flat) (moment : ℕ) (step : Step) → IfSome (plan_made (step_of l f moment step).answer)
+    (IsGiven f.next.plan (step_of l f moment step).flat.next.plan)
 begun l f moment step =
     let done = effect_of l (at_moment f moment step) step in
     subst (λ later. IfSome (plan_made (step_of l f moment step).answer) (IsGiven f.next.plan later)) (sym (plan_after l f moment step))
@@ -140,15 +173,19 @@ begun l f moment step =
 
 -- ## The caller that joins
 
-joins : (l : Limits) (f : Flat) (moment : ℕ) (step : Step) → IfSome (caller_made f step) (IsGiven f.next.caller (effect_of l (at_moment f moment step) step).flat.next.caller)
+joins : (l : Limits) (f : Flat) (moment : ℕ) (step : Step) → IfSome (caller_made f step)
+    (IsGiven f.next.caller (effect_of l (at_moment f moment step) step).flat.next.caller)
 joins l f moment (Joined principal) = record { is_next = refl; below = omega arith }
 joins l f moment step = tt
 
-pub joins_after : (l : Limits) (f : Flat) (moment : ℕ) (step : Step) → IfSome (caller_made f step) (IsGiven f.next.caller (step_of l f moment step).flat.next.caller)
-joins_after l f moment step = subst (λ later. IfSome (caller_made f step) (IsGiven f.next.caller later)) (sym (next_after l f moment step)) (joins l f moment step)
+pub joins_after : (l : Limits) (f : Flat) (moment : ℕ) (step : Step) → IfSome (caller_made f step)
+    (IsGiven f.next.caller (step_of l f moment step).flat.next.caller)
+joins_after l f moment step = subst (λ later. IfSome (caller_made f step) (IsGiven f.next.caller later)) (sym (next_after l f moment step))
+    (joins l f moment step)
 
 -- who is there and wasn't has a number that wasn't given
-not_given : (next number : ℕ) (before after : Bool) → (number < next → before ≡ false → after ≡ false) → before ≡ false → after ≡ true → next ≤ number
+not_given : (next number : ℕ) (before after : Bool) → (number < next → before ≡ false → after ≡ false) → before ≡ false → after ≡ true
+    → next ≤ number
 not_given next number before after keeps none there =
     elim (leb next number) as (λ b. leb next number ≡ b → next ≤ number) [
       | true ↦ λ e. leb-true next number e
@@ -163,6 +200,7 @@ gives l f e s ok = record {
   joined = joins_after l f e.0 e.1;
   begun = begun l f e.0 e.1;
   new_caller = λ number none there. not_given f.next.caller number _ _ (λ low. stays_out l f e.0 e.1 number low) none there;
-  new_process = λ number none there. not_given f.next.process number _ _ (λ low before. ap is_some (after_effect l f e.0 e.1 number low) ∙ none_effect l f e.0 e.1 number low before) none there;
+  new_process = λ number none there. not_given f.next.process number _ _ (λ low before. ap is_some (after_effect l f e.0 e.1 number low)
+      ∙ none_effect l f e.0 e.1 number low before) none there;
   new_plan = λ number none there. not_given f.next.plan number _ _ (λ low. stays_none l f e.0 e.1 number low) none there;
 }

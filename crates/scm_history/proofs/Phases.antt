@@ -10,7 +10,8 @@ use Rattle.scm_model.specs.declared.flat.Process.{Process}
 use Rattle.scm_model.specs.declared.flat.Status.{Status}
 use Rattle.scm_model.specs.declared.steps.Step.{Step}
 use Rattle.scm_model.specs.declared.steps.Step.TheVariants.{LaunchTaken, Launched, LaunchFailed, Report, Ended}
-use Rattle.scm_rules.specs.Launches.{current_of, is_launched, is_running_phase, is_taken, is_taken_phase, launched_if, process_of, with_fallen, without_process}
+use Rattle.scm_rules.specs.Launches.{current_of, is_launched, is_running_phase, is_taken, is_taken_phase, launched_if, process_of}
+use Rattle.scm_rules.specs.Launches.{with_fallen, without_process}
 use Rattle.scm_rules.specs.Steps.{may, step_of}
 use Rattle.scm_runs.proofs.Along.{Gives}
 use Rattle.scm_runs.proofs.Lists.{found_passes}
@@ -61,20 +62,25 @@ launched_pid : (process pid : ℕ) (rows : List Process) (found : Option Process
 launched_pid process pid rows None e h = absurd cc
 launched_pid process pid rows (Some row) e h = rw (found_passes (has process) row rows e) refl
 
-of_launched : (l : Limits) (f : Flat) (moment process pid : ℕ) → Sound f → is_taken (process_of f process) ≡ true → RunsAs (step_of l f moment (Launched process pid)).flat process pid
+of_launched : (l : Limits) (f : Flat) (moment process pid : ℕ) → Sound f → is_taken (process_of f process) ≡ true
+    → RunsAs (step_of l f moment (Launched process pid)).flat process pid
 of_launched l f moment process pid s taken =
     let low = listed_below f process s (taken_listed (process_of f process) taken) in
-    let same : process_of (step_of l f moment (Launched process pid)).flat process ≡ option_map (launched_if process pid) (process_of f process) =
+    let same : process_of (step_of l f moment (Launched process pid)).flat process ≡ option_map (launched_if process pid)
+    (process_of f process) =
     after_effect l f moment (Launched process pid) process low
-    ∙ found_map (has process) (launched_if process pid) (λ row. ap (λ n. n == process) ((launches process pid).number_same row)) f.processes in
+    ∙ found_map (has process) (launched_if process pid) (λ row. ap (λ n. n == process) ((launches process pid).number_same row)) f.processes
+    in
     record {
-      phase = ap (option_map (λ (row : Process). row.phase)) same ∙ launched_phase process pid f.processes (process_of f process) refl taken;
+      phase = ap (option_map (λ (row : Process). row.phase)) same ∙ launched_phase process pid f.processes
+          (process_of f process) refl taken;
       by = ap (option_map (λ (row : Process). row.pid)) same ∙ launched_pid process pid f.processes (process_of f process) refl taken;
     }
 
 -- ## Steps
 
-of_report : (l : Limits) (f : Flat) (moment process : ℕ) (report : Status) → Sound f → is_launched (process_of f process) ≡ true → RunsOn f (step_of l f moment (Report process report)).flat process
+of_report : (l : Limits) (f : Flat) (moment process : ℕ) (report : Status) → Sound f → is_launched (process_of f process) ≡ true
+    → RunsOn f (step_of l f moment (Report process report)).flat process
 of_report l f moment process report s running =
     let low = listed_below f process s (runs_listed (process_of f process) running) in
     let same : process_of (step_of l f moment (Report process report)).flat process ≡ process_of f process =
@@ -82,17 +88,20 @@ of_report l f moment process report s running =
     ∙ failing_apart (λ (g : Flat). process_of g process ≡ process_of f process) (failed_by report (current_of f process)) _ refl in
     record { phase = ap (option_map (λ (row : Process). row.phase)) same ∙ runs (process_of f process) running; same = same }
 
-of_step : (l : Limits) (f : Flat) (moment : ℕ) (step : Step) → Sound f → IsTrue (may l f moment step) → LeavesSo f step (step_of l f moment step).flat
+of_step : (l : Limits) (f : Flat) (moment : ℕ) (step : Step) → Sound f → IsTrue (may l f moment step)
+    → LeavesSo f step (step_of l f moment step).flat
 of_step l f moment LaunchTaken s ok =
     let first = first_of f.wanted (and_parts _ _ ok).0 in
     subst (IsInHand (step_of l f moment LaunchTaken).flat) (sym first.is) (in_hand _ (taken_is_listed l f moment first.number s first.is))
 of_step l f moment (Launched process pid) s ok = of_launched l f moment process pid s (and_parts _ _ ok).0
 of_step l f moment (Report process status) s ok = of_report l f moment process status s (and_parts _ _ ok).0
 of_step l f moment (LaunchFailed process code) s ok =
-    after_effect l f moment (LaunchFailed process code) process (listed_below f process s (taken_listed (process_of f process) (and_parts _ _ (and_parts _ _ ok).0).0)) ∙ none_left process f.processes
+    after_effect l f moment (LaunchFailed process code) process (listed_below f process s
+    (taken_listed (process_of f process) (and_parts _ _ (and_parts _ _ ok).0).0)) ∙ none_left process f.processes
 of_step l f moment (Ended process) s ok =
     after_effect l f moment (Ended process) process (listed_below f process s (runs_listed (process_of f process) (and_parts _ _ ok).0))
-    ∙ failing_apart (λ (g : Flat). process_of (without_process g process) process ≡ None) (current_of f process) (with_fallen (with_moment f moment) process ERROR_PROCESS_ABORTED) (none_left process f.processes)
+    ∙ failing_apart (λ (g : Flat). process_of (without_process g process) process ≡ None) (current_of f process)
+    (with_fallen (with_moment f moment) process ERROR_PROCESS_ABORTED) (none_left process f.processes)
 of_step l f moment step s ok = tt
 
 pub gives : (l : Limits) → Gives Sound LawOfPhases l

@@ -1,18 +1,20 @@
 -- Each process keeps its place in the list.
-use Rattle.std.proofs.Common.{ℕ, ◌≡◌, ◌∙◌, ◌≤◌, ◌==◌, ◌||◌, Bool, true, false, not, cond, List, [], ◌∷◌, ◌++◌, filter, map, ap, sym, refl, arith, ◌+◌}
+use Rattle.std.proofs.Common.{ℕ, ◌≡◌, ◌∙◌, ◌≤◌, ◌==◌, ◌||◌, Bool, true, false, not, cond, List, [], ◌∷◌, ◌++◌, filter, map, ap, sym, refl}
+use Rattle.std.proofs.Common.{arith, ◌+◌}
 use Rattle.std.specs.Prelude.{All}
 use Rattle.std.proofs.lemmas.List.Elements.{All-nil, All-push}
 use Rattle.scm_model.specs.declared.flat.Flat.{Flat}
 use Rattle.scm_model.specs.declared.flat.Limits.{Limits}
 use Rattle.scm_model.specs.declared.flat.Process.{Process}
 use Rattle.scm_model.specs.declared.steps.Step.{Step}
-use Rattle.scm_model.specs.declared.steps.Step.TheVariants.{Call, LaunchTaken, Launched, LaunchFailed, Report, Ended, ControlTaken, Tick, Raised}
+use Rattle.scm_model.specs.declared.steps.Step.TheVariants.{Call, LaunchTaken, Launched, LaunchFailed, Report, Ended, ControlTaken, Tick}
+use Rattle.scm_model.specs.declared.steps.Step.TheVariants.{Raised}
 use Rattle.scm_model.specs.Changes.{with_moment}
 use Rattle.start_plan.specs.Entered.{wanted_process}
 use Rattle.start_plan.specs.Settle.{settled}
 use Rattle.start_plan.proofs.Enterings.{all_units}
 use Rattle.start_plan.proofs.Keeps.{Keeps, keeps_all}
-use Rattle.scm_rules.specs.Controls.{relieved_if}
+use Rattle.scm_rules.specs.Controls.{dequeued_if}
 use Rattle.scm_rules.specs.Launches.{current_of, first_wanted, launched_if, taken_if, with_fallen, without_process}
 use Rattle.scm_rules.specs.Steps.{at_moment, effect_of, step_of}
 use Rattle.scm_runs.proofs.Along.{Gives}
@@ -41,38 +43,51 @@ all_pass (row ∷ rows) = ap (λ rest. row ∷ rest) (all_pass rows)
 abbrev others_of : (ℕ → Bool) → List Process → List Process
 others_of test rows = map apart_from_controls (filter (λ (row : Process). not (test row.number)) rows)
 
-filter_apart : (test : ℕ → Bool) (rows : List Process) → others_of test rows ≡ filter (λ (row : Process). not (test row.number)) (map apart_from_controls rows)
+filter_apart : (test : ℕ → Bool) (rows : List Process) → others_of test rows ≡ filter (λ (row : Process). not (test row.number))
+    (map apart_from_controls rows)
 filter_apart test [] = refl
 filter_apart test (row ∷ rows) =
-    elim (not (test row.number)) as (λ b. map apart_from_controls (cond b (row ∷ filter (λ (row : Process). not (test row.number)) rows) (filter (λ (row : Process). not (test row.number)) rows))
-    ≡ cond b (apart_from_controls row ∷ filter (λ (row : Process). not (test row.number)) (map apart_from_controls rows)) (filter (λ (row : Process). not (test row.number)) (map apart_from_controls rows))) [
+    elim (not (test row.number)) as (λ b. map apart_from_controls (cond b (row ∷ filter (λ (row : Process). not (test row.number)) rows)
+    (filter (λ (row : Process). not (test row.number)) rows))
+    ≡ cond b (apart_from_controls row ∷ filter (λ (row : Process). not (test row.number)) (map apart_from_controls rows))
+    (filter (λ (row : Process). not (test row.number)) (map apart_from_controls rows))) [
       | true ↦ ap (λ rest. apart_from_controls row ∷ rest) (filter_apart test rows)
       | false ↦ filter_apart test rows
     ]
 
 -- lists that differ in controls alone
-others_apart : (test : ℕ → Bool) (befores afters : List Process) → map apart_from_controls afters ≡ map apart_from_controls befores → others_of test afters ≡ others_of test befores
+others_apart : (test : ℕ → Bool) (befores afters : List Process) → map apart_from_controls afters ≡ map apart_from_controls befores
+    → others_of test afters ≡ others_of test befores
 others_apart test befores afters same =
     filter_apart test afters ∙ ap (filter (λ (row : Process). not (test row.number))) same ∙ sym (filter_apart test befores)
 
-numbers_apart : (befores afters : List Process) → map apart_from_controls afters ≡ map apart_from_controls befores → process_numbers afters ≡ process_numbers befores
+numbers_apart : (befores afters : List Process) → map apart_from_controls afters ≡ map apart_from_controls befores
+    → process_numbers afters ≡ process_numbers befores
 numbers_apart befores afters same =
-    sym (map_same apart_from_controls (λ (row : Process). row.number) (λ row. refl) afters) ∙ ap process_numbers same ∙ map_same apart_from_controls (λ (row : Process). row.number) (λ row. refl) befores
+    sym (map_same apart_from_controls (λ (row : Process). row.number) (λ row. refl) afters) ∙ ap process_numbers same
+    ∙ map_same apart_from_controls (λ (row : Process). row.number) (λ row. refl) befores
 
 -- a change of one that passes the test
-others_changed : (test : ℕ → Bool) (one : ℕ) (change : Process → Process) → IsOf one change → ((number : ℕ) → (number == one) ≡ true → test number ≡ true) → (rows : List Process)
+others_changed : (test : ℕ → Bool) (one : ℕ) (change : Process → Process) → IsOf one change
+    → ((number : ℕ) → (number == one) ≡ true → test number ≡ true) → (rows : List Process)
     → others_of test (map change rows) ≡ others_of test rows
 others_changed test one change is meant [] = refl
 others_changed test one change is meant (row ∷ rows) =
     let rest = others_changed test one change is meant rows in
-    ap (λ n. map apart_from_controls (cond (not (test n)) (change row ∷ filter (λ (row : Process). not (test row.number)) (map change rows)) (filter (λ (row : Process). not (test row.number)) (map change rows)))) (is.number_same row)
+    ap (λ n. map apart_from_controls (cond (not (test n)) (change row ∷ filter (λ (row : Process). not (test row.number)) (map change rows))
+    (filter (λ (row : Process). not (test row.number)) (map change rows)))) (is.number_same row)
     ∙ elim (row.number == one) as (λ b. (row.number == one) ≡ b
-    → map apart_from_controls (cond (not (test row.number)) (change row ∷ filter (λ (row : Process). not (test row.number)) (map change rows)) (filter (λ (row : Process). not (test row.number)) (map change rows)))
-    ≡ map apart_from_controls (cond (not (test row.number)) (row ∷ filter (λ (row : Process). not (test row.number)) rows) (filter (λ (row : Process). not (test row.number)) rows))) [
+    → map apart_from_controls (cond (not (test row.number)) (change row ∷ filter (λ (row : Process). not (test row.number))
+    (map change rows)) (filter (λ (row : Process). not (test row.number)) (map change rows)))
+    ≡ map apart_from_controls (cond (not (test row.number)) (row ∷ filter (λ (row : Process). not (test row.number)) rows)
+    (filter (λ (row : Process). not (test row.number)) rows))) [
       | true ↦ λ e. rw (meant row.number e) rest
       | false ↦ λ e. (rw (is.others row e)
-          (elim (not (test row.number)) as (λ b. map apart_from_controls (cond b (row ∷ filter (λ (row : Process). not (test row.number)) (map change rows)) (filter (λ (row : Process). not (test row.number)) (map change rows)))
-          ≡ map apart_from_controls (cond b (row ∷ filter (λ (row : Process). not (test row.number)) rows) (filter (λ (row : Process). not (test row.number)) rows))) [
+          (elim (not (test row.number)) as (λ b. map apart_from_controls
+          (cond b (row ∷ filter (λ (row : Process). not (test row.number)) (map change rows))
+          (filter (λ (row : Process). not (test row.number)) (map change rows)))
+          ≡ map apart_from_controls (cond b (row ∷ filter (λ (row : Process). not (test row.number)) rows)
+          (filter (λ (row : Process). not (test row.number)) rows))) [
             | true ↦ ap (λ more. apart_from_controls row ∷ more) rest
             | false ↦ rest
           ]))
@@ -85,11 +100,16 @@ others_left test one meant [] = refl
 others_left test one meant (row ∷ rows) =
     let rest = others_left test one meant rows in
     elim (row.number == one) as (λ b. (row.number == one) ≡ b
-    → others_of test (cond (not b) (row ∷ filter (λ (row : Process). not (row.number == one)) rows) (filter (λ (row : Process). not (row.number == one)) rows))
-    ≡ map apart_from_controls (cond (not (test row.number)) (row ∷ filter (λ (row : Process). not (test row.number)) rows) (filter (λ (row : Process). not (test row.number)) rows))) [
+    → others_of test (cond (not b) (row ∷ filter (λ (row : Process). not (row.number == one)) rows)
+    (filter (λ (row : Process). not (row.number == one)) rows))
+    ≡ map apart_from_controls (cond (not (test row.number)) (row ∷ filter (λ (row : Process). not (test row.number)) rows)
+    (filter (λ (row : Process). not (test row.number)) rows))) [
       | true ↦ λ e. rw (meant row.number e) rest
-      | false ↦ λ e. elim (not (test row.number)) as (λ b. map apart_from_controls (cond b (row ∷ filter (λ (row : Process). not (test row.number)) (filter (λ (row : Process). not (row.number == one)) rows)) (filter (λ (row : Process). not (test row.number)) (filter (λ (row : Process). not (row.number == one)) rows)))
-          ≡ map apart_from_controls (cond b (row ∷ filter (λ (row : Process). not (test row.number)) rows) (filter (λ (row : Process). not (test row.number)) rows))) [
+      | false ↦ λ e. elim (not (test row.number)) as (λ b. map apart_from_controls
+          (cond b (row ∷ filter (λ (row : Process). not (test row.number)) (filter (λ (row : Process). not (row.number == one)) rows))
+          (filter (λ (row : Process). not (test row.number)) (filter (λ (row : Process). not (row.number == one)) rows)))
+          ≡ map apart_from_controls (cond b (row ∷ filter (λ (row : Process). not (test row.number)) rows)
+          (filter (λ (row : Process). not (test row.number)) rows))) [
             | true ↦ ap (λ more. apart_from_controls row ∷ more) rest
             | false ↦ rest
           ]
@@ -102,14 +122,16 @@ record HavePlaces (f : Flat) (step : Step) (rows : List Process) : Type 0 where
   others : those_not_meant f step rows ≡ those_not_meant f step f.processes
 
 -- only controls have changed
-apart_places : (f : Flat) (step : Step) (rows : List Process) → process_numbers f.processes ≡ process_numbers (those_that_stay step f.processes) → map apart_from_controls rows ≡ map apart_from_controls f.processes → HavePlaces f step rows
+apart_places : (f : Flat) (step : Step) (rows : List Process) → process_numbers f.processes ≡ process_numbers
+    (those_that_stay step f.processes) → map apart_from_controls rows ≡ map apart_from_controls f.processes → HavePlaces f step rows
 apart_places f step rows stay same = record {
   places = numbers_apart f.processes rows same ∙ stay;
   others = others_apart (λ n. names_process n step || takes_process f n step) f.processes rows same;
 }
 
 -- one has changed that the step means
-one_places : (f : Flat) (step : Step) (one : ℕ) (change : Process → Process) → IsOf one change → ((number : ℕ) → (number == one) ≡ true → (names_process number step || takes_process f number step) ≡ true)
+one_places : (f : Flat) (step : Step) (one : ℕ) (change : Process → Process) → IsOf one change
+    → ((number : ℕ) → (number == one) ≡ true → (names_process number step || takes_process f number step) ≡ true)
     → process_numbers f.processes ≡ process_numbers (those_that_stay step f.processes) → HavePlaces f step (map change f.processes)
 one_places f step one change is meant stay = record {
   places = map_same change (λ (row : Process). row.number) is.number_same f.processes ∙ stay;
@@ -128,23 +150,30 @@ of_effect : (l : Limits) (f : Flat) (moment : ℕ) (step : Step) → HavePlaces 
 of_effect l f moment (Call caller asked append) =
     apart_places f (Call caller asked append) _ (all_stay f.processes) (of_call l (with_moment f moment) caller asked append).processes
 of_effect l f moment LaunchTaken =
-    found_keeps (HavePlaces f LaunchTaken) (λ process. map (taken_if process)) (first_wanted f.wanted) f.processes (record { places = all_stay f.processes; others = refl })
+    found_keeps (HavePlaces f LaunchTaken) (λ process. map (taken_if process)) (first_wanted f.wanted) f.processes
+    (record { places = all_stay f.processes; others = refl })
     (λ one is. one_places f LaunchTaken one (taken_if one) (takes one) (λ n e. ap (is_it n) is ∙ e) (all_stay f.processes))
 of_effect l f moment (Launched process pid) =
-    one_places f (Launched process pid) process (launched_if process pid) (launches process pid) (λ n e. or_left _ _ e) (all_stay f.processes)
+    one_places f (Launched process pid) process (launched_if process pid) (launches process pid) (λ n e. or_left _ _ e)
+    (all_stay f.processes)
 of_effect l f moment (LaunchFailed process code) = record {
   places = refl;
-  others = others_left (λ n. names_process n (LaunchFailed process code) || takes_process f n (LaunchFailed process code)) process (λ n e. or_left _ _ e) f.processes;
+  others = others_left (λ n. names_process n (LaunchFailed process code) || takes_process f n (LaunchFailed process code)) process
+      (λ n e. or_left _ _ e) f.processes;
 }
 of_effect l f moment (Report process status) =
-    failing_apart (λ (g : Flat). HavePlaces f (Report process status) g.processes) (failed_by status (current_of f process)) _ (record { places = all_stay f.processes; others = refl })
+    failing_apart (λ (g : Flat). HavePlaces f (Report process status) g.processes) (failed_by status (current_of f process)) _
+    (record { places = all_stay f.processes; others = refl })
 of_effect l f moment (Ended process) =
-    failing_apart (λ (g : Flat). HavePlaces f (Ended process) (without_process g process).processes) (current_of f process) (with_fallen (with_moment f moment) process ERROR_PROCESS_ABORTED) (record {
+    failing_apart (λ (g : Flat). HavePlaces f (Ended process) (without_process g process).processes) (current_of f process)
+    (with_fallen (with_moment f moment) process ERROR_PROCESS_ABORTED) (record {
       places = refl;
-      others = others_left (λ n. names_process n (Ended process) || takes_process f n (Ended process)) process (λ n e. or_left _ _ e) f.processes;
+      others = others_left (λ n. names_process n (Ended process) || takes_process f n (Ended process)) process
+          (λ n e. or_left _ _ e) f.processes;
     })
 of_effect l f moment (ControlTaken process) =
-    apart_places f (ControlTaken process) _ (all_stay f.processes) (controls_apart (relieved_if process) (controls_fewer process) f.processes)
+    apart_places f (ControlTaken process) _ (all_stay f.processes) (controls_apart (dequeued_if process)
+    (controls_fewer process) f.processes)
 of_effect l f moment (Raised caller subtype) =
     apart_places f (Raised caller subtype) _ (all_stay f.processes) (of_raise l (with_moment f moment) caller subtype).processes
 of_effect l f moment step = record { places = all_stay f.processes; others = refl }
@@ -167,10 +196,12 @@ append_none [] = refl
 append_none (row ∷ rows) = ap (λ rest. row ∷ rest) (append_none rows)
 
 -- one more that is wanted
-one_grown : (bound : ℕ) (old : List Process) (g : Flat) (service : ℕ) → Grown bound old g → (h : Flat) → h.processes ≡ g.processes ++ wanted_process g.next.process service ∷ [] → h.next.process ≡ g.next.process + 1 → Grown bound old h
+one_grown : (bound : ℕ) (old : List Process) (g : Flat) (service : ℕ) → Grown bound old g → (h : Flat) → h.processes ≡ g.processes
+    ++ wanted_process g.next.process service ∷ [] → h.next.process ≡ g.next.process + 1 → Grown bound old h
 one_grown bound old g service is h more next = record {
   new = is.new ++ wanted_process g.next.process service ∷ [];
-  listed = more ∙ ap (λ rows. rows ++ wanted_process g.next.process service ∷ []) is.listed ∙ append_assoc old is.new (wanted_process g.next.process service ∷ []);
+  listed = more ∙ ap (λ rows. rows ++ wanted_process g.next.process service ∷ []) is.listed
+      ∙ append_assoc old is.new (wanted_process g.next.process service ∷ []);
   given = All-push (λ (row : Process). bound ≤ row.number) is.new (wanted_process g.next.process service) is.given is.up;
   up = (let up = is.up in omega (arith, up, next));
 }
@@ -183,14 +214,20 @@ grows l bound old = record {
 }
 
 none_new : (bound : ℕ) (g : Flat) → bound ≤ g.next.process → Grown bound g.processes g
-none_new bound g up = record { new = []; listed = append_none g.processes; given = All-nil (λ (row : Process). bound ≤ row.number); up = up }
+none_new bound g up = record {
+  new = [];
+  listed = append_none g.processes;
+  given = All-nil (λ (row : Process). bound ≤ row.number);
+  up = up;
+}
 
 settled_grown : (l : Limits) (g : Flat) (bound : ℕ) (old : List Process) → Grown bound old g → Grown bound old (settled l g)
 settled_grown l g bound old grown =
     let all = (keeps_all l (Grown bound old) (λ plan. Unit {0}) (grows l bound old) g g.plans grown (all_units g.plans)).flat in
     record { new = all.new; listed = all.listed; given = all.given; up = all.up }
 
-effect_grown : (l : Limits) (f : Flat) (moment : ℕ) (step : Step) → Grown f.next.process (rows_left l f moment step) (effect_of l (at_moment f moment step) step).flat
+effect_grown : (l : Limits) (f : Flat) (moment : ℕ) (step : Step) → Grown f.next.process (rows_left l f moment step)
+    (effect_of l (at_moment f moment step) step).flat
 effect_grown l f moment Tick = ticked_by (Grown f.next.process f.processes) l (record {
   spends = λ g row is h. record { new = h.new; listed = h.listed; given = h.given; up = h.up };
   starts = λ g row there can h. record { new = h.new; listed = h.listed; given = h.given; up = h.up };
@@ -199,11 +236,13 @@ effect_grown l f moment Tick = ticked_by (Grown f.next.process f.processes) l (r
 }) (with_moment f moment) (none_new f.next.process (with_moment f moment) (omega arith))
 effect_grown l f moment step = none_new f.next.process (effect_of l (at_moment f moment step) step).flat (process_effect l f moment step)
 
-step_grown : (l : Limits) (f : Flat) (moment : ℕ) (step : Step) → Grown f.next.process (rows_left l f moment step) (step_of l f moment step).flat
+step_grown : (l : Limits) (f : Flat) (moment : ℕ) (step : Step) → Grown f.next.process (rows_left l f moment step)
+    (step_of l f moment step).flat
 step_grown l f moment step =
     let done = effect_of l (at_moment f moment step) step in
     let old = rows_left l f moment step in
-    let before = finished_keeps (Grown f.next.process old) (λ g plans h. record { new = h.new; listed = h.listed; given = h.given; up = h.up }) (settled l done.flat) done.answer
+    let before = finished_keeps (Grown f.next.process old) (λ g plans h.
+    record { new = h.new; listed = h.listed; given = h.given; up = h.up }) (settled l done.flat) done.answer
     (settled_grown l done.flat f.next.process old (effect_grown l f moment step)) in
     record { new = before.new; listed = before.listed; given = before.given; up = before.up }
 

@@ -1,5 +1,6 @@
 -- A plan leaves with its EndStart or with its caller.
-use Rattle.std.proofs.Common.{ℕ, ◌≡◌, ◌∙◌, ◌<◌, ◌==◌, ◌&&◌, Bool, true, false, not, List, Option, None, Some, ap, sym, refl, subst, arith, eqb-true, ne_eqb}
+use Rattle.std.proofs.Common.{ℕ, ◌≡◌, ◌∙◌, ◌<◌, ◌==◌, ◌&&◌, Bool, true, false, not, List, Option, None, Some, ap, sym, refl, subst, arith}
+use Rattle.std.proofs.Common.{eqb-true, ne_eqb}
 use Rattle.std.specs.Prelude.{is_some, option_map}
 use Rattle.std.proofs.lemmas.List.Elements.{All-from_recursion, All-weaker}
 use Rattle.scm_model.specs.declared.flat.Flat.{Flat}
@@ -36,11 +37,13 @@ not_both : (a b : Bool) → b ≡ false → not (a && b) ≡ true
 not_both true b e = ap not e
 not_both false b e = refl
 
-pub lasts : (number caller target : ℕ) → (caller == 0) ≡ false → Lasts number (λ plan. (number == plan) ≡ false) (λ gone. (caller == gone) ≡ false) (IsThere number caller target)
+pub lasts : (number caller target : ℕ) → (caller == 0) ≡ false → Lasts number (λ plan. (number == plan) ≡ false)
+    (λ gone. (caller == gone) ≡ false) (IsThere number caller target)
 lasts number caller target somebody = record {
   codes = λ test code plans there. coded_sides test code plans number ∙ there;
   tidies = λ plans there. told_filter sides (is_numbered number) stays (caller, target)
-      (λ plan same is. not_both (is_some plan.code) (plan.caller == 0) (subst (λ n. (n == 0) ≡ false) (sym (first_same plan caller target is)) somebody)) plans there;
+      (λ plan same is. not_both (is_some plan.code) (plan.caller == 0) (subst (λ n. (n == 0) ≡ false)
+      (sym (first_same plan caller target is)) somebody)) plans there;
   settles = λ l f plans there. settled_sides l f plans number ∙ there;
   begins = λ plans plan other there. told_push sides (is_numbered number) (caller, target) plans plan there;
   ends = λ one plans other there. told_filter sides (is_numbered number) (λ (plan : Plan). not (is_numbered one plan)) (caller, target)
@@ -49,22 +52,27 @@ lasts number caller target somebody = record {
       (λ plan same is. ap not (subst (λ n. (n == gone) ≡ false) (sym (first_same plan caller target is)) other)) plans there;
 }
 
-allowed : (number caller : ℕ) (step : Step) → ends_plan number step ≡ false → takes_leave caller step ≡ false → Allows (λ plan. (number == plan) ≡ false) (λ gone. (caller == gone) ≡ false) step
+allowed : (number caller : ℕ) (step : Step) → ends_plan number step ≡ false → takes_leave caller step ≡ false
+    → Allows (λ plan. (number == plan) ≡ false) (λ gone. (caller == gone) ≡ false) step
 allowed number caller (EndStart by plan) ends leaves = ends
 allowed number caller (Gone gone) ends leaves = leaves
 allowed number caller step ends leaves = tt
 
 -- ## The two of it
 
-both_of : (found : Option Plan) (caller target : ℕ) → option_map (λ (plan : Plan). plan.caller) found ≡ Some caller → option_map (λ (plan : Plan). plan.target) found ≡ Some target → option_map sides found ≡ Some (caller, target)
+both_of : (found : Option Plan) (caller target : ℕ) → option_map (λ (plan : Plan). plan.caller) found ≡ Some caller
+    → option_map (λ (plan : Plan). plan.target) found ≡ Some target → option_map sides found ≡ Some (caller, target)
 both_of None caller target a b = absurd cc
-both_of (Some plan) caller target a b = (let x : plan.caller ≡ caller = cc in let y : plan.target ≡ target = cc in ap (λ c. Some (c, plan.target)) x ∙ ap (λ t. Some (caller, t)) y)
+both_of (Some plan) caller target a b = (let x : plan.caller ≡ caller = cc in let y : plan.target ≡ target = cc in
+    ap (λ c. Some (c, plan.target)) x ∙ ap (λ t. Some (caller, t)) y)
 
-pub caller_in : (found : Option Plan) (caller target : ℕ) → option_map sides found ≡ Some (caller, target) → option_map (λ (plan : Plan). plan.caller) found ≡ Some caller
+pub caller_in : (found : Option Plan) (caller target : ℕ) → option_map sides found ≡ Some (caller, target)
+    → option_map (λ (plan : Plan). plan.caller) found ≡ Some caller
 caller_in None caller target e = absurd cc
 caller_in (Some plan) caller target e = (let same : sides plan ≡ (caller, target) = cc in ap (λ (pair : ℕ × ℕ). Some pair.0) same)
 
-pub target_in : (found : Option Plan) (caller target : ℕ) → option_map sides found ≡ Some (caller, target) → option_map (λ (plan : Plan). plan.target) found ≡ Some target
+pub target_in : (found : Option Plan) (caller target : ℕ) → option_map sides found ≡ Some (caller, target)
+    → option_map (λ (plan : Plan). plan.target) found ≡ Some target
 target_in None caller target e = absurd cc
 target_in (Some plan) caller target e = (let same : sides plan ≡ (caller, target) = cc in ap (λ (pair : ℕ × ℕ). Some pair.1) same)
 
@@ -72,6 +80,7 @@ pub gives : (l : Limits) → Gives Sound PlansAreTheirCallers l
 gives l f e s ok number caller target is somebody ends leaves =
     let there = both_of (plan_of f.plans number) caller target is.callers is.aims in
     let low = plan_below f number s (sym (is_some-map sides (plan_of f.plans number)) ∙ ap is_some there) in
-    let after = of_step number (λ plan. (number == plan) ≡ false) (λ gone. (caller == gone) ≡ false) (IsThere number caller target) (lasts number caller target somebody) l f e.0 e.1 low
+    let after = of_step number (λ plan. (number == plan) ≡ false) (λ gone. (caller == gone) ≡ false) (IsThere number caller target)
+    (lasts number caller target somebody) l f e.0 e.1 low
     (ne_eqb number f.next.plan (λ same. absurd (omega (arith, same, low)))) (allowed number caller e.1 ends leaves) there in
     record { callers = caller_in _ caller target after; aims = target_in _ caller target after }

@@ -15,7 +15,7 @@ use Rattle.scm_model.specs.declared.steps.Kept.{Kept}
 use Rattle.scm_model.specs.declared.steps.Step.{Step}
 use Rattle.scm_model.specs.declared.steps.Step.TheVariants.{Call, EndStart, Report, Ended, ControlTaken, LaunchTaken, Raised}
 use Rattle.scm_model.specs.Changes.{with_moment}
-use Rattle.scm_model.specs.Outcomes.{Done}
+use Rattle.scm_model.specs.Outcomes.{CallResult}
 use Rattle.start_plan.specs.Decided.{code_of}
 use Rattle.start_plan.specs.Settle.{settled}
 use Rattle.status_machine.specs.Moves.{takes}
@@ -46,7 +46,8 @@ use Rattle.scm_rules.specs.Raise.{raise_verdict}
 -- what a registration was told, or that it was told nothing
 of_notice : (found : Option Registration) → is_notice (notice_in found) ≡ true
 of_notice None = refl
-of_notice (Some row) = elim (row.fired == 0) as (λ b. is_notice (cond b (reply.Notice 0 zero_process_status None 0) (reply.Notice row.fired row.status (Some row.name) 0)) ≡ true) [ true ↦ refl | false ↦ refl ]
+of_notice (Some row) = elim (row.fired == 0) as (λ b. is_notice (cond b (reply.Notice 0 zero_process_status None 0)
+    (reply.Notice row.fired row.status (Some row.name) 0)) ≡ true) [ true ↦ refl | false ↦ refl ]
 
 of_done : (l : Limits) (f : Flat) (caller : ℕ) (asked : Request) → is_reply_to asked (done_of l f caller asked).reply ≡ true
 of_done l f caller (request.GetNotify handle) = of_notice (option_and_then (registration_of f) (notify_of f caller handle))
@@ -55,31 +56,47 @@ of_done l f caller asked = refl
 of_refused : (f : Flat) (caller : ℕ) (asked : Request) (code : ℕ) → is_reply_to asked (told_refused f caller asked code) ≡ true
 of_refused f caller (request.EnumServices handle kinds states size resume) code =
     let rows = services_asked f kinds states resume in
-    elim (code == 234) as (λ b. is_page (cond b (page_of size resume rows) (reply.Page size [] 0 0 resume code)) ≡ true) [ true ↦ refl | false ↦ refl ]
+    elim (code == 234) as (λ b. is_page (cond b (page_of size resume rows) (reply.Page size [] 0 0 resume code)) ≡ true) [
+      | true ↦ refl
+      | false ↦ refl
+    ]
 of_refused f caller asked code = refl
 
-pub of_reply : (l : Limits) (f : Flat) (caller : ℕ) (asked : Request) (append : Kept) → is_reply_to asked (call_of l f caller asked append).reply ≡ true
+pub of_reply : (l : Limits) (f : Flat) (caller : ℕ) (asked : Request) (append : Kept)
+    → is_reply_to asked (call_of l f caller asked append).reply ≡ true
 of_reply l f caller asked append =
-    by_verdict (λ r. is_reply_to asked r.reply ≡ true) (verdict l f caller asked append) (told_refused f caller asked (verdict l f caller asked append)) f (done_of l f caller asked)
+    by_verdict (λ r. is_reply_to asked r.reply ≡ true) (verdict l f caller asked append)
+    (told_refused f caller asked (verdict l f caller asked append)) f (done_of l f caller asked)
     (λ e. of_done l f caller asked) (λ e. of_refused f caller asked (verdict l f caller asked append))
 
 -- ## Calls
 
 -- a start that isn't refused waits, or is told its code
-of_begun : (number handle : ℕ) (words : Option (List (List ℕ))) (code : Option ℕ) → IsReplied (request.Start handle words) (answered_by number code) ⊎ (answered_by number code ≡ answer.Begun number)
+of_begun : (number handle : ℕ) (words : Option (List (List ℕ))) (code : Option ℕ)
+    → IsReplied (request.Start handle words) (answered_by number code) ⊎ (answered_by number code ≡ answer.Begun number)
 of_begun number handle words None = inr refl
 of_begun number handle words (Some code) = inl (record { said = reply.Code code; is = refl; form = refl })
 
-of_call : (l : Limits) (f : Flat) (moment caller : ℕ) (asked : Request) (append : Kept) → IsAnswered f asked (step_of l f moment (Call caller asked append)).answer
+of_call : (l : Limits) (f : Flat) (moment caller : ℕ) (asked : Request) (append : Kept)
+    → IsAnswered f asked (step_of l f moment (Call caller asked append)).answer
 of_call l f moment caller (request.Start handle words) append =
     let g = with_moment f moment in
     let done = start_done g caller handle words in
-    let refusal : Done = record { reply = told_refused g caller (request.Start handle words) (start_verdict g caller handle words); flat = g } in
-    elim (start_verdict g caller handle words == 0) as (λ b. IsAnswered f (request.Start handle words) (finished (settled l (cond b done refusal).flat) (cond b (answer.Begun f.next.plan) (answer.Reply (cond b done refusal).reply))).answer) [
+    let refusal : CallResult = record {
+      reply = told_refused g caller (request.Start handle words) (start_verdict g caller handle words);
+      flat = g;
+    } in
+    elim (start_verdict g caller handle words == 0) as (λ b. IsAnswered f (request.Start handle words)
+    (finished (settled l (cond b done refusal).flat) (cond b (answer.Begun f.next.plan)
+    (answer.Reply (cond b done refusal).reply))).answer) [
       | true ↦ of_begun f.next.plan handle words (code_of (settled l done.flat).plans f.next.plan)
       | false ↦ inl (record { said = refusal.reply; is = refl; form = refl })
     ]
-of_call l f moment caller asked append = record { said = (call_of l (with_moment f moment) caller asked append).reply; is = refl; form = of_reply l (with_moment f moment) caller asked append }
+of_call l f moment caller asked append = record {
+  said = (call_of l (with_moment f moment) caller asked append).reply;
+  is = refl;
+  form = of_reply l (with_moment f moment) caller asked append;
+}
 
 -- ## Reports and ends
 
@@ -88,10 +105,13 @@ record IsHeard (found : Option Service) (told : Answer) : Type 0 where
   stale : is_some found ≡ false → told ≡ answer.Stale
   heard : is_some found ≡ true → (told ≡ answer.Done) ⊎ (told ≡ answer.Refused ERROR_INVALID_DATA)
 
-of_taken : (g : Flat) (row : Service) (report : Status) → ((finished g (report_told (Some row) report)).answer ≡ answer.Done) ⊎ ((finished g (report_told (Some row) report)).answer ≡ answer.Refused ERROR_INVALID_DATA)
+of_taken : (g : Flat) (row : Service) (report : Status) → ((finished g (report_told (Some row) report)).answer ≡ answer.Done)
+    ⊎ ((finished g (report_told (Some row) report)).answer ≡ answer.Refused ERROR_INVALID_DATA)
 of_taken g row report =
-    elim (takes row.status report) as (λ b. ((finished g (report_answer (cond b (Ok report) (Err ERROR_INVALID_DATA)))).answer ≡ answer.Done)
-    ⊎ ((finished g (report_answer (cond b (Ok report) (Err ERROR_INVALID_DATA)))).answer ≡ answer.Refused ERROR_INVALID_DATA)) [ true ↦ inl refl | false ↦ inr refl ]
+    elim (takes row.status report) as (λ b. ((finished g (report_answer (cond b (Ok report) (Err ERROR_INVALID_DATA)))).answer ≡
+    answer.Done)
+    ⊎ ((finished g (report_answer (cond b (Ok report) (Err ERROR_INVALID_DATA)))).answer ≡ answer.Refused ERROR_INVALID_DATA))
+    [ true ↦ inl refl | false ↦ inr refl ]
 
 of_report : (g : Flat) (found : Option Service) (report : Status) → IsHeard found (finished g (report_told found report)).answer
 of_report g None report = record { stale = λ e. refl; heard = λ e. absurd cc }
@@ -113,19 +133,27 @@ of_control : (g : Flat) (codes : List ℕ) → waits codes ≡ true → IsContro
 of_control g [] some = absurd cc
 of_control g (code ∷ codes) some = record { code = code; is = refl }
 
-of_step : (l : Limits) (f : Flat) (moment : ℕ) (step : Step) → IsTrue (may l f moment step) → HasShape f step (step_of l f moment step).answer
+of_step : (l : Limits) (f : Flat) (moment : ℕ) (step : Step) → IsTrue (may l f moment step)
+    → HasShape f step (step_of l f moment step).answer
 of_step l f moment (Call caller asked append) ok = of_call l f moment caller asked append
 of_step l f moment (EndStart caller plan) ok = record { code = unwrap_or (code_of f.plans plan) 0; is = refl }
 of_step l f moment (Report process status) ok =
-    let told = of_report (settled l (effect_of l (at_moment f moment (Report process status)) (Report process status)).flat) (current_of f process) status in
+    let told = of_report (settled l (effect_of l (at_moment f moment (Report process status)) (Report process status)).flat)
+    (current_of f process) status in
     record { stale = λ e. told.stale (same_current f process ∙ e); heard = λ e. told.heard (same_current f process ∙ e) }
 of_step l f moment (Ended process) ok =
     let told = of_end (settled l (effect_of l (at_moment f moment (Ended process)) (Ended process)).flat) (current_of f process) in
     record { stale = λ e. told.stale (same_current f process ∙ e); done = λ e. told.done (same_current f process ∙ e) }
 of_step l f moment LaunchTaken ok =
     let first = first_of f.wanted (and_parts _ _ ok).0 in
-    record { process = first.number; first = first.is; is = launch_is (settled l (effect_of l (at_moment f moment LaunchTaken) LaunchTaken).flat) (first_wanted f.wanted) first.number first.is }
-of_step l f moment (ControlTaken process) ok = of_control (settled l (effect_of l (at_moment f moment (ControlTaken process)) (ControlTaken process)).flat) (controls_of f process) (and_parts _ _ ok).0
+    record {
+      process = first.number;
+      first = first.is;
+      is = launch_is (settled l
+          (effect_of l (at_moment f moment LaunchTaken) LaunchTaken).flat) (first_wanted f.wanted) first.number first.is;
+    }
+of_step l f moment (ControlTaken process) ok = of_control (settled l (effect_of l (at_moment f moment (ControlTaken process))
+    (ControlTaken process)).flat) (controls_of f process) (and_parts _ _ ok).0
 of_step l f moment (Raised caller subtype) ok = record { code = raise_verdict (with_moment f moment) caller; is = refl }
 of_step l f moment step ok = refl
 

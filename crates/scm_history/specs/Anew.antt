@@ -11,7 +11,8 @@ use Rattle.scm_rules.specs.Named.{caller_made, has_begun, has_made, has_taken, p
 pub record MakesAnew (l : Limits) (f : Flat) (front : List Entry) (e : Entry) : Type 0 where
   pub joined : IfSome (caller_made (state l f front) e.1) (λ number. has_made l f number front ≡ false)
   pub taken : IfSome (process_taken (state l f front) e.1) (λ number. has_taken l f number front ≡ false)
-  pub begun : IfSome (plan_made (step_of l (state l f front) e.0 e.1).answer) (λ number. (caller : ℕ) → has_begun l f caller number front ≡ false)
+  pub begun : IfSome (plan_made (step_of l (state l f front) e.0 e.1).answer) (λ number. (caller : ℕ)
+      → has_begun l f caller number front ≡ false)
 
 -- so it is with each entry of a history
 abbrev pub EachMakesAnew : Limits → Flat → List Entry → Type 0

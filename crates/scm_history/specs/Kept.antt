@@ -31,4 +31,5 @@ pub record LawOfKept (l : Limits) (f : Flat) : Type 0 where
   pub failed : (g : Flat) (step : Step) → kept_change l g (with_kept step appended.Failed) ≡ None
   pub unasked : (g : Flat) (step : Step) → kept_change l g (with_kept step appended.NotAsked) ≡ None
   pub none : kept_changes l f [] ≡ []
-  pub more : (es : List Entry) (e : Entry) → kept_changes l f (es ++ e ∷ []) ≡ kept_changes l f es ++ one_or_none (kept_change l (state l f es) e.1)
+  pub more : (es : List Entry) (e : Entry) → kept_changes l f (es ++ e ∷ []) ≡ kept_changes l f es
+      ++ one_or_none (kept_change l (state l f es) e.1)

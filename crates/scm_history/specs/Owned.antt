@@ -38,8 +38,10 @@ pub record LawOfOwn (l : Limits) (f : Flat) : Type 0 where
   pub none : (name : Name) → own l f name [] ≡ []
   pub more : (name : Name) (es : List Entry) (e : Entry) (told : Answer) → is_by_name (state l f es) name e.1 ≡ true
       → answer l f (es ++ e ∷ []) (length es) ≡ Some told → own l f name (es ++ e ∷ []) ≡ own l f name es ++ made_of e told ∷ []
-  pub quiet : (name : Name) (es : List Entry) (e : Entry) → is_by_name (state l f es) name e.1 ≡ false → own l f name (es ++ e ∷ []) ≡ own l f name es
-  pub callers : (caller : ℕ) (es : List Entry) → map (λ (one : Made). one.entry) (own l f (names.Caller caller) es) ≡ of_caller l f caller es
+  pub quiet : (name : Name) (es : List Entry) (e : Entry) → is_by_name (state l f es) name e.1 ≡ false
+      → own l f name (es ++ e ∷ []) ≡ own l f name es
+  pub callers : (caller : ℕ) (es : List Entry) → map (λ (one : Made). one.entry)
+      (own l f (names.Caller caller) es) ≡ of_caller l f caller es
 
 -- whether a step is the last of a name: a caller goes, a process ends or could not be launched
 abbrev pub is_last_of : Name → Step → Bool

@@ -33,7 +33,8 @@ abbrev pub IsInHand : Flat → Option ℕ → Type 0
 IsInHand f None = ⊥
 IsInHand f (Some number) = phase_of f number ≡ Some phases.Taken
 
--- a process is in hand once its launch is taken, runs once it was launched and as long as it reports, and isn't listed once its launch failed
+-- a process is in hand once its launch is taken, runs once it was launched and as long as it reports, and isn't listed once its launch
+-- failed
 -- or it has ended
 abbrev pub LeavesSo : Flat → Step → Flat → Type 0
 LeavesSo before LaunchTaken after = IsInHand after (first_wanted before.wanted)

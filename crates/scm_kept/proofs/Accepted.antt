@@ -1,5 +1,6 @@
 -- A configuration that is accepted, and whose numbers and units are those of their types, has an entry.
-use Rattle.std.proofs.Common.{ℕ, ◌≡◌, ◌≤◌, ◌+◌, ◌*◌, ◌==◌, ◌||◌, ◌&&◌, Bool, true, false, not, eqb-true, ltb-false, List, [], ◌∷◌, ◌++◌, length, None, refl, arith, ap, ◌∙◌}
+use Rattle.std.proofs.Common.{ℕ, ◌≡◌, ◌≤◌, ◌+◌, ◌*◌, ◌==◌, ◌||◌, ◌&&◌, Bool, true, false, not, eqb-true, ltb-false, List, [], ◌∷◌, ◌++◌}
+use Rattle.std.proofs.Common.{length, None, refl, arith, ap, ◌∙◌}
 use Rattle.std.specs.Prelude.{All, nat_le, nat_lt}
 use Rattle.std.specs.Int.{w16, to_le_bytes}
 use Rattle.std.specs.List.{flat_map, list_any}
@@ -12,8 +13,10 @@ use Rattle.scm_model.specs.declared.flat.Action.{Action}
 use Rattle.scm_model.specs.declared.flat.Config.{Config}
 use Rattle.scm_model.specs.declared.flat.Need.{Need}
 use Rattle.scm_model.specs.declared.flat.Need.TheVariants as needs
-use Rattle.service_record.specs.Checks.{check_new, has_bad_lists, has_bad_names, has_bad_numbers, has_bad_texts, is_bad_account, is_bad_line, is_longer, name_of_need}
-use Rattle.service_record.specs.Spelling.{FitsNumber, FitsText, IsConfig, IsNeed, action, back, counted_items, flag, front, middle, need_bytes, number, spelling, text}
+use Rattle.service_record.specs.Checks.{check_new, has_bad_lists, has_bad_names, has_bad_numbers, has_bad_texts, is_bad_account}
+use Rattle.service_record.specs.Checks.{is_bad_line, is_longer, name_of_need}
+use Rattle.service_record.specs.Spelling.{FitsNumber, FitsText, IsConfig, IsNeed, action, back, counted_items, flag, front, middle}
+use Rattle.service_record.specs.Spelling.{need_bytes, number, encoding, text}
 use Rattle.scm_runs.proofs.Calls.{all_pass}
 use Rattle.scm_runs.proofs.Lists.{none_any}
 use Rattle.scm_runs.proofs.Sizes.{are_short}
@@ -92,7 +95,7 @@ is_small config e =
           (none_any (λ (a : Action). nat_lt 3 a.what) config.actions known.1);
     }
 
--- ## It has a spelling
+-- ## It has a encoding
 
 text_fits : (units : List ℕ) → length units ≤ 2048 → IsText units → FitsText units
 text_fits units short is = (omega (arith, short), is)
@@ -132,7 +135,7 @@ need_text : (need : Need) → IsNeed need → HasText need
 need_text (needs.Service name) fits = fits.1
 need_text (needs.Group name) fits = fits.1
 
--- what has a spelling has its numbers and units
+-- what has a encoding has its numbers and units
 pub units_of : (config : Config) → IsConfig config → HasUnits config
 units_of config fits = record {
   name = fits.0.name.1;
@@ -147,7 +150,7 @@ units_of config fits = record {
   command = fits.2.command.1;
 }
 
--- ## Its spelling is short
+-- ## Its encoding is short
 
 units_long : (units : List ℕ) → length (flat_map (to_le_bytes w16) units) ≡ 2 * length units
 units_long [] = refl
@@ -213,7 +216,7 @@ back_long config small =
     both_long (number config.reset ++ counted_items action config.actions ++ text config.command) (flag config.on_exit) 4620 1 b
     (flag_long config.on_exit)
 
-pub spelling_long : (config : Config) → IsSmall config → FitsNumber (length (spelling config))
+pub spelling_long : (config : Config) → IsSmall config → FitsNumber (length (encoding config))
 spelling_long config small =
     let a = both_long (front config) (middle config) 5144 269328 (front_long config small) (middle_long config small) in
     let long = both_long (front config ++ middle config) (back config) 274472 4621 a (back_long config small) in

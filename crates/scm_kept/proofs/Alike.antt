@@ -29,7 +29,8 @@ one_replaced config a b same =
     subst (λ name. IsKeptAs (replaced_by config a) (cond (same_text name config.name) config b)) same.name
     (elim (same_text a.name config.name) as (λ t. IsKeptAs (cond t config a) (cond t config b)) [ true ↦ same_as config | false ↦ same ])
 
-all_replaced : (config : Config) (xs ys : List Config) → AreKeptAs xs ys → AreKeptAs (map (replaced_by config) xs) (map (replaced_by config) ys)
+all_replaced : (config : Config) (xs ys : List Config) → AreKeptAs xs ys
+    → AreKeptAs (map (replaced_by config) xs) (map (replaced_by config) ys)
 all_replaced config [] [] each = tt
 all_replaced config [] (b ∷ ys) each = absurd each
 all_replaced config (a ∷ xs) [] each = absurd each
@@ -43,8 +44,10 @@ all_removed name (a ∷ xs) [] each = absurd each
 all_removed name (a ∷ xs) (b ∷ ys) each =
     let others = λ (configs : List Config). filter (λ (old : Config). not (same_text old.name name)) configs in
     let rest = all_removed name xs ys each.1 in
-    subst (λ other. AreKeptAs (cond (not (same_text a.name name)) (a ∷ others xs) (others xs)) (cond (not (same_text other name)) (b ∷ others ys) (others ys))) each.0.name
-    (elim (same_text a.name name) as (λ t. AreKeptAs (cond (not t) (a ∷ others xs) (others xs)) (cond (not t) (b ∷ others ys) (others ys))) [ true ↦ rest | false ↦ (each.0, rest) ])
+    subst (λ other. AreKeptAs (cond (not (same_text a.name name)) (a ∷ others xs) (others xs))
+    (cond (not (same_text other name)) (b ∷ others ys) (others ys))) each.0.name
+    (elim (same_text a.name name) as (λ t. AreKeptAs (cond (not t) (a ∷ others xs) (others xs)) (cond (not t) (b ∷ others ys) (others ys)))
+    [ true ↦ rest | false ↦ (each.0, rest) ])
 
 after_alike : (change : Change) (xs ys : List Config) → AreKeptAs xs ys → AreKeptAs (after_change xs change) (after_change ys change)
 after_alike (Created config) xs ys each = AllZip-push IsKeptAs xs ys config config each (same_as config)
@@ -55,8 +58,10 @@ after_alike (Removed name) xs ys each = all_removed name xs ys each
 
 pub replay_alike : (changes : List Change) (xs ys : List Config) → AreKeptAs xs ys → AreKeptAs (replayed xs changes) (replayed ys changes)
 replay_alike [] xs ys each = each
-replay_alike (change ∷ changes) xs ys each = replay_alike changes (after_change xs change) (after_change ys change) (after_alike change xs ys each)
+replay_alike (change ∷ changes) xs ys each = replay_alike changes (after_change xs change) (after_change ys change)
+    (after_alike change xs ys each)
 
-pub replay_append : (configs : List Config) (first second : List Change) → replayed configs (first ++ second) ≡ replayed (replayed configs first) second
+pub replay_append : (configs : List Config) (first second : List Change)
+    → replayed configs (first ++ second) ≡ replayed (replayed configs first) second
 replay_append configs [] second = refl
 replay_append configs (change ∷ first) second = replay_append (after_change configs change) first second

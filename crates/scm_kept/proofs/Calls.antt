@@ -1,5 +1,6 @@
 -- What the calls that change configurations make of them, and what is kept of that.
-use Rattle.std.proofs.Common.{ℕ, ◌≡◌, ◌∙◌, ◌==◌, true, false, cond, not, IsTrue, List, Option, None, Some, filter, map, ap, sym, refl, subst, eq-eqb}
+use Rattle.std.proofs.Common.{ℕ, ◌≡◌, ◌∙◌, ◌==◌, true, false, cond, not, IsTrue, List, Option, None, Some, filter, map, ap, sym, refl}
+use Rattle.std.proofs.Common.{subst, eq-eqb}
 use Rattle.std.specs.Prelude.{All, IfSome, is_some, option_and_then, option_map}
 use Rattle.std.specs.Cmp.Lexicographic.{same_text as same_list}
 use Rattle.std.proofs.lemmas.List.{map-append}
@@ -19,11 +20,12 @@ use Rattle.scm_model.specs.declared.steps.Kept.{Kept}
 use Rattle.scm_model.specs.declared.steps.Kept.TheVariants as appended
 use Rattle.scm_model.specs.declared.steps.Step.TheVariants.{Call}
 use Rattle.scm_model.specs.Changes.{configured_if, with_moment}
-use Rattle.scm_model.specs.Outcomes.{Done}
+use Rattle.scm_model.specs.Outcomes.{CallResult}
 use Rattle.scm_model.specs.Refused.{answered}
 use Rattle.scm_model.specs.Rows.{held_service, service_of}
-use Rattle.service_record.specs.Spelling.{spelling}
-use Rattle.scm_rules.specs.Change.{change_change, change_done, change_refusals, change_verdict, changed_from, configured_in, is_kept_alike, new_config}
+use Rattle.service_record.specs.Spelling.{encoding}
+use Rattle.scm_rules.specs.Change.{change_change, change_done, change_refusals, change_verdict, changed_from, configured_in, is_kept_alike}
+use Rattle.scm_rules.specs.Change.{new_config}
 use Rattle.scm_rules.specs.Change2.{change2_change, change2_done, change2_refusals, change2_verdict, level_config}
 use Rattle.scm_rules.specs.Create.{create_change, create_done, create_refusals, create_verdict}
 use Rattle.scm_rules.specs.Delete.{delete_change, delete_done, delete_refusals, delete_verdict, marked_in, removed}
@@ -56,19 +58,20 @@ none_at : (code : ℕ) (change : Option Change) → (code == 0) ≡ false → un
 none_at code change e = rw e refl
 
 -- its change was kept
-of_kept : (code : ℕ) (told : Reply) (g : Flat) (done : Done) (change : Option Change) → KeptBy g.services change done.flat.services
+of_kept : (code : ℕ) (told : Reply) (g : Flat) (done : CallResult) (change : Option Change) → KeptBy g.services change done.flat.services
     → KeptBy g.services (unless_refused code change) (answered code told g done).flat.services
 of_kept code told g done change by =
     by_verdict (λ r. KeptBy g.services (unless_refused code change) r.flat.services) code told g done
     (λ e. subst (λ c. KeptBy g.services c done.flat.services) (sym (kept_at code change e)) by)
     (λ e. subst (λ c. KeptBy g.services c g.services) (sym (none_at code change e)) (all_same (unmarked g.services)))
 
-no_change : (olds news : List Service) (change : Option Change) → KeptBy olds change news → not (is_some change) ≡ true → KeptBy olds None news
+no_change : (olds news : List Service) (change : Option Change) → KeptBy olds change news → not (is_some change) ≡ true
+    → KeptBy olds None news
 no_change olds news None by none = by
 no_change olds news (Some change) by none = absurd cc
 
 -- it has no change
-of_unasked : (code : ℕ) (told : Reply) (g : Flat) (done : Done) (change : Option Change) → KeptBy g.services change done.flat.services
+of_unasked : (code : ℕ) (told : Reply) (g : Flat) (done : CallResult) (change : Option Change) → KeptBy g.services change done.flat.services
     → not (is_some (unless_refused code change)) ≡ true → KeptBy g.services None (answered code told g done).flat.services
 of_unasked code told g done change by none =
     by_verdict (λ r. KeptBy g.services None r.flat.services) code told g done
@@ -76,8 +79,10 @@ of_unasked code told g done change by none =
     (λ e. all_same (unmarked g.services))
 
 -- its change could not be kept
-of_failed : (code : ℕ) (told : Reply) (g : Flat) (done : Done) → (code ≡ 0 → ⊥) → KeptBy g.services None (answered code told g done).flat.services
-of_failed code told g done refused = by_verdict (λ r. KeptBy g.services None r.flat.services) code told g done (λ e. absurd (refused e)) (λ e. all_same (unmarked g.services))
+of_failed : (code : ℕ) (told : Reply) (g : Flat) (done : CallResult) → (code ≡ 0 → ⊥)
+    → KeptBy g.services None (answered code told g done).flat.services
+of_failed code told g done refused = by_verdict (λ r. KeptBy g.services None r.flat.services) code told g done (λ e. absurd (refused e))
+    (λ e. all_same (unmarked g.services))
 
 -- the service that a handle is of is the one with its number
 held_row : (f : Flat) (caller handle : ℕ) → IfSome (held_service f caller handle) (λ row. service_of f row.number ≡ Some row)
@@ -85,24 +90,33 @@ held_row f caller handle = if_some (λ row. service_of f row.number ≡ Some row
 
 -- ## Create
 
-one_added : (f : Flat) (moment caller : ℕ) (new : NewService) → KeptBy f.services (create_change f new) (create_done (with_moment f moment) caller new).flat.services
-one_added f moment caller new = same_kept _ _ (ap (map config_of) (filter-append stays f.services _) ∙ map-append config_of (filter stays f.services) _)
+one_added : (f : Flat) (moment caller : ℕ) (new : NewService) → KeptBy f.services (create_change f new)
+    (create_done (with_moment f moment) caller new).flat.services
+one_added f moment caller new = same_kept _ _ (ap (map config_of) (filter-append stays f.services _)
+    ∙ map-append config_of (filter stays f.services) _)
 
 create_failed : (l : Limits) (f : Flat) (caller : ℕ) (new : NewService) → create_verdict l f caller new appended.Failed ≡ 0 → ⊥
 create_failed l f caller new e =
-    let p = all_pass (create_refusals l f caller new appended.Failed) (refl, (refl, (refl, (refl, (refl, (refl, (refl, (refl, (refl, (refl, (refl, tt))))))))))) e in
+    let p = all_pass (create_refusals l f caller new appended.Failed) (
+      refl,
+      (refl, (refl, (refl, (refl, (refl, (refl, (refl, (refl, (refl, (refl, tt)))))))))),
+    ) e in
     let is = p.1.1.1.1.1.1.1.1.1.1.0 in cc
 
-pub created : (l : Limits) (f : Flat) (moment caller : ℕ) (new : NewService) (append : Kept) → IsTrue (tells_right (is_some (change_of_call l f caller (request.Create new))) append)
-    → KeptBy f.services (kept_change l f (Call caller (request.Create new) append)) (call_of l (with_moment f moment) caller (request.Create new) append).flat.services
+pub created : (l : Limits) (f : Flat) (moment caller : ℕ) (new : NewService) (append : Kept)
+    → IsTrue (tells_right (is_some (change_of_call l f caller (request.Create new))) append)
+    → KeptBy f.services (kept_change l f (Call caller (request.Create new) append))
+    (call_of l (with_moment f moment) caller (request.Create new) append).flat.services
 created l f moment caller new appended.Kept right =
     let g = with_moment f moment in
     let code = create_verdict l g caller new appended.Kept in
-    of_kept code (told_refused g caller (request.Create new) code) g (create_done g caller new) (create_change f new) (one_added f moment caller new)
+    of_kept code (told_refused g caller (request.Create new) code) g (create_done g caller new) (create_change f new)
+    (one_added f moment caller new)
 created l f moment caller new appended.NotAsked right =
     let g = with_moment f moment in
     let code = create_verdict l g caller new appended.NotAsked in
-    of_unasked code (told_refused g caller (request.Create new) code) g (create_done g caller new) (create_change f new) (one_added f moment caller new) right
+    of_unasked code (told_refused g caller (request.Create new) code) g (create_done g caller new) (create_change f new)
+    (one_added f moment caller new) right
 created l f moment caller new appended.Failed right =
     let g = with_moment f moment in
     let code = create_verdict l g caller new appended.Failed in
@@ -113,23 +127,28 @@ created l f moment caller new appended.Failed right =
 one_marked : (f : Flat) (found : Option Service) → Sound f → IfSome found (λ row. service_of f row.number ≡ Some row)
     → KeptBy f.services (option_map removed found) (marked_in found f.services)
 one_marked f None s is = all_same (unmarked f.services)
-one_marked f (Some row) s is = same_kept _ _ (marked_unmarked row.number row.config.name f.services (all_named row.number row f.services s.services.names s.services.numbered.rising is))
+one_marked f (Some row) s is = same_kept _ _ (marked_unmarked row.number row.config.name f.services
+    (all_named row.number row f.services s.services.names s.services.numbered.rising is))
 
 delete_failed : (f : Flat) (caller handle : ℕ) → delete_verdict f caller handle appended.Failed ≡ 0 → ⊥
 delete_failed f caller handle e =
     let p = all_pass (delete_refusals f caller handle appended.Failed) (refl, (refl, (refl, (refl, tt)))) e in
     let is = p.1.1.1.0 in cc
 
-pub deleted : (l : Limits) (f : Flat) (moment caller handle : ℕ) (append : Kept) → Sound f → IsTrue (tells_right (is_some (change_of_call l f caller (request.Delete handle))) append)
-    → KeptBy f.services (kept_change l f (Call caller (request.Delete handle) append)) (call_of l (with_moment f moment) caller (request.Delete handle) append).flat.services
+pub deleted : (l : Limits) (f : Flat) (moment caller handle : ℕ) (append : Kept) → Sound f
+    → IsTrue (tells_right (is_some (change_of_call l f caller (request.Delete handle))) append)
+    → KeptBy f.services (kept_change l f (Call caller (request.Delete handle) append))
+    (call_of l (with_moment f moment) caller (request.Delete handle) append).flat.services
 deleted l f moment caller handle appended.Kept s right =
     let g = with_moment f moment in
     let code = delete_verdict g caller handle appended.Kept in
-    of_kept code (told_refused g caller (request.Delete handle) code) g (delete_done g caller handle) (delete_change f caller handle) (one_marked f (held_service f caller handle) s (held_row f caller handle))
+    of_kept code (told_refused g caller (request.Delete handle) code) g (delete_done g caller handle) (delete_change f caller handle)
+    (one_marked f (held_service f caller handle) s (held_row f caller handle))
 deleted l f moment caller handle appended.NotAsked s right =
     let g = with_moment f moment in
     let code = delete_verdict g caller handle appended.NotAsked in
-    of_unasked code (told_refused g caller (request.Delete handle) code) g (delete_done g caller handle) (delete_change f caller handle) (one_marked f (held_service f caller handle) s (held_row f caller handle)) right
+    of_unasked code (told_refused g caller (request.Delete handle) code) g (delete_done g caller handle) (delete_change f caller handle)
+    (one_marked f (held_service f caller handle) s (held_row f caller handle)) right
 deleted l f moment caller handle appended.Failed s right =
     let g = with_moment f moment in
     let code = delete_verdict g caller handle appended.Failed in
@@ -137,29 +156,38 @@ deleted l f moment caller handle appended.Failed s right =
 
 -- ## Another configuration
 
-one_configured : (f : Flat) (new : Service → Config) (found : Option Service) → ((row : Service) → (new row).name ≡ row.config.name) → Sound f → IfSome found (λ row. service_of f row.number ≡ Some row)
+one_configured : (f : Flat) (new : Service → Config) (found : Option Service) → ((row : Service) → (new row).name ≡ row.config.name)
+    → Sound f → IfSome found (λ row. service_of f row.number ≡ Some row)
     → KeptBy f.services (option_and_then (λ row. changed_from row.config (new row)) found) (configured_in new found f.services)
 one_configured f new None named s is = all_same (unmarked f.services)
 one_configured f new (Some row) named s is =
     let config = new row in
-    elim (is_kept_alike row.config config) as (λ b. is_kept_alike row.config config ≡ b → KeptBy f.services (cond b None (Some (Changed config))) (map (configured_if row.number config) f.services)) [
+    elim (is_kept_alike row.config config) as (λ b. is_kept_alike row.config config ≡ b
+    → KeptBy f.services (cond b None (Some (Changed config))) (map (configured_if row.number config) f.services)) [
       | true ↦ λ alike. alike_unmarked row.number config f.services
           (All-weaker (λ (r : Service). (r.number == row.number) ≡ true → r ≡ row) (IsAlike row.number config)
-          (λ r only same. subst (λ (old : Service). IsKeptAs config old.config) (sym (only same)) (record { name = named row; bytes = sym (same_list (spelling row.config) (spelling config) (sym alike)) })) f.services
+          (λ r only same. subst (λ (old : Service). IsKeptAs config old.config) (sym (only same))
+          (record { name = named row; bytes = sym (same_list (encoding row.config) (encoding config) (sym alike)) })) f.services
           (found_only (λ (r : Service). r.number) row.number row f.services s.services.numbered.rising is))
       | false ↦ λ other. same_kept _ _ (configured_unmarked row.number config f.services
-          (subst (λ name. All (IsNamed row.number name) f.services) (sym (named row)) (all_named row.number row f.services s.services.names s.services.numbered.rising is)))
+          (subst (λ name. All (IsNamed row.number name) f.services) (sym (named row))
+          (all_named row.number row f.services s.services.names s.services.numbered.rising is)))
     ] refl
 
 -- ## Change
 
 change_failed : (f : Flat) (caller : ℕ) (change : ChangeService) → change_verdict f caller change appended.Failed ≡ 0 → ⊥
 change_failed f caller change e =
-    let p = all_pass (change_refusals f caller change appended.Failed) (refl, (refl, (refl, (refl, (refl, (refl, (refl, (refl, (refl, tt))))))))) e in
+    let p = all_pass (change_refusals f caller change appended.Failed) (
+      refl,
+      (refl, (refl, (refl, (refl, (refl, (refl, (refl, (refl, tt)))))))),
+    ) e in
     let is = p.1.1.1.1.1.1.1.1.0 in cc
 
-pub changed : (l : Limits) (f : Flat) (moment caller : ℕ) (change : ChangeService) (append : Kept) → Sound f → IsTrue (tells_right (is_some (change_of_call l f caller (request.Change change))) append)
-    → KeptBy f.services (kept_change l f (Call caller (request.Change change) append)) (call_of l (with_moment f moment) caller (request.Change change) append).flat.services
+pub changed : (l : Limits) (f : Flat) (moment caller : ℕ) (change : ChangeService) (append : Kept) → Sound f
+    → IsTrue (tells_right (is_some (change_of_call l f caller (request.Change change))) append)
+    → KeptBy f.services (kept_change l f (Call caller (request.Change change) append))
+    (call_of l (with_moment f moment) caller (request.Change change) append).flat.services
 changed l f moment caller change appended.Kept s right =
     let g = with_moment f moment in
     let code = change_verdict g caller change appended.Kept in
@@ -182,19 +210,24 @@ level_failed f caller handle asked e =
     let p = all_pass (change2_refusals f caller handle asked appended.Failed) (refl, (refl, (refl, (refl, (refl, (refl, tt)))))) e in
     let is = p.1.1.1.1.1.0 in cc
 
-pub level_changed : (l : Limits) (f : Flat) (moment caller handle : ℕ) (asked : Info) (append : Kept) → Sound f → IsTrue (tells_right (is_some (change_of_call l f caller (request.Change2 handle asked))) append)
-    → KeptBy f.services (kept_change l f (Call caller (request.Change2 handle asked) append)) (call_of l (with_moment f moment) caller (request.Change2 handle asked) append).flat.services
+pub level_changed : (l : Limits) (f : Flat) (moment caller handle : ℕ) (asked : Info) (append : Kept) → Sound f
+    → IsTrue (tells_right (is_some (change_of_call l f caller (request.Change2 handle asked))) append)
+    → KeptBy f.services (kept_change l f (Call caller (request.Change2 handle asked) append))
+    (call_of l (with_moment f moment) caller (request.Change2 handle asked) append).flat.services
 level_changed l f moment caller handle asked appended.Kept s right =
     let g = with_moment f moment in
     let code = change2_verdict g caller handle asked appended.Kept in
-    of_kept code (told_refused g caller (request.Change2 handle asked) code) g (change2_done g caller handle asked) (change2_change f caller handle asked)
+    of_kept code (told_refused g caller (request.Change2 handle asked) code) g (change2_done g caller handle asked)
+    (change2_change f caller handle asked)
     (one_configured f (level_config asked) (held_service f caller handle) (name_left asked) s (held_row f caller handle))
 level_changed l f moment caller handle asked appended.NotAsked s right =
     let g = with_moment f moment in
     let code = change2_verdict g caller handle asked appended.NotAsked in
-    of_unasked code (told_refused g caller (request.Change2 handle asked) code) g (change2_done g caller handle asked) (change2_change f caller handle asked)
+    of_unasked code (told_refused g caller (request.Change2 handle asked) code) g (change2_done g caller handle asked)
+    (change2_change f caller handle asked)
     (one_configured f (level_config asked) (held_service f caller handle) (name_left asked) s (held_row f caller handle)) right
 level_changed l f moment caller handle asked appended.Failed s right =
     let g = with_moment f moment in
     let code = change2_verdict g caller handle asked appended.Failed in
-    of_failed code (told_refused g caller (request.Change2 handle asked) code) g (change2_done g caller handle asked) (level_failed g caller handle asked)
+    of_failed code (told_refused g caller (request.Change2 handle asked) code) g (change2_done g caller handle asked)
+    (level_failed g caller handle asked)

@@ -1,16 +1,18 @@
 -- An entry is read, over any configurations.
-use Rattle.std.proofs.Common.{ℕ, suc, ◌≡◌, ◌∙◌, ◌≤◌, ◌==◌, Bool, true, cond, List, [], ◌++◌, Option, None, Some, Ok, Err, length, length-append, append_assoc, refl, sym, ap, arith, le-ltb}
+use Rattle.std.proofs.Common.{ℕ, suc, ◌≡◌, ◌∙◌, ◌≤◌, ◌==◌, Bool, true, cond, List, [], ◌++◌, Option, None, Some, Ok, Err, length}
+use Rattle.std.proofs.Common.{length-append, append_assoc, refl, sym, ap, arith, le-ltb}
 use Rattle.std.specs.Prelude.{Result, option_and_then, option_map}
 use Rattle.std.proofs.lemmas.List.{append-nil, drop_at, take_at}
 use Rattle.scm_model.specs.declared.flat.Config.{Config}
 use Rattle.scm_model.specs.declared.steps.Change.{Change}
 use Rattle.scm_model.specs.declared.steps.Change.TheVariants.{Created, Changed, Removed}
 use Rattle.service_record.specs.Reading.{◌>>=◌, Item, placed, take_number, take_text, whole_of}
-use Rattle.service_record.specs.Spelling.{FitsText, IsConfig, held, number, spelling, text}
+use Rattle.service_record.specs.Spelling.{FitsText, IsConfig, held, number, encoding, text}
 use Rattle.service_record.proofs.Fields.{a_number}
 use Rattle.service_record.proofs.Records.{record_again}
 use Rattle.service_record.proofs.Texts.{a_text}
-use Rattle.record_journal.specs.Entries.{Whole, can_replay, change_in, entries_from, first_of, followed, if_read, name_of, replayable, whole_entry, with_body, with_change}
+use Rattle.record_journal.specs.Entries.{Whole, can_replay, change_in, entries_from, first_of, followed, if_read, name_of, replayable}
+use Rattle.record_journal.specs.Entries.{whole_entry, with_body, with_change}
 use Rattle.record_journal.specs.Format.{HasEntry, body_of, entry_bytes, entry_kind}
 use Rattle.record_journal.specs.ReadBack.{held_change}
 use Rattle.record_journal.specs.Replay.{after_change}
@@ -19,8 +21,8 @@ placed_ok : {A : Type 0} (size : ℕ) (r : Result A ℕ) (x : A) → placed size
 placed_ok size (Ok y) x e = cc
 placed_ok size (Err left) x e = absurd cc
 
-pub config_back : (config : Config) → IsConfig config → whole_of (spelling config) ≡ Ok (held config)
-config_back config fits = placed_ok (length (spelling config)) (whole_of (spelling config)) (held config) (record_again config fits)
+pub config_back : (config : Config) → IsConfig config → whole_of (encoding config) ≡ Ok (held config)
+config_back config fits = placed_ok (length (encoding config)) (whole_of (encoding config)) (held config) (record_again config fits)
 
 whole_name : Item (List ℕ) → Result (List ℕ) ℕ
 whole_name read = read >>= λ name. cond (length name.1 == 0) (Ok name.0) (Err (length name.1))
@@ -39,10 +41,15 @@ change_back (Removed name) entry = ap (λ (r : Result (List ℕ) ℕ). option_ma
 abbrev entry_of : Change → List ℕ → Whole
 entry_of change rest = record { kind = entry_kind change; body = body_of change; rest = rest }
 
-body_back : (kind : ℕ) (body rest : List ℕ) → with_body kind (Some (length body, body ++ rest)) ≡ Some (record { kind = kind; body = body; rest = rest })
+body_back : (kind : ℕ) (body rest : List ℕ) → with_body kind (Some (length body, body ++ rest)) ≡ Some
+    (record { kind = kind; body = body; rest = rest })
 body_back kind body rest =
     let long = length-append body rest in
-    rw (le-ltb (length (body ++ rest)) (length body) (omega (arith, long)), take_at body rest (length body) refl, drop_at body rest (length body) refl) refl
+    rw (
+      le-ltb (length (body ++ rest)) (length body) (omega (arith, long)),
+      take_at body rest (length body) refl,
+      drop_at body rest (length body) refl,
+    ) refl
 
 front_back : (change : Change) (rest : List ℕ) → HasEntry change → whole_entry (entry_bytes change ++ rest) ≡ Some (entry_of change rest)
 unfolding entry_bytes
@@ -52,14 +59,17 @@ front_back change rest entry =
     ap take_number (append_assoc (number size) (body_of change) rest) ∙ a_number.again size (body_of change ++ rest) entry.length in
     ap (λ (r : Item ℕ). with_body (entry_kind change) (if_read r)) read ∙ body_back (entry_kind change) (body_of change) rest
 
-pub entry_back : (n : ℕ) (configs : List Config) (change : Change) (rest : List ℕ) → HasEntry change → can_replay configs (held_change change) ≡ true
-    → entries_from (suc n) configs (entry_bytes change ++ rest) ≡ with_change (held_change change) (entries_from n (after_change configs (held_change change)) rest)
+pub entry_back : (n : ℕ) (configs : List Config) (change : Change) (rest : List ℕ) → HasEntry change
+    → can_replay configs (held_change change) ≡ true
+    → entries_from (suc n) configs (entry_bytes change ++ rest) ≡ with_change (held_change change)
+    (entries_from n (after_change configs (held_change change)) rest)
 unfolding entries_from
 entry_back n configs change rest entry can =
     let bytes = entry_bytes change ++ rest in
     let left = length bytes in
     ap (first_of (entries_from n) configs bytes) (front_back change rest entry)
-    ∙ ap (λ (o : Option Change). followed (entries_from n) configs left rest (option_and_then (replayable configs) o)) (change_back change entry)
+    ∙ ap (λ (o : Option Change). followed (entries_from n) configs left rest (option_and_then (replayable configs) o))
+    (change_back change entry)
     ∙ ap (λ (b : Bool). followed (entries_from n) configs left rest (cond b (Some (held_change change)) None)) can
 
 pub long_entry : (change : Change) → 1 ≤ length (entry_bytes change)

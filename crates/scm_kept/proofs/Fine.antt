@@ -1,5 +1,6 @@
 -- A change that leaves configurations which a manager can begin with can be replayed.
-use Rattle.std.proofs.Common.{ℕ, zero, suc, ◌≡◌, ◌∙◌, ◌<◌, ◌+◌, ◌&&◌, ◌||◌, cond, not, Bool, true, false, List, [], ◌∷◌, ◌++◌, None, Some, filter, get_or, length, map, ap, sym, refl, subst, arith}
+use Rattle.std.proofs.Common.{ℕ, zero, suc, ◌≡◌, ◌∙◌, ◌<◌, ◌+◌, ◌&&◌, ◌||◌, cond, not, Bool, true, false, List, [], ◌∷◌, ◌++◌, None, Some}
+use Rattle.std.proofs.Common.{filter, get_or, length, map, ap, sym, refl, subst, arith}
 use Rattle.std.specs.Prelude.{All, AllPairs}
 use Rattle.std.specs.List.{AllZip, list_any}
 use Rattle.std.proofs.lemmas.Bool.{and_from, and_left, and_right, eq-eqb, lt-ltb, not_from_false, or_from, or_parts}

@@ -1,5 +1,6 @@
 -- The service that a number finds: no other has its name.
-use Rattle.std.proofs.Common.{ℕ, zero, suc, ◌≡◌, ◌∙◌, ◌<◌, ◌==◌, ◌||◌, true, false, cond, not, List, [], ◌∷◌, Some, filter, find, get_or, map, ap, sym, refl, subst, arith}
+use Rattle.std.proofs.Common.{ℕ, zero, suc, ◌≡◌, ◌∙◌, ◌<◌, ◌==◌, ◌||◌, true, false, cond, not, List, [], ◌∷◌, Some, filter, find, get_or}
+use Rattle.std.proofs.Common.{map, ap, sym, refl, subst, arith}
 use Rattle.std.specs.Prelude.{All, AllPairs}
 use Rattle.std.proofs.lemmas.Cmp.{lists_equiv, nat_eq_equiv, on_equiv}
 use Rattle.std.proofs.lemmas.List.Elements.{All-cons, All-head, All-nil, All-tail}
@@ -32,14 +33,17 @@ first_pairs x xs pairs k d lt = pairs zero (suc k) d (omega arith) (omega (arith
 later_pairs : (x : Service) (xs : List Service) → AllPairs AreOther (x ∷ xs) → AllPairs AreOther xs
 later_pairs x xs pairs i j d lt within = pairs (suc i) (suc j) d (omega (arith, lt)) (omega (arith, within))
 
-all_other : (number : ℕ) (found : Service) (rows : List Service) → AllPairs AreOther rows → find (λ (row : Service). row.number == number) rows ≡ Some found → All (HasOther number found) rows
+all_other : (number : ℕ) (found : Service) (rows : List Service) → AllPairs AreOther rows
+    → find (λ (row : Service). row.number == number) rows ≡ Some found → All (HasOther number found) rows
 all_other number found [] pairs e = All-nil (HasOther number found)
 all_other number found (x ∷ xs) pairs e =
-    elim (x.number == number) as (λ b. (x.number == number) ≡ b → cond b (Some x) (find (λ (row : Service). row.number == number) xs) ≡ Some found → All (HasOther number found) (x ∷ xs)) [
+    elim (x.number == number) as (λ b. (x.number == number) ≡ b → cond b (Some x)
+    (find (λ (row : Service). row.number == number) xs) ≡ Some found → All (HasOther number found) (x ∷ xs)) [
       | true ↦ λ h is. All-cons (HasOther number found) x xs (λ other. absurd cc)
           (λ k d lt other. subst (λ (row : Service). same_text (get_or xs k d).config.name row.config.name ≡ false) (same_some x found is)
           (same_swap (get_or xs k d).config.name x.config.name ∙ first_pairs x xs pairs k d lt))
-      | false ↦ λ h is. All-cons (HasOther number found) x xs (λ other. found_has (AreOther x) (λ (row : Service). row.number == number) found xs (first_pairs x xs pairs) is)
+      | false ↦ λ h is. All-cons (HasOther number found) x xs (λ other. found_has (AreOther x)
+          (λ (row : Service). row.number == number) found xs (first_pairs x xs pairs) is)
           (all_other number found xs (later_pairs x xs pairs) is)
     ] refl e
 
@@ -47,7 +51,8 @@ all_other number found (x ∷ xs) pairs e =
 abbrev pub IsNamed : ℕ → List ℕ → Service → Type 0
 IsNamed number name row = same_text row.config.name name ≡ (row.number == number)
 
-pub all_named : (number : ℕ) (found : Service) (rows : List Service) → AllPairs AreOther rows → AllPairs (λ (a b : Service). a.number < b.number) rows → find (λ (row : Service). row.number == number) rows ≡ Some found
+pub all_named : (number : ℕ) (found : Service) (rows : List Service) → AllPairs AreOther rows
+    → AllPairs (λ (a b : Service). a.number < b.number) rows → find (λ (row : Service). row.number == number) rows ≡ Some found
     → All (IsNamed number found.config.name) rows
 all_named number found rows pairs rising e k d lt =
     let row = get_or rows k d in
@@ -67,22 +72,30 @@ marked_unmarked number name (row ∷ rows) each =
     let left = filter stays (map (marked_if number) rows) in
     let others = λ (configs : List Config). filter (λ (old : Config). not (same_text old.name name)) configs in
     let rest = marked_unmarked number name rows (All-tail (IsNamed number name) row rows each) in
-    elim row.marked as (λ mark. map config_of (cond (not (mark || row.number == number)) (record row { marked = mark || row.number == number } ∷ left) left)
+    elim row.marked as (λ mark. map config_of (cond (not (mark || row.number == number))
+    (record row { marked = mark || row.number == number } ∷ left) left)
     ≡ others (map config_of (cond (not mark) (row ∷ filter stays rows) (filter stays rows)))) [
       | true ↦ rest
-      | false ↦ subst (λ t. map config_of (cond (not (row.number == number)) (record row { marked = row.number == number } ∷ left) left) ≡ cond (not t) (row.config ∷ others (unmarked rows)) (others (unmarked rows)))
+      | false ↦ subst (λ t. map config_of (cond (not (row.number == number)) (record row { marked = row.number == number } ∷ left) left) ≡
+          cond (not t) (row.config ∷ others (unmarked rows)) (others (unmarked rows)))
           (sym (All-head (IsNamed number name) row rows each))
-          (elim (row.number == number) as (λ b. map config_of (cond (not b) (record row { marked = b } ∷ left) left) ≡ cond (not b) (row.config ∷ others (unmarked rows)) (others (unmarked rows)))
+          (elim (row.number == number) as (λ b. map config_of (cond (not b) (record row { marked = b } ∷ left) left) ≡ cond (not b)
+          (row.config ∷ others (unmarked rows)) (others (unmarked rows)))
           [ true ↦ rest | false ↦ ap (λ configs. row.config ∷ configs) rest ])
     ]
 
 -- ## Another configuration
 
 pub mark_kept : (number : ℕ) (config : Config) (row : Service) → (configured_if number config row).marked ≡ row.marked
-mark_kept number config row = elim (row.number == number) as (λ b. (cond b (replaced config row) row).marked ≡ row.marked) [ true ↦ refl | false ↦ refl ]
+mark_kept number config row = elim (row.number == number) as (λ b. (cond b (replaced config row) row).marked ≡ row.marked) [
+  | true ↦ refl
+  | false ↦ refl
+]
 
-config_is : (number : ℕ) (config : Config) (row : Service) → (configured_if number config row).config ≡ cond (row.number == number) config row.config
-config_is number config row = elim (row.number == number) as (λ b. (cond b (replaced config row) row).config ≡ cond b config row.config) [ true ↦ refl | false ↦ refl ]
+config_is : (number : ℕ) (config : Config) (row : Service) → (configured_if number config row).config ≡ cond
+    (row.number == number) config row.config
+config_is number config row = elim (row.number == number) as (λ b. (cond b (replaced config row) row).config ≡ cond b config row.config)
+    [ true ↦ refl | false ↦ refl ]
 
 pub configured_unmarked : (number : ℕ) (config : Config) (rows : List Service) → All (IsNamed number config.name) rows
     → unmarked (map (configured_if number config) rows) ≡ map (replaced_by config) (unmarked rows)
@@ -91,25 +104,32 @@ configured_unmarked number config (row ∷ rows) each =
     let new = configured_if number config row in
     let left = filter stays (map (configured_if number config) rows) in
     let rest = configured_unmarked number config rows (All-tail (IsNamed number config.name) row rows each) in
-    let same : new.config ≡ replaced_by config row.config = config_is number config row ∙ sym (ap (λ b. cond b config row.config) (All-head (IsNamed number config.name) row rows each)) in
+    let same : new.config ≡ replaced_by config row.config = config_is number config row
+    ∙ sym (ap (λ b. cond b config row.config) (All-head (IsNamed number config.name) row rows each)) in
     ap (λ mark. map config_of (cond (not mark) (new ∷ left) left)) (mark_kept number config row)
-    ∙ elim row.marked as (λ mark. map config_of (cond (not mark) (new ∷ left) left) ≡ map (replaced_by config) (map config_of (cond (not mark) (row ∷ filter stays rows) (filter stays rows))))
+    ∙ elim row.marked as (λ mark. map config_of (cond (not mark) (new ∷ left) left) ≡ map (replaced_by config)
+    (map config_of (cond (not mark) (row ∷ filter stays rows) (filter stays rows))))
     [ true ↦ rest | false ↦ ap (λ c. c ∷ map config_of left) same ∙ ap (λ configs. replaced_by config row.config ∷ configs) rest ]
 
 -- one that is kept alike
 abbrev pub IsAlike : ℕ → Config → Service → Type 0
 IsAlike number config row = (row.number == number) ≡ true → IsKeptAs config row.config
 
-alike_row : (number : ℕ) (config : Config) (row : Service) → IsAlike number config row → IsKeptAs (configured_if number config row).config row.config
+alike_row : (number : ℕ) (config : Config) (row : Service) → IsAlike number config row
+    → IsKeptAs (configured_if number config row).config row.config
 alike_row number config row alike =
-    elim (row.number == number) as (λ b. (row.number == number) ≡ b → IsKeptAs (cond b (replaced config row) row).config row.config) [ true ↦ λ e. alike e | false ↦ λ e. record { name = refl; bytes = refl } ] refl
+    elim (row.number == number) as (λ b. (row.number == number) ≡ b → IsKeptAs (cond b (replaced config row) row).config row.config)
+    [ true ↦ λ e. alike e | false ↦ λ e. record { name = refl; bytes = refl } ] refl
 
-pub alike_unmarked : (number : ℕ) (config : Config) (rows : List Service) → All (IsAlike number config) rows → AreKeptAs (unmarked (map (configured_if number config) rows)) (unmarked rows)
+pub alike_unmarked : (number : ℕ) (config : Config) (rows : List Service) → All (IsAlike number config) rows
+    → AreKeptAs (unmarked (map (configured_if number config) rows)) (unmarked rows)
 alike_unmarked number config [] each = tt
 alike_unmarked number config (row ∷ rows) each =
     let new = configured_if number config row in
     let left = filter stays (map (configured_if number config) rows) in
     let rest = alike_unmarked number config rows (All-tail (IsAlike number config) row rows each) in
-    subst (λ mark. AreKeptAs (map config_of (cond (not mark) (new ∷ left) left)) (unmarked (row ∷ rows))) (sym (mark_kept number config row))
-    (elim row.marked as (λ mark. AreKeptAs (map config_of (cond (not mark) (new ∷ left) left)) (map config_of (cond (not mark) (row ∷ filter stays rows) (filter stays rows))))
+    subst (λ mark. AreKeptAs (map config_of (cond (not mark) (new ∷ left) left)) (unmarked (row ∷ rows)))
+    (sym (mark_kept number config row))
+    (elim row.marked as (λ mark. AreKeptAs (map config_of (cond (not mark) (new ∷ left) left))
+    (map config_of (cond (not mark) (row ∷ filter stays rows) (filter stays rows))))
     [ true ↦ rest | false ↦ (alike_row number config row (All-head (IsAlike number config) row rows each), rest) ])

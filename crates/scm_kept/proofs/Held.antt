@@ -9,7 +9,7 @@ use Rattle.scm_model.specs.declared.flat.Config.{Config}
 use Rattle.scm_model.specs.declared.steps.Change.{Change}
 use Rattle.scm_model.specs.declared.steps.Change.TheVariants.{Created, Changed, Removed}
 use Rattle.service_record.specs.Reading.{whole_of}
-use Rattle.service_record.specs.Spelling.{IsConfig, held, spelling}
+use Rattle.service_record.specs.Spelling.{IsConfig, held, encoding}
 use Rattle.service_record.proofs.Fields.{ok_is}
 use Rattle.record_journal.specs.Format.{HasBody}
 use Rattle.record_journal.specs.ReadBack.{held_change}
@@ -19,7 +19,7 @@ use Rattle.scm_kept.proofs.Entry.{config_back}
 
 -- ## One configuration
 
-held_same : (a b : Config) → IsConfig a → IsConfig b → spelling a ≡ spelling b → held a ≡ held b
+held_same : (a b : Config) → IsConfig a → IsConfig b → encoding a ≡ encoding b → held a ≡ held b
 held_same a b one other e = ok_is (held a) (held b) (sym (config_back a one) ∙ ap whole_of e ∙ config_back b other)
 
 pub all_held : (xs ys : List Config) → AreKeptAs xs ys → AllByRecursion IsConfig xs → AllByRecursion IsConfig ys → map held xs ≡ map held ys
@@ -42,7 +42,8 @@ held_replaced config (old ∷ configs) =
     ∙ ap (λ (cs : List Config). replaced_by (held config) (held old) ∷ cs) (held_replaced config configs)
 
 held_removed : (name : List ℕ) (configs : List Config)
-    → map held (filter (λ (old : Config). not (same_text old.name name)) configs) ≡ filter (λ (old : Config). not (same_text old.name name)) (map held configs)
+    → map held (filter (λ (old : Config). not (same_text old.name name)) configs) ≡ filter (λ (old : Config). not (same_text old.name name))
+    (map held configs)
 held_removed name [] = refl
 held_removed name (old ∷ configs) =
     let others = λ (cs : List Config). filter (λ (c : Config). not (same_text c.name name)) cs in
@@ -62,7 +63,7 @@ pub held_one : (configs : List Config) (change : Option Change)
 held_one configs None = refl
 held_one configs (Some change) = held_after configs change
 
--- ## What has a spelling keeps one
+-- ## What has a encoding keeps one
 
 replaced_fits : (config : Config) (configs : List Config) → IsConfig config → AllByRecursion IsConfig configs
     → AllByRecursion IsConfig (map (replaced_by config) configs)

@@ -9,5 +9,6 @@ from_first : (first : ℕ) (configs : List Config) → unmarked (services_from f
 from_first first [] = refl
 from_first first (config ∷ configs) = ap (λ (rest : List Config). config ∷ rest) (from_first (first + 1) configs)
 
-pub of_opening : (l : Limits) (groups : List (List ℕ)) (configs : List Config) (moment : ℕ) → unmarked (opening l groups configs moment).services ≡ configs
+pub of_opening : (l : Limits) (groups : List (List ℕ)) (configs : List Config) (moment : ℕ)
+    → unmarked (opening l groups configs moment).services ≡ configs
 of_opening l groups configs moment = from_first 1 configs

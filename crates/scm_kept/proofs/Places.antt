@@ -1,5 +1,6 @@
 -- A change that a call makes has an entry, and a place among the unmarked configurations.
-use Rattle.std.proofs.Common.{ℕ, ◌≡◌, ◌∙◌, ◌<◌, ◌≤◌, ◌==◌, ◌||◌, Bool, true, false, cond, not, List, [], ◌∷◌, Option, None, Some, eqb-true, filter, find, length, map, sym, refl, subst, ap, arith}
+use Rattle.std.proofs.Common.{ℕ, ◌≡◌, ◌∙◌, ◌<◌, ◌≤◌, ◌==◌, ◌||◌, Bool, true, false, cond, not, List, [], ◌∷◌, Option, None, Some, eqb-true}
+use Rattle.std.proofs.Common.{filter, find, length, map, sym, refl, subst, ap, arith}
 use Rattle.std.specs.Prelude.{IfSome, nat_le, option_and_then, option_map}
 use Rattle.std.specs.List.{AllByRecursion, list_any}
 use Rattle.std.proofs.lemmas.Bool.{leb-false, not-false, or_left, or_parts, or_right}
@@ -23,7 +24,8 @@ use Rattle.service_record.specs.Spelling.{held}
 use Rattle.record_journal.specs.Entries.{has_name}
 use Rattle.record_journal.specs.Format.{HasEntry}
 use Rattle.record_journal.specs.ReadBack.{held_change}
-use Rattle.scm_rules.specs.Change.{change_change, change_refusals, change_verdict, changed_from, checked, is_kept_alike, new_config, tags_no_group}
+use Rattle.scm_rules.specs.Change.{change_change, change_refusals, change_verdict, changed_from, checked, is_kept_alike, new_config}
+use Rattle.scm_rules.specs.Change.{tags_no_group}
 use Rattle.scm_rules.specs.Change2.{change2_change, change2_refusals, change2_verdict, has_bad_trigger, is_refused, level_config}
 use Rattle.scm_rules.specs.Create.{create_refusals, create_verdict, created_config, tags_nothing}
 use Rattle.scm_rules.specs.Delete.{delete_refusals, delete_verdict, is_marked, removed}
@@ -55,10 +57,12 @@ pub record IsPlaced (f : Flat) (change : Change) : Type 0 where
 -- ## Configurations
 
 created_entry : (config : Config) → check_new config None ≡ 0 → HasUnits config → HasEntry (Created config)
-created_entry config checked units = let small = is_small config checked in record { body = config_fits config small units; length = spelling_long config small }
+created_entry config checked units = let small = is_small config checked in
+    record { body = config_fits config small units; length = spelling_long config small }
 
 changed_entry : (config : Config) → check_new config None ≡ 0 → HasUnits config → HasEntry (Changed config)
-changed_entry config checked units = let small = is_small config checked in record { body = config_fits config small units; length = spelling_long config small }
+changed_entry config checked units = let small = is_small config checked in
+    record { body = config_fits config small units; length = spelling_long config small }
 
 removed_entry : (config : Config) → check_new config None ≡ 0 → HasUnits config → HasEntry (Removed config.name)
 removed_entry config checked units =

@@ -1,5 +1,7 @@
 -- What an append that was cut off leaves is read.
-use Rattle.std.proofs.Common.{ℕ, zero, suc, ◌≡◌, ◌≢◌, ◌∙◌, ◌<◌, ◌≤◌, ◌-◌, ◌&&◌, Bool, true, false, cond, List, [], ◌∷◌, ◌++◌, Ok, Err, take, drop, length, length-append, append_assoc, refl, sym, ap, subst, arith, nat_lt, lt-ltb, eqb, ⊎_elim, inl, inr, ◌+◌}
+use Rattle.std.proofs.Common.{ℕ, zero, suc, ◌≡◌, ◌≢◌, ◌∙◌, ◌<◌, ◌≤◌, ◌-◌, ◌&&◌, Bool, true, false, cond, List, [], ◌∷◌, ◌++◌, Ok, Err, take}
+use Rattle.std.proofs.Common.{drop, length, length-append, append_assoc, refl, sym, ap, subst, arith, nat_lt, lt-ltb, eqb, ⊎_elim, inl, inr}
+use Rattle.std.proofs.Common.{◌+◌}
 use Rattle.std.specs.List.{starts_with}
 use Rattle.std.proofs.Math.Seq.{take-append-add}
 use Rattle.std.proofs.lemmas.Bool.{cases_lt}
@@ -173,12 +175,16 @@ tail_left : (good : List ℕ) (configs : List Config) (change : Change) (tail mo
     → piece (length good) change ≡ tail ++ more → IsLeftReadable good configs (good ++ tail)
 tail_left good configs change tail [] is entry parts =
     inr (record { change = change; entry = entry; whole = ap (λ (xs : List ℕ). good ++ xs) (sym (parts ∙ append-nil tail)) })
-tail_left good configs change tail (x ∷ more) is entry parts = inl (cut_within good configs change tail (x ∷ more) is entry parts (omega arith))
+tail_left good configs change tail (x ∷ more) is entry parts = inl (cut_within good configs change tail (x ∷ more) is entry parts
+    (omega arith))
 
-any_left : (good : List ℕ) (configs : List Config) (dirty : Bool) (tail : List ℕ) → IsJournalOf good configs → Tail good dirty tail → IsLeftReadable good configs (good ++ tail)
+any_left : (good : List ℕ) (configs : List Config) (dirty : Bool) (tail : List ℕ) → IsJournalOf good configs → Tail good dirty tail
+    → IsLeftReadable good configs (good ++ tail)
 any_left good configs false tail is none =
     inl (subst (Rests good configs) (sym (ap (λ (xs : List ℕ). good ++ xs) none ∙ append-nil good)) (rests_all good configs is))
 any_left good configs true tail is part = tail_left good configs part.0 tail part.2.0 is part.1 part.2.1
 
-pub borne_left : (good : List ℕ) (configs : List Config) (j : Journal) (now : List ℕ) → IsJournalOf good configs → Borne good j now → IsLeftReadable good configs now
-borne_left good configs j now is borne = subst (IsLeftReadable good configs) (sym borne.holds) (any_left good configs j.dirty borne.tail is borne.part)
+pub borne_left : (good : List ℕ) (configs : List Config) (j : Journal) (now : List ℕ) → IsJournalOf good configs → Borne good j now
+    → IsLeftReadable good configs now
+borne_left good configs j now is borne = subst (IsLeftReadable good configs) (sym borne.holds)
+    (any_left good configs j.dirty borne.tail is borne.part)

@@ -1,5 +1,6 @@
 -- What a journal is read as has the numbers and units of its types, and is held as it is.
-use Rattle.std.proofs.Common.{ℕ, zero, suc, ◌≡◌, ◌∙◌, ◌-◌, ◌&&◌, ◌==◌, Bool, true, false, cond, not, List, [], ◌∷◌, ◌++◌, Option, None, Some, Ok, Err, take, drop, filter, length, map, nat_lt, refl, sym, ap, subst, eqb}
+use Rattle.std.proofs.Common.{ℕ, zero, suc, ◌≡◌, ◌∙◌, ◌-◌, ◌&&◌, ◌==◌, Bool, true, false, cond, not, List, [], ◌∷◌, ◌++◌, Option, None}
+use Rattle.std.proofs.Common.{Some, Ok, Err, take, drop, filter, length, map, nat_lt, refl, sym, ap, subst, eqb}
 use Rattle.std.specs.Prelude.{Result, option_and_then, option_map}
 use Rattle.std.specs.Int.{w32, from_le_bytes}
 use Rattle.std.specs.List.{AllByRecursion, starts_with}
@@ -12,7 +13,9 @@ use Rattle.service_record.specs.Reading.{placed, whole_of}
 use Rattle.service_record.specs.Spelling.{IsConfig, held}
 use Rattle.service_record.proofs.Fields.{IsBytes, IsBytes-drop, IsBytes-take, ok_is}
 use Rattle.service_record.proofs.Records.{is_found}
-use Rattle.record_journal.specs.Entries.{Entries, Whole, all_from, can_replay, change_in, entries, entries_from, first_of, followed, if_read, is_unfinished, last_of, name_of, read_journal, replay_of, replayable, whole_entry, with_body, with_change}
+use Rattle.record_journal.specs.Entries.{Entries, Whole, all_from, can_replay, change_in, entries, entries_from, first_of, followed}
+use Rattle.record_journal.specs.Entries.{if_read, is_unfinished, last_of, name_of, read_journal, replay_of, replayable, whole_entry}
+use Rattle.record_journal.specs.Entries.{with_body, with_change}
 use Rattle.record_journal.specs.Format.{header}
 use Rattle.record_journal.specs.declared.replaying.Replay.{Replay}
 use Rattle.scm_kept.specs.Replayed.{after_change, replaced_by, replayed}

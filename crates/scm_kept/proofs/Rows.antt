@@ -26,7 +26,8 @@ bare_unmarked (old ∷ olds) [] each = absurd each
 bare_unmarked (old ∷ olds) (new ∷ news) each =
     let rest = bare_unmarked olds news each.1 in
     ap (λ mark. map config_of (cond (not mark) (new ∷ filter stays news) (filter stays news))) each.0.mark
-    ∙ elim old.marked as (λ mark. map config_of (cond (not mark) (new ∷ filter stays news) (filter stays news)) ≡ map config_of (cond (not mark) (old ∷ filter stays olds) (filter stays olds)))
+    ∙ elim old.marked as (λ mark. map config_of (cond (not mark) (new ∷ filter stays news) (filter stays news)) ≡ map config_of
+    (cond (not mark) (old ∷ filter stays olds) (filter stays olds)))
     [ true ↦ rest | false ↦ ap (λ config. config ∷ unmarked news) each.0.config ∙ ap (λ configs. old.config ∷ configs) rest ]
 
 -- ## Settling
@@ -46,17 +47,23 @@ settled_unmarked next bound olds news each = bare_unmarked olds news (all_settle
 
 -- ## Services that leave
 
-filtered_unmarked : (p : Service → Bool) → ((row : Service) → row.marked ≡ false → p row ≡ true) → (rows : List Service) → unmarked (filter p rows) ≡ unmarked rows
+filtered_unmarked : (p : Service → Bool) → ((row : Service) → row.marked ≡ false → p row ≡ true) → (rows : List Service)
+    → unmarked (filter p rows) ≡ unmarked rows
 filtered_unmarked p passes [] = refl
 filtered_unmarked p passes (row ∷ rows) =
     let rest = filtered_unmarked p passes rows in
-    elim row.marked as (λ mark. row.marked ≡ mark → unmarked (filter p (row ∷ rows)) ≡ map config_of (cond (not mark) (row ∷ filter stays rows) (filter stays rows))) [
-      | true ↦ λ e. elim (p row) as (λ b. unmarked (cond b (row ∷ filter p rows) (filter p rows)) ≡ unmarked rows) [ true ↦ rw e rest | false ↦ rest ]
+    elim row.marked as (λ mark. row.marked ≡ mark → unmarked (filter p (row ∷ rows)) ≡ map config_of
+    (cond (not mark) (row ∷ filter stays rows) (filter stays rows))) [
+      | true ↦ λ e. elim (p row) as (λ b. unmarked (cond b (row ∷ filter p rows) (filter p rows)) ≡ unmarked rows) [
+        | true ↦ rw e rest
+        | false ↦ rest
+      ]
       | false ↦ λ e. rw (passes row e, e) (ap (λ configs. row.config ∷ configs) rest)
     ] refl
 
 unmarked_stays : (handles : List HandleRow) (row : Service) → row.marked ≡ false → not (leaves handles row) ≡ true
 unmarked_stays handles row e = rw e refl
 
-pub purged_unmarked : (handles : List HandleRow) (rows : List Service) → unmarked (filter (λ (row : Service). not (leaves handles row)) rows) ≡ unmarked rows
+pub purged_unmarked : (handles : List HandleRow) (rows : List Service) →
+    unmarked (filter (λ (row : Service). not (leaves handles row)) rows) ≡ unmarked rows
 purged_unmarked handles rows = filtered_unmarked (λ (row : Service). not (leaves handles row)) (unmarked_stays handles) rows

@@ -1,5 +1,6 @@
 -- The numbers and units of every state's unmarked configurations are those of their types.
-use Rattle.std.proofs.Common.{ℕ, ◌≡◌, ◌∙◌, ◌==◌, ◌||◌, true, false, cond, not, IsTrue, List, [], ◌∷◌, ◌++◌, filter, map, ap, sym, refl, subst}
+use Rattle.std.proofs.Common.{ℕ, ◌≡◌, ◌∙◌, ◌==◌, ◌||◌, true, false, cond, not, IsTrue, List, [], ◌∷◌, ◌++◌, filter, map, ap, sym, refl}
+use Rattle.std.proofs.Common.{subst}
 use Rattle.std.specs.Prelude.{All}
 use Rattle.std.specs.List.{AllByRecursion}
 use Rattle.std.proofs.lemmas.List.{map-append}
@@ -52,7 +53,8 @@ marked_units number [] each = tt
 marked_units number (row ∷ rows) each =
     let left = filter stays (map (marked_if number) rows) in
     elim row.marked as (λ mark. AllByRecursion HasUnits (map config_of (cond (not mark) (row ∷ filter stays rows) (filter stays rows)))
-    → AllByRecursion HasUnits (map config_of (cond (not (mark || row.number == number)) (record row { marked = mark || row.number == number } ∷ left) left))) [
+    → AllByRecursion HasUnits (map config_of (cond (not (mark || row.number == number))
+    (record row { marked = mark || row.number == number } ∷ left) left))) [
       | true ↦ λ h. marked_units number rows h
       | false ↦ λ h. elim (row.number == number) as
           (λ b. AllByRecursion HasUnits (map config_of (cond (not b) (record row { marked = b } ∷ left) left)))

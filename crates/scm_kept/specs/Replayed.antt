@@ -7,7 +7,7 @@ use Rattle.scm_model.specs.declared.flat.Limits.{Limits}
 use Rattle.scm_model.specs.declared.flat.Service.{Service}
 use Rattle.scm_model.specs.Entries.{Entry}
 pub use Rattle.record_journal.specs.Replay.{after_change, replaced_by, replayed}
-use Rattle.service_record.specs.Spelling.{spelling}
+use Rattle.service_record.specs.Spelling.{encoding}
 use Rattle.scm_rules.specs.Histories.{state}
 use Rattle.scm_history.specs.Kept.{kept_changes}
 
@@ -18,7 +18,7 @@ unmarked rows =
 -- a configuration has the name and the bytes of another
 pub record IsKeptAs (config kept : Config) : Type 0 where
   pub name : config.name ≡ kept.name
-  pub bytes : spelling config ≡ spelling kept
+  pub bytes : encoding config ≡ encoding kept
 
 abbrev pub AreKeptAs : List Config → List Config → Type 0
 AreKeptAs configs kept = AllZip IsKeptAs configs kept

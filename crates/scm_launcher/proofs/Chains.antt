@@ -16,12 +16,14 @@ module _ (tells : ℕ → Type 0) (o : Opening) where
     pub room : All (λ end. is_full end ≡ false) ends
 
   -- a tick behind a chain
-  pub chain_then : (k m k' : Known) (done : List TickEnd) (end : TickEnd) → Chain tells o k m done → IsTicked tells o m end k' → Chain tells o k k' (done ++ end ∷ [])
+  pub chain_then : (k m k' : Known) (done : List TickEnd) (end : TickEnd) → Chain tells o k m done → IsTicked tells o m end k'
+      → Chain tells o k k' (done ++ end ∷ [])
   chain_then k m k' [] end first then = subst (λ (x : Known). Chain tells o x k' (end ∷ [])) first (k', then, refl)
   chain_then k m k' (d ∷ done) end first then = (first.0, first.1, chain_then first.0 m k' done end first.2 then)
 
   -- a tick that found room, after others that did
-  pub one_more : (k m k' : Known) (moment : ℕ) (end : TickEnd) → tells moment → TickEnds o m moment end k' → is_full end ≡ false → Ticked k m → Ticked k k'
+  pub one_more : (k m k' : Known) (moment : ℕ) (end : TickEnd) → tells moment → TickEnds o m moment end k' → is_full end ≡ false
+      → Ticked k m → Ticked k k'
   one_more k m k' moment end told ends room so = record {
     ends = so.ends ++ end ∷ [];
     chain = chain_then k m k' so.ends end so.chain (record { moment = moment; told = told; ends = ends });
@@ -53,11 +55,13 @@ module _ (tells : ℕ → Type 0) (o : Opening) where
   pub spent : (k m k' : Known) → (m.caller ≡ 0 → k' ≡ m) → k.caller ≡ 0 → TicksOn tells o k m → TicksOn tells o k k'
   spent k m k' goes nobody ticked = subst (λ (x : Known). TicksOn tells o k x) (sym (spent_as k m k' goes nobody ticked)) ticked
 
-  pub spent_end : (asked : Type 0) (k m k' : Known) → (m.caller ≡ 0 → k' ≡ m) → k.caller ≡ 0 → TicksOn tells o k m → IsTicksEnd asked o m → IsTicksEnd asked o k'
+  pub spent_end : (asked : Type 0) (k m k' : Known) → (m.caller ≡ 0 → k' ≡ m) → k.caller ≡ 0 → TicksOn tells o k m → IsTicksEnd asked o m
+      → IsTicksEnd asked o k'
   spent_end asked k m k' goes nobody ticked end = subst (IsTicksEnd asked o) (sym (spent_as k m k' goes nobody ticked)) end
 
 -- one that found no room ends it
-pub full_end : (asked : Type 0) (o : Opening) (k k' : Known) (moment : ℕ) (end : TickEnd) → TickEnds o k moment end k' → is_full end ≡ true → IsTicksEnd asked o k'
+pub full_end : (asked : Type 0) (o : Opening) (k k' : Known) (moment : ℕ) (end : TickEnd) → TickEnds o k moment end k' → is_full end ≡ true
+    → IsTicksEnd asked o k'
 full_end asked o k k' moment ticks.Full ends full = inr ends.0.full
 full_end asked o k k' moment ticks.Ticked ends full = absurd cc
 full_end asked o k k' moment ticks.Idle ends full = absurd cc

@@ -10,9 +10,11 @@ use Rattle.child_runner.specs.Launches.{Launches, Spawning}
 use Rattle.scm_launcher.specs.declared.launching.Child.{Child}
 use Rattle.scm_launcher.specs.Launches.{IsHanded, IsLaunched}
 
-module _ (o : Opening) (tells : ℕ → Type 0) {L F : Type 0} (pid : L → ℕ) (gives : L → F → Type 0) (k : Known) (s : Spawning) (process : ℕ) (link : L) (feed : F)
+module _ (o : Opening) (tells : ℕ → Type 0) {L F : Type 0} (pid : L → ℕ) (gives : L → F → Type 0) (k : Known) (s : Spawning) (process : ℕ)
+    (link : L) (feed : F)
     (launched mid after taken other next k' : Known) (launches : Launches o tells pid gives k s (ends.Started process link feed) launched)
-    (other_is : other ≡ fresh launched) (mid_is : mid ≡ accompanied launched) (next_is : next ≡ fresh mid) (after_is : after ≡ accompanied mid)
+    (other_is : other ≡ fresh launched) (mid_is : mid ≡ accompanied launched) (next_is : next ≡ fresh mid)
+    (after_is : after ≡ accompanied mid)
     (taken_is : taken ≡ after) (goes : k' ≡ next) where
   abbrev pub child : Child L F
   child = record { process = process; link = link; feed = feed; taken = taken; other = other }
@@ -37,13 +39,15 @@ module _ (o : Opening) (tells : ℕ → Type 0) {L F : Type 0} (pid : L → ℕ)
     book = subst (IsOf b) (sym is_taken) (record { table = of.table; opening = of.opening });
     nobody = ap (λ (x : Known). x.caller) is_taken ∙ whose nobody;
     process = subst (λ (x : Known). HoldsProcess b.opening x process phases.Launched) (sym is_taken)
-        (subst (λ (p : Opening). HoldsProcess p (accompanied launched) process phases.Launched) (sym same) (record { named = launches.2.named; listed = launches.2.listed }));
+        (subst (λ (p : Opening). HoldsProcess p (accompanied launched) process phases.Launched) (sym same)
+        (record { named = launches.2.named; listed = launches.2.listed }));
     other = subst (IsOf b) (sym other_is) (record { table = of.table; opening = of.opening });
     runner = ap (λ (x : Known). x.caller) other_is;
   }
 
 -- where nothing was launched the launcher's pass is still nobody's
-pub failed_nobody : (o : Opening) (tells : ℕ → Type 0) {L F : Type 0} (pid : L → ℕ) (gives : L → F → Type 0) (k k' : Known) (s : Spawning) (process code : ℕ)
+pub failed_nobody : (o : Opening) (tells : ℕ → Type 0) {L F : Type 0} (pid : L → ℕ) (gives : L → F → Type 0) (k k' : Known) (s : Spawning)
+    (process code : ℕ)
     → Launches o tells pid gives k s (ends.Failed process code) k' → k.caller ≡ 0 → k'.caller ≡ 0
 failed_nobody o tells pid gives k k' s process code l nobody = l.1.told.caller ∙ (l.1.taken.caller ∙ nobody)
 

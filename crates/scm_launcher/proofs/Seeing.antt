@@ -56,19 +56,23 @@ module _ (o : Opening) where
   sees_in by spent by' takes legal nobody = record {
     longer = takes.this;
     legal = λ l. subst (λ (x : Known). SawLegal o x) (sym takes.same)
-        (one_of (λ (log : List Entry). Legal o.limits o.first log) (nat_lt (length by.seen) (length spent.seen)) by.seen spent.seen l legal);
+        (one_of (λ (log : List Entry). Legal o.limits o.first log) (nat_lt (length by.seen) (length spent.seen)) by.seen spent.seen l
+        legal);
     nobody = ap (λ (x : Known). x.caller) takes.same ∙ nobody;
   }
 
   -- ## A look
 
   made_longer : (k k' : Known) (moment : ℕ) (step : Step) (told : Answer) → Made o k moment step told k' → IsPrefix k.seen k'.seen
-  made_longer k k' moment step told made = subst (λ (log : List Entry). IsPrefix k.seen log) (sym made.seen) (prefix_snoc k.seen made.before (moment, step) made.longer)
+  made_longer k k' moment step told made = subst (λ (log : List Entry). IsPrefix k.seen log) (sym made.seen)
+      (prefix_snoc k.seen made.before (moment, step) made.longer)
 
   module _ (tells : ℕ → Type 0) where
-    told_longer : (k k' : Known) (process : ℕ) (line : List ℕ × List (List ℕ)) (became : Step) → TakesAndTells o tells k process line became k' → IsPrefix k.seen k'.seen
+    told_longer : (k k' : Known) (process : ℕ) (line : List ℕ × List (List ℕ)) (became : Step)
+        → TakesAndTells o tells k process line became k' → IsPrefix k.seen k'.seen
     told_longer k k' process line became t =
-        prefix_trans k.seen t.between.seen k'.seen (made_longer k t.between t.taken_at _ _ t.taken) (made_longer t.between k' t.told_at _ _ t.told)
+        prefix_trans k.seen t.between.seen k'.seen (made_longer k t.between t.taken_at _ _ t.taken)
+        (made_longer t.between k' t.told_at _ _ t.told)
 
     pub sees_looked : {L F : Type 0} (pid : L → ℕ) (gives : L → F → Type 0) (k : Known) (s : Spawning) (next : Next L F) (k' : Known)
         → LooksOn o tells pid gives k s next k' → k'.caller ≡ 0 → SeesOn o k k'
@@ -90,16 +94,21 @@ module _ (o : Opening) where
     end_legal k k' process moment ends.Taken so = so.0.legal
     end_legal k k' process moment ends.Stale so = so.0.legal
 
-    pub served_legal : (process : ℕ) {L : Type 0} (left : L → Option (List ℕ)) (faults : L → ℕ) (ended : L → Option Bool) (link : L) (k : Known) (how : ChildServed) (k' : Known)
+    pub served_legal : (process : ℕ) {L : Type 0} (left : L → Option (List ℕ)) (faults : L → ℕ) (ended : L → Option Bool) (link : L)
+        (k : Known) (how : ChildServed) (k' : Known)
         → ServesLink tells o process left faults ended link k how k' → SawLegal o k'
-    served_legal process left faults ended link k how k' s = end_legal s.serves.stood k' process s.serves.moment s.serves.ended s.serves.ends
+    served_legal process left faults ended link k how k' s = end_legal s.serves.stood k' process s.serves.moment s.serves.ended
+        s.serves.ends
 
-    pub sent_legal : (process : ℕ) (may_ask : Type 0) {F : Type 0} (held : F → Option (List ℕ)) (faults : F → ℕ) (feed : F) (k : Known) (how : ControlsSent) (k' : Known)
-        → (last : F) × Sends tells o process may_ask k (held feed) (held last) (faults feed) (faults last) how k' → SawLegal o k → SawLegal o k'
+    pub sent_legal : (process : ℕ) (may_ask : Type 0) {F : Type 0} (held : F → Option (List ℕ)) (faults : F → ℕ) (feed : F) (k : Known)
+        (how : ControlsSent) (k' : Known)
+        → (last : F) × Sends tells o process may_ask k (held feed) (held last) (faults feed) (faults last) how k' → SawLegal o k
+        → SawLegal o k'
     sent_legal process may_ask held faults feed k how k' s legal = s.1.takes.legal legal
 
 -- a child that is handed out by a look is ready
-pub if_ready : (b : Identity) (tells : ℕ → Type 0) {L F : Type 0} (pid : L → ℕ) (gives : L → F → Type 0) (k : Known) (s : Spawning) (next : Next L F) (k' : Known)
+pub if_ready : (b : Identity) (tells : ℕ → Type 0) {L F : Type 0} (pid : L → ℕ) (gives : L → F → Type 0) (k : Known) (s : Spawning)
+    (next : Next L F) (k' : Known)
     → LooksOn b.opening tells pid gives k s next k' → Hands b next → IfReady b next
 if_ready b tells pid gives k s (nexts.Child child) k' i handed = record {
   handed = handed;

@@ -5,7 +5,8 @@ use Rattle.scm_book.specs.Passes.{Known}
 use Rattle.child_runner.specs.declared.served.ChildServed.{ChildServed}
 use Rattle.child_runner.specs.Serving.{IsComplete, IsServedFor, ServesChild}
 
-module _ (tells : ℕ → Type 0) (o : Opening) (process : ℕ) {L : Type 0} (left : L → Option (List ℕ)) (faults : L → ℕ) (ended : L → Option Bool) where
+module _ (tells : ℕ → Type 0) (o : Opening) (process : ℕ) {L : Type 0} (left : L → Option (List ℕ)) (faults : L → ℕ) (ended : L
+    → Option Bool) where
   -- a child was served from its first byte to its end; last is its link as it was dropped
   pub record ServesLink (link : L) (k : Known) (how : ChildServed) (k' : Known) : Type 0 where
     pub last : L

@@ -26,7 +26,8 @@ Hands b next = Unit {0}
 module _ (o : Opening) (tells : ℕ → Type 0) where
   -- The process was launched, which left the pass that did it so. It stays with the child; the pass for the controls and the launcher's
   -- next one are new, and have seen as much.
-  pub record IsLaunched {L F : Type 0} (pid : L → ℕ) (gives : L → F → Type 0) (k : Known) (s : Spawning) (child : Child L F) (k' : Known) : Type 0 where
+  pub record IsLaunched {L F : Type 0} (pid : L → ℕ) (gives : L → F → Type 0) (k : Known) (s : Spawning) (child : Child L F)
+      (k' : Known) : Type 0 where
     pub launched : Known
     pub launches : Launches o tells pid gives k s (ends.Started child.process child.link child.feed) launched
     pub taken : child.taken ≡ accompanied launched

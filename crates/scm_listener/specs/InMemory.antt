@@ -40,5 +40,6 @@ pub record IsPeers (peer : MemoryPeer) (input : GivingMemory) (output : HoldingM
 
 -- the connection that came is the first of those that were waiting; where none came they wait still
 abbrev pub Comes : {I O : Type 0} → (I → GivingMemory) → (O → HoldingMemory) → List MemoryPeer → Accepted I O → List MemoryPeer → Type 0
-Comes source sink waiting (accept.Conn input output) now = (peer : MemoryPeer) × (waiting ≡ peer ∷ now) × IsPeers peer (source input.end) (sink output.end)
+Comes source sink waiting (accept.Conn input output) now = (peer : MemoryPeer) × (waiting ≡ peer ∷ now)
+    × IsPeers peer (source input.end) (sink output.end)
 Comes source sink waiting accepted now = now ≡ waiting

@@ -2,7 +2,8 @@ ghost use Rattle.std.specs.Prelude.{◌≡◌, ◌≢◌, ◌≤◌, ◌+◌, �
 ghost use Rattle.std.specs.Io.KnownBytes.{ReadConsumes};
 ghost use Rattle.outside.specs.Causes.{HasCause, Rose};
 ghost use Rattle.outside.specs.Fates.{IsTold, one_more};
-ghost use Rattle.scm_listener.specs.Accepting.{HasAcceptCause, IfConn, IsNew, Takes, came, is_failed};
+ghost use Rattle.scm_listener.specs.Accepting.{HasAcceptCause, IfConn, IsNew, Takes, came};
+ghost use Rattle.scm_listener.specs.Accepting.{is_failed};
 ghost use Rattle.scm_listener.specs.Connections.{and_last, listened_after, past_of};
 ghost use Rattle.scm_listener.specs.InMemory.{Comes, noted_in, peers_of, told_of};
 

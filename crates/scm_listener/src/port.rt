@@ -27,8 +27,9 @@ pub struct PortPast {
 /// Of the connections that it handed out at most `most` are open at a time. One that comes beyond
 /// them, or for which no thread can be started or no descriptor is left, is closed unread, and is
 /// none of those that it was to take. It doesn't listen if there is no room for the threads of a
-/// server. A failure of accept(2) that passes (EAGAIN, ENOMEM, ENFILE, EMFILE, EPROTO, ECONNABORTED,
-/// ENOBUFS) isn't its own: after a pause it tries again. After any other it doesn't listen any more.
+/// server. A failure of accept(2) that passes (EAGAIN, ENOMEM, ENFILE, EMFILE, EPROTO,
+/// ECONNABORTED, ENOBUFS) isn't its own: after a pause it tries again. After any other it doesn't
+/// listen any more.
 #[derive(Drop)]
 pub struct PortListener<R: Net<Listener = TcpListener, Stream = TcpStream>> {
     net: R,

@@ -1,7 +1,12 @@
 -- Events, and the registrations that are told of them.
-use Rattle.std.specs.Prelude.{ℕ, Bool, false, true, not, ◌&&◌, ◌==◌, bit_and, nat_le, nat_lt, ◌+◌, ◌++◌, List, [], ◌∷◌, Option, None, Some, filter, find, length, map, if◌then◌else◌}
-use Rattle.scm_model.specs.declared.codes.TheConstants.{SERVICE_CONTINUE_PENDING, SERVICE_PAUSED, SERVICE_PAUSE_PENDING, SERVICE_RUNNING, SERVICE_START_PENDING, SERVICE_STOPPED, SERVICE_STOP_PENDING}
-use Rattle.scm_model.specs.declared.codes.TheConstants.{SERVICE_NOTIFY_CONTINUE_PENDING, SERVICE_NOTIFY_CREATED, SERVICE_NOTIFY_DELETED, SERVICE_NOTIFY_DELETE_PENDING, SERVICE_NOTIFY_PAUSED, SERVICE_NOTIFY_PAUSE_PENDING, SERVICE_NOTIFY_RUNNING, SERVICE_NOTIFY_START_PENDING, SERVICE_NOTIFY_STOPPED, SERVICE_NOTIFY_STOP_PENDING}
+use Rattle.std.specs.Prelude.{ℕ, Bool, false, true, not, ◌&&◌, ◌==◌, bit_and, nat_le, nat_lt, ◌+◌, ◌++◌, List, [], ◌∷◌, Option, None, Some}
+use Rattle.std.specs.Prelude.{filter, find, length, map, if◌then◌else◌}
+use Rattle.scm_model.specs.declared.codes.TheConstants.{SERVICE_CONTINUE_PENDING, SERVICE_PAUSED, SERVICE_PAUSE_PENDING, SERVICE_RUNNING}
+use Rattle.scm_model.specs.declared.codes.TheConstants.{SERVICE_START_PENDING, SERVICE_STOPPED, SERVICE_STOP_PENDING}
+use Rattle.scm_model.specs.declared.codes.TheConstants.{SERVICE_NOTIFY_CONTINUE_PENDING, SERVICE_NOTIFY_CREATED, SERVICE_NOTIFY_DELETED}
+use Rattle.scm_model.specs.declared.codes.TheConstants.{SERVICE_NOTIFY_DELETE_PENDING, SERVICE_NOTIFY_PAUSED, SERVICE_NOTIFY_PAUSE_PENDING}
+use Rattle.scm_model.specs.declared.codes.TheConstants.{SERVICE_NOTIFY_RUNNING, SERVICE_NOTIFY_START_PENDING, SERVICE_NOTIFY_STOPPED}
+use Rattle.scm_model.specs.declared.codes.TheConstants.{SERVICE_NOTIFY_STOP_PENDING}
 use Rattle.scm_model.specs.declared.flat.Flat.{Flat}
 use Rattle.scm_model.specs.declared.flat.Process.{Process}
 use Rattle.scm_model.specs.declared.flat.ProcessStatus.{ProcessStatus}
@@ -44,11 +49,21 @@ with_pid status pid = record { status = status; pid = pid; flags = 0 }
 
 -- the state of a service
 abbrev pub event_of_state : ℕ → Service → Event
-event_of_state pid row = record { service = row.number; bit = state_mask row.status.state; status = with_pid row.status pid; name = row.config.name }
+event_of_state pid row = record {
+  service = row.number;
+  bit = state_mask row.status.state;
+  status = with_pid row.status pid;
+  name = row.config.name;
+}
 
 -- a service is marked
 abbrev pub event_of_mark : ℕ → Service → Event
-event_of_mark pid row = record { service = row.number; bit = SERVICE_NOTIFY_DELETE_PENDING; status = with_pid row.status pid; name = row.config.name }
+event_of_mark pid row = record {
+  service = row.number;
+  bit = SERVICE_NOTIFY_DELETE_PENDING;
+  status = with_pid row.status pid;
+  name = row.config.name;
+}
 
 -- the manager has a service more
 abbrev pub event_of_creation : List ℕ → Status → Event
@@ -76,8 +91,8 @@ all_noted [] rows = rows
 all_noted (event ∷ events) rows = all_noted events (noted event rows)
 
 -- a change to another state is an event
-abbrev pub told_of_move : ℕ → Service → Service → List Registration → List Registration
-told_of_move pid old new rows = if old.status.state == new.status.state then rows else noted (event_of_state pid new) rows
+abbrev pub notified_of_move : ℕ → Service → Service → List Registration → List Registration
+notified_of_move pid old new rows = if old.status.state == new.status.state then rows else noted (event_of_state pid new) rows
 
 abbrev pub with_noted : Flat → Event → Flat
 with_noted f event = record f { registrations = noted event f.registrations }
@@ -87,16 +102,29 @@ with_noted f event = record f { registrations = noted event f.registrations }
 -- one that was told nothing yet
 abbrev pub new_registration : ℕ → ℕ → ℕ → ℕ → Registration
 new_registration number caller service mask =
-    record { number = number; caller = caller; service = service; mask = mask; fired = 0; status = zero_process_status; name = []; spent = false }
+    record {
+      number = number;
+      caller = caller;
+      service = service;
+      mask = mask;
+      fired = 0;
+      status = zero_process_status;
+      name = [];
+      spent = false;
+    }
 
 -- registrations stand in the order of their services, and those of one in the order in which they came
 abbrev pub put_in : Registration → List Registration → List Registration
 put_in new rows =
-    filter (λ (row : Registration). nat_le row.service new.service) rows ++ new ∷ filter (λ (row : Registration). nat_lt new.service row.service) rows
+    filter (λ (row : Registration). nat_le row.service new.service) rows
+    ++ new ∷ filter (λ (row : Registration). nat_lt new.service row.service) rows
 
 -- a registration more, which has the next number
 abbrev pub with_registration : Flat → Registration → Flat
-with_registration f row = record f { registrations = put_in row f.registrations; next = record f.next { registration = f.next.registration + 1 } }
+with_registration f row = record f {
+  registrations = put_in row f.registrations;
+  next = record f.next { registration = f.next.registration + 1 };
+}
 
 abbrev pub without_registration : Flat → ℕ → Flat
 without_registration f number = record f { registrations = filter (λ (row : Registration). not (row.number == number)) f.registrations }
@@ -111,7 +139,8 @@ registered_by f caller = length (filter (λ (row : Registration). row.caller == 
 -- what a registration was told is taken once, and no second event comes
 abbrev pub taken_if : ℕ → Registration → Registration
 taken_if number row =
-    if row.number == number && not (row.fired == 0) then record row { fired = 0; status = zero_process_status; name = []; spent = true } else row
+    if row.number == number && not (row.fired == 0) then record row { fired = 0; status = zero_process_status; name = []; spent = true }
+    else row
 
 abbrev pub with_taken_result : Flat → ℕ → Flat
 with_taken_result f number = record f { registrations = map (taken_if number) f.registrations }

@@ -1,5 +1,6 @@
 -- The order in which services are started: depth first, each after what it needs.
-use Rattle.std.specs.Prelude.{ℕ, ◌≡◌, ◌==◌, Bool, true, false, ◌||◌, ◌↔◌, is_none, zero, suc, ◌++◌, List, [], ◌∷◌, Option, None, Some, option_and_then, unwrap_or, length, if◌then◌else◌}
+use Rattle.std.specs.Prelude.{ℕ, ◌≡◌, ◌==◌, Bool, true, false, ◌||◌, ◌↔◌, is_none, zero, suc, ◌++◌, List, [], ◌∷◌, Option, None, Some}
+use Rattle.std.specs.Prelude.{option_and_then, unwrap_or, length, if◌then◌else◌}
 use Rattle.scm_model.specs.declared.codes.TheConstants.{SERVICE_RUNNING}
 use Rattle.scm_model.specs.declared.flat.NeedRow.{NeedRow}
 use Rattle.scm_model.specs.Needs.{has, needs_of, numbers_of}
@@ -54,4 +55,5 @@ order_in rows state_of target = visit rows (runs_in state_of) [] target
 abbrev pub FollowsRule : List NeedRow → Type 0
 FollowsRule rows =
     (skipped : ℕ → Bool) (done : List ℕ) (number : ℕ) → has (numbers_of rows) number ≡ true
-    → visit rows skipped done number ≡ (if skipped number || has done number then done else visit_all rows skipped done (needs_of rows number) ++ number ∷ [])
+    → visit rows skipped done number ≡ (if skipped number || has done number then done
+    else visit_all rows skipped done (needs_of rows number) ++ number ∷ [])

@@ -4,11 +4,11 @@ use Rattle.scm_model.specs.declared.calls.Reply.{Reply}
 use Rattle.scm_model.specs.declared.steps.Answer.{Answer}
 
 -- the reply of a call, and the state that its effect leaves
-pub record Done : Type 0 where
+pub record CallResult : Type 0 where
   pub reply : Reply
   pub flat : Flat
 
 -- what a step answers, and the state that it leaves
-pub record Told : Type 0 where
+pub record StepResult : Type 0 where
   pub answer : Answer
   pub flat : Flat

@@ -10,7 +10,8 @@ use Rattle.scm_model.specs.Rows.{is_of_service}
 
 -- a service that is marked, STOPPED and named by no handle leaves
 abbrev pub leaves : List HandleRow → Service → Bool
-leaves handles row = row.marked && row.status.state == SERVICE_STOPPED && not (list_any (λ (handle : HandleRow). is_of_service row.number handle.kind) handles)
+leaves handles row = row.marked && row.status.state == SERVICE_STOPPED && not
+    (list_any (λ (handle : HandleRow). is_of_service row.number handle.kind) handles)
 
 -- those that leave, in list order
 abbrev pub leaving : Flat → List Service

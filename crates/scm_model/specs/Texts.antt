@@ -1,4 +1,5 @@
--- How much text a step has: twice the units of its texts, the length of its lists of bytes, 8 for each word and each action, and 32 for each
+-- How much text a step has: twice the units of its texts, the length of its lists of bytes, 8 for each word and each action, and 32 for
+-- each
 -- trigger.
 use Rattle.std.specs.Prelude.{ℕ, ◌+◌, ◌*◌, List, [], ◌∷◌, length, Option, None, Some}
 use Rattle.scm_model.specs.declared.calls.Request.{Request}

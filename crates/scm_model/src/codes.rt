@@ -1,4 +1,5 @@
-//! The numbers of the public standards, under their names there: codes of MS-ERREF, and states, rights, controls and methods of MS-SCMR.
+//! The numbers of the public standards, under their names there: codes of MS-ERREF, and states,
+//! rights, controls and methods of MS-SCMR.
 
 // Codes that calls answer (MS-ERREF, "Win32 Error Codes").
 
@@ -194,7 +195,8 @@ pub const SERVICE_ACCEPT_PAUSE_CONTINUE: u32 = 2;
 pub const SERVICE_ACCEPT_PARAMCHANGE: u32 = 8;
 
 pub const SERVICE_ACCEPT_NETBINDCHANGE: u32 = 0x10;
-/// Each control that there is to accept, from `SERVICE_ACCEPT_STOP` to `SERVICE_ACCEPT_TRIGGEREVENT`.
+/// Each control that there is to accept, from `SERVICE_ACCEPT_STOP` to
+/// `SERVICE_ACCEPT_TRIGGEREVENT`.
 pub const SERVICE_ACCEPT_ANY: u32 = 0x7FF;
 
 // Rights on the manager.
@@ -279,7 +281,8 @@ pub const SC_STATUS_PROCESS_INFO: u32 = 0;
 /// The greatest `cbBufSize` of `REnumDependentServicesW` and `REnumServicesStatusW`, in bytes.
 pub const MAX_ENUM_SIZE: u32 = 262144;
 
-/// The greatest `cbBufSize` of `RQueryServiceConfigW`, `RQueryServiceConfig2W` and `RQueryServiceStatusEx`, in bytes.
+/// The greatest `cbBufSize` of `RQueryServiceConfigW`, `RQueryServiceConfig2W` and
+/// `RQueryServiceStatusEx`, in bytes.
 pub const MAX_CONFIG_SIZE: u32 = 8192;
 /// The greatest `cbBufSize` of `RQueryServiceLockStatusW`, in bytes.
 pub const MAX_LOCK_STATUS_SIZE: u32 = 4096;

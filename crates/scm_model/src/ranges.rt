@@ -1,5 +1,6 @@
 ghost use Rattle.std.specs.Prelude.{◌≡◌};
-ghost use Rattle.scm_model.specs.Ranges.{are_few, are_few_actions, in_range, info_in_range, is_level};
+ghost use Rattle.scm_model.specs.Ranges.{are_few, are_few_actions, in_range, info_in_range};
+ghost use Rattle.scm_model.specs.Ranges.{is_level};
 
 use super::codes::{
     MAX_CONFIG_SIZE, MAX_ENUM_SIZE, MAX_LOCK_STATUS_SIZE, SC_MAX_ACTIONS, SC_MAX_ARGUMENTS,
@@ -57,7 +58,8 @@ impl Info {
 }
 
 impl Request {
-    /// Whether each size and count that it states is in the range that MS-SCMR sets for it. A request that is read from a body is.
+    /// Whether each size and count that it states is in the range that MS-SCMR sets for it. A
+    /// request that is read from a body is.
     pub fn in_range(&self) -> bool
         ensures { result ≡ in_range self.now }
     {

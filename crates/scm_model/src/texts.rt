@@ -1,5 +1,7 @@
 ghost use Rattle.std.specs.Prelude.{◌≡◌, ◌+◌, ◌-◌, ◌*◌, ◌<◌, ◌^◌, length, min};
-ghost use Rattle.scm_model.specs.Texts.{some_actions, some_bytes, some_text, some_words, text_of, text_of_call, text_of_change, text_of_info, text_of_new, text_of_words};
+ghost use Rattle.scm_model.specs.Texts.{some_actions, some_bytes, some_text, some_words, text_of};
+ghost use Rattle.scm_model.specs.Texts.{text_of_call, text_of_change, text_of_info, text_of_new};
+ghost use Rattle.scm_model.specs.Texts.{text_of_words};
 
 use super::{Action, ChangeService, Info, NewService, Request, Step};
 use scm_text::{Items, WText};
@@ -140,8 +142,8 @@ fn text_of_call(request: &Request) -> u128
 }
 
 impl Step {
-    /// How much text the step has, as far as numbers go: twice the units of its texts, the bytes of its lists of bytes, 8 for
-    /// each word and each action, and 32 for each trigger.
+    /// How much text the step has, as far as numbers go: twice the units of its texts, the bytes of
+    /// its lists of bytes, 8 for each word and each action, and 32 for each trigger.
     pub fn text(&self) -> u128
         ensures { result ≡ min (text_of self.now) (2 ^ 128 - 1) }
     {

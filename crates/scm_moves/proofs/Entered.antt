@@ -18,15 +18,22 @@ pub record IsEntered (next : ℕ) (before after : Service) : Type 0 where
 abbrev pub IsSettled : ℕ → Service → Service → Type 0
 IsSettled next before after = (after ≡ before) ⊎ IsEntered next before after
 
-one_settled : (next n process : ℕ) (before after : Service) → next ≤ process → IsSettled next before after → IsSettled next before (started_if n process after)
+one_settled : (next n process : ℕ) (before after : Service) → next ≤ process → IsSettled next before after
+    → IsSettled next before (started_if n process after)
 one_settled next n process before after up (inl same) =
     started_or (IsSettled next before) n process after
-    (λ stopped. inr (record { stopped = ap (λ (r : Service). r.status.state) (sym same) ∙ stopped; entered = ap (starting_in process) same; process = up })) (inl same)
+    (λ stopped. inr (record {
+      stopped = ap (λ (r : Service). r.status.state) (sym same)
+          ∙ stopped;
+      entered = ap (starting_in process) same;
+      process = up;
+    })) (inl same)
 one_settled next n process before after up (inr is) =
     started_or (IsSettled next before) n process after
     (λ stopped. absurd (let pending : after.status.state ≡ 2 = ap (λ (r : Service). r.status.state) is.entered in omega arith)) (inr is)
 
-all_settled : (next n process : ℕ) (befores afters : List Service) → next ≤ process → AllZip (IsSettled next) befores afters → AllZip (IsSettled next) befores (map (started_if n process) afters)
+all_settled : (next n process : ℕ) (befores afters : List Service) → next ≤ process → AllZip (IsSettled next) befores afters
+    → AllZip (IsSettled next) befores (map (started_if n process) afters)
 all_settled next n process [] [] up was = tt
 all_settled next n process [] (after ∷ afters) up was = was
 all_settled next n process (before ∷ befores) [] up was = was
@@ -54,4 +61,5 @@ grows l next g = record {
 -- each service stays as it is, or is entered by a process whose number isn't below this one
 pub rows_settled : (l : Limits) (next : ℕ) (g : Flat) → next ≤ g.next.process → AllZip (IsSettled next) g.services (settled l g).services
 rows_settled l next g up =
-    (keeps_all l (Grown next g) (λ plan. Unit {0}) (grows l next g) g g.plans (record { up = up; rows = as_before next g.services }) (all_units g.plans)).flat.rows
+    (keeps_all l (Grown next g) (λ plan. Unit {0}) (grows l next g) g g.plans (record { up = up; rows = as_before next g.services })
+    (all_units g.plans)).flat.rows

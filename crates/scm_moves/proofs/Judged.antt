@@ -5,7 +5,8 @@ use Rattle.scm_model.specs.declared.flat.Status.{Status}
 use Rattle.control_dispatch.specs.Judging.{control_of, does_not_accept, judge, lacks_right}
 
 abbrev Code : Bool → Bool → Bool → Bool → Bool → Bool → Bool → Bool → ℕ
-Code a b c d e f needed full = cond a 6 (cond b 87 (cond c 5 (cond d 1062 (cond e 1061 (cond f 1052 (cond needed 1051 (cond full 1061 0)))))))
+Code a b c d e f needed full = cond a 6 (cond b 87 (cond c 5 (cond d 1062
+    (cond e 1061 (cond f 1052 (cond needed 1051 (cond full 1061 0)))))))
 
 -- what a control knows that is taken
 pub record IsTaken (granted : Option ℕ) (status : Status) (waiting limit : ℕ) : Type 0 where
@@ -29,9 +30,11 @@ clear false false false false false false true full h = absurd cc
 clear false false false false false false false true h = absurd cc
 clear false false false false false false false false h = record { opened = refl; runs = refl; few = refl }
 
-pub is_taken : (granted : Option ℕ) (control : ℕ) (status : Status) (active waiting limit : ℕ) → judge granted control status active waiting limit ≡ 0 → IsTaken granted status waiting limit
+pub is_taken : (granted : Option ℕ) (control : ℕ) (status : Status) (active waiting limit : ℕ)
+    → judge granted control status active waiting limit ≡ 0 → IsTaken granted status waiting limit
 is_taken granted control status active waiting limit e =
-    let is = clear (is_none granted) (is_none (control_of control)) (lacks_right granted (control_of control)) (status.state == 1) (status.state == 2 || status.state == 3)
+    let is = clear (is_none granted) (is_none (control_of control)) (lacks_right granted (control_of control)) (status.state == 1)
+    (status.state == 2 || status.state == 3)
     (does_not_accept status (control_of control)) (control == 1 && nat_lt 0 active) (nat_le limit waiting) e in
     record { opened = is.opened; runs = is.runs; few = is.few }
 
@@ -70,13 +73,17 @@ pub record IsHeld (granted : Option ℕ) (control : ℕ) (status : Status) (acti
   pub taken : judge granted control status 0 0 1 ≡ 0
   pub needed : nat_lt 0 active ≡ true
 
-pub held : (granted : Option ℕ) (control : ℕ) (status : Status) (active waiting limit : ℕ) → judge granted control status active waiting limit ≡ 1051 → IsHeld granted control status active
+pub held : (granted : Option ℕ) (control : ℕ) (status : Status) (active waiting limit : ℕ)
+    → judge granted control status active waiting limit ≡ 1051 → IsHeld granted control status active
 held granted control status active waiting limit e =
-    let is = needed_by (is_none granted) (is_none (control_of control)) (lacks_right granted (control_of control)) (status.state == 1) (status.state == 2 || status.state == 3)
+    let is = needed_by (is_none granted) (is_none (control_of control)) (lacks_right granted (control_of control)) (status.state == 1)
+    (status.state == 2 || status.state == 3)
     (does_not_accept status (control_of control)) (control == 1) (nat_lt 0 active) (nat_le limit waiting) e in
     record { stop = eqb-true control 1 is.stops; taken = is.free; needed = is.needs }
 
-pub holds_up : (granted : Option ℕ) (control : ℕ) (status : Status) (active waiting limit : ℕ) → IsHeld granted control status active → judge granted control status active waiting limit ≡ 1051
+pub holds_up : (granted : Option ℕ) (control : ℕ) (status : Status) (active waiting limit : ℕ) → IsHeld granted control status active
+    → judge granted control status active waiting limit ≡ 1051
 holds_up granted control status active waiting limit is =
-    rw (is.stop, is.needed) (needed_so (is_none granted) (is_none (control_of 1)) (lacks_right granted (control_of 1)) (status.state == 1) (status.state == 2 || status.state == 3)
+    rw (is.stop, is.needed) (needed_so (is_none granted) (is_none (control_of 1)) (lacks_right granted (control_of 1)) (status.state == 1)
+    (status.state == 2 || status.state == 3)
     (does_not_accept status (control_of 1)) (nat_le limit waiting) (rw is.stop at is.taken))

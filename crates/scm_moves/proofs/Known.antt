@@ -1,5 +1,6 @@
 -- No two services have a process in common, and each handle of a service is of one that is there; each step keeps that.
-use Rattle.std.proofs.Common.{ℕ, ◌≡◌, ◌⊎◌, ◌∙◌, ◌<◌, ◌+◌, ◌==◌, ◌&&◌, ◌||◌, Bool, true, false, not, cond, List, [], ◌∷◌, ◌++◌, Option, None, Some, Result, Ok, Err, filter, find, map, get_or, ap, sym, refl, subst, arith, inl, inr, eq-eqb, eqb-true}
+use Rattle.std.proofs.Common.{ℕ, ◌≡◌, ◌⊎◌, ◌∙◌, ◌<◌, ◌+◌, ◌==◌, ◌&&◌, ◌||◌, Bool, true, false, not, cond, List, [], ◌∷◌, ◌++◌, Option, None}
+use Rattle.std.proofs.Common.{Some, Result, Ok, Err, filter, find, map, get_or, ap, sym, refl, subst, arith, inl, inr, eq-eqb, eqb-true}
 use Rattle.std.specs.Prelude.{All, AllPairs, is_some}
 use Rattle.std.specs.List.{list_any}
 use Rattle.std.proofs.lemmas.List.Elements.{All-filter, All-head, All-map, All-push, All-tail, All-weaker}
@@ -88,7 +89,8 @@ listed_below n next (row ∷ rows) below h =
       | false ↦ λ e g. listed_below n next rows (All-tail (λ (r : Process). r.number < next) row rows below) g
     ] refl h
 
-one_below : (next : ℕ) (processes : List Process) (row : Service) → All (λ (row : Process). row.number < next) processes → HasListed processes row → IsBelow next row
+one_below : (next : ℕ) (processes : List Process) (row : Service) → All (λ (row : Process). row.number < next) processes
+    → HasListed processes row → IsBelow next row
 one_below next processes row below h =
     elim (row.process == 0) as (λ b. (row.process == 0) ≡ b → (b || has_process processes row.process) ≡ true → IsBelow next row) [
       | true ↦ λ e g. inl (eqb-true row.process 0 e)
@@ -99,7 +101,8 @@ pub holds : (l : Limits) (f : Flat) → IsValid l f → Known f → Holds f
 holds l f v known = record {
   own = record {
     rising = v.services.rising;
-    below = All-weaker (HasListed f.processes) (IsBelow f.next.process) (λ row h. one_below f.next.process f.processes row v.processes.below h) f.services v.current;
+    below = All-weaker (HasListed f.processes) (IsBelow f.next.process)
+        (λ row h. one_below f.next.process f.processes row v.processes.below h) f.services v.current;
     apart = known.apart;
   };
   opened = known.opened;
@@ -117,7 +120,8 @@ plain_below next row new (inr none) below = inl none
 plain_below next row new (inl same) (inl none) = inl (same ∙ none)
 plain_below next row new (inl same) (inr below) = inr (omega (arith, same, below))
 
-plain_apart : (a b a' b' : Service) → (a'.process ≡ a.process) ⊎ (a'.process ≡ 0) → (b'.process ≡ b.process) ⊎ (b'.process ≡ 0) → AreApart a b → AreApart a' b'
+plain_apart : (a b a' b' : Service) → (a'.process ≡ a.process) ⊎ (a'.process ≡ 0) → (b'.process ≡ b.process) ⊎ (b'.process ≡ 0)
+    → AreApart a b → AreApart a' b'
 plain_apart a b a' b' (inr none) q apart = λ e. none
 plain_apart a b a' b' (inl same) (inr none) apart = λ e. e ∙ none
 plain_apart a b a' b' (inl same) (inl other) apart = λ e. same ∙ apart (sym same ∙ e ∙ other)
@@ -126,48 +130,63 @@ own_mapped : (next : ℕ) (g : Service → Service) (rows : List Service) → Is
 own_mapped next g rows plain own = record {
   rising = pairs_map (λ row. Unit {0}) (λ (a b : Service). a.number < b.number) (λ (a b : Service). a.number < b.number) g
       (λ a b p q lt. let x = plain.number a in let y = plain.number b in omega arith) rows (λ k d lt. tt) own.rising;
-  below = All-map (IsBelow next) g rows (λ k d lt. plain_below next (get_or rows k d) (g (get_or rows k d)) (plain.process (get_or rows k d)) (own.below k d lt));
-  apart = pairs_map (λ row. Unit {0}) AreApart AreApart g (λ a b p q apart. plain_apart a b (g a) (g b) (plain.process a) (plain.process b) apart) rows (λ k d lt. tt) own.apart;
+  below = All-map (IsBelow next) g rows (λ k d lt. plain_below next (get_or rows k d) (g (get_or rows k d))
+      (plain.process (get_or rows k d)) (own.below k d lt));
+  apart = pairs_map (λ row. Unit {0}) AreApart AreApart g (λ a b p q apart. plain_apart a b (g a) (g b) (plain.process a)
+      (plain.process b) apart) rows (λ k d lt. tt) own.apart;
 }
 
-one_mapped : (g : Service → Service) (rows : List Service) (kind : HandleKind) → ((row : Service) → (g row).number ≡ row.number) → IsOfOne rows kind → IsOfOne (map g rows) kind
+one_mapped : (g : Service → Service) (rows : List Service) (kind : HandleKind) → ((row : Service) → (g row).number ≡ row.number)
+    → IsOfOne rows kind → IsOfOne (map g rows) kind
 one_mapped g rows (kinds.Service number) same is = found_mapped (λ (row : Service). row.number) g number same rows ∙ is
 one_mapped g rows kind same is = tt
 
-opened_mapped : (g : Service → Service) (rows : List Service) (handles : List HandleRow) → ((row : Service) → (g row).number ≡ row.number) → All (λ (row : HandleRow). IsOfOne rows row.kind) handles
+opened_mapped : (g : Service → Service) (rows : List Service) (handles : List HandleRow) → ((row : Service) → (g row).number ≡ row.number)
+    → All (λ (row : HandleRow). IsOfOne rows row.kind) handles
     → All (λ (row : HandleRow). IsOfOne (map g rows) row.kind) handles
 opened_mapped g rows handles same all =
-    All-weaker (λ (row : HandleRow). IsOfOne rows row.kind) (λ (row : HandleRow). IsOfOne (map g rows) row.kind) (λ row is. one_mapped g rows row.kind same is) handles all
+    All-weaker (λ (row : HandleRow). IsOfOne rows row.kind) (λ (row : HandleRow). IsOfOne (map g rows) row.kind)
+    (λ row is. one_mapped g rows row.kind same is) handles all
 
 -- a state whose services alone are changed so
 abbrev with_rows : Flat → List Service → Flat
 with_rows f services = record f { services = services }
 
 holds_mapped : (f : Flat) (g : Service → Service) → IsPlain g → Holds f → Holds (with_rows f (map g f.services))
-holds_mapped f g plain h = record { own = own_mapped f.next.process g f.services plain h.own; opened = opened_mapped g f.services f.handles plain.number h.opened }
+holds_mapped f g plain h = record {
+  own = own_mapped f.next.process g f.services plain h.own;
+  opened = opened_mapped g f.services f.handles plain.number h.opened;
+}
 
 falls : (process code : ℕ) → IsPlain (fallen_if process code)
 falls process code = record {
   number = fallen_number process code;
-  process = λ row. elim (row.process == process) as (λ b. ((cond b (record row { status = take_end row.status code; process = 0 }) row).process ≡ row.process)
+  process = λ row. elim (row.process == process) as (λ b. ((cond b (record row { status = take_end row.status code; process = 0 })
+      row).process ≡ row.process)
       ⊎ ((cond b (record row { status = take_end row.status code; process = 0 }) row).process ≡ 0)) [ true ↦ inr refl | false ↦ inl refl ];
 }
 
 moved_process : (row : Service) (r : Result Status ℕ) → ((moved_by row r).process ≡ row.process) ⊎ ((moved_by row r).process ≡ 0)
-moved_process row (Ok status) = elim (status.state == 1) as (λ b. (cond b 0 row.process ≡ row.process) ⊎ (cond b 0 row.process ≡ 0)) [ true ↦ inr refl | false ↦ inl refl ]
+moved_process row (Ok status) = elim (status.state == 1) as (λ b. (cond b 0 row.process ≡ row.process) ⊎ (cond b 0 row.process ≡ 0))
+    [ true ↦ inr refl | false ↦ inl refl ]
 moved_process row (Err code) = inl refl
 
 reports_plainly : (process : ℕ) (report : Status) → IsPlain (reported_if process report)
 reports_plainly process report = record {
   number = reported_number process report;
-  process = λ row. elim (row.process == process) as (λ b. ((cond b (moved_by row (take_report row.status report)) row).process ≡ row.process)
-      ⊎ ((cond b (moved_by row (take_report row.status report)) row).process ≡ 0)) [ true ↦ moved_process row (take_report row.status report) | false ↦ inl refl ];
+  process = λ row. elim (row.process == process) as (λ b. ((cond b (moved_by row (take_report row.status report)) row).process ≡
+      row.process)
+      ⊎ ((cond b (moved_by row (take_report row.status report)) row).process ≡ 0))
+      [ true ↦ moved_process row (take_report row.status report) | false ↦ inl refl ];
 }
 
 configures_plainly : (number : ℕ) (config : Config) → IsPlain (configured_if number config)
 configures_plainly number config = record {
   number = number_kept number config;
-  process = λ row. inl (elim (row.number == number) as (λ b. (cond b (record row { config = config; status = record row.status { kind = config.kind } }) row).process ≡ row.process) [ true ↦ refl | false ↦ refl ]);
+  process = λ row. inl (elim (row.number == number) as (λ b. (cond b (record row {
+    config = config;
+    status = record row.status { kind = config.kind };
+  }) row).process ≡ row.process) [ true ↦ refl | false ↦ refl ]);
 }
 
 counts_plainly : (number moment : ℕ) → IsPlain (counted_if number moment)
@@ -187,7 +206,12 @@ holds_failing found f h =
 
 -- a number of a process is given to no service
 own_later : (next : ℕ) (rows : List Service) → AreOwn next rows → AreOwn (next + 1) rows
-own_later next rows own = record { rising = own.rising; below = All-weaker (IsBelow next) (IsBelow (next + 1)) (one_later next) rows own.below; apart = own.apart }
+own_later next rows own = record {
+  rising = own.rising;
+  below = All-weaker (IsBelow next) (IsBelow (next + 1))
+      (one_later next) rows own.below;
+  apart = own.apart;
+}
   where
     one_later : (next : ℕ) (row : Service) → IsBelow next row → IsBelow (next + 1) row
     one_later next row (inl none) = inl none
@@ -205,70 +229,106 @@ one_more : (rows : List Service) (row : Service) (kind : HandleKind) → IsOfOne
 one_more rows row (kinds.Service number) is = found_more (λ (r : Service). r.number == number) rows (row ∷ []) is
 one_more rows row kind is = tt
 
-opened_added : (rows : List Service) (handles : List HandleRow) (row : Service) (handle : HandleRow) → handle.kind ≡ kinds.Service row.number → All (λ (h : HandleRow). IsOfOne rows h.kind) handles
+opened_added : (rows : List Service) (handles : List HandleRow) (row : Service) (handle : HandleRow)
+    → handle.kind ≡ kinds.Service row.number → All (λ (h : HandleRow). IsOfOne rows h.kind) handles
     → All (λ (h : HandleRow). IsOfOne (rows ++ row ∷ []) h.kind) (handles ++ handle ∷ [])
 opened_added rows handles row handle e all =
     All-push (λ (h : HandleRow). IsOfOne (rows ++ row ∷ []) h.kind) handles handle
-    (All-weaker (λ (h : HandleRow). IsOfOne rows h.kind) (λ (h : HandleRow). IsOfOne (rows ++ row ∷ []) h.kind) (λ h is. one_more rows row h.kind is) handles all)
-    (subst (λ (kind : HandleKind). IsOfOne (rows ++ row ∷ []) kind) (sym e) (find_new (λ (r : Service). r.number == row.number) rows row (eq-eqb row.number row.number refl)))
+    (All-weaker (λ (h : HandleRow). IsOfOne rows h.kind) (λ (h : HandleRow). IsOfOne (rows ++ row ∷ []) h.kind)
+    (λ h is. one_more rows row h.kind is) handles all)
+    (subst (λ (kind : HandleKind). IsOfOne (rows ++ row ∷ []) kind) (sym e)
+    (find_new (λ (r : Service). r.number == row.number) rows row (eq-eqb row.number row.number refl)))
 
-own_pushed : (next number : ℕ) (rows : List Service) (row : Service) → AreOwn next rows → All (λ (r : Service). r.number < number) rows → row.number ≡ number → row.process ≡ 0 → AreOwn next (rows ++ row ∷ [])
+own_pushed : (next number : ℕ) (rows : List Service) (row : Service) → AreOwn next rows → All (λ (r : Service). r.number < number) rows
+    → row.number ≡ number → row.process ≡ 0 → AreOwn next (rows ++ row ∷ [])
 own_pushed next number rows row own below is none = record {
-  rising = all_pairs_push (λ (a b : Service). a.number < b.number) rows row own.rising (λ k d lt. let b = below k d lt in omega (arith, b, is));
+  rising = all_pairs_push (λ (a b : Service). a.number < b.number) rows row own.rising
+      (λ k d lt. let b = below k d lt in omega (arith, b, is));
   below = All-push (IsBelow next) rows row own.below (inl none);
   apart = all_pairs_push AreApart rows row own.apart (λ k d lt e. e ∙ none);
 }
 
 -- the service that a handle is given of is there
-named_one : (f : Flat) (name : List ℕ) (row : Service) → named f name ≡ Some row → is_some (find (λ (one : Service). one.number == row.number) f.services) ≡ true
+named_one : (f : Flat) (name : List ℕ) (row : Service) → named f name ≡ Some row
+    → is_some (find (λ (one : Service). one.number == row.number) f.services) ≡ true
 named_one f name row e = found_too _ (λ (r : Service). r.number == row.number) row f.services e (eq-eqb row.number row.number refl)
 
-holds_done : (l : Limits) (f : Flat) (caller : ℕ) (asked : Request) (append : Kept) → All (λ (row : Service). row.number < f.next.service) f.services → Holds f → verdict l f caller asked append ≡ 0 → Holds (done_of l f caller asked).flat
-holds_done l f caller (request.Close handle) append below h e = record { own = h.own; opened = All-filter _ (λ (row : HandleRow). IsOfOne f.services row.kind) f.handles h.opened }
-holds_done l f caller (request.Unlock handle) append below h e = record { own = h.own; opened = All-filter _ (λ (row : HandleRow). IsOfOne f.services row.kind) f.handles h.opened }
-holds_done l f caller (request.Lock handle) append below h e = record { own = h.own; opened = All-push (λ (row : HandleRow). IsOfOne f.services row.kind) f.handles _ h.opened tt }
-holds_done l f caller (request.OpenManager database access) append below h e = record { own = h.own; opened = All-push (λ (row : HandleRow). IsOfOne f.services row.kind) f.handles _ h.opened tt }
+holds_done : (l : Limits) (f : Flat) (caller : ℕ) (asked : Request) (append : Kept)
+    → All (λ (row : Service). row.number < f.next.service) f.services → Holds f → verdict l f caller asked append ≡ 0
+    → Holds (done_of l f caller asked).flat
+holds_done l f caller (request.Close handle) append below h e = record {
+  own = h.own;
+  opened = All-filter _ (λ (row : HandleRow). IsOfOne f.services row.kind) f.handles h.opened;
+}
+holds_done l f caller (request.Unlock handle) append below h e = record {
+  own = h.own;
+  opened = All-filter _ (λ (row : HandleRow). IsOfOne f.services row.kind) f.handles h.opened;
+}
+holds_done l f caller (request.Lock handle) append below h e = record {
+  own = h.own;
+  opened = All-push (λ (row : HandleRow). IsOfOne f.services row.kind) f.handles _ h.opened tt;
+}
+holds_done l f caller (request.OpenManager database access) append below h e =
+    record { own = h.own; opened = All-push (λ (row : HandleRow). IsOfOne f.services row.kind) f.handles _ h.opened tt }
 holds_done l f caller (request.OpenService handle name access) append below h e =
-    opened_keeps Holds f caller name access h (λ row is. record { own = h.own; opened = All-push (λ (row : HandleRow). IsOfOne f.services row.kind) f.handles _ h.opened (named_one f name row is) })
+    opened_keeps Holds f caller name access h (λ row is. record {
+      own = h.own;
+      opened = All-push (λ (row : HandleRow). IsOfOne f.services row.kind) f.handles _ h.opened (named_one f name row is);
+    })
 holds_done l f caller (request.Create new) append below h e = record {
   own = own_pushed f.next.process f.next.service f.services _ h.own below refl refl;
   opened = opened_added f.services f.handles _ _ refl h.opened;
 }
 holds_done l f caller (request.Delete handle) append below h e =
-    let found = found_keeps (λ (rows : List Service). Holds (record f { services = rows })) (λ (one : Service). map (marked_if one.number)) (held_service f caller handle) f.services h
+    let found = found_keeps (λ (rows : List Service). Holds (record f { services = rows })) (λ (one : Service). map (marked_if one.number))
+    (held_service f caller handle) f.services h
     (λ one is. record {
       own = own_mapped f.next.process (marked_if one.number) f.services (record { number = λ row. refl; process = λ row. inl refl }) h.own;
       opened = opened_mapped (marked_if one.number) f.services f.handles (λ row. refl) h.opened;
     }) in
     record { own = found.own; opened = found.opened }
 holds_done l f caller (request.SetStatus handle report) append below h e =
-    let found = found_keeps (λ (rows : List Service). Holds (record f { services = rows })) (λ (one : Service). map (reported_if one.process report)) (held_service f caller handle) f.services h
+    let found = found_keeps (λ (rows : List Service). Holds (record f { services = rows }))
+    (λ (one : Service). map (reported_if one.process report)) (held_service f caller handle) f.services h
     (λ one is. record {
       own = own_mapped f.next.process (reported_if one.process report) f.services (reports_plainly one.process report) h.own;
       opened = opened_mapped (reported_if one.process report) f.services f.handles (reported_number one.process report) h.opened;
     }) in
     holds_failing (failed_by report (held_service f caller handle)) _ (record { own = found.own; opened = found.opened })
 holds_done l f caller (request.Change change) append below h e =
-    found_keeps (λ (rows : List Service). Holds (record f { services = rows })) (λ (one : Service). map (configured_if one.number (new_config f change one))) (held_service f caller change.handle) f.services h
+    found_keeps (λ (rows : List Service). Holds (record f { services = rows }))
+    (λ (one : Service). map (configured_if one.number (new_config f change one))) (held_service f caller change.handle) f.services h
     (λ one is. holds_change f one.number (new_config f change one) h)
 holds_done l f caller (request.Change2 handle level) append below h e =
-    found_keeps (λ (rows : List Service). Holds (record f { services = rows })) (λ (one : Service). map (configured_if one.number (level_config level one))) (held_service f caller handle) f.services h
+    found_keeps (λ (rows : List Service). Holds (record f { services = rows }))
+    (λ (one : Service). map (configured_if one.number (level_config level one))) (held_service f caller handle) f.services h
     (λ one is. holds_change f one.number (level_config level one) h)
-holds_done l f caller (request.Start handle words) append below h e = started_keeps Holds f caller handle words h (λ row is. record { own = h.own; opened = h.opened })
+holds_done l f caller (request.Start handle words) append below h e = started_keeps Holds f caller handle words h
+    (λ row is. record { own = h.own; opened = h.opened })
 holds_done l f caller (request.Notify handle mask) append below h e =
-    notify_apart Holds f caller handle mask (λ rows next. record { own = h.own; opened = All-push (λ (row : HandleRow). IsOfOne f.services row.kind) f.handles _ h.opened tt })
-holds_done l f caller (request.CloseNotify handle) append below h e = record { own = h.own; opened = All-filter _ (λ (row : HandleRow). IsOfOne f.services row.kind) f.handles h.opened }
+    notify_apart Holds f caller handle mask (λ rows next. record {
+      own = h.own;
+      opened = All-push (λ (row : HandleRow). IsOfOne f.services row.kind) f.handles _ h.opened tt;
+    })
+holds_done l f caller (request.CloseNotify handle) append below h e = record {
+  own = h.own;
+  opened = All-filter _ (λ (row : HandleRow). IsOfOne f.services row.kind) f.handles h.opened;
+}
 holds_done l f caller asked append below h e = record { own = h.own; opened = h.opened }
 
-holds_call : (l : Limits) (f : Flat) (caller : ℕ) (asked : Request) (append : Kept) → All (λ (row : Service). row.number < f.next.service) f.services → Holds f → Holds (call_of l f caller asked append).flat
+holds_call : (l : Limits) (f : Flat) (caller : ℕ) (asked : Request) (append : Kept)
+    → All (λ (row : Service). row.number < f.next.service) f.services → Holds f → Holds (call_of l f caller asked append).flat
 holds_call l f caller asked append below h =
     let code = verdict l f caller asked append in
-    by_verdict (λ r. Holds r.flat) code (told_refused f caller asked code) f (done_of l f caller asked) (holds_done l f caller asked append below h) (λ e. h)
+    by_verdict (λ r. Holds r.flat) code (told_refused f caller asked code) f (done_of l f caller asked)
+    (holds_done l f caller asked append below h) (λ e. h)
 
 -- ## Effects
 
-holds_effect : (l : Limits) (f : Flat) (moment : ℕ) (step : Step) → All (λ (row : Service). row.number < f.next.service) f.services → Holds f → Holds (effect_of l (at_moment f moment step) step).flat
-holds_effect l f moment (Call caller asked append) below h = holds_call l (with_moment f moment) caller asked append below (record { own = h.own; opened = h.opened })
+holds_effect : (l : Limits) (f : Flat) (moment : ℕ) (step : Step) → All (λ (row : Service). row.number < f.next.service) f.services
+    → Holds f → Holds (effect_of l (at_moment f moment step) step).flat
+holds_effect l f moment (Call caller asked append) below h = holds_call l (with_moment f moment) caller asked append below
+    (record { own = h.own; opened = h.opened })
 holds_effect l f moment (LaunchFailed process code) below h = record {
   own = own_mapped f.next.process (fallen_if process code) f.services (falls process code) h.own;
   opened = opened_mapped (fallen_if process code) f.services f.handles (fallen_number process code) h.opened;
@@ -284,7 +344,11 @@ holds_effect l f moment (Report process report) below h =
       own = own_mapped f.next.process (reported_if process report) f.services (reports_plainly process report) h.own;
       opened = opened_mapped (reported_if process report) f.services f.handles (reported_number process report) h.opened;
     })
-holds_effect l f moment (Gone caller) below h = record { own = h.own; opened = All-filter _ (λ (row : HandleRow). IsOfOne f.services row.kind) f.handles h.opened }
+holds_effect l f moment (Gone caller) below h = record {
+  own = h.own;
+  opened =
+      All-filter _ (λ (row : HandleRow). IsOfOne f.services row.kind) f.handles h.opened;
+}
 holds_effect l f moment Tick below h = ticked_by Holds l (record {
   spends = λ g row is q. record { own = q.own; opened = q.opened };
   starts = λ g row there can q. record { own = q.own; opened = q.opened };
@@ -302,7 +366,8 @@ holds_effect l f moment step below h = record { own = h.own; opened = h.opened }
 -- a service that is entered has a process that no other has
 start_below : (n process : ℕ) (row : Service) → IsBelow process row → IsBelow (process + 1) (started_if n process row)
 start_below n process row (inl none) = started_or (IsBelow (process + 1)) n process row (λ e. inr (omega arith)) (inl none)
-start_below n process row (inr below) = started_or (IsBelow (process + 1)) n process row (λ e. inr (omega arith)) (inr (omega (arith, below)))
+start_below n process row (inr below) = started_or (IsBelow (process + 1)) n process row (λ e. inr (omega arith))
+    (inr (omega (arith, below)))
 
 -- two rows of rising numbers, with no process in common
 record ArePair (a b : Service) : Type 0 where
@@ -317,17 +382,20 @@ second_started : (process : ℕ) (a : Service) → IsBelow process a → a.proce
 second_started process a (inl none) e = none
 second_started process a (inr below) e = absurd (omega (arith, below, e))
 
-pair_started : (n process : ℕ) (a b : Service) → IsBelow process a → IsBelow process b → ArePair a b → AreApart (started_if n process a) (started_if n process b)
+pair_started : (n process : ℕ) (a b : Service) → IsBelow process a → IsBelow process b → ArePair a b
+    → AreApart (started_if n process a) (started_if n process b)
 pair_started n process a b p q pair =
-    elim (a.number == n && a.status.state == 1) as (λ x. (a.number == n && a.status.state == 1) ≡ x → AreApart (cond x (starting_in process a) a) (started_if n process b)) [
-      | true ↦ λ e. elim (b.number == n && b.status.state == 1) as (λ y. (b.number == n && b.status.state == 1) ≡ y → AreApart (starting_in process a) (cond y (starting_in process b) b)) [
-        | true ↦ λ h same. absurd (
-            let here = eqb-true a.number n (and_parts (a.number == n) (a.status.state == 1) e).0 in
-            let there = eqb-true b.number n (and_parts (b.number == n) (b.status.state == 1) h).0 in
-            let up = pair.rising in
-            omega (arith, here, there, up))
-        | false ↦ λ h same. first_started process b q same
-      ] refl
+    elim (a.number == n && a.status.state == 1) as (λ x. (a.number == n && a.status.state == 1) ≡ x
+    → AreApart (cond x (starting_in process a) a) (started_if n process b)) [
+      | true ↦ λ e. elim (b.number == n && b.status.state == 1) as (λ y. (b.number == n && b.status.state == 1) ≡ y
+          → AreApart (starting_in process a) (cond y (starting_in process b) b)) [
+            | true ↦ λ h same. absurd (
+                let here = eqb-true a.number n (and_parts (a.number == n) (a.status.state == 1) e).0 in
+                let there = eqb-true b.number n (and_parts (b.number == n) (b.status.state == 1) h).0 in
+                let up = pair.rising in
+                omega (arith, here, there, up))
+            | false ↦ λ h same. first_started process b q same
+          ] refl
       | false ↦ λ e. elim (b.number == n && b.status.state == 1) as (λ y. AreApart a (cond y (starting_in process b) b)) [
         | true ↦ λ same. second_started process a p same
         | false ↦ pair.apart
@@ -336,9 +404,11 @@ pair_started n process a b p q pair =
 
 own_started : (n process : ℕ) (rows : List Service) → AreOwn process rows → AreOwn (process + 1) (map (started_if n process) rows)
 own_started n process rows own = record {
-  rising = pairs_map (λ row. Unit {0}) (λ (a b : Service). a.number < b.number) (λ (a b : Service). a.number < b.number) (started_if n process)
+  rising = pairs_map (λ row. Unit {0}) (λ (a b : Service). a.number < b.number) (λ (a b : Service). a.number < b.number)
+      (started_if n process)
       (λ a b p q lt. let x = same_number n process a in let y = same_number n process b in omega arith) rows (λ k d lt. tt) own.rising;
-  below = All-map (IsBelow (process + 1)) (started_if n process) rows (λ k d lt. start_below n process (get_or rows k d) (own.below k d lt));
+  below = All-map (IsBelow (process + 1)) (started_if n process) rows (λ k d lt. start_below n process (get_or rows k d)
+      (own.below k d lt));
   apart = pairs_map (IsBelow process) ArePair AreApart (started_if n process) (pair_started n process) rows own.below
       (λ i j d lt within. record { rising = own.rising i j d lt within; apart = own.apart i j d lt within });
 }
@@ -368,11 +438,13 @@ holds_finished : (g : Flat) (told : Answer) → Holds g → Holds (finished g to
 holds_finished g (answer.Begun plan) h = holds_left g plan (code_of g.plans plan) h
 holds_finished g told h = h
 
-stays_one : (handles : List HandleRow) (rows : List Service) (kind : HandleKind) → ((n : ℕ) → kind ≡ kinds.Service n → list_any (λ (handle : HandleRow). is_of_service n handle.kind) handles ≡ true)
+stays_one : (handles : List HandleRow) (rows : List Service) (kind : HandleKind)
+    → ((n : ℕ) → kind ≡ kinds.Service n → list_any (λ (handle : HandleRow). is_of_service n handle.kind) handles ≡ true)
     → IsOfOne rows kind → IsOfOne (filter (λ (row : Service). not (leaves handles row)) rows) kind
 stays_one handles rows (kinds.Service n) there is =
     ap (λ (o : Option Service). is_some o) (find_filter (λ (row : Service). row.number == n) (λ (row : Service). not (leaves handles row))
-    (λ row e. stays_by row.marked (row.status.state == 1) _ (subst (λ m. list_any (λ (handle : HandleRow). is_of_service m handle.kind) handles ≡ true) (sym (eqb-true row.number n e)) (there n refl))) rows) ∙ is
+    (λ row e. stays_by row.marked (row.status.state == 1) _ (subst (λ m. list_any
+    (λ (handle : HandleRow). is_of_service m handle.kind) handles ≡ true) (sym (eqb-true row.number n e)) (there n refl))) rows) ∙ is
   where
     stays_by : (m s h : Bool) → h ≡ true → not (m && s && not h) ≡ true
     stays_by true true true e = refl
@@ -388,9 +460,11 @@ pub known : (l : Limits) (f : Flat) (moment : ℕ) (step : Step) → IsValid l f
 known l f moment step v was =
     let done = effect_of l (at_moment f moment step) step in
     let g = (finished_step l f moment step).flat in
-    let h : Holds g = holds_finished (settled l done.flat) done.answer (holds_settled l done.flat (holds_effect l f moment step v.services.below (holds l f v was))) in
+    let h : Holds g = holds_finished (settled l done.flat) done.answer (holds_settled l done.flat
+    (holds_effect l f moment step v.services.below (holds l f v was))) in
     record {
       apart = AllPairs-filter AreApart (λ (row : Service). not (leaves g.handles row)) g.services h.own.apart;
       opened = λ k d lt. stays_one g.handles g.services (get_or g.handles k d).kind
-          (λ n e. any_at (λ (handle : HandleRow). is_of_service n handle.kind) g.handles k d lt (of_itself n (get_or g.handles k d).kind e)) (h.opened k d lt);
+          (λ n e. any_at (λ (handle : HandleRow). is_of_service n handle.kind) g.handles k d lt (of_itself n (get_or g.handles k d).kind e))
+          (h.opened k d lt);
     }

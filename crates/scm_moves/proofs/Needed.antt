@@ -1,5 +1,6 @@
 -- Whether a service that isn't STOPPED needs one that is to stop.
-use Rattle.std.proofs.Common.{ℕ, suc, ◌≡◌, ◌≤◌, ◌-◌, ◌^◌, ◌||◌, Bool, true, false, cond, List, [], ◌∷◌, Option, None, Some, filter, length, refl, arith}
+use Rattle.std.proofs.Common.{ℕ, suc, ◌≡◌, ◌≤◌, ◌-◌, ◌^◌, ◌||◌, Bool, true, false, cond, List, [], ◌∷◌, Option, None, Some, filter, length}
+use Rattle.std.proofs.Common.{refl, arith}
 use Rattle.std.specs.Prelude.{min, nat_lt}
 use Rattle.std.specs.List.{list_any}
 use Rattle.std.proofs.lemmas.Bool.Decides.{nat_tests}

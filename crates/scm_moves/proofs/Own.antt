@@ -1,5 +1,6 @@
 -- How services move before plans are settled.
-use Rattle.std.proofs.Common.{ℕ, ◌≡◌, ◌∙◌, ◌<◌, ◌≤◌, ◌==◌, true, false, cond, IsTrue, Result, Ok, Err, List, Option, None, Some, map, get_or, ap, sym, refl, subst, arith, inl, inr, eq-eqb, eqb-true}
+use Rattle.std.proofs.Common.{ℕ, ◌≡◌, ◌∙◌, ◌<◌, ◌≤◌, ◌==◌, true, false, cond, IsTrue, Result, Ok, Err, List, Option, None, Some, map}
+use Rattle.std.proofs.Common.{get_or, ap, sym, refl, subst, arith, inl, inr, eq-eqb, eqb-true}
 use Rattle.std.specs.Prelude.{All, AllPairs}
 use Rattle.std.proofs.lemmas.List.{map-id}
 use Rattle.std.proofs.lemmas.List.Elements.{All-map, All-push, All-weaker}
@@ -46,17 +47,21 @@ abbrev pub HasOwn : Flat → Step → Service → Type 0
 HasOwn f step new = All (λ (old : Service). old.number ≡ new.number → MovesItself f step old new.status) f.services
 
 -- a step that changes rows one by one
-own_mapped : (f : Flat) (step : Step) (g : Service → Service) → AreRising f.services → ((row : Service) → (g row).number ≡ row.number) → All (λ row. MovesItself f step row (g row).status) f.services
+own_mapped : (f : Flat) (step : Step) (g : Service → Service) → AreRising f.services → ((row : Service) → (g row).number ≡ row.number)
+    → All (λ row. MovesItself f step row (g row).status) f.services
     → All (HasOwn f step) (map g f.services)
 own_mapped f step g rising same each =
     All-map (HasOwn f step) g f.services
     (λ k d lt. let row = get_or f.services k d in
-    All-weaker (λ (old : Service). old.number ≡ row.number → old ≡ row) (λ (old : Service). old.number ≡ (g row).number → MovesItself f step old (g row).status)
-    (λ old is e. subst (λ (r : Service). MovesItself f step r (g row).status) (sym (is (e ∙ same row))) (each k d lt)) f.services (alone (λ (r : Service). r.number) f.services rising k d lt))
+    All-weaker (λ (old : Service). old.number ≡ row.number → old ≡ row) (λ (old : Service). old.number ≡ (g row).number
+    → MovesItself f step old (g row).status)
+    (λ old is e. subst (λ (r : Service). MovesItself f step r (g row).status) (sym (is (e ∙ same row))) (each k d lt)) f.services
+    (alone (λ (r : Service). r.number) f.services rising k d lt))
 
 -- a step that changes no row
 own_same : (f : Flat) (step : Step) → AreRising f.services → All (HasOwn f step) f.services
-own_same f step rising = subst (λ rows. All (HasOwn f step) rows) (map-id f.services) (own_mapped f step (λ row. row) rising (λ row. refl) (λ k d lt. inl refl))
+own_same f step rising = subst (λ rows. All (HasOwn f step) rows) (map-id f.services)
+    (own_mapped f step (λ row. row) rising (λ row. refl) (λ k d lt. inl refl))
 
 -- ## Processes
 
@@ -64,45 +69,58 @@ own_same f step rising = subst (λ rows. All (HasOwn f step) rows) (map-id f.ser
 listed_first : (l : Limits) (f : Flat) (process : ℕ) (row : Process) → IsValid l f → process_of f process ≡ Some row → 1 ≤ process
 listed_first l f process row v e =
     let is = eqb-true row.number process (found_passes (λ (r : Process). r.number == process) row f.processes e) in
-    subst (λ n. 1 ≤ n) is (found_has (λ (r : Process). 1 ≤ r.number) (λ (r : Process). r.number == process) row f.processes v.processes.positive e)
+    subst (λ n. 1 ≤ n) is (found_has (λ (r : Process). 1 ≤ r.number) (λ (r : Process). r.number == process) row f.processes
+    v.processes.positive e)
 
-pub taken_first : (l : Limits) (f : Flat) (process : ℕ) (found : Option Process) → IsValid l f → process_of f process ≡ found → is_taken found ≡ true → 1 ≤ process
+pub taken_first : (l : Limits) (f : Flat) (process : ℕ) (found : Option Process) → IsValid l f → process_of f process ≡ found
+    → is_taken found ≡ true → 1 ≤ process
 taken_first l f process None v e taken = absurd cc
 taken_first l f process (Some row) v e taken = listed_first l f process row v e
 
-pub running_first : (l : Limits) (f : Flat) (process : ℕ) (found : Option Process) → IsValid l f → process_of f process ≡ found → is_launched found ≡ true → 1 ≤ process
+pub running_first : (l : Limits) (f : Flat) (process : ℕ) (found : Option Process) → IsValid l f → process_of f process ≡ found
+    → is_launched found ≡ true → 1 ≤ process
 running_first l f process None v e runs = absurd cc
 running_first l f process (Some row) v e runs = listed_first l f process row v e
 
 -- ## Ends
 
-fallen_own : (f : Flat) (step : Step) (process code : ℕ) (row : Service) → 1 ≤ process → code_of_end step process ≡ Some code → MovesItself f step row (fallen_if process code row).status
+fallen_own : (f : Flat) (step : Step) (process code : ℕ) (row : Service) → 1 ≤ process → code_of_end step process ≡ Some code
+    → MovesItself f step row (fallen_if process code row).status
 fallen_own f step process code row first by =
-    elim (row.process == process) as (λ b. (row.process == process) ≡ b → MovesItself f step row (cond b (record row { status = take_end row.status code; process = 0 }) row).status) [
-      | true ↦ λ e. (let is = eqb-true row.process process e in inr (inr (record { process = omega (arith, is, first); code = code; by = ap (code_of_end step) is ∙ by; fallen = refl })))
+    elim (row.process == process) as (λ b. (row.process == process) ≡ b
+    → MovesItself f step row (cond b (record row { status = take_end row.status code; process = 0 }) row).status) [
+      | true ↦ λ e. (let is = eqb-true row.process process e in inr (inr
+          (record { process = omega (arith, is, first); code = code; by = ap (code_of_end step) is ∙ by; fallen = refl })))
       | false ↦ λ e. inl refl
     ] refl
 
 pub fallen_number : (process code : ℕ) (row : Service) → (fallen_if process code row).number ≡ row.number
-fallen_number process code row = elim (row.process == process) as (λ b. (cond b (record row { status = take_end row.status code; process = 0 }) row).number ≡ row.number) [ true ↦ refl | false ↦ refl ]
+fallen_number process code row = elim (row.process == process) as (λ b.
+    (cond b (record row { status = take_end row.status code; process = 0 }) row).number ≡ row.number) [ true ↦ refl | false ↦ refl ]
 
-own_fallen : (f : Flat) (step : Step) (process code : ℕ) → AreRising f.services → 1 ≤ process → code_of_end step process ≡ Some code → All (HasOwn f step) (map (fallen_if process code) f.services)
+own_fallen : (f : Flat) (step : Step) (process code : ℕ) → AreRising f.services → 1 ≤ process → code_of_end step process ≡ Some code
+    → All (HasOwn f step) (map (fallen_if process code) f.services)
 own_fallen f step process code rising first by =
-    own_mapped f step (fallen_if process code) rising (fallen_number process code) (λ k d lt. fallen_own f step process code (get_or f.services k d) first by)
+    own_mapped f step (fallen_if process code) rising (fallen_number process code)
+    (λ k d lt. fallen_own f step process code (get_or f.services k d) first by)
 
 -- ## Reports
 
-moved_own : (f : Flat) (step : Step) (report : Status) (row : Service) → 1 ≤ row.process → reports f step row ≡ true → report_in step ≡ Some report → MovesItself f step row (moved_by row (take_report row.status report)).status
+moved_own : (f : Flat) (step : Step) (report : Status) (row : Service) → 1 ≤ row.process → reports f step row ≡ true
+    → report_in step ≡ Some report → MovesItself f step row (moved_by row (take_report row.status report)).status
 moved_own f step report row first by is =
-    elim (takes row.status report) as (λ b. takes row.status report ≡ b → MovesItself f step row (moved_by row (cond b (Ok report) (Err 13))).status) [
+    elim (takes row.status report) as (λ b. takes row.status report ≡ b
+    → MovesItself f step row (moved_by row (cond b (Ok report) (Err 13))).status) [
       | true ↦ λ e. inr (inl (record { process = first; by = by; report = is; taken = e }))
       | false ↦ λ e. inl refl
     ] refl
 
-reported_own : (f : Flat) (step : Step) (process : ℕ) (report : Status) (row : Service) → 1 ≤ process → ((row.process == process) ≡ true → reports f step row ≡ true) → report_in step ≡ Some report
+reported_own : (f : Flat) (step : Step) (process : ℕ) (report : Status) (row : Service) → 1 ≤ process
+    → ((row.process == process) ≡ true → reports f step row ≡ true) → report_in step ≡ Some report
     → MovesItself f step row (reported_if process report row).status
 reported_own f step process report row first by is =
-    elim (row.process == process) as (λ b. (row.process == process) ≡ b → MovesItself f step row (cond b (moved_by row (take_report row.status report)) row).status) [
+    elim (row.process == process) as (λ b. (row.process == process) ≡ b
+    → MovesItself f step row (cond b (moved_by row (take_report row.status report)) row).status) [
       | true ↦ λ e. moved_own f step report row (let same = eqb-true row.process process e in omega (arith, same, first)) (by e) is
       | false ↦ λ e. inl refl
     ] refl
@@ -113,60 +131,81 @@ moved_number row (Err code) = refl
 
 pub reported_number : (process : ℕ) (report : Status) (row : Service) → (reported_if process report row).number ≡ row.number
 reported_number process report row =
-    elim (row.process == process) as (λ b. (cond b (moved_by row (take_report row.status report)) row).number ≡ row.number) [ true ↦ moved_number row (take_report row.status report) | false ↦ refl ]
+    elim (row.process == process) as (λ b. (cond b (moved_by row (take_report row.status report)) row).number ≡ row.number)
+    [ true ↦ moved_number row (take_report row.status report) | false ↦ refl ]
 
-own_reported : (f : Flat) (step : Step) (process : ℕ) (report : Status) → AreRising f.services → 1 ≤ process → ((row : Service) → (row.process == process) ≡ true → reports f step row ≡ true) → report_in step ≡ Some report
+own_reported : (f : Flat) (step : Step) (process : ℕ) (report : Status) → AreRising f.services → 1 ≤ process
+    → ((row : Service) → (row.process == process) ≡ true → reports f step row ≡ true) → report_in step ≡ Some report
     → All (HasOwn f step) (map (reported_if process report) f.services)
 own_reported f step process report rising first by is =
-    own_mapped f step (reported_if process report) rising (reported_number process report) (λ k d lt. reported_own f step process report (get_or f.services k d) first (by (get_or f.services k d)) is)
+    own_mapped f step (reported_if process report) rising (reported_number process report)
+    (λ k d lt. reported_own f step process report (get_or f.services k d) first (by (get_or f.services k d)) is)
 
 -- ## Calls
 
-own_configured : (f : Flat) (step : Step) (number : ℕ) (config : Config) (row : Service) → MovesItself f step row (configured_if number config row).status
+own_configured : (f : Flat) (step : Step) (number : ℕ) (config : Config) (row : Service)
+    → MovesItself f step row (configured_if number config row).status
 own_configured f step number config row =
-    elim (row.number == number) as (λ b. MovesItself f step row (cond b (record row { config = config; status = record row.status { kind = config.kind } }) row).status) [ true ↦ inl refl | false ↦ inl refl ]
+    elim (row.number == number) as (λ b. MovesItself f step row (cond b
+    (record row { config = config; status = record row.status { kind = config.kind } }) row).status) [
+      | true ↦ inl refl
+      | false ↦ inl refl
+    ]
 
-own_change : (f : Flat) (step : Step) (number : ℕ) (config : Config) → AreRising f.services → All (HasOwn f step) (map (configured_if number config) f.services)
+own_change : (f : Flat) (step : Step) (number : ℕ) (config : Config) → AreRising f.services
+    → All (HasOwn f step) (map (configured_if number config) f.services)
 own_change f step number config rising =
-    own_mapped f step (configured_if number config) rising (number_kept number config) (λ k d lt. own_configured f step number config (get_or f.services k d))
+    own_mapped f step (configured_if number config) rising (number_kept number config)
+    (λ k d lt. own_configured f step number config (get_or f.services k d))
 
 -- the service that may report has a process
-set_first : (l : Limits) (f : Flat) (moment caller handle : ℕ) (report : Status) (row : Service) → IsValid l f → held_service f caller handle ≡ Some row → set_status_verdict (with_moment f moment) caller handle report ≡ 0
+set_first : (l : Limits) (f : Flat) (moment caller handle : ℕ) (report : Status) (row : Service) → IsValid l f
+    → held_service f caller handle ≡ Some row → set_status_verdict (with_moment f moment) caller handle report ≡ 0
     → 1 ≤ row.process
 set_first l f moment caller handle report row v is e =
     running_first l f row.process (process_of f row.process) v refl (set_status_runs (with_moment f moment) caller handle report row is e)
 
-own_done : (l : Limits) (f : Flat) (moment caller : ℕ) (asked : Request) (append : Kept) → IsValid l f → verdict l (with_moment f moment) caller asked append ≡ 0
+own_done : (l : Limits) (f : Flat) (moment caller : ℕ) (asked : Request) (append : Kept) → IsValid l f
+    → verdict l (with_moment f moment) caller asked append ≡ 0
     → All (HasOwn f (Call caller asked append)) (done_of l (with_moment f moment) caller asked).flat.services
 own_done l f moment caller (request.Delete handle) append v e =
     let step = Call caller (request.Delete handle) append in
-    found_keeps (All (HasOwn f step)) (λ (row : Service). map (marked_if row.number)) (held_service f caller handle) f.services (own_same f step v.services.rising)
+    found_keeps (All (HasOwn f step)) (λ (row : Service). map (marked_if row.number)) (held_service f caller handle) f.services
+    (own_same f step v.services.rising)
     (λ one is. own_mapped f step (marked_if one.number) v.services.rising (λ row. refl) (λ k d lt. inl refl))
 own_done l f moment caller (request.SetStatus handle report) append v e =
     let step = Call caller (request.SetStatus handle report) append in
     failing_rows (HasOwn f step) (λ row failures last own. own) (failed_by report (held_service f caller handle)) _
-    (found_keeps (All (HasOwn f step)) (λ (row : Service). map (reported_if row.process report)) (held_service f caller handle) f.services (own_same f step v.services.rising)
-    (λ one is. own_reported f step one.process report v.services.rising (set_first l f moment caller handle report one v is e) (λ row h. ap (λ found. is_process_of found row.process) is ∙ h) refl))
+    (found_keeps (All (HasOwn f step)) (λ (row : Service). map (reported_if row.process report)) (held_service f caller handle) f.services
+    (own_same f step v.services.rising)
+    (λ one is. own_reported f step one.process report v.services.rising (set_first l f moment caller handle report one v is e)
+    (λ row h. ap (λ found. is_process_of found row.process) is ∙ h) refl))
 own_done l f moment caller (request.Change change) append v e =
     let step = Call caller (request.Change change) append in
     let new = new_config (with_moment f moment) change in
-    found_keeps (All (HasOwn f step)) (λ (row : Service). map (configured_if row.number (new row))) (held_service f caller change.handle) f.services (own_same f step v.services.rising)
+    found_keeps (All (HasOwn f step)) (λ (row : Service). map (configured_if row.number (new row)))
+    (held_service f caller change.handle) f.services (own_same f step v.services.rising)
     (λ one is. own_change f step one.number (new one) v.services.rising)
 own_done l f moment caller (request.Change2 handle level) append v e =
     let step = Call caller (request.Change2 handle level) append in
-    found_keeps (All (HasOwn f step)) (λ (row : Service). map (configured_if row.number (level_config level row))) (held_service f caller handle) f.services (own_same f step v.services.rising)
+    found_keeps (All (HasOwn f step)) (λ (row : Service). map (configured_if row.number (level_config level row)))
+    (held_service f caller handle) f.services (own_same f step v.services.rising)
     (λ one is. own_change f step one.number (level_config level one) v.services.rising)
 own_done l f moment caller (request.OpenService handle name access) append v e =
     let step = Call caller (request.OpenService handle name access) append in
-    opened_keeps (λ (g : Flat). All (HasOwn f step) g.services) (with_moment f moment) caller name access (own_same f step v.services.rising) (λ row is. own_same f step v.services.rising)
+    opened_keeps (λ (g : Flat). All (HasOwn f step) g.services) (with_moment f moment) caller name access
+    (own_same f step v.services.rising) (λ row is. own_same f step v.services.rising)
 own_done l f moment caller (request.Start handle words) append v e =
     let step = Call caller (request.Start handle words) append in
-    started_keeps (λ (g : Flat). All (HasOwn f step) g.services) (with_moment f moment) caller handle words (own_same f step v.services.rising) (λ row is. own_same f step v.services.rising)
+    started_keeps (λ (g : Flat). All (HasOwn f step) g.services) (with_moment f moment) caller handle words
+    (own_same f step v.services.rising) (λ row is. own_same f step v.services.rising)
 own_done l f moment caller (request.Create new) append v e =
-    All-push (HasOwn f _) f.services _ (own_same f _ v.services.rising) (λ k d lt same. absurd (let below = v.services.below k d lt in omega arith))
+    All-push (HasOwn f _) f.services _ (own_same f _ v.services.rising)
+    (λ k d lt same. absurd (let below = v.services.below k d lt in omega arith))
 own_done l f moment caller (request.Notify handle mask) append v e =
     let step = Call caller (request.Notify handle mask) append in
-    notify_apart (λ (g : Flat). All (HasOwn f step) g.services) (with_moment f moment) caller handle mask (λ rows next. own_same f step v.services.rising)
+    notify_apart (λ (g : Flat). All (HasOwn f step) g.services) (with_moment f moment) caller handle mask
+    (λ rows next. own_same f step v.services.rising)
 own_done l f moment caller asked append v e = own_same f _ v.services.rising
 
 own_call : (l : Limits) (f : Flat) (moment caller : ℕ) (asked : Request) (append : Kept) → IsValid l f
@@ -174,7 +213,8 @@ own_call : (l : Limits) (f : Flat) (moment caller : ℕ) (asked : Request) (appe
 own_call l f moment caller asked append v =
     let g = with_moment f moment in
     let code = verdict l g caller asked append in
-    by_verdict (λ r. All (HasOwn f (Call caller asked append)) r.flat.services) code (told_refused g caller asked code) g (done_of l g caller asked)
+    by_verdict (λ r. All (HasOwn f (Call caller asked append)) r.flat.services) code (told_refused g caller asked code) g
+    (done_of l g caller asked)
     (own_done l f moment caller asked append v) (λ e. own_same f _ v.services.rising)
 
 -- ## Effects
@@ -182,17 +222,25 @@ own_call l f moment caller asked append v =
 ends_with : (process code : ℕ) → cond (process == process) (Some code) None ≡ Some code
 ends_with process code = rw (eq-eqb process process refl) refl
 
-pub own_effect : (l : Limits) (f : Flat) (moment : ℕ) (step : Step) → IsValid l f → IsTrue (may l f moment step) → All (HasOwn f step) (effect_of l (at_moment f moment step) step).flat.services
+pub own_effect : (l : Limits) (f : Flat) (moment : ℕ) (step : Step) → IsValid l f → IsTrue (may l f moment step)
+    → All (HasOwn f step) (effect_of l (at_moment f moment step) step).flat.services
 own_effect l f moment (Call caller asked append) v ok = own_call l f moment caller asked append v
 own_effect l f moment (LaunchFailed process code) v ok =
-    own_fallen f _ process code v.services.rising (taken_first l f process (process_of f process) v refl (and_parts _ _ (and_parts _ _ ok).0).0) (ends_with process code)
+    own_fallen f _ process code v.services.rising (taken_first l f process (process_of f process) v refl
+    (and_parts _ _ (and_parts _ _ ok).0).0) (ends_with process code)
 own_effect l f moment (Ended process) v ok =
-    failing_rows (HasOwn f (Ended process)) (λ row failures last own. own) (current_of (with_moment f moment) process) (with_fallen (with_moment f moment) process 1067)
-    (own_fallen f _ process 1067 v.services.rising (running_first l f process (process_of f process) v refl (and_parts _ _ ok).0) (ends_with process 1067))
+    failing_rows (HasOwn f (Ended process)) (λ row failures last own. own) (current_of (with_moment f moment) process)
+    (with_fallen (with_moment f moment) process 1067)
+    (own_fallen f _ process 1067 v.services.rising (running_first l f process (process_of f process) v refl (and_parts _ _ ok).0)
+    (ends_with process 1067))
 own_effect l f moment (Report process report) v ok =
-    failing_rows (HasOwn f (Report process report)) (λ row failures last own. own) (failed_by report (current_of (with_moment f moment) process)) _
-    (own_reported f _ process report v.services.rising (running_first l f process (process_of f process) v refl (and_parts _ _ ok).0) (λ row h. h) refl)
-own_effect l f moment Tick v ok = ticked_apart (λ (g : Flat). All (HasOwn f Tick) g.services) l (with_moment f moment) (own_same f Tick v.services.rising)
+    failing_rows (HasOwn f (Report process report)) (λ row failures last own. own)
+    (failed_by report (current_of (with_moment f moment) process)) _
+    (own_reported f _ process report v.services.rising (running_first l f process (process_of f process) v refl (and_parts _ _ ok).0)
+    (λ row h. h) refl)
+own_effect l f moment Tick v ok = ticked_apart (λ (g : Flat). All (HasOwn f Tick) g.services) l (with_moment f moment)
+    (own_same f Tick v.services.rising)
 own_effect l f moment (Raised caller subtype) v ok =
-    raised_apart (λ (g : Flat). All (HasOwn f (Raised caller subtype)) g.services) l (with_moment f moment) caller subtype (own_same f _ v.services.rising)
+    raised_apart (λ (g : Flat). All (HasOwn f (Raised caller subtype)) g.services) l (with_moment f moment) caller subtype
+    (own_same f _ v.services.rising)
 own_effect l f moment step v ok = own_same f _ v.services.rising

@@ -1,5 +1,6 @@
 -- A stale step and a report that is refused move no service.
-use Rattle.std.proofs.Common.{ℕ, suc, ◌≡◌, ◌∙◌, ◌≤◌, ◌==◌, ◌&&◌, Bool, true, false, not, cond, IsTrue, List, [], ◌∷◌, Option, None, Some, Ok, Err, filter, find, map, get_or, ap, sym, refl, subst, arith, eqb-true, eq-eqb}
+use Rattle.std.proofs.Common.{ℕ, suc, ◌≡◌, ◌∙◌, ◌≤◌, ◌==◌, ◌&&◌, Bool, true, false, not, cond, IsTrue, List, [], ◌∷◌, Option, None, Some}
+use Rattle.std.proofs.Common.{Ok, Err, filter, find, map, get_or, ap, sym, refl, subst, arith, eqb-true, eq-eqb}
 use Rattle.std.specs.Prelude.{All, AllPairs, is_some, max}
 use Rattle.std.proofs.lemmas.List.Elements.{All-cons, All-head, All-nil, All-tail, All-weaker}
 use Rattle.scm_model.specs.declared.flat.Flat.{Flat}
@@ -20,8 +21,10 @@ use Rattle.scm_model.specs.Purge.{purged}
 use Rattle.start_plan.specs.Decided.{code_of}
 use Rattle.start_plan.specs.Settle.{settled}
 use Rattle.status_machine.specs.Moves.{take_report, takes}
-use Rattle.scm_rules.specs.Launches.{fallen_if, process_of, wanted_of_others, with_fallen, without_process, first_wanted, launch_told, told_of_fall, current_of}
-use Rattle.scm_rules.specs.Reports.{current_of, moved_by, report_answer, report_told, reported_if, set_status_done, set_status_verdict, with_report, told_of_report}
+use Rattle.scm_rules.specs.Launches.{fallen_if, process_of, wanted_of_others, with_fallen, without_process, first_wanted, launch_told}
+use Rattle.scm_rules.specs.Launches.{notified_of_fall, current_of}
+use Rattle.scm_rules.specs.Reports.{current_of, moved_by, report_answer, report_told, reported_if, set_status_done, set_status_verdict}
+use Rattle.scm_rules.specs.Reports.{with_report, notified_of_report}
 use Rattle.scm_rules.specs.Ends.{end_told, with_end}
 use Rattle.scm_rules.specs.Failures.{failed_by, with_failure}
 use Rattle.scm_model.specs.Found.{if_found}
@@ -44,11 +47,14 @@ map_still g [] each = refl
 map_still g (x ∷ xs) each = rw (All-head (λ y. g y ≡ y) x xs each, map_still g xs (All-tail (λ y. g y ≡ y) x xs each)) refl
 
 -- who has the process of one that is found is that one
-found_apart : (process : ℕ) (row : Service) (rows : List Service) → 1 ≤ process → AllPairs AreApart rows → find (λ (r : Service). r.process == process) rows ≡ Some row
+found_apart : (process : ℕ) (row : Service) (rows : List Service) → 1 ≤ process → AllPairs AreApart rows
+    → find (λ (r : Service). r.process == process) rows ≡ Some row
     → All (λ (r : Service). (r.process == process) ≡ true → r ≡ row) rows
 found_apart process row [] first apart e = All-nil (λ (r : Service). (r.process == process) ≡ true → r ≡ row)
 found_apart process row (x ∷ xs) first apart e =
-    elim (x.process == process) as (λ b. (x.process == process) ≡ b → cond b (Some x) (find (λ (r : Service). r.process == process) xs) ≡ Some row → All (λ (r : Service). (r.process == process) ≡ true → r ≡ row) (x ∷ xs)) [
+    elim (x.process == process) as (λ b. (x.process == process) ≡ b → cond b (Some x)
+    (find (λ (r : Service). r.process == process) xs) ≡ Some row → All (λ (r : Service). (r.process == process) ≡ true → r ≡ row)
+    (x ∷ xs)) [
       | true ↦ λ h g. All-cons (λ (r : Service). (r.process == process) ≡ true → r ≡ row) x xs (λ same. same_some x row g)
           (λ k d lt same. absurd (
           let here = eqb-true x.process process h in
@@ -64,7 +70,8 @@ found_apart process row (x ∷ xs) first apart e =
 not_current : (process : ℕ) (report : Status) (row : Service) → (row.process == process) ≡ false → reported_if process report row ≡ row
 not_current process report row e = rw e refl
 
-not_taken : (process : ℕ) (report : Status) (row : Service) → ((row.process == process) ≡ true → takes row.status report ≡ false) → reported_if process report row ≡ row
+not_taken : (process : ℕ) (report : Status) (row : Service) → ((row.process == process) ≡ true → takes row.status report ≡ false)
+    → reported_if process report row ≡ row
 not_taken process report row none =
     elim (row.process == process) as (λ b. (row.process == process) ≡ b → cond b (moved_by row (take_report row.status report)) row ≡ row) [
       | true ↦ λ e. rw (none e) refl
@@ -72,32 +79,44 @@ not_taken process report row none =
     ] refl
 
 -- a report that changes no row, and is no failure
-put_by_report : (l : Limits) (f : Flat) (moment process : ℕ) (report : Status) → IsValid l f → map (reported_if process report) f.services ≡ f.services → failed_by report (current_of f process) ≡ None
+put_by_report : (l : Limits) (f : Flat) (moment process : ℕ) (report : Status) → IsValid l f
+    → map (reported_if process report) f.services ≡ f.services → failed_by report (current_of f process) ≡ None
     → (purged (settled l (with_report (with_moment f moment) process report))).services ≡ f.services
 put_by_report l f moment process report v same fine =
-    let told = told_of_report f.processes report (current_of f process) f.registrations in
+    let told = notified_of_report f.processes report (current_of f process) f.registrations in
     ap (λ (failed : Option Service). (purged (settled l (if_found with_failure failed
-    (record f { services = map (reported_if process report) f.services; registrations = told; moment = max f.moment moment })))).services) fine
-    ∙ ap (λ (services : List Service). (purged (settled l (record f { services = services; registrations = told; moment = max f.moment moment }))).services) same
+    (record f { services = map (reported_if process report) f.services; registrations = told; moment = max f.moment moment })))).services)
+    fine
+    ∙ ap (λ (services : List Service). (purged (settled l (record f {
+      services = services;
+      registrations = told;
+      moment = max f.moment moment;
+    }))).services) same
     ∙ stays_put l f f.processes f.wanted told (max f.moment moment) v (omega arith)
 
-stale_report : (l : Limits) (f : Flat) (moment process : ℕ) (report : Status) (found : Option Service) → IsValid l f → current_of f process ≡ found
+stale_report : (l : Limits) (f : Flat) (moment process : ℕ) (report : Status) (found : Option Service) → IsValid l f
+    → current_of f process ≡ found
     → (finished (settled l (with_report (with_moment f moment) process report)) (report_told found report)).answer ≡ answer.Stale
-    → (purged (finished (settled l (with_report (with_moment f moment) process report)) (report_told found report)).flat).services ≡ f.services
+    → (purged (finished (settled l (with_report (with_moment f moment) process report)) (report_told found report)).flat).services ≡
+    f.services
 stale_report l f moment process report None v e told =
     put_by_report l f moment process report v
     (map_still (reported_if process report) f.services
-    (All-weaker (λ (row : Service). (row.process == process) ≡ false) (λ (row : Service). reported_if process report row ≡ row) (not_current process report) f.services
-    (none_found (λ (row : Service). row.process == process) f.services (ap (λ (o : Option Service). is_some o) e)))) (ap (failed_by report) e)
+    (All-weaker (λ (row : Service). (row.process == process) ≡ false) (λ (row : Service). reported_if process report row ≡ row)
+    (not_current process report) f.services
+    (none_found (λ (row : Service). row.process == process) f.services (ap (λ (o : Option Service). is_some o) e))))
+    (ap (failed_by report) e)
 stale_report l f moment process report (Some row) v e told =
     let g = settled l (with_report (with_moment f moment) process report) in
-    absurd (elim (takes row.status report) as (λ b. (finished g (report_answer (cond b (Ok report) (Err 13)))).answer ≡ answer.Stale → ⊥) [ true ↦ λ h. cc | false ↦ λ h. cc ] told)
+    absurd (elim (takes row.status report) as (λ b. (finished g (report_answer (cond b (Ok report) (Err 13)))).answer ≡ answer.Stale → ⊥)
+    [ true ↦ λ h. cc | false ↦ λ h. cc ] told)
 
 -- a report that isn't taken is no failure
 not_failed : (report : Status) (row : Service) → takes row.status report ≡ false → failed_by report (Some row) ≡ None
 not_failed report row none = by_tests row.config.on_exit (report.state == 1) (not (report.win32 == 0)) (takes row.status report) none
   where
-    by_tests : (on_exit stopped with_error taken : Bool) → taken ≡ false → ◌≡◌ {A = Option Service} (cond (on_exit && taken && stopped && with_error) (Some row) None) None
+    by_tests : (on_exit stopped with_error taken : Bool) → taken ≡ false
+        → ◌≡◌ {A = Option Service} (cond (on_exit && taken && stopped && with_error) (Some row) None) None
     by_tests true stopped with_error true none = absurd cc
     by_tests true stopped with_error false none = refl
     by_tests false stopped with_error taken none = refl
@@ -107,26 +126,32 @@ record IsRefused (row : Service) (report : Status) (code : ℕ) : Type 0 where
   is : code ≡ 13
   none : takes row.status report ≡ false
 
-told_refused : (g : Flat) (row : Service) (report : Status) (code : ℕ) → (finished g (report_answer (take_report row.status report))).answer ≡ answer.Refused code → IsRefused row report code
+told_refused : (g : Flat) (row : Service) (report : Status) (code : ℕ) →
+    (finished g (report_answer (take_report row.status report))).answer ≡ answer.Refused code → IsRefused row report code
 told_refused g row report code =
-    elim (takes row.status report) as (λ b. takes row.status report ≡ b → (finished g (report_answer (cond b (Ok report) (Err 13)))).answer ≡ answer.Refused code → IsRefused row report code) [
+    elim (takes row.status report) as (λ b. takes row.status report ≡ b
+    → (finished g (report_answer (cond b (Ok report) (Err 13)))).answer ≡ answer.Refused code → IsRefused row report code) [
       | true ↦ λ e h. absurd cc
       | false ↦ λ e h. record { is = cc; none = e }
     ] refl
 
-refused_report : (l : Limits) (f : Flat) (moment process : ℕ) (report : Status) (found : Option Service) (code : ℕ) → IsValid l f → Known f → 1 ≤ process → current_of f process ≡ found
+refused_report : (l : Limits) (f : Flat) (moment process : ℕ) (report : Status) (found : Option Service) (code : ℕ) → IsValid l f → Known f
+    → 1 ≤ process → current_of f process ≡ found
     → (finished (settled l (with_report (with_moment f moment) process report)) (report_told found report)).answer ≡ answer.Refused code
-    → (code ≡ 13) × ((purged (finished (settled l (with_report (with_moment f moment) process report)) (report_told found report)).flat).services ≡ f.services)
+    → (code ≡ 13) × ((purged (finished (settled l (with_report (with_moment f moment) process report))
+    (report_told found report)).flat).services ≡ f.services)
 refused_report l f moment process report None code v known first e told = absurd cc
 refused_report l f moment process report (Some row) code v known first e told =
     let g = settled l (with_report (with_moment f moment) process report) in
     let is = told_refused g row report code told in
     let same = map_still (reported_if process report) f.services
     (All-weaker (λ (r : Service). (r.process == process) ≡ true → r ≡ row) (λ (r : Service). reported_if process report r ≡ r)
-    (λ r only. not_taken process report r (λ h. ap (λ (s : Service). takes s.status report) (only h) ∙ is.none)) f.services (found_apart process row f.services first known.apart e)) in (
+    (λ r only. not_taken process report r (λ h. ap (λ (s : Service). takes s.status report) (only h) ∙ is.none)) f.services
+    (found_apart process row f.services first known.apart e)) in (
       is.is,
       subst (λ (told : Answer). (purged (finished g told).flat).services ≡ f.services)
-          (sym (ap (λ (b : Bool). report_answer (cond b (Ok report) (Err 13))) is.none)) (put_by_report l f moment process report v same (ap (failed_by report) e ∙ not_failed report row is.none)),
+          (sym (ap (λ (b : Bool). report_answer (cond b (Ok report) (Err 13))) is.none))
+          (put_by_report l f moment process report v same (ap (failed_by report) e ∙ not_failed report row is.none)),
     )
 
 -- ## An end
@@ -136,16 +161,26 @@ not_fallen process code row e = rw e refl
 
 stale_end : (l : Limits) (f : Flat) (moment process : ℕ) (found : Option Service) → IsValid l f → current_of f process ≡ found
     → (finished (settled l (without_process (with_end (with_moment f moment) process) process)) (end_told found)).answer ≡ answer.Stale
-    → (purged (finished (settled l (without_process (with_end (with_moment f moment) process) process)) (end_told found)).flat).services ≡ f.services
+    → (purged (finished (settled l (without_process (with_end (with_moment f moment) process) process)) (end_told found)).flat).services ≡
+    f.services
 stale_end l f moment process None v e told =
     let others = filter (λ (row : Process). not (row.number == process)) f.processes in
-    let told = told_of_fall process 1067 (current_of f process) f.registrations in
-    ap (λ (failed : Option Service). (purged (settled l (without_process (if_found with_failure failed (with_fallen (with_moment f moment) process 1067)) process))).services) e
-    ∙ ap (λ (services : List Service). (purged (settled l (record f { services = services; processes = others; wanted = wanted_of_others process f.wanted; registrations = told; moment = max f.moment moment }))).services)
+    let told = notified_of_fall process 1067 (current_of f process) f.registrations in
+    ap (λ (failed : Option Service). (purged (settled l (without_process
+    (if_found with_failure failed (with_fallen (with_moment f moment) process 1067)) process))).services) e
+    ∙ ap (λ (services : List Service). (purged (settled l (record f {
+      services = services;
+      processes = others;
+      wanted = wanted_of_others process f.wanted;
+      registrations = told;
+      moment = max f.moment moment;
+    }))).services)
     (map_still (fallen_if process 1067) f.services
-    (All-weaker (λ (row : Service). (row.process == process) ≡ false) (λ (row : Service). fallen_if process 1067 row ≡ row) (not_fallen process 1067) f.services
+    (All-weaker (λ (row : Service). (row.process == process) ≡ false) (λ (row : Service). fallen_if process 1067 row ≡ row)
+    (not_fallen process 1067) f.services
     (none_found (λ (row : Service). row.process == process) f.services (ap (λ (o : Option Service). is_some o) e))))
-    ∙ stays_put l f others (wanted_of_others process f.wanted) told (max f.moment moment) v (filter_short (λ (row : Process). not (row.number == process)) f.processes)
+    ∙ stays_put l f others (wanted_of_others process f.wanted) told (max f.moment moment) v
+    (filter_short (λ (row : Process). not (row.number == process)) f.processes)
 stale_end l f moment process (Some row) v e told = absurd cc
 
 -- ## Other steps
@@ -190,7 +225,8 @@ effect_off l f LaunchTaken e = launch_off (first_wanted f.wanted)
 effect_off l f (ControlTaken process) e = control_off (first_control (controls_of f process))
 effect_off l f step e = refl
 
-pub step_off : (l : Limits) (f : Flat) (moment : ℕ) (step : Step) → tells_of_process step ≡ false → tells_off (step_of l f moment step).answer ≡ false
+pub step_off : (l : Limits) (f : Flat) (moment : ℕ) (step : Step) → tells_of_process step ≡ false
+    → tells_off (step_of l f moment step).answer ≡ false
 step_off l f moment step e =
     let done = effect_of l (at_moment f moment step) step in
     finished_off (settled l done.flat) done.answer (effect_off l (at_moment f moment step) step e)
@@ -205,31 +241,38 @@ end_off code g (Some row) told = cc
 
 -- ## The law
 
-pub stale : (l : Limits) (f : Flat) (moment : ℕ) (step : Step) → IsValid l f → (step_of l f moment step).answer ≡ answer.Stale → (step_of l f moment step).flat.services ≡ f.services
+pub stale : (l : Limits) (f : Flat) (moment : ℕ) (step : Step) → IsValid l f → (step_of l f moment step).answer ≡ answer.Stale
+    → (step_of l f moment step).flat.services ≡ f.services
 stale l f moment (Report process report) v told = stale_report l f moment process report (current_of f process) v refl told
 stale l f moment (Ended process) v told = stale_end l f moment process (current_of f process) v refl told
 stale l f moment step v told = absurd (not_off _ (ap tells_off told) (step_off l f moment step refl))
 
-pub refused : (l : Limits) (f : Flat) (moment : ℕ) (step : Step) (code : ℕ) → IsValid l f → Known f → IsTrue (may l f moment step) → (step_of l f moment step).answer ≡ answer.Refused code
+pub refused : (l : Limits) (f : Flat) (moment : ℕ) (step : Step) (code : ℕ) → IsValid l f → Known f → IsTrue (may l f moment step)
+    → (step_of l f moment step).answer ≡ answer.Refused code
     → (code ≡ 13) × ((step_of l f moment step).flat.services ≡ f.services)
 refused l f moment (Report process report) code v known ok told =
-    refused_report l f moment process report (current_of f process) code v known (running_first l f process (process_of f process) v refl (and_parts _ _ ok).0) refl told
+    refused_report l f moment process report (current_of f process) code v known
+    (running_first l f process (process_of f process) v refl (and_parts _ _ ok).0) refl told
 refused l f moment (Ended process) code v known ok told = absurd (end_off code _ (current_of f process) told)
 refused l f moment step code v known ok told = absurd (not_off _ (ap tells_off told) (step_off l f moment step refl))
 
 -- ## A report by a call
 
 unheard_by : (l : Limits) (f : Flat) (moment caller handle : ℕ) (report : Status) (append : Kept) (code : ℕ) → IsValid l f
-    → (step_of l f moment (Call caller (request.SetStatus handle report) append)).answer ≡ answer.Reply (reply.Code code) → (code == 0) ≡ false
+    → (step_of l f moment (Call caller (request.SetStatus handle report) append)).answer ≡ answer.Reply (reply.Code code)
+    → (code == 0) ≡ false
     → (step_of l f moment (Call caller (request.SetStatus handle report) append)).flat.services ≡ f.services
 unheard_by l f moment caller handle report append code v =
     let g = with_moment f moment in
     let refusal = set_status_verdict g caller handle report in
-    by_verdict (λ r. answer.Reply r.reply ≡ answer.Reply (reply.Code code) → (code == 0) ≡ false → (purged (settled l r.flat)).services ≡ f.services) refusal (reply.Code refusal) g (set_status_done g caller handle report)
+    by_verdict (λ r. answer.Reply r.reply ≡ answer.Reply (reply.Code code) → (code == 0) ≡ false
+    → (purged (settled l r.flat)).services ≡ f.services) refusal (reply.Code refusal) g (set_status_done g caller handle report)
     (λ e told some. absurd (let none : code ≡ 0 = cc in let yes = eq-eqb code 0 none in not_off (code == 0) yes some))
     (λ e told some. stays_put l f f.processes f.wanted f.registrations (max f.moment moment) v (omega arith))
 
-pub unheard : (l : Limits) (f : Flat) (moment : ℕ) (step : Step) (code : ℕ) → IsValid l f → is_called_report step ≡ true → (step_of l f moment step).answer ≡ answer.Reply (reply.Code code) → (code == 0) ≡ false
+pub unheard : (l : Limits) (f : Flat) (moment : ℕ) (step : Step) (code : ℕ) → IsValid l f → is_called_report step ≡ true
+    → (step_of l f moment step).answer ≡ answer.Reply (reply.Code code) → (code == 0) ≡ false
     → (step_of l f moment step).flat.services ≡ f.services
-unheard l f moment (Call caller (request.SetStatus handle report) append) code v is told some = unheard_by l f moment caller handle report append code v told some
+unheard l f moment (Call caller (request.SetStatus handle report) append) code v is told some =
+    unheard_by l f moment caller handle report append code v told some
 unheard l f moment step code v is told some = absurd cc

@@ -22,9 +22,11 @@ use Rattle.scm_moves.proofs.Whole.{Whole}
 -- a report of a current process is taken or refused
 report_heard : (g : Flat) (row : Service) (report : Status) → (finished g (report_told (Some row) report)).answer ≡ answer.Stale → ⊥
 report_heard g row report told =
-    elim (takes row.status report) as (λ b. (finished g (report_answer (cond b (Ok report) (Err 13)))).answer ≡ answer.Stale → ⊥) [ true ↦ λ h. cc | false ↦ λ h. cc ] told
+    elim (takes row.status report) as (λ b. (finished g (report_answer (cond b (Ok report) (Err 13)))).answer ≡ answer.Stale → ⊥)
+    [ true ↦ λ h. cc | false ↦ λ h. cc ] told
 
-of_report : (g : Flat) (report : Status) (found : Option Service) → ((finished g (report_told found report)).answer ≡ answer.Stale) ↔ (is_none found ≡ true)
+of_report : (g : Flat) (report : Status) (found : Option Service) → ((finished g (report_told found report)).answer ≡ answer.Stale) ↔
+    (is_none found ≡ true)
 of_report g report None = (λ told. refl, λ none. refl)
 of_report g report (Some row) = (λ told. absurd (report_heard g row report told), λ none. absurd cc)
 
@@ -32,9 +34,12 @@ of_end : (g : Flat) (found : Option Service) → ((finished g (end_told found)).
 of_end g None = (λ told. refl, λ none. refl)
 of_end g (Some row) = (λ told. absurd cc, λ none. absurd cc)
 
-told_stale : (l : Limits) (f : Flat) (moment : ℕ) (step : Step) → ((step_of l f moment step).answer ≡ answer.Stale) ↔ (is_stale f step ≡ true)
-told_stale l f moment (Report process report) = of_report (settled l (effect_of l (at_moment f moment (Report process report)) (Report process report)).flat) report (current_of f process)
-told_stale l f moment (Ended process) = of_end (settled l (effect_of l (at_moment f moment (Ended process)) (Ended process)).flat) (current_of f process)
+told_stale : (l : Limits) (f : Flat) (moment : ℕ) (step : Step) → ((step_of l f moment step).answer ≡ answer.Stale) ↔
+    (is_stale f step ≡ true)
+told_stale l f moment (Report process report) = of_report (settled l (effect_of l (at_moment f moment (Report process report))
+    (Report process report)).flat) report (current_of f process)
+told_stale l f moment (Ended process) = of_end (settled l (effect_of l (at_moment f moment (Ended process)) (Ended process)).flat)
+    (current_of f process)
 told_stale l f moment step = (λ told. absurd (not_off _ (ap tells_off told) (step_off l f moment step refl)), λ is. absurd cc)
 
 pub gives : (l : Limits) → Gives (Whole l) LawOfStale l

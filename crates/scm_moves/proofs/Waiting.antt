@@ -1,5 +1,6 @@
 -- Which controls wait after a step.
-use Rattle.std.proofs.Common.{ℕ, ◌≡◌, ◌⊎◌, inl, inr, ◌∙◌, ◌==◌, ◌&&◌, Bool, true, false, not, cond, List, [], ◌∷◌, ◌++◌, Option, None, Some, drop, filter, find, length, map, ap, sym, refl, subst, eq-eqb, eqb-true, ne_eqb}
+use Rattle.std.proofs.Common.{ℕ, ◌≡◌, ◌⊎◌, inl, inr, ◌∙◌, ◌==◌, ◌&&◌, Bool, true, false, not, cond, List, [], ◌∷◌, ◌++◌, Option, None, Some}
+use Rattle.std.proofs.Common.{drop, filter, find, length, map, ap, sym, refl, subst, eq-eqb, eqb-true, ne_eqb}
 use Rattle.std.specs.Prelude.{All, Contains, is_some, nat_lt}
 use Rattle.std.specs.List.{list_any}
 use Rattle.std.proofs.lemmas.List.Elements.{All-contains, All-weaker}
@@ -13,14 +14,15 @@ use Rattle.scm_model.specs.declared.steps.Answer.{Answer}
 use Rattle.scm_model.specs.declared.steps.Answer.TheVariants as answer
 use Rattle.scm_model.specs.declared.steps.Kept.{Kept}
 use Rattle.scm_model.specs.declared.steps.Step.{Step}
-use Rattle.scm_model.specs.declared.steps.Step.TheVariants.{Call, LaunchTaken, Launched, LaunchFailed, Report, Ended, ControlTaken, Tick, Raised}
+use Rattle.scm_model.specs.declared.steps.Step.TheVariants.{Call, LaunchTaken, Launched, LaunchFailed, Report, Ended, ControlTaken, Tick}
+use Rattle.scm_model.specs.declared.steps.Step.TheVariants.{Raised}
 use Rattle.scm_model.specs.Changes.{with_moment}
 use Rattle.start_plan.specs.Decided.{code_of}
 use Rattle.start_plan.specs.Entered.{wanted_process}
 use Rattle.start_plan.specs.Settle.{settled}
 use Rattle.start_plan.proofs.Enterings.{all_units}
 use Rattle.start_plan.proofs.Keeps.{Keeps, keeps_all}
-use Rattle.scm_rules.specs.Controls.{controlled_if, controls_in, controls_of, relieved_if}
+use Rattle.scm_rules.specs.Controls.{controlled_if, controls_in, controls_of, dequeued_if}
 use Rattle.scm_rules.specs.Launches.{current_of, first_wanted, launched_if, taken_if, without_process}
 use Rattle.scm_rules.specs.Steps.{at_moment, effect_of, finished, left_by, step_of}
 use Rattle.scm_rules.specs.Verdicts.{call_of, done_of, told_refused, verdict}
@@ -44,12 +46,15 @@ found number rows = find (λ (row : Process). row.number == number) rows
 -- ## Rows that change
 
 -- a change of each row that makes these controls of those of one
-controls_mapped : (g : Process → Process) (h : List ℕ → List ℕ) (number : ℕ) (rows : List Process) → ((row : Process) → (g row).number ≡ row.number)
-    → ((row : Process) → (row.number == number) ≡ true → (g row).controls ≡ h row.controls) → h [] ≡ [] → controls_in (found number (map g rows)) ≡ h (controls_in (found number rows))
+controls_mapped : (g : Process → Process) (h : List ℕ → List ℕ) (number : ℕ) (rows : List Process)
+    → ((row : Process) → (g row).number ≡ row.number)
+    → ((row : Process) → (row.number == number) ≡ true → (g row).controls ≡ h row.controls) → h [] ≡ []
+    → controls_in (found number (map g rows)) ≡ h (controls_in (found number rows))
 controls_mapped g h number [] same makes none = sym none
 controls_mapped g h number (row ∷ rows) same makes none =
     ap (λ n. controls_in (cond (n == number) (Some (g row)) (found number (map g rows)))) (same row)
-    ∙ elim (row.number == number) as (λ b. (row.number == number) ≡ b → controls_in (cond b (Some (g row)) (found number (map g rows))) ≡ h (controls_in (cond b (Some row) (found number rows)))) [
+    ∙ elim (row.number == number) as (λ b. (row.number == number) ≡ b →
+    controls_in (cond b (Some (g row)) (found number (map g rows))) ≡ h (controls_in (cond b (Some row) (found number rows)))) [
       | true ↦ λ e. makes row e
       | false ↦ λ e. controls_mapped g h number rows same makes none
     ] refl
@@ -57,49 +62,71 @@ controls_mapped g h number (row ∷ rows) same makes none =
 taken_same : (of number : ℕ) (rows : List Process) → controls_in (found number (map (taken_if of) rows)) ≡ controls_in (found number rows)
 taken_same of number rows =
     controls_mapped (taken_if of) (λ codes. codes) number rows
-    (λ row. elim (row.number == of) as (λ b. (cond b (record row { phase = phases.Taken }) row).number ≡ row.number) [ true ↦ refl | false ↦ refl ])
-    (λ row e. elim (row.number == of) as (λ b. (cond b (record row { phase = phases.Taken }) row).controls ≡ row.controls) [ true ↦ refl | false ↦ refl ]) refl
+    (λ row. elim (row.number == of) as (λ b. (cond b (record row { phase = phases.Taken }) row).number ≡ row.number) [
+      | true ↦ refl
+      | false ↦ refl
+    ])
+    (λ row e. elim (row.number == of) as (λ b. (cond b (record row { phase = phases.Taken }) row).controls ≡ row.controls) [
+      | true ↦ refl
+      | false ↦ refl
+    ]) refl
 
-launched_same : (of pid number : ℕ) (rows : List Process) → controls_in (found number (map (launched_if of pid) rows)) ≡ controls_in (found number rows)
+launched_same : (of pid number : ℕ) (rows : List Process) → controls_in (found number (map (launched_if of pid) rows)) ≡ controls_in
+    (found number rows)
 launched_same of pid number rows =
     controls_mapped (launched_if of pid) (λ codes. codes) number rows
-    (λ row. elim (row.number == of) as (λ b. (cond b (record row { phase = phases.Launched; pid = pid }) row).number ≡ row.number) [ true ↦ refl | false ↦ refl ])
-    (λ row e. elim (row.number == of) as (λ b. (cond b (record row { phase = phases.Launched; pid = pid }) row).controls ≡ row.controls) [ true ↦ refl | false ↦ refl ]) refl
+    (λ row. elim (row.number == of) as (λ b. (cond b (record row { phase = phases.Launched; pid = pid }) row).number ≡ row.number)
+    [ true ↦ refl | false ↦ refl ])
+    (λ row e. elim (row.number == of) as (λ b. (cond b (record row { phase = phases.Launched; pid = pid }) row).controls ≡ row.controls)
+    [ true ↦ refl | false ↦ refl ]) refl
 
-relieved_number : (of : ℕ) (row : Process) → (relieved_if of row).number ≡ row.number
-relieved_number of row = elim (row.number == of) as (λ b. (cond b (record row { controls = drop 1 row.controls }) row).number ≡ row.number) [ true ↦ refl | false ↦ refl ]
+relieved_number : (of : ℕ) (row : Process) → (dequeued_if of row).number ≡ row.number
+relieved_number of row = elim (row.number == of) as (λ b. (cond b (record row { controls = drop 1 row.controls }) row).number ≡ row.number)
+    [ true ↦ refl | false ↦ refl ]
 
-pub relieved : (process : ℕ) (rows : List Process) → controls_in (found process (map (relieved_if process) rows)) ≡ drop 1 (controls_in (found process rows))
-relieved process rows = controls_mapped (relieved_if process) (λ codes. drop 1 codes) process rows (relieved_number process) (λ row e. rw e refl) refl
+pub relieved : (process : ℕ) (rows : List Process) → controls_in (found process (map (dequeued_if process) rows)) ≡ drop 1
+    (controls_in (found process rows))
+relieved process rows = controls_mapped (dequeued_if process) (λ codes. drop 1 codes) process rows (relieved_number process)
+    (λ row e. rw e refl) refl
 
 -- who has one number hasn't another
 other_number : (of number n : ℕ) → (of == number) ≡ false → (n == number) ≡ true → (n == of) ≡ false
-other_number of number n other e = subst (λ m. (m == of) ≡ false) (sym (eqb-true n number e)) (turned (number == of) (λ h. eq-eqb of number (sym (eqb-true number of h))) other)
+other_number of number n other e = subst (λ m. (m == of) ≡ false) (sym (eqb-true n number e))
+    (turned (number == of) (λ h. eq-eqb of number (sym (eqb-true number of h))) other)
   where
     turned : (b : Bool) → (b ≡ true → (of == number) ≡ true) → (of == number) ≡ false → b ≡ false
     turned true then_same other = absurd (let yes = then_same refl in cc)
     turned false then_same other = refl
 
-relieved_others : (process number : ℕ) (rows : List Process) → (process == number) ≡ false → controls_in (found number (map (relieved_if process) rows)) ≡ controls_in (found number rows)
+relieved_others : (process number : ℕ) (rows : List Process) → (process == number) ≡ false
+    → controls_in (found number (map (dequeued_if process) rows)) ≡ controls_in (found number rows)
 relieved_others process number rows other =
-    controls_mapped (relieved_if process) (λ codes. codes) number rows (relieved_number process) (λ row e. rw (other_number process number row.number other e) refl) refl
+    controls_mapped (dequeued_if process) (λ codes. codes) number rows (relieved_number process)
+    (λ row e. rw (other_number process number row.number other e) refl) refl
 
 pub controlled_number : (limit process code : ℕ) (row : Process) → (controlled_if limit process code row).number ≡ row.number
 controlled_number limit process code row =
-    elim (row.number == process && nat_lt (length row.controls) limit) as (λ b. (cond b (record row { controls = row.controls ++ code ∷ [] }) row).number ≡ row.number) [ true ↦ refl | false ↦ refl ]
+    elim (row.number == process && nat_lt (length row.controls) limit) as (λ b.
+    (cond b (record row { controls = row.controls ++ code ∷ [] }) row).number ≡ row.number) [ true ↦ refl | false ↦ refl ]
 
-pub controlled_others : (limit process code number : ℕ) (rows : List Process) → (process == number) ≡ false → controls_in (found number (map (controlled_if limit process code) rows)) ≡ controls_in (found number rows)
+pub controlled_others : (limit process code number : ℕ) (rows : List Process) → (process == number) ≡ false
+    → controls_in (found number (map (controlled_if limit process code) rows)) ≡ controls_in (found number rows)
 controlled_others limit process code number rows other =
-    controls_mapped (controlled_if limit process code) (λ codes. codes) number rows (controlled_number limit process code) (λ row e. rw (other_number process number row.number other e) refl) refl
+    controls_mapped (controlled_if limit process code) (λ codes. codes) number rows (controlled_number limit process code)
+    (λ row e. rw (other_number process number row.number other e) refl) refl
 
 -- a process for which fewer controls wait than may gets one more
-pub controlled : (limit process code : ℕ) (rows : List Process) → is_some (found process rows) ≡ true → nat_lt (length (controls_in (found process rows))) limit ≡ true
+pub controlled : (limit process code : ℕ) (rows : List Process) → is_some (found process rows) ≡ true
+    → nat_lt (length (controls_in (found process rows))) limit ≡ true
     → controls_in (found process (map (controlled_if limit process code) rows)) ≡ controls_in (found process rows) ++ code ∷ []
 controlled limit process code [] there few = absurd cc
 controlled limit process code (row ∷ rows) there few =
-    ap (λ n. controls_in (cond (n == process) (Some (controlled_if limit process code row)) (found process (map (controlled_if limit process code) rows)))) (controlled_number limit process code row)
-    ∙ elim (row.number == process) as (λ b. is_some (cond b (Some row) (found process rows)) ≡ true → nat_lt (length (controls_in (cond b (Some row) (found process rows)))) limit ≡ true
-    → controls_in (cond b (Some (cond (b && nat_lt (length row.controls) limit) (record row { controls = row.controls ++ code ∷ [] }) row)) (found process (map (controlled_if limit process code) rows)))
+    ap (λ n. controls_in (cond (n == process) (Some (controlled_if limit process code row))
+    (found process (map (controlled_if limit process code) rows)))) (controlled_number limit process code row)
+    ∙ elim (row.number == process) as (λ b. is_some (cond b (Some row) (found process rows)) ≡ true
+    → nat_lt (length (controls_in (cond b (Some row) (found process rows)))) limit ≡ true
+    → controls_in (cond b (Some (cond (b && nat_lt (length row.controls) limit) (record row { controls = row.controls ++ code ∷ [] }) row))
+    (found process (map (controlled_if limit process code) rows)))
     ≡ controls_in (cond b (Some row) (found process rows)) ++ code ∷ []) [
       | true ↦ λ t h. rw h refl
       | false ↦ λ t h. controlled limit process code rows t h
@@ -111,27 +138,39 @@ pub one_behind : (limit process code number : ℕ) (rows : List Process)
     ⊎ (controls_in (found number (map (controlled_if limit process code) rows)) ≡ controls_in (found number rows) ++ code ∷ [])
 one_behind limit process code number [] = inl refl
 one_behind limit process code number (row ∷ rows) =
-    subst (λ n. (controls_in (cond (n == number) (Some (controlled_if limit process code row)) (found number (map (controlled_if limit process code) rows))) ≡ controls_in (found number (row ∷ rows)))
-    ⊎ (controls_in (cond (n == number) (Some (controlled_if limit process code row)) (found number (map (controlled_if limit process code) rows))) ≡ controls_in (found number (row ∷ rows)) ++ code ∷ []))
+    subst (λ n. (controls_in (cond (n == number) (Some (controlled_if limit process code row))
+    (found number (map (controlled_if limit process code) rows))) ≡ controls_in (found number (row ∷ rows)))
+    ⊎ (controls_in (cond (n == number) (Some (controlled_if limit process code row))
+    (found number (map (controlled_if limit process code) rows))) ≡ controls_in (found number (row ∷ rows)) ++ code ∷ []))
     (sym (controlled_number limit process code row))
-    (elim (row.number == number) as (λ b. (controls_in (cond b (Some (controlled_if limit process code row)) (found number (map (controlled_if limit process code) rows))) ≡ controls_in (cond b (Some row) (found number rows)))
-    ⊎ (controls_in (cond b (Some (controlled_if limit process code row)) (found number (map (controlled_if limit process code) rows))) ≡ controls_in (cond b (Some row) (found number rows)) ++ code ∷ [])) [
-      | true ↦ elim (row.number == process && nat_lt (length row.controls) limit) as (λ b. ((cond b (record row { controls = row.controls ++ code ∷ [] }) row).controls ≡ row.controls)
-          ⊎ ((cond b (record row { controls = row.controls ++ code ∷ [] }) row).controls ≡ row.controls ++ code ∷ [])) [ true ↦ inr refl | false ↦ inl refl ]
+    (elim (row.number == number) as (λ b. (controls_in (cond b (Some (controlled_if limit process code row))
+    (found number (map (controlled_if limit process code) rows))) ≡ controls_in (cond b (Some row) (found number rows)))
+    ⊎ (controls_in (cond b (Some (controlled_if limit process code row)) (found number (map (controlled_if limit process code) rows))) ≡
+    controls_in (cond b (Some row) (found number rows)) ++ code ∷ [])) [
+      | true ↦ elim (row.number == process && nat_lt (length row.controls) limit) as (λ b.
+          ((cond b (record row { controls = row.controls ++ code ∷ [] }) row).controls ≡ row.controls)
+          ⊎ ((cond b (record row { controls = row.controls ++ code ∷ [] }) row).controls ≡ row.controls ++ code ∷ [])) [
+            | true ↦ inr refl
+            | false ↦ inl refl
+          ]
       | false ↦ one_behind limit process code number rows
     ])
 
 -- ## Processes that leave
 
-left_others : (process number : ℕ) (rows : List Process) → (process == number) ≡ false → controls_in (found number (filter (λ (row : Process). not (row.number == process)) rows)) ≡ controls_in (found number rows)
+left_others : (process number : ℕ) (rows : List Process) → (process == number) ≡ false
+    → controls_in (found number (filter (λ (row : Process). not (row.number == process)) rows)) ≡ controls_in (found number rows)
 left_others process number rows other =
-    ap controls_in (find_filter (λ (row : Process). row.number == number) (λ (row : Process). not (row.number == process)) (λ row e. rw (other_number process number row.number other e) refl) rows)
+    ap controls_in (find_filter (λ (row : Process). row.number == number) (λ (row : Process). not (row.number == process))
+    (λ row e. rw (other_number process number row.number other e) refl) rows)
 
-left_none : (process number : ℕ) (rows : List Process) → process ≡ number → controls_in (found number (filter (λ (row : Process). not (row.number == process)) rows)) ≡ []
+left_none : (process number : ℕ) (rows : List Process) → process ≡ number
+    → controls_in (found number (filter (λ (row : Process). not (row.number == process)) rows)) ≡ []
 left_none process number [] is = refl
 left_none process number (row ∷ rows) is =
     elim (row.number == process) as (λ b. (row.number == process) ≡ b
-    → controls_in (found number (cond (not b) (row ∷ filter (λ (row : Process). not (row.number == process)) rows) (filter (λ (row : Process). not (row.number == process)) rows))) ≡ []) [
+    → controls_in (found number (cond (not b) (row ∷ filter (λ (row : Process). not (row.number == process)) rows)
+    (filter (λ (row : Process). not (row.number == process)) rows))) ≡ []) [
       | true ↦ λ e. left_none process number rows is
       | false ↦ λ e. rw (ap (λ n. row.number == n) (sym is) ∙ e) (left_none process number rows is)
     ] refl
@@ -145,26 +184,38 @@ other_process a b e = ne_eqb a b (λ same. absurd (let yes = eq-eqb b a (sym sam
 abbrev WaitsSo : ℕ → List Process → List Process → Type 0
 WaitsSo number before after = controls_in (found number after) ≡ controls_in (found number before)
 
-waiting_done : (l : Limits) (f : Flat) (caller : ℕ) (asked : Request) (append : Kept) (number : ℕ) → changes_controls f (Call caller asked append) number ≡ false → controls_of (done_of l f caller asked).flat number ≡ controls_of f number
+waiting_done : (l : Limits) (f : Flat) (caller : ℕ) (asked : Request) (append : Kept) (number : ℕ)
+    → changes_controls f (Call caller asked append) number ≡ false → controls_of
+    (done_of l f caller asked).flat number ≡ controls_of f number
 waiting_done l f caller (request.Control handle control) append number other =
-    found_keeps (WaitsSo number f.processes) (λ (row : Service). map (controlled_if l.controls row.process control)) (held_service f caller handle) f.processes refl
-    (λ row is. controlled_others l.controls row.process control number f.processes (other_process row.process number (ap (λ one. is_process_of one number) (sym is) ∙ other)))
-waiting_done l f caller (request.OpenService handle name access) append number other = opened_keeps (λ (g : Flat). controls_of g number ≡ controls_of f number) f caller name access refl (λ row is. refl)
-waiting_done l f caller (request.Start handle words) append number other = started_keeps (λ (g : Flat). controls_of g number ≡ controls_of f number) f caller handle words refl (λ row is. refl)
-waiting_done l f caller (request.SetStatus handle status) append number other = failing_apart (λ (g : Flat). controls_of g number ≡ controls_of f number) (failed_by status (held_service f caller handle)) _ refl
-waiting_done l f caller (request.Notify handle mask) append number other = notify_apart (λ (g : Flat). controls_of g number ≡ controls_of f number) f caller handle mask (λ rows next. refl)
+    found_keeps (WaitsSo number f.processes) (λ (row : Service). map (controlled_if l.controls row.process control))
+    (held_service f caller handle) f.processes refl
+    (λ row is. controlled_others l.controls row.process control number f.processes
+    (other_process row.process number (ap (λ one. is_process_of one number) (sym is) ∙ other)))
+waiting_done l f caller (request.OpenService handle name access) append number other =
+    opened_keeps (λ (g : Flat). controls_of g number ≡ controls_of f number) f caller name access refl (λ row is. refl)
+waiting_done l f caller (request.Start handle words) append number other =
+    started_keeps (λ (g : Flat). controls_of g number ≡ controls_of f number) f caller handle words refl (λ row is. refl)
+waiting_done l f caller (request.SetStatus handle status) append number other =
+    failing_apart (λ (g : Flat). controls_of g number ≡ controls_of f number) (failed_by status (held_service f caller handle)) _ refl
+waiting_done l f caller (request.Notify handle mask) append number other =
+    notify_apart (λ (g : Flat). controls_of g number ≡ controls_of f number) f caller handle mask (λ rows next. refl)
 waiting_done l f caller asked append number other = refl
 
-waiting_call : (l : Limits) (f : Flat) (moment caller : ℕ) (asked : Request) (append : Kept) (number : ℕ) → changes_controls f (Call caller asked append) number ≡ false
+waiting_call : (l : Limits) (f : Flat) (moment caller : ℕ) (asked : Request) (append : Kept) (number : ℕ)
+    → changes_controls f (Call caller asked append) number ≡ false
     → controls_of (call_of l (with_moment f moment) caller asked append).flat number ≡ controls_of f number
 waiting_call l f moment caller asked append number other =
     let g = with_moment f moment in
     let code = verdict l g caller asked append in
-    by_verdict (λ r. controls_of r.flat number ≡ controls_of f number) code (told_refused g caller asked code) g (done_of l g caller asked) (λ e. waiting_by l f moment caller asked append number other) (λ e. refl)
+    by_verdict (λ r. controls_of r.flat number ≡ controls_of f number) code (told_refused g caller asked code) g (done_of l g caller asked)
+    (λ e. waiting_by l f moment caller asked append number other) (λ e. refl)
   where
-    waiting_by : (l : Limits) (f : Flat) (moment caller : ℕ) (asked : Request) (append : Kept) (number : ℕ) → changes_controls f (Call caller asked append) number ≡ false
+    waiting_by : (l : Limits) (f : Flat) (moment caller : ℕ) (asked : Request) (append : Kept) (number : ℕ)
+        → changes_controls f (Call caller asked append) number ≡ false
         → controls_of (done_of l (with_moment f moment) caller asked).flat number ≡ controls_of f number
-    waiting_by l f moment caller (request.Control handle control) append number other = waiting_done l (with_moment f moment) caller (request.Control handle control) append number other
+    waiting_by l f moment caller (request.Control handle control) append number other =
+        waiting_done l (with_moment f moment) caller (request.Control handle control) append number other
     waiting_by l f moment caller asked append number other = waiting_done l (with_moment f moment) caller asked append number refl
 
 some_not : (b : Bool) (code : ℕ) → is_some (cond b (Some code) None) ≡ false → b ≡ false
@@ -176,18 +227,24 @@ some_is true code h = refl
 some_is false code h = absurd cc
 
 -- a process that is new has no controls
-new_none : (process service number : ℕ) (rows : List Process) → controls_in (found number (rows ++ wanted_process process service ∷ [])) ≡ controls_in (found number rows)
-new_none process service number [] = elim (process == number) as (λ b. controls_in (cond b (Some (wanted_process process service)) None) ≡ []) [ true ↦ refl | false ↦ refl ]
+new_none : (process service number : ℕ) (rows : List Process) → controls_in
+    (found number (rows ++ wanted_process process service ∷ [])) ≡ controls_in (found number rows)
+new_none process service number [] = elim (process == number) as (λ b. controls_in (cond b (Some (wanted_process process service)) None) ≡
+    []) [ true ↦ refl | false ↦ refl ]
 new_none process service number (row ∷ rows) =
-    elim (row.number == number) as (λ b. controls_in (cond b (Some row) (found number (rows ++ wanted_process process service ∷ []))) ≡ controls_in (cond b (Some row) (found number rows)))
+    elim (row.number == number) as (λ b. controls_in (cond b (Some row) (found number (rows ++ wanted_process process service ∷ []))) ≡
+    controls_in (cond b (Some row) (found number rows)))
     [ true ↦ refl | false ↦ new_none process service number rows ]
 
 -- a service that a raise doesn't stop
-spared_at : (subtype : List ℕ) (number : ℕ) (rows : List Service) → list_any (λ (row : Service). row.process == number && is_stopped_at subtype row) rows ≡ false
+spared_at : (subtype : List ℕ) (number : ℕ) (rows : List Service) → list_any (λ (row : Service). row.process == number
+    && is_stopped_at subtype row) rows ≡ false
     → All (λ (row : Service). is_stopped_at subtype row ≡ true → (row.process == number) ≡ false) rows
 spared_at subtype number rows none =
-    All-weaker (λ (row : Service). (row.process == number && is_stopped_at subtype row) ≡ false) (λ (row : Service). is_stopped_at subtype row ≡ true → (row.process == number) ≡ false)
-    (λ row e is. first_false (row.process == number) (is_stopped_at subtype row) e is) rows (none_any (λ (row : Service). row.process == number && is_stopped_at subtype row) rows none)
+    All-weaker (λ (row : Service). (row.process == number && is_stopped_at subtype row) ≡ false)
+    (λ (row : Service). is_stopped_at subtype row ≡ true → (row.process == number) ≡ false)
+    (λ row e is. first_false (row.process == number) (is_stopped_at subtype row) e is) rows
+    (none_any (λ (row : Service). row.process == number && is_stopped_at subtype row) rows none)
   where
     first_false : (a b : Bool) → (a && b) ≡ false → b ≡ true → a ≡ false
     first_false true b e is = absurd cc
@@ -198,7 +255,8 @@ record WaitsAmong (f : Flat) (number : ℕ) (g : Flat) : Type 0 where
   services : g.services ≡ f.services
   same : controls_of g number ≡ controls_of f number
 
-waiting_raised : (l : Limits) (f : Flat) (caller : ℕ) (subtype : List ℕ) (number : ℕ) → changes_controls f (Raised caller subtype) number ≡ false → controls_of (raised l f caller subtype) number ≡ controls_of f number
+waiting_raised : (l : Limits) (f : Flat) (caller : ℕ) (subtype : List ℕ) (number : ℕ)
+    → changes_controls f (Raised caller subtype) number ≡ false → controls_of (raised l f caller subtype) number ≡ controls_of f number
 waiting_raised l f caller subtype number other =
     let spared = spared_at subtype number f.services other in
     (raised_by (WaitsAmong f number) l subtype (record {
@@ -207,22 +265,28 @@ waiting_raised l f caller subtype number other =
         services = w.services;
         same = (
             let stopped : is_stopped_at subtype row ≡ true = ap stops is ∙ ap not which in
-            let other : (row.process == number) ≡ false = All-contains (λ (r : Service). is_stopped_at subtype r ≡ true → (r.process == number) ≡ false) f.services row spared
+            let other : (row.process == number) ≡ false = All-contains (λ (r : Service). is_stopped_at subtype r ≡ true
+            → (r.process == number) ≡ false) f.services row spared
             (subst (λ (rows : List Service). Contains rows row) w.services there) stopped in
             controlled_others l.controls row.process 1 number g.processes other ∙ w.same);
       };
     }) f caller (record { services = refl; same = refl })).same
 
-waiting_effect : (l : Limits) (f : Flat) (moment : ℕ) (step : Step) (number : ℕ) → changes_controls f step number ≡ false → controls_of (effect_of l (at_moment f moment step) step).flat number ≡ controls_of f number
+waiting_effect : (l : Limits) (f : Flat) (moment : ℕ) (step : Step) (number : ℕ) → changes_controls f step number ≡ false
+    → controls_of (effect_of l (at_moment f moment step) step).flat number ≡ controls_of f number
 waiting_effect l f moment (Call caller asked append) number other = waiting_call l f moment caller asked append number other
 waiting_effect l f moment LaunchTaken number other =
-    found_keeps (WaitsSo number f.processes) (λ process. map (taken_if process)) (first_wanted f.wanted) f.processes refl (λ process is. taken_same process number f.processes)
+    found_keeps (WaitsSo number f.processes) (λ process. map (taken_if process)) (first_wanted f.wanted) f.processes refl
+    (λ process is. taken_same process number f.processes)
 waiting_effect l f moment (Launched process pid) number other = launched_same process pid number f.processes
-waiting_effect l f moment (LaunchFailed process code) number other = left_others process number f.processes (some_not (process == number) code other)
+waiting_effect l f moment (LaunchFailed process code) number other = left_others process number f.processes
+    (some_not (process == number) code other)
 waiting_effect l f moment (Report process status) number other =
-    failing_apart (λ (g : Flat). controls_of g number ≡ controls_of f number) (failed_by status (current_of (with_moment f moment) process)) _ refl
+    failing_apart (λ (g : Flat). controls_of g number ≡ controls_of f number)
+    (failed_by status (current_of (with_moment f moment) process)) _ refl
 waiting_effect l f moment (Ended process) number other =
-    failing_apart (λ (g : Flat). controls_of (without_process g process) number ≡ controls_of f number) (current_of (with_moment f moment) process) _
+    failing_apart (λ (g : Flat). controls_of (without_process g process) number ≡ controls_of f number)
+    (current_of (with_moment f moment) process) _
     (left_others process number f.processes (some_not (process == number) 1067 other))
 waiting_effect l f moment (ControlTaken process) number other = relieved_others process number f.processes other
 waiting_effect l f moment Tick number other = ticked_by (λ (g : Flat). controls_of g number ≡ controls_of f number) l (record {
@@ -234,8 +298,10 @@ waiting_effect l f moment Tick number other = ticked_by (λ (g : Flat). controls
 waiting_effect l f moment (Raised caller subtype) number other = waiting_raised l (with_moment f moment) caller subtype number other
 waiting_effect l f moment step number other = refl
 
-ended_effect : (l : Limits) (f : Flat) (moment : ℕ) (step : Step) (number : ℕ) → ends_process step number ≡ true → controls_of (effect_of l (at_moment f moment step) step).flat number ≡ []
-ended_effect l f moment (LaunchFailed process code) number is = left_none process number f.processes (eqb-true process number (some_is (process == number) code is))
+ended_effect : (l : Limits) (f : Flat) (moment : ℕ) (step : Step) (number : ℕ) → ends_process step number ≡ true
+    → controls_of (effect_of l (at_moment f moment step) step).flat number ≡ []
+ended_effect l f moment (LaunchFailed process code) number is = left_none process number f.processes
+    (eqb-true process number (some_is (process == number) code is))
 ended_effect l f moment (Ended process) number is =
     failing_apart (λ (g : Flat). controls_of (without_process g process) number ≡ []) (current_of (with_moment f moment) process) _
     (left_none process number f.processes (eqb-true process number (some_is (process == number) 1067 is)))
@@ -252,7 +318,8 @@ waits_on l f number = record {
 
 -- settling leaves what waits
 pub waiting_settled : (l : Limits) (f : Flat) (number : ℕ) → controls_of (settled l f) number ≡ controls_of f number
-waiting_settled l f number = (keeps_all l (λ (g : Flat). controls_of g number ≡ controls_of f number) (λ plan. Unit {0}) (waits_on l f number) f f.plans refl (all_units f.plans)).flat
+waiting_settled l f number = (keeps_all l (λ (g : Flat). controls_of g number ≡ controls_of f number) (λ plan. Unit {0})
+    (waits_on l f number) f f.plans refl (all_units f.plans)).flat
 
 waiting_left : (g : Flat) (plan : ℕ) (code : Option ℕ) (number : ℕ) → controls_of (left_by g plan code) number ≡ controls_of g number
 waiting_left g plan None number = refl
@@ -262,13 +329,16 @@ waiting_finished : (g : Flat) (told : Answer) (number : ℕ) → controls_of (fi
 waiting_finished g (answer.Begun plan) number = waiting_left g plan (code_of g.plans plan) number
 waiting_finished g told number = refl
 
-pub waiting_after : (l : Limits) (f : Flat) (moment : ℕ) (step : Step) (number : ℕ) → controls_of (step_of l f moment step).flat number ≡ controls_of (effect_of l (at_moment f moment step) step).flat number
+pub waiting_after : (l : Limits) (f : Flat) (moment : ℕ) (step : Step) (number : ℕ)
+    → controls_of (step_of l f moment step).flat number ≡ controls_of (effect_of l (at_moment f moment step) step).flat number
 waiting_after l f moment step number =
     let done = effect_of l (at_moment f moment step) step in
     waiting_finished (settled l done.flat) done.answer number ∙ waiting_settled l done.flat number
 
-pub others_wait : (l : Limits) (f : Flat) (moment : ℕ) (step : Step) (number : ℕ) → changes_controls f step number ≡ false → controls_of (step_of l f moment step).flat number ≡ controls_of f number
+pub others_wait : (l : Limits) (f : Flat) (moment : ℕ) (step : Step) (number : ℕ) → changes_controls f step number ≡ false
+    → controls_of (step_of l f moment step).flat number ≡ controls_of f number
 others_wait l f moment step number other = waiting_after l f moment step number ∙ waiting_effect l f moment step number other
 
-pub ended_none : (l : Limits) (f : Flat) (moment : ℕ) (step : Step) (number : ℕ) → ends_process step number ≡ true → controls_of (step_of l f moment step).flat number ≡ []
+pub ended_none : (l : Limits) (f : Flat) (moment : ℕ) (step : Step) (number : ℕ) → ends_process step number ≡ true
+    → controls_of (step_of l f moment step).flat number ≡ []
 ended_none l f moment step number is = waiting_after l f moment step number ∙ ended_effect l f moment step number is

@@ -35,7 +35,10 @@ whole_begun l f o = record {
 }
 
 pub whole_keeps : (l : Limits) → Keeps (Whole l) l
-whole_keeps l f e whole ok = record { clear = clear_keeps l f e whole.clear ok; known = known l f e.0 e.1 (is_valid_clear l f whole.clear) whole.known }
+whole_keeps l f e whole ok = record {
+  clear = clear_keeps l f e whole.clear ok;
+  known = known l f e.0 e.1 (is_valid_clear l f whole.clear) whole.known;
+}
 
 pub gives_moves : (l : Limits) → Gives (Whole l) (LawOfMoves l) l
 gives_moves l f e whole ok =

@@ -1,5 +1,6 @@
 -- Which controls services get, and which wait for their processes.
-use Rattle.std.specs.Prelude.{ℕ, Bool, ◌≡◌, ◌↔◌, ◌≤◌, true, false, not, ◌&&◌, ◌||◌, ◌==◌, ◌++◌, All, List, [], ◌∷◌, Option, None, Some, is_some, if◌then◌else◌}
+use Rattle.std.specs.Prelude.{ℕ, Bool, ◌≡◌, ◌↔◌, ◌≤◌, true, false, not, ◌&&◌, ◌||◌, ◌==◌, ◌++◌, All, List, [], ◌∷◌, Option, None, Some}
+use Rattle.std.specs.Prelude.{is_some, if◌then◌else◌}
 use Rattle.std.specs.List.{list_any}
 use Rattle.scm_model.specs.declared.flat.Flat.{Flat}
 use Rattle.scm_model.specs.declared.flat.Limits.{Limits}
@@ -20,14 +21,18 @@ use Rattle.scm_rules.specs.Controls.{control_verdict, controls_of, granted_in}
 use Rattle.scm_rules.specs.Query.{status_in}
 use Rattle.scm_runs.specs.Leaving.{is_process_of}
 use Rattle.scm_model.specs.Entries.{Entry}
-use Rattle.scm_model.specs.declared.codes.TheConstants.{ERROR_DEPENDENT_SERVICES_RUNNING, ERROR_INVALID_SERVICE_CONTROL, ERROR_SERVICE_CANNOT_ACCEPT_CTRL, ERROR_SERVICE_NOT_ACTIVE, SERVICE_CONTROL_STOP, SERVICE_STOPPED, SERVICE_TRIGGER_ACTION_SERVICE_START}
+use Rattle.scm_model.specs.declared.codes.TheConstants.{ERROR_DEPENDENT_SERVICES_RUNNING, ERROR_INVALID_SERVICE_CONTROL}
+use Rattle.scm_model.specs.declared.codes.TheConstants.{ERROR_SERVICE_CANNOT_ACCEPT_CTRL, ERROR_SERVICE_NOT_ACTIVE, SERVICE_CONTROL_STOP}
+use Rattle.scm_model.specs.declared.codes.TheConstants.{SERVICE_STOPPED, SERVICE_TRIGGER_ACTION_SERVICE_START}
 use Rattle.scm_moves.specs.Moves.{code_of_end}
 
 -- ## What a Control is told
 
--- the status is told where the service gets the control, doesn't accept it (1052), can't get it now (1061) or is STOPPED (1062), and else zeros
+-- the status is told where the service gets the control, doesn't accept it (1052), can't get it now (1061) or is STOPPED (1062), and else
+-- zeros
 abbrev pub shows : ℕ → Bool
-shows code = code == 0 || code == ERROR_INVALID_SERVICE_CONTROL || code == ERROR_SERVICE_CANNOT_ACCEPT_CTRL || code == ERROR_SERVICE_NOT_ACTIVE
+shows code = code == 0 || code == ERROR_INVALID_SERVICE_CONTROL || code == ERROR_SERVICE_CANNOT_ACCEPT_CTRL
+    || code == ERROR_SERVICE_NOT_ACTIVE
 
 abbrev pub status_shown : ℕ → Option Service → Status
 status_shown code service = if shows code then status_in service else zero_status
@@ -92,7 +97,8 @@ pub record IsStopped (before after : Flat) (number : ℕ) : Type 0 where
   pub behind : controls_of after number ≡ controls_of before number ++ codes
 
 abbrev pub OfControls : Limits → Flat → Step → Answer → Flat → Type 0
-OfControls l before (Call caller (request.Control handle control) append) told after = IsControlled l before caller handle control told after
+OfControls l before (Call caller (request.Control handle control) append) told after =
+    IsControlled l before caller handle control told after
 OfControls l before (ControlTaken process) told after = FirstIsTaken before process told after
 OfControls l before (Raised caller subtype) told after = (number : ℕ) → IsStopped before after number
 OfControls l before step told after = Unit {0}
@@ -116,10 +122,12 @@ is_stopped_at subtype row = stops (matching row.config subtype)
 abbrev pub changes_controls : Flat → Step → ℕ → Bool
 changes_controls f (Call caller (request.Control handle control) append) number = is_process_of (held_service f caller handle) number
 changes_controls f (ControlTaken process) number = process == number
-changes_controls f (Raised caller subtype) number = list_any (λ (row : Service). row.process == number && is_stopped_at subtype row) f.services
+changes_controls f (Raised caller subtype) number = list_any (λ (row : Service). row.process == number
+    && is_stopped_at subtype row) f.services
 changes_controls f step number = ends_process step number
 
--- a Control puts a control behind those that wait, a raise STOPs, and they are taken from the front; a process that ends has none, nor has one that is new,
+-- a Control puts a control behind those that wait, a raise STOPs, and they are taken from the front; a process that ends has none, nor has
+-- one that is new,
 -- and no other step changes what waits
 pub record LawOfControls (l : Limits) (before : Flat) (e : Entry) (told : Answer) (after : Flat) : Type 0 where
   pub controls : OfControls l before e.1 told after

@@ -7,7 +7,7 @@ use Rattle.std.proofs.lemmas.List.Elements.{All-cons, All-nil, All-weaker}
 use Rattle.std.proofs.lemmas.List.Folds.{list_any_none}
 use Rattle.scm_model.specs.Changes.{configured_if, marked_if, new_service, with_moment}
 use Rattle.scm_model.specs.Found.{if_found}
-use Rattle.scm_model.specs.Notices.{Event, event_of_mark, event_of_state, noted, notified, pid_in, pid_of, told_of_move}
+use Rattle.scm_model.specs.Notices.{Event, event_of_mark, event_of_state, noted, notified, pid_in, pid_of, notified_of_move}
 use Rattle.scm_model.specs.Rows.{held_service, service_of}
 use Rattle.scm_model.specs.declared.calls.Request.{Request}
 use Rattle.scm_model.specs.declared.calls.Request.TheVariants as request
@@ -29,9 +29,9 @@ use Rattle.scm_rules.specs.Delete.{delete_refusals, is_marked, marked_in, told_o
 use Rattle.scm_rules.specs.Failures.{counted_if, failed_by, with_failure}
 use Rattle.scm_rules.specs.OpenService.{service_granted, with_opened}
 use Rattle.scm_rules.specs.Start.{with_start}
-use Rattle.scm_rules.specs.Launches.{current_of, fallen_if, is_taken, launch_failed, process_of, told_of_fall, with_fallen}
+use Rattle.scm_rules.specs.Launches.{current_of, fallen_if, is_taken, launch_failed, process_of, notified_of_fall, with_fallen}
 use Rattle.scm_rules.specs.Ends.{process_ended}
-use Rattle.scm_rules.specs.Reports.{reported_if, reported_in, told_of_report}
+use Rattle.scm_rules.specs.Reports.{reported_if, reported_in, notified_of_report}
 use Rattle.scm_rules.specs.Steps.{at_moment, effect_of, may}
 use Rattle.scm_rules.specs.Verdicts.{call_of, done_of, told_refused, verdict}
 use Rattle.scm_rules.proofs.Held.{held_is}
@@ -150,7 +150,7 @@ own_events processes old new =
 -- a move to another state is the one event of a service that isn't marked meanwhile
 told_by_move : (processes : List Process) (pid : ℕ) (old new : Service) (rows : List Registration) → pid_of processes new ≡ pid
     → new.marked ≡ old.marked
-    → told_of_move pid old new rows ≡ map (notified_first (events_of_change processes old new)) rows
+    → notified_of_move pid old new rows ≡ map (notified_first (events_of_change processes old new)) rows
 told_by_move processes pid old new rows same mark =
     let unmarked : was_marked old new ≡ false = ap (λ m. not old.marked && m) mark ∙ (unmoved old).1 in
     elim (old.status.state == new.status.state) as (λ b. cond b rows (noted (event_of_state pid new) rows)
@@ -167,7 +167,7 @@ moves_alone : (f g : Flat) (row : Service) (pid : ℕ) (change : Service → Ser
     → ((other : Service) → (change other).number ≡ other.number)
     → ((other : Service) → (other.process == row.process) ≡ false → change other ≡ other)
     → (change row).marked ≡ row.marked → pid_of g.processes (change row) ≡ pid
-    → g.services ≡ map change f.services → g.registrations ≡ told_of_move pid row (change row) f.registrations
+    → g.services ≡ map change f.services → g.registrations ≡ notified_of_move pid row (change row) f.registrations
     → OneChanges f g change row (events_of_change g.processes row (change row))
 moves_alone f g row pid change s known there first numbers others mark same services told = record {
   numbers = numbers;
@@ -212,14 +212,14 @@ takes_report : (f : Flat) (row : Service) (report : Status) (failed : Option Ser
     → Notifies f (if_found with_failure failed
     (record f {
       services = map (reported_if row.process report) f.services;
-      registrations = told_of_report f.processes report
+      registrations = notified_of_report f.processes report
           (Some row) f.registrations;
     }))
 takes_report f row report failed s known there first =
     let new = reported_if row.process report row in
     let g = record f {
       services = map (reported_if row.process report) f.services;
-      registrations = told_of_report f.processes report
+      registrations = notified_of_report f.processes report
           (Some row) f.registrations;
     } in
     notified_of_one f (if_found with_failure failed g) _ row _
@@ -233,7 +233,7 @@ of_report : (f : Flat) (process : ℕ) (report : Status) (found : Option Service
     → Notifies f (if_found with_failure (failed_by report found)
     (record f {
       services = map (reported_if process report) f.services;
-      registrations = told_of_report f.processes report found
+      registrations = notified_of_report f.processes report found
           f.registrations;
     }))
 of_report f process report None s known first is =
@@ -244,7 +244,7 @@ of_report f process report (Some row) s known first is =
     subst (λ n. Notifies f (if_found with_failure (failed_by report (Some row))
     (record f {
       services = map (reported_if n report) f.services;
-      registrations = told_of_report f.processes report
+      registrations = notified_of_report f.processes report
           (Some row) f.registrations;
     }))) same
     (takes_report f row report (failed_by report (Some row)) s known (is_there (λ (r : Service). r.process == process) row f.services is)
@@ -265,7 +265,8 @@ without_pid processes row none =
 -- a service falls, which may be a failure, and its process leaves
 falls : (f : Flat) (row : Service) (code : ℕ) (failed : Option Service) (g : Flat) (processes : List Process) (wanted : List Wanted)
     → Sound f → Known f → Contains f.services row → 1 ≤ row.process
-    → g.services ≡ map (fallen_if row.process code) f.services → g.registrations ≡ told_of_fall row.process code (Some row) f.registrations
+    → g.services ≡ map (fallen_if row.process code) f.services → g.registrations ≡ notified_of_fall row.process code
+    (Some row) f.registrations
     → Notifies f (record (if_found with_failure failed g) { processes = processes; wanted = wanted })
 falls f row code failed g processes wanted s known there first services told =
     let change = fallen_if row.process code in
@@ -282,7 +283,7 @@ falls f row code failed g processes wanted s known there first services told =
 
 of_fall : (f : Flat) (process code : ℕ) (fails : Bool) (found : Option Service) (g : Flat) (processes : List Process)
     (wanted : List Wanted) → Sound f → Known f → 1 ≤ process → current_of f process ≡ found
-    → g.services ≡ map (fallen_if process code) f.services → g.registrations ≡ told_of_fall process code found f.registrations
+    → g.services ≡ map (fallen_if process code) f.services → g.registrations ≡ notified_of_fall process code found f.registrations
     → Notifies f (record (if_found with_failure (cond fails found None) g) { processes = processes; wanted = wanted })
 of_fall f process code true None g processes wanted s known first is services told =
     nobody_moves f (record g { processes = processes; wanted = wanted }) process (fallen_if process code) (fallen_number process code)
@@ -295,7 +296,7 @@ of_fall f process code fails (Some row) g processes wanted s known first is serv
     falls f row code (cond fails (Some row) None) g processes wanted s known
     (is_there (λ (r : Service). r.process == process) row f.services is) (subst (λ n. 1 ≤ n) (sym same) first)
     (services ∙ ap (λ n. map (fallen_if n code) f.services) (sym same))
-    (told ∙ ap (λ n. told_of_fall n code (Some row) f.registrations) (sym same))
+    (told ∙ ap (λ n. notified_of_fall n code (Some row) f.registrations) (sym same))
 
 -- ## Marks, and configurations
 
@@ -363,7 +364,7 @@ of_done l f caller (request.SetStatus handle status) append s known quiet e =
     found_all (λ found. Notifies f (if_found with_failure (failed_by status found)
     (record f {
       services = reported_in status found f.services;
-      registrations = told_of_report f.processes status found
+      registrations = notified_of_report f.processes status found
           f.registrations;
     }))) (held_service f caller handle)
     (notified_of_nothing f f refl refl)

@@ -4,13 +4,13 @@ use Rattle.std.proofs.Common.{find, ap, sym, refl, eqb-true, eq-eqb, ne_eqb, get
 use Rattle.std.specs.Prelude.{All, option_map}
 use Rattle.std.proofs.lemmas.Bool.{cases_Bool}
 use Rattle.std.proofs.lemmas.List.Elements.{All-head, All-map, All-push, All-tail, All-weaker}
-use Rattle.scm_model.specs.Notices.{Event, event_of_state, noted, notified, pid_in, pid_of, told_of_move}
+use Rattle.scm_model.specs.Notices.{Event, event_of_state, noted, notified, pid_in, pid_of, notified_of_move}
 use Rattle.scm_model.specs.Rows.{service_of}
 use Rattle.scm_model.specs.declared.flat.Flat.{Flat}
 use Rattle.scm_model.specs.declared.flat.Process.{Process}
 use Rattle.scm_model.specs.declared.flat.Registration.{Registration}
 use Rattle.scm_model.specs.declared.flat.Service.{Service}
-use Rattle.start_plan.specs.Entered.{started_if, starting_in, told_of_start, wanted_process, with_entered}
+use Rattle.start_plan.specs.Entered.{started_if, starting_in, notified_of_start, wanted_process, with_entered}
 use Rattle.start_plan.proofs.Rows.{same_number, started_or}
 use Rattle.scm_history.specs.Once.{has_service}
 use Rattle.scm_notices.specs.Events.{Notifies, events_between, events_of_change, events_of_service, notified_between, notified_first}
@@ -117,8 +117,8 @@ entering_settles f g n words row found stopped s = record {
 
     told : after.registrations ≡ noted event g.registrations
     told =
-        ap (λ (o : Option Service). told_of_start n p o g.registrations) found
-        ∙ ap (λ (r : Service). told_of_move 0 row r g.registrations) (started_own n p row own stopped)
+        ap (λ (o : Option Service). notified_of_start n p o g.registrations) found
+        ∙ ap (λ (r : Service). notified_of_move 0 row r g.registrations) (started_own n p row own stopped)
         ∙ ap (λ b. cond b g.registrations (noted event g.registrations))
         (ne_eqb row.status.state 2 (λ two. absurd (omega (arith, two, stopped))))
 

@@ -28,7 +28,7 @@ use Rattle.scm_model.specs.declared.steps.Kept.{Kept}
 use Rattle.scm_model.specs.declared.steps.Step.{Step}
 use Rattle.scm_model.specs.declared.steps.Step.TheVariants.{Call, Gone}
 use Rattle.scm_rules.specs.Named.{is_it}
-use Rattle.scm_rules.specs.Notify.{notify_done, notify_of, registered, told_at_once, watched, watched_at, watched_by}
+use Rattle.scm_rules.specs.Notify.{notify_done, notify_of, registered, initial_notification, watched, notify_target, watched_by}
 use Rattle.scm_rules.specs.Steps.{at_moment, effect_of, stages_of, step_of}
 use Rattle.scm_rules.specs.Verdicts.{call_of, done_of, told_refused, verdict}
 use Rattle.scm_runs.specs.Leaving.{has_zero, succeeds}
@@ -174,7 +174,7 @@ some_were f step answer p tests k d lt =
 held_at : (f : Flat) (row : HandleRow) (of : Opened) → Sound f → watched_by row ≡ Some of
     → option_and_then (λ (one : Opened). service_of f one.service) (opened_by row) ≡ service_of f of.service
 held_at f row of s is =
-    elim row.kind as (λ (kind : HandleKind). watched_at kind row.granted ≡ Some of
+    elim row.kind as (λ (kind : HandleKind). notify_target kind row.granted ≡ Some of
     → option_and_then (λ (one : Opened). service_of f one.service) (opened_at kind row.granted) ≡ service_of f of.service) [
       | kinds.Manager ↦ λ e. sym (ap (λ (one : Opened). service_of f one.service)
           (sym (same_some (record { service = 0; granted = row.granted }) of e)) ∙ nobody_has f s)
@@ -206,7 +206,7 @@ held_watched f caller handle of s is = at (handle_of f caller handle) is
 
 -- its state counts at once
 at_once : (f : Flat) (found : Option Service) (row : Registration)
-    → told_at_once f found row ≡ notified_first (event_at_once f.processes found ++ []) row
+    → initial_notification f found row ≡ notified_first (event_at_once f.processes found ++ []) row
 at_once f None row = refl
 at_once f (Some one) row = sym (one_by_one (event_of_state (pid_of f.processes one) one) [] row)
 
@@ -219,7 +219,7 @@ made f caller handle mask append of s is =
       asked = asked;
       by = ap (option_map (λ (one : Opened). new_registration f.next.registration caller one.service mask)) is;
       granted = refl;
-      told = ap (λ (found : Option Service). told_at_once f found asked) (held_watched f caller handle of s is)
+      told = ap (λ (found : Option Service). initial_notification f found asked) (held_watched f caller handle of s is)
           ∙ at_once f (service_of f of.service) asked;
     }
 

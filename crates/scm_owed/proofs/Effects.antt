@@ -1,5 +1,6 @@
 -- What a step that isn't owed makes owed.
-use Rattle.std.proofs.Common.{ℕ, ◌≡◌, ◌≤◌, ◌+◌, ◌*◌, ◌==◌, true, false, cond, List, [], ◌∷◌, Option, filter, length, length-append, map, ap, refl, arith, eqb-true}
+use Rattle.std.proofs.Common.{ℕ, ◌≡◌, ◌≤◌, ◌+◌, ◌*◌, ◌==◌, true, false, cond, List, [], ◌∷◌, Option, filter, length, length-append, map, ap}
+use Rattle.std.proofs.Common.{refl, arith, eqb-true}
 use Rattle.std.specs.Prelude.{is_some, unwrap_or}
 use Rattle.scm_model.specs.declared.flat.Flat.{Flat}
 use Rattle.scm_model.specs.declared.flat.Limits.{Limits}
@@ -10,11 +11,12 @@ use Rattle.scm_model.specs.declared.calls.Request.{Request}
 use Rattle.scm_model.specs.declared.calls.Request.TheVariants as request
 use Rattle.scm_model.specs.declared.steps.Kept.{Kept}
 use Rattle.scm_model.specs.declared.steps.Step.{Step}
-use Rattle.scm_model.specs.declared.steps.Step.TheVariants.{Joined, Call, EndStart, LaunchTaken, Launched, LaunchFailed, Report, Ended, ControlTaken, Tick, Raised, Gone, NoMemory}
+use Rattle.scm_model.specs.declared.steps.Step.TheVariants.{Joined, Call, EndStart, LaunchTaken, Launched, LaunchFailed, Report, Ended}
+use Rattle.scm_model.specs.declared.steps.Step.TheVariants.{ControlTaken, Tick, Raised, Gone, NoMemory}
 use Rattle.scm_model.specs.Refused.{answered}
-use Rattle.scm_model.specs.Outcomes.{Done}
+use Rattle.scm_model.specs.Outcomes.{CallResult}
 use Rattle.scm_model.specs.Ready.{state_of}
-use Rattle.scm_rules.specs.Controls.{controlled_if, relieved_if}
+use Rattle.scm_rules.specs.Controls.{controlled_if, dequeued_if}
 use Rattle.scm_rules.specs.Needs.{need_row, need_rows, start_order}
 use Rattle.scm_rules.specs.Start.{new_plan, start_done, start_verdict, with_start}
 use Rattle.scm_rules.specs.Steps.{effect_of}
@@ -54,7 +56,8 @@ start_owes f caller handle words e =
     let plan = new_plan f caller target order (unwrap_or words []) in
     let begun = ap (λ found. owed (if_found (with_start caller (unwrap_or words [])) found f)) held.is in
     let more = plan_owes f plan in
-    let few = few_in_order (need_rows f.services) (state_of f) target (listed f.services target (ap is_some (held_is f caller handle held.row held.is))) in
+    let few = few_in_order (need_rows f.services) (state_of f) target (listed f.services target
+    (ap is_some (held_is f caller handle held.row held.is))) in
     let services : length (need_rows f.services) ≡ length f.services = length-map f.services need_row in
     let each = all_untried order in
     let one = one_at_most caller in
@@ -63,32 +66,43 @@ start_owes f caller handle words e =
 zero_code : (code : ℕ) → (code == 0) ≡ true → code ≡ 0
 zero_code code e = eqb-true code 0 e
 
-of_answered : (code : ℕ) (told : Reply) (f : Flat) (done : Done) (n : ℕ) → 1 ≤ n → (code ≡ 0 → owed done.flat + 1 ≤ owed f + n) → owed (answered code told f done).flat + 1 ≤ owed f + n
+of_answered : (code : ℕ) (told : Reply) (f : Flat) (done : CallResult) (n : ℕ) → 1 ≤ n → (code ≡ 0 → owed done.flat + 1 ≤ owed f + n)
+    → owed (answered code told f done).flat + 1 ≤ owed f + n
 of_answered code told f done n least owes =
     elim (code == 0) as (λ b. (code == 0) ≡ b → owed (cond b done (record { reply = told; flat = f })).flat + 1 ≤ owed f + n) [
       | true ↦ λ e. owes (zero_code code e)
       | false ↦ λ e. omega (arith, least)
     ] refl
 
-of_call : (l : Limits) (f : Flat) (caller : ℕ) (asked : Request) (append : Kept) → owed (call_of l f caller asked append).flat + 1 ≤ owed f + need f (Call caller asked append)
+of_call : (l : Limits) (f : Flat) (caller : ℕ) (asked : Request) (append : Kept) → owed (call_of l f caller asked append).flat + 1 ≤ owed f
+    + need f (Call caller asked append)
 of_call l f caller (request.Start handle words) append =
     let code = verdict l f caller (request.Start handle words) append in
-    of_answered code (told_refused f caller (request.Start handle words) code) f (done_of l f caller (request.Start handle words)) (3 * length f.services + 2) (omega arith) (λ e. start_owes f caller handle words e)
+    of_answered code (told_refused f caller (request.Start handle words) code) f (done_of l f caller (request.Start handle words))
+    (3 * length f.services + 2) (omega arith) (λ e. start_owes f caller handle words e)
 of_call l f caller (request.Control handle control) append =
     let code = verdict l f caller (request.Control handle control) append in
-    let same = found_keeps (λ (rows : List Process). total owed_by_process rows ≡ total owed_by_process f.processes) (λ (row : Service). map (controlled_if l.controls row.process control)) (held_service f caller handle)
-    f.processes refl (λ row is. controls_owe (controlled_if l.controls row.process control) (controls_more l.controls row.process control) f.processes) in
-    of_answered code (told_refused f caller (request.Control handle control) code) f (done_of l f caller (request.Control handle control)) 1 (omega arith) (λ e. omega (arith, same))
+    let same = found_keeps (λ (rows : List Process). total owed_by_process rows ≡ total owed_by_process f.processes)
+    (λ (row : Service). map (controlled_if l.controls row.process control)) (held_service f caller handle)
+    f.processes refl (λ row is. controls_owe (controlled_if l.controls row.process control)
+    (controls_more l.controls row.process control) f.processes) in
+    of_answered code (told_refused f caller (request.Control handle control) code) f (done_of l f caller (request.Control handle control)) 1
+    (omega arith) (λ e. omega (arith, same))
 of_call l f caller (request.SetStatus handle status) append =
-    let same : owed (done_of l f caller (request.SetStatus handle status)).flat ≡ owed f = failing_apart (λ (g : Flat). owed g ≡ owed f) (failed_by status (held_service f caller handle)) _ refl in
-    of_answered (verdict l f caller (request.SetStatus handle status) append) _ f (done_of l f caller (request.SetStatus handle status)) 1 (omega arith) (λ e. omega (arith, same))
+    let same : owed (done_of l f caller (request.SetStatus handle status)).flat ≡ owed f =
+    failing_apart (λ (g : Flat). owed g ≡ owed f) (failed_by status (held_service f caller handle)) _ refl in
+    of_answered (verdict l f caller (request.SetStatus handle status) append) _ f (done_of l f caller (request.SetStatus handle status)) 1
+    (omega arith) (λ e. omega (arith, same))
 of_call l f caller (request.Notify handle mask) append =
     let same = notify_apart (λ (g : Flat). owed g ≡ owed f) f caller handle mask (λ rows next. refl) in
-    of_answered (verdict l f caller (request.Notify handle mask) append) _ f (done_of l f caller (request.Notify handle mask)) 1 (omega arith) (λ e. omega (arith, same))
+    of_answered (verdict l f caller (request.Notify handle mask) append) _ f (done_of l f caller (request.Notify handle mask)) 1
+    (omega arith) (λ e. omega (arith, same))
 of_call l f caller (request.OpenService handle name access) append =
     let same = opened_keeps (λ (g : Flat). owed g ≡ owed f) f caller name access refl (λ row is. refl) in
-    of_answered (verdict l f caller (request.OpenService handle name access) append) _ f (done_of l f caller (request.OpenService handle name access)) 1 (omega arith) (λ e. omega (arith, same))
-of_call l f caller asked append = of_answered (verdict l f caller asked append) _ f (done_of l f caller asked) 1 (omega arith) (λ e. omega arith)
+    of_answered (verdict l f caller (request.OpenService handle name access) append) _ f
+    (done_of l f caller (request.OpenService handle name access)) 1 (omega arith) (λ e. omega (arith, same))
+of_call l f caller asked append = of_answered (verdict l f caller asked append) _ f (done_of l f caller asked) 1 (omega arith)
+    (λ e. omega arith)
 
 -- ## Effects
 
@@ -135,12 +149,15 @@ debt_owed f (Gone caller) e = refl
 debt_owed f step e = absurd cc
 
 pub effects_owe : (l : Limits) (f : Flat) (step : Step) → is_owed step ≡ false → owed (effect_of l f step).flat + 1 ≤ owed f + debt f step
-effects_owe l f (Joined principal) e = let more = length-append f.callers (record { number = f.next.caller; principal = principal } ∷ []) in omega (arith, more)
+effects_owe l f (Joined principal) e = let more = length-append f.callers (record { number = f.next.caller; principal = principal } ∷ []) in
+    omega (arith, more)
 effects_owe l f (Call caller asked append) e = of_call l f caller asked append
 effects_owe l f (Report process status) e =
-    let same : owed (effect_of l f (Report process status)).flat ≡ owed f = failing_apart (λ (g : Flat). owed g ≡ owed f) (failed_by status (current_of f process)) _ refl in
+    let same : owed (effect_of l f (Report process status)).flat ≡ owed f =
+    failing_apart (λ (g : Flat). owed g ≡ owed f) (failed_by status (current_of f process)) _ refl in
     omega (arith, same)
-effects_owe l f (ControlTaken process) e = let same = controls_owe (relieved_if process) (controls_fewer process) f.processes in omega (arith, same)
+effects_owe l f (ControlTaken process) e = let same = controls_owe (dequeued_if process) (controls_fewer process) f.processes in
+    omega (arith, same)
 effects_owe l f Tick e = let more = ticks_owe l f in omega (arith, more)
 effects_owe l f (Raised caller subtype) e = let more = raises_owe l f caller subtype in omega (arith, more)
 effects_owe l f (NoMemory caller) e = omega arith

@@ -1,5 +1,6 @@
 -- What is to be known of histories, and that they stay legal.
-use Rattle.std.proofs.Common.{ℕ, ◌≡◌, ◌∙◌, ◌+◌, ◌≤◌, ◌⊎◌, IsTrue, List, [], ◌∷◌, ◌++◌, length, length-append, inl, inr, refl, ap, sym, subst, arith}
+use Rattle.std.proofs.Common.{ℕ, ◌≡◌, ◌∙◌, ◌+◌, ◌≤◌, ◌⊎◌, IsTrue, List, [], ◌∷◌, ◌++◌, length, length-append, inl, inr, refl, ap, sym}
+use Rattle.std.proofs.Common.{subst, arith}
 use Rattle.scm_model.specs.declared.flat.Flat.{Flat}
 use Rattle.scm_model.specs.declared.flat.Limits.{Limits}
 use Rattle.scm_rules.specs.Runs.{IsLegal}
@@ -59,7 +60,11 @@ none_fits l f room = let same = ap owed (state_none l f) in omega (arith, room, 
 
 pub legal_none : (l : Limits) (f : Flat) → owed f ≤ l.steps → Legal l f []
 unfolding Legal
-legal_none l f room = record { made = tt; fits = λ front rest is. subst (FitsOwed l f) (sym (none_front front rest is)) (none_fits l f room) }
+legal_none l f room = record {
+  made = tt;
+  fits = λ front rest is. subst (FitsOwed l f) (sym (none_front front rest is))
+      (none_fits l f room);
+}
 
 none_room : (l : Limits) (f : Flat) → Legal l f [] → owed f ≤ l.steps
 none_room l f legal = let fits = legal_fits l f [] legal in let same = ap owed (state_none l f) in omega (arith, fits, same)
@@ -68,11 +73,13 @@ pub legal_last : (l : Limits) (f : Flat) (es : List Entry) (e : Entry) → Legal
 unfolding state
 legal_last l f es e legal = may_behind l f es e [] (legal_made l f (es ++ e ∷ []) legal)
 
-made_so : (l : Limits) (f : Flat) (es : List Entry) (e : Entry) → IsLegal l f es → IsTrue (may l (state l f es) e.0 e.1) → IsLegal l f (es ++ e ∷ [])
+made_so : (l : Limits) (f : Flat) (es : List Entry) (e : Entry) → IsLegal l f es → IsTrue (may l (state l f es) e.0 e.1)
+    → IsLegal l f (es ++ e ∷ [])
 unfolding state
 made_so l f es e legal ok = made_more l f es e legal ok
 
-pub legal_more : (l : Limits) (f : Flat) (es : List Entry) (e : Entry) → Legal l f es → IsTrue (may l (state l f es) e.0 e.1) → FitsOwed l f (es ++ e ∷ []) → Legal l f (es ++ e ∷ [])
+pub legal_more : (l : Limits) (f : Flat) (es : List Entry) (e : Entry) → Legal l f es → IsTrue (may l (state l f es) e.0 e.1)
+    → FitsOwed l f (es ++ e ∷ []) → Legal l f (es ++ e ∷ [])
 unfolding Legal
 legal_more l f es e legal ok fits = record {
   made = made_so l f es e legal.made ok;
@@ -108,17 +115,25 @@ stays_legal l f es c legal e ok room =
     let longer = length-append es (e ∷ []) in
     legal_more l f es e legal ok (omega (arith, now, same, longer))
 
-room_front : (l : Limits) (f : Flat) (steps text : ℕ) (front rest : List Entry) → FoundRoom l f steps text (front ++ rest) → FoundRoom l f steps text front
+room_front : (l : Limits) (f : Flat) (steps text : ℕ) (front rest : List Entry) → FoundRoom l f steps text (front ++ rest)
+    → FoundRoom l f steps text front
 room_front l f steps text [] rest room = tt
-room_front l f steps text (e ∷ front) rest room = (room.0, room_front l (step_of l f e.0 e.1).flat (steps + 1) (text + text_of e.1) front rest room.1)
+room_front l f steps text (e ∷ front) rest room = (
+  room.0,
+  room_front l (step_of l f e.0 e.1).flat (steps + 1) (text
+      + text_of e.1) front rest room.1,
+)
 
-found_fits : (l : Limits) (f : Flat) (front : List Entry) → Clear l f → owed f ≤ l.steps → IsLegal l f front → FoundRoom l f 0 0 front → FitsOwed l f front
+found_fits : (l : Limits) (f : Flat) (front : List Entry) → Clear l f → owed f ≤ l.steps → IsLegal l f front → FoundRoom l f 0 0 front
+    → FitsOwed l f front
 unfolding state
 found_fits l f front c fits legal room = let kept = room_kept l f 0 0 front c (omega (arith, fits)) legal room in omega (arith, kept)
 
-pub found_legal : (l : Limits) (f : Flat) (es : List Entry) → Clear l f → owed f ≤ l.steps → IsLegal l f es → FoundRoom l f 0 0 es → Legal l f es
+pub found_legal : (l : Limits) (f : Flat) (es : List Entry) → Clear l f → owed f ≤ l.steps → IsLegal l f es → FoundRoom l f 0 0 es
+    → Legal l f es
 unfolding Legal
 found_legal l f es c fits legal room = record {
   made = legal;
-  fits = λ front rest is. found_fits l f front c fits (made_front l f front rest (subst (IsLegal l f) is legal)) (room_front l f 0 0 front rest (subst (FoundRoom l f 0 0) is room));
+  fits = λ front rest is. found_fits l f front c fits (made_front l f front rest (subst (IsLegal l f) is legal))
+      (room_front l f 0 0 front rest (subst (FoundRoom l f 0 0) is room));
 }

@@ -1,5 +1,6 @@
 -- What the parts of steps make owed: starts, controls and decisions.
-use Rattle.std.proofs.Common.{ℕ, ◌≡◌, ◌≤◌, ◌+◌, ◌*◌, ◌==◌, ◌||◌, ◌&&◌, Bool, true, false, cond, List, [], ◌∷◌, Option, Some, length, map, find, eqb, ap, refl, sym, arith, eq-eqb, eqb-true, ◌∙◌}
+use Rattle.std.proofs.Common.{ℕ, ◌≡◌, ◌≤◌, ◌+◌, ◌*◌, ◌==◌, ◌||◌, ◌&&◌, Bool, true, false, cond, List, [], ◌∷◌, Option, Some, length, map}
+use Rattle.std.proofs.Common.{find, eqb, ap, refl, sym, arith, eq-eqb, eqb-true, ◌∙◌}
 use Rattle.std.specs.Prelude.{All, is_some, is_none}
 use Rattle.std.specs.List.{list_any}
 use Rattle.std.proofs.lemmas.List.Elements.{All-weaker}
@@ -26,18 +27,25 @@ use Rattle.scm_runs.proofs.Lists.{has_own, is_some-find}
 
 -- ## A start
 
-pub listed : (rows : List Service) (n : ℕ) → is_some (find (λ (row : Service). row.number == n) rows) ≡ true → has (numbers_of (need_rows rows)) n ≡ true
+pub listed : (rows : List Service) (n : ℕ) → is_some (find (λ (row : Service). row.number == n) rows) ≡ true
+    → has (numbers_of (need_rows rows)) n ≡ true
 listed [] n e = absurd cc
 listed (row ∷ rows) n e =
-    elim (row.number == n) as (λ b. (row.number == n) ≡ b → is_some (cond b (Some row) (find (λ (row : Service). row.number == n) rows)) ≡ true → (eqb n row.number || has (numbers_of (need_rows rows)) n) ≡ true) [
+    elim (row.number == n) as (λ b. (row.number == n) ≡ b → is_some (cond b (Some row) (find (λ (row : Service). row.number == n) rows)) ≡
+    true → (eqb n row.number || has (numbers_of (need_rows rows)) n) ≡ true) [
       | true ↦ λ h g. rw (eq-eqb n row.number (sym (eqb-true row.number n h))) refl
-      | false ↦ λ h g. elim (eqb n row.number) as (λ b. (b || has (numbers_of (need_rows rows)) n) ≡ true) [ true ↦ refl | false ↦ listed rows n g ]
+      | false ↦ λ h g. elim (eqb n row.number) as (λ b. (b || has (numbers_of (need_rows rows)) n) ≡ true) [
+        | true ↦ refl
+        | false ↦ listed rows n g
+      ]
     ] refl e
 
 pub has_own_number : (rows : List Service) → All (λ (row : Service). has (numbers_of (need_rows rows)) row.number ≡ true) rows
 has_own_number rows =
-    All-weaker (λ (row : Service). list_any (λ (r : Service). r.number == row.number) rows ≡ true) (λ (row : Service). has (numbers_of (need_rows rows)) row.number ≡ true)
-    (λ row own. listed rows row.number (is_some-find (λ (r : Service). r.number == row.number) rows ∙ own)) rows (has_own (λ (row : Service). row.number) rows)
+    All-weaker (λ (row : Service). list_any (λ (r : Service). r.number == row.number) rows ≡ true)
+    (λ (row : Service). has (numbers_of (need_rows rows)) row.number ≡ true)
+    (λ row own. listed rows row.number (is_some-find (λ (r : Service). r.number == row.number) rows ∙ own)) rows
+    (has_own (λ (row : Service). row.number) rows)
 
 -- a new plan has tried nothing
 pub all_untried : (entries : List ℕ) → untried [] entries ≤ length entries
@@ -52,7 +60,8 @@ plan_owes f plan = let more = total_more owed_by_plan f.plans plan in omega (ari
 
 -- ## Starts that no caller asks for
 
-pub begun_owes : (f : Flat) (row : Service) → has (numbers_of (need_rows f.services)) row.number ≡ true → owed (with_start 0 [] row f) ≤ owed f + 3 * length f.services
+pub begun_owes : (f : Flat) (row : Service) → has (numbers_of (need_rows f.services)) row.number ≡ true
+    → owed (with_start 0 [] row f) ≤ owed f + 3 * length f.services
 begun_owes f row there =
     let order = start_order f row.number in
     let more = plan_owes f (new_plan f 0 row.number order []) in
@@ -61,14 +70,17 @@ begun_owes f row there =
     let each = all_untried order in
     omega (arith, more, few, services, each)
 
-pub restart_owes : (f : Flat) (row : Service) → has (numbers_of (need_rows f.services)) row.number ≡ true → owed (with_restart row f) ≤ owed f + 3 * length f.services
+pub restart_owes : (f : Flat) (row : Service) → has (numbers_of (need_rows f.services)) row.number ≡ true
+    → owed (with_restart row f) ≤ owed f + 3 * length f.services
 restart_owes f row there =
-    elim (can_start f row) as (λ b. owed (cond b (with_start 0 [] row f) f) ≤ owed f + 3 * length f.services) [ true ↦ begun_owes f row there | false ↦ omega arith ]
+    elim (can_start f row) as (λ b. owed (cond b (with_start 0 [] row f) f) ≤ owed f + 3 * length f.services)
+    [ true ↦ begun_owes f row there | false ↦ omega arith ]
 
 -- ## Controls
 
 -- controls make nothing owed
-pub controls_owe : (change : Process → Process) → IsOfControls change → (rows : List Process) → total owed_by_process (map change rows) ≡ total owed_by_process rows
+pub controls_owe : (change : Process → Process) → IsOfControls change → (rows : List Process)
+    → total owed_by_process (map change rows) ≡ total owed_by_process rows
 controls_owe change only [] = refl
 controls_owe change only (row ∷ rows) =
     let one = ap owed_by_process (only row) in
@@ -81,20 +93,26 @@ controls_owe change only (row ∷ rows) =
 decided_owes : (test : Plan → Bool) (code : ℕ) (plan : Plan) → owed_by_plan (decided_if test code plan) ≤ owed_by_plan plan
 decided_owes test code plan =
     let rest = 3 * untried plan.tried plan.entries in
-    elim (is_none plan.code && test plan) as (λ b. owed_to plan.caller + cond (is_some (cond b (Some code) plan.code)) 0 rest ≤ owed_to plan.caller + cond (is_some plan.code) 0 rest)
+    elim (is_none plan.code && test plan) as (λ b. owed_to plan.caller + cond
+    (is_some (cond b (Some code) plan.code)) 0 rest ≤ owed_to plan.caller + cond (is_some plan.code) 0 rest)
     [ true ↦ omega arith | false ↦ omega arith ]
 
-all_decided : (test : Plan → Bool) (code : ℕ) (plans : List Plan) → total owed_by_plan (map (decided_if test code) plans) ≤ total owed_by_plan plans
+all_decided : (test : Plan → Bool) (code : ℕ) (plans : List Plan) → total owed_by_plan
+    (map (decided_if test code) plans) ≤ total owed_by_plan plans
 all_decided test code [] = omega arith
-all_decided test code (plan ∷ plans) = let one = decided_owes test code plan in let rest = all_decided test code plans in omega (arith, one, rest)
+all_decided test code (plan ∷ plans) = let one = decided_owes test code plan in let rest = all_decided test code plans in
+    omega (arith, one, rest)
 
-pub decision_owes : (test : Plan → Bool) (code : ℕ) (plans : List Plan) → total owed_by_plan (decided_in test code plans) ≤ total owed_by_plan plans
+pub decision_owes : (test : Plan → Bool) (code : ℕ) (plans : List Plan)
+    → total owed_by_plan (decided_in test code plans) ≤ total owed_by_plan plans
 decision_owes test code plans =
     let kept = kept_owes stays (map (decided_if test code) plans) in
     let all = all_decided test code plans in
     omega (arith, kept, all)
 
 -- nor does one of the starts of a process's service
-pub starts_owe : (target : Option ℕ) (code : ℕ) (plans : List Plan) → total owed_by_plan (if_found (λ service. decided_in (aims_at service) code) target plans) ≤ total owed_by_plan plans
+pub starts_owe : (target : Option ℕ) (code : ℕ) (plans : List Plan) → total owed_by_plan
+    (if_found (λ service. decided_in (aims_at service) code) target plans) ≤ total owed_by_plan plans
 starts_owe target code plans =
-    found_keeps (λ (rows : List Plan). total owed_by_plan rows ≤ total owed_by_plan plans) (λ service. decided_in (aims_at service) code) target plans (omega arith) (λ service is. decision_owes (aims_at service) code plans)
+    found_keeps (λ (rows : List Plan). total owed_by_plan rows ≤ total owed_by_plan plans)
+    (λ service. decided_in (aims_at service) code) target plans (omega arith) (λ service is. decision_owes (aims_at service) code plans)

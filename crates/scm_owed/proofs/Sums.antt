@@ -10,23 +10,27 @@ pub fewer_count : {A : Type 0} (count : A → ℕ) (p : A → Bool) (rows : List
 fewer_count count p [] = omega arith
 fewer_count count p (row ∷ rows) =
     let rest = fewer_count count p rows in
-    elim (p row) as (λ b. total count (cond b (row ∷ filter p rows) (filter p rows)) ≤ count row + total count rows) [ true ↦ omega (arith, rest) | false ↦ omega (arith, rest) ]
+    elim (p row) as (λ b. total count (cond b (row ∷ filter p rows) (filter p rows)) ≤ count row + total count rows)
+    [ true ↦ omega (arith, rest) | false ↦ omega (arith, rest) ]
 
 -- a row that leaves counts no more
 abbrev pub Leaves : {A : Type 0} → (A → ℕ) → (A → Bool) → List A → A → Type 0
 Leaves count p rows row = p row ≡ false → total count (filter p rows) + count row ≤ total count rows
 
-later_leaves : {A : Type 0} (count : A → ℕ) (p : A → Bool) (first : A) (rows : List A) (row : A) → Leaves count p rows row → Leaves count p (first ∷ rows) row
+later_leaves : {A : Type 0} (count : A → ℕ) (p : A → Bool) (first : A) (rows : List A) (row : A) → Leaves count p rows row
+    → Leaves count p (first ∷ rows) row
 later_leaves count p first rows row leaves out =
     let less = leaves out in
-    elim (p first) as (λ b. total count (cond b (first ∷ filter p rows) (filter p rows)) + count row ≤ count first + total count rows) [ true ↦ omega (arith, less) | false ↦ omega (arith, less) ]
+    elim (p first) as (λ b. total count (cond b (first ∷ filter p rows) (filter p rows)) + count row ≤ count first + total count rows)
+    [ true ↦ omega (arith, less) | false ↦ omega (arith, less) ]
 
 pub all_leave : {A : Type 0} (count : A → ℕ) (p : A → Bool) (rows : List A) → All (Leaves count p rows) rows
 all_leave count p [] = All-nil (Leaves count p [])
 all_leave count p (row ∷ rows) =
     All-cons (Leaves count p (row ∷ rows)) row rows
     (λ out. let fewer = fewer_count count p rows in rw out (omega (arith, fewer)))
-    (All-weaker (Leaves count p rows) (Leaves count p (row ∷ rows)) (λ later leaves. later_leaves count p row rows later leaves) rows (all_leave count p rows))
+    (All-weaker (Leaves count p rows) (Leaves count p (row ∷ rows)) (λ later leaves. later_leaves count p row rows later leaves) rows
+    (all_leave count p rows))
 
 -- ## Two sums
 
@@ -47,15 +51,18 @@ total_zero (row ∷ rows) = let rest = total_zero rows in omega (arith, rest)
 abbrev pub each_passing : {A : Type 0} → ℕ → (A → Bool) → A → ℕ
 each_passing unit p row = cond (p row) unit 0
 
-pub passing_total : {A : Type 0} (unit : ℕ) (p : A → Bool) (rows : List A) → total (each_passing unit p) rows ≡ unit * length (filter p rows)
+pub passing_total : {A : Type 0} (unit : ℕ) (p : A → Bool) (rows : List A)
+    → total (each_passing unit p) rows ≡ unit * length (filter p rows)
 passing_total unit p [] = omega arith
 passing_total unit p (row ∷ rows) =
     let rest = passing_total unit p rows in
     let more = mul-suc unit (length (filter p rows)) in
-    elim (p row) as (λ b. cond b unit 0 + total (each_passing unit p) rows ≡ unit * length (cond b (row ∷ filter p rows) (filter p rows))) [ true ↦ omega (arith, rest, more) | false ↦ omega (arith, rest) ]
+    elim (p row) as (λ b. cond b unit 0 + total (each_passing unit p) rows ≡ unit * length (cond b (row ∷ filter p rows) (filter p rows)))
+    [ true ↦ omega (arith, rest, more) | false ↦ omega (arith, rest) ]
 
 -- at most one row passes
-pub once_total : {A : Type 0} (unit : ℕ) (p : A → Bool) (rows : List A) → length (filter p rows) ≤ 1 → total (each_passing unit p) rows ≤ unit
+pub once_total : {A : Type 0} (unit : ℕ) (p : A → Bool) (rows : List A) → length (filter p rows) ≤ 1
+    → total (each_passing unit p) rows ≤ unit
 once_total unit p rows once =
     let all = passing_total unit p rows in
     by_count (length (filter p rows)) once all

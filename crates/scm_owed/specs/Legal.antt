@@ -25,5 +25,6 @@ pub record LawOfLegal (l : Limits) (f : Flat) : Type 0 where
 -- a history stays legal with each entry more that may be made, and is owed or finds room
 abbrev pub StaysLegal : Limits → Flat → List Entry → Type 0
 StaysLegal l f es =
-    (e : Entry) → IsTrue (may l (state l f es) e.0 e.1) → (is_owed e.1 ≡ true) ⊎ IsTrue (has_room l (state l f es) (length es) (text_in es) e.1)
+    (e : Entry) → IsTrue (may l (state l f es) e.0 e.1) → (is_owed e.1 ≡ true)
+    ⊎ IsTrue (has_room l (state l f es) (length es) (text_in es) e.1)
     → Legal l f (es ++ e ∷ [])

@@ -34,4 +34,5 @@ pub record LawOfOwed (before : Flat) (e : Entry) (told : Answer) (after : Flat) 
 abbrev pub FoundRoom : Limits → Flat → (steps text : ℕ) → List Entry → Type 0
 FoundRoom l f steps text [] = Unit {0}
 FoundRoom l f steps text (e ∷ es) =
-    ((is_owed e.1 ≡ true) ⊎ IsTrue (has_room l f steps text e.1)) × FoundRoom l (step_of l f e.0 e.1).flat (steps + 1) (text + text_of e.1) es
+    ((is_owed e.1 ≡ true) ⊎ IsTrue (has_room l f steps text e.1)) × FoundRoom l (step_of l f e.0 e.1).flat (steps + 1) (text
+    + text_of e.1) es

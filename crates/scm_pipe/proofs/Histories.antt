@@ -27,7 +27,8 @@ cons_append : {A : Type 0} (o : Option A) (xs ys : List A) → cons_option o (xs
 cons_append None xs ys = refl
 cons_append (Some x) xs ys = refl
 
-pub replies_append : (l : Limits) (f : Flat) (c : ℕ) (es ds : List Entry) → replies l f c (es ++ ds) ≡ replies l f c es ++ replies l (run_state l f es) c ds
+pub replies_append : (l : Limits) (f : Flat) (c : ℕ) (es ds : List Entry) → replies l f c (es ++ ds) ≡ replies l f c es
+    ++ replies l (run_state l f es) c ds
 replies_append l f c [] ds = refl
 replies_append l f c (e ∷ es) ds =
     let told = heard_by c e.1 (step_of l f e.0 e.1).answer in
@@ -35,19 +36,22 @@ replies_append l f c (e ∷ es) ds =
     ap (cons_option told) (replies_append l g c es ds) ∙ cons_append told (replies l g c es) (replies l (run_state l g es) c ds)
 
 -- a call that was told a reply
-pub call_tells : (l : Limits) (f : Flat) (m c : ℕ) (asked : Request) (append : Kept) (reply : Reply) → answers.Reply reply ≡ (step_of l f m (Call c asked append)).answer
+pub call_tells : (l : Limits) (f : Flat) (m c : ℕ) (asked : Request) (append : Kept) (reply : Reply)
+    → answers.Reply reply ≡ (step_of l f m (Call c asked append)).answer
     → heard_by c (Call c asked append) (step_of l f m (Call c asked append)).answer ≡ Some (Some reply)
 call_tells l f m c asked append reply is =
     subst (λ (a : Answer). heard_by c (Call c asked append) a ≡ Some (Some reply)) is (rw (same_number c) refl)
 
 -- a call that began a start tells nothing yet
-pub begun_tells : (l : Limits) (f : Flat) (m c : ℕ) (asked : Request) (append : Kept) (plan : ℕ) → answers.Begun plan ≡ (step_of l f m (Call c asked append)).answer
+pub begun_tells : (l : Limits) (f : Flat) (m c : ℕ) (asked : Request) (append : Kept) (plan : ℕ)
+    → answers.Begun plan ≡ (step_of l f m (Call c asked append)).answer
     → heard_by c (Call c asked append) (step_of l f m (Call c asked append)).answer ≡ None
 begun_tells l f m c asked append plan is =
     subst (λ (a : Answer). heard_by c (Call c asked append) a ≡ None) is (rw (same_number c) refl)
 
 -- a raise that was told a reply
-pub raise_tells : (l : Limits) (f : Flat) (m c : ℕ) (subtype : List ℕ) (reply : Reply) → answers.Reply reply ≡ (step_of l f m (Raised c subtype)).answer
+pub raise_tells : (l : Limits) (f : Flat) (m c : ℕ) (subtype : List ℕ) (reply : Reply)
+    → answers.Reply reply ≡ (step_of l f m (Raised c subtype)).answer
     → heard_by c (Raised c subtype) (step_of l f m (Raised c subtype)).answer ≡ Some (Some reply)
 raise_tells l f m c subtype reply is =
     subst (λ (a : Answer). heard_by c (Raised c subtype) a ≡ Some (Some reply)) is (rw (same_number c) refl)
@@ -66,11 +70,13 @@ want_tells l f m c = rw (same_number c) refl
 
 -- a launch that fails tells nothing
 pub failure_tells : (l : Limits) (f : Flat) (m n c process code : ℕ) (es : List Entry)
-    → replies l f c ((m, LaunchTaken) ∷ (n, LaunchFailed process code) ∷ es) ≡ replies l (run_state l f ((m, LaunchTaken) ∷ (n, LaunchFailed process code) ∷ [])) c es
+    → replies l f c ((m, LaunchTaken) ∷ (n, LaunchFailed process code) ∷ es) ≡ replies l
+    (run_state l f ((m, LaunchTaken) ∷ (n, LaunchFailed process code) ∷ [])) c es
 failure_tells l f m n c process code es = refl
 
 -- nor does a caller's coming or going
-pub join_tells : (l : Limits) (f : Flat) (m c : ℕ) (principal : Principal) (es : List Entry) → replies l f c ((m, Joined principal) ∷ es) ≡ replies l (run_state l f ((m, Joined principal) ∷ [])) c es
+pub join_tells : (l : Limits) (f : Flat) (m c : ℕ) (principal : Principal) (es : List Entry)
+    → replies l f c ((m, Joined principal) ∷ es) ≡ replies l (run_state l f ((m, Joined principal) ∷ [])) c es
 join_tells l f m c principal es = refl
 
 pub gone_tells : (l : Limits) (f : Flat) (m c caller : ℕ) → replies l f c ((m, Gone caller) ∷ []) ≡ []
@@ -78,10 +84,12 @@ gone_tells l f m c caller = refl
 
 -- ## A launch
 
-told_first : (g : Flat) (found : Option ℕ) (process : ℕ) → (finished g (launch_told found)).answer ≡ answers.Launch process → found ≡ Some process
+told_first : (g : Flat) (found : Option ℕ) (process : ℕ) → (finished g (launch_told found)).answer ≡ answers.Launch process
+    → found ≡ Some process
 told_first g None process e = absurd cc
 told_first g (Some first) process e = (let same : first ≡ process = cc in ap (λ (n : ℕ). Some n) same)
 
 -- a LaunchTaken tells which process was wanted first
-pub first_told : (l : Limits) (f : Flat) (m process : ℕ) → answers.Launch process ≡ (step_of l f m LaunchTaken).answer → first_wanted f.wanted ≡ Some process
+pub first_told : (l : Limits) (f : Flat) (m process : ℕ) → answers.Launch process ≡ (step_of l f m LaunchTaken).answer
+    → first_wanted f.wanted ≡ Some process
 first_told l f m process is = told_first (settled l (launch_taken (with_moment f m)).flat) (first_wanted f.wanted) process (sym is)

@@ -36,30 +36,37 @@ room_in : (l : Limits) (groups : List (List ℕ)) (configs : List Config) (momen
     → has_room l (opening l groups configs moment) 0 (text_in []) (Joined principal) ≡ true
 room_in l groups configs moment principal some = grind (arith, some)
 
-has_room_at : (l : Limits) (f : Flat) (principal : Principal) → IsOpening l f → 2 ≤ l.steps → has_room l (state l f []) 0 (text_in []) (Joined principal) ≡ true
+has_room_at : (l : Limits) (f : Flat) (principal : Principal) → IsOpening l f → 2 ≤ l.steps
+    → has_room l (state l f []) 0 (text_in []) (Joined principal) ≡ true
 has_room_at l f principal opens some =
     subst (λ (g : Flat). has_room l g 0 (text_in []) (Joined principal) ≡ true) (sym (state_none l f ∙ opens.is))
     (room_in l opens.groups opens.configs opens.moment principal some)
 
-pub can_join : (o : Opening) (l : Limits) (f : Flat) (bytes : Option (List ℕ)) (faults : ℕ) (principal : Principal) → o ≡ record { limits = l; first = f; bytes = bytes; faults = faults }
+pub can_join : (o : Opening) (l : Limits) (f : Flat) (bytes : Option (List ℕ)) (faults : ℕ) (principal : Principal)
+    → o ≡ record { limits = l; first = f; bytes = bytes; faults = faults }
     → IsOpening l f → 1 ≤ l.callers → 2 ≤ l.steps → CanJoin o principal
 can_join o l f bytes faults principal is opens places steps =
     subst (λ (x : Opening). CanJoin x principal) (sym is)
     (record { opens = opens; place = has_place_at l f opens places; room = has_room_at l f principal opens steps })
 
 -- so memory alone is wanting where it fails
-why : (o : Opening) (log : List Entry) (principal : Principal) (fault : JoinFault) → CanJoin o principal → log ≡ [] → JoinCauseAt o log principal fault → fault ≡ joins.OutOfMemory
-why o log principal joins.TooMany can none cause = absurd (false≢true (sym (subst (λ (es : List Entry). JoinCauseAt o es principal joins.TooMany) none cause) ∙ can.place))
-why o log principal joins.Full can none cause = absurd (false≢true (sym (subst (λ (es : List Entry). JoinCauseAt o es principal joins.Full) none cause).1 ∙ can.room))
+why : (o : Opening) (log : List Entry) (principal : Principal) (fault : JoinFault) → CanJoin o principal → log ≡ []
+    → JoinCauseAt o log principal fault → fault ≡ joins.OutOfMemory
+why o log principal joins.TooMany can none cause = absurd (false≢true (sym
+    (subst (λ (es : List Entry). JoinCauseAt o es principal joins.TooMany) none cause) ∙ can.place))
+why o log principal joins.Full can none cause = absurd (false≢true (sym
+    (subst (λ (es : List Entry). JoinCauseAt o es principal joins.Full) none cause).1 ∙ can.room))
 why o log principal joins.OutOfMemory can none cause = refl
 
-pub lacks_memory : (o : Opening) (root k : Known) (principal : Principal) (fault : JoinFault) → CanJoin o principal → IsRoot root → Learnt o root k → JoinCause o k principal fault → fault ≡ joins.OutOfMemory
+pub lacks_memory : (o : Opening) (root k : Known) (principal : Principal) (fault : JoinFault) → CanJoin o principal → IsRoot root
+    → Learnt o root k → JoinCause o k principal fault → fault ≡ joins.OutOfMemory
 lacks_memory o root k principal fault can is learnt cause = why o k.seen principal fault can (learnt.alone is.alone ∙ is.seen) cause
 
 -- ## The caller
 
 -- the first that joins is caller 1
-first_joins : (l : Limits) (f : Flat) (m : ℕ) (principal : Principal) → IsOpening l f → (step_of l f m (Joined principal)).answer ≡ answers.Caller 1
+first_joins : (l : Limits) (f : Flat) (m : ℕ) (principal : Principal) → IsOpening l f
+    → (step_of l f m (Joined principal)).answer ≡ answers.Caller 1
 first_joins l f m principal opens =
     subst (λ (g : Flat). (step_of l g m (Joined principal)).answer ≡ answers.Caller 1) (sym opens.is) refl
 
@@ -74,10 +81,13 @@ pub record HasJoined (tells : ℕ → Type 0) (principal : Principal) (k : Known
   pub caller : k.caller ≡ the_caller
   pub alone : k.alone ≡ true
 
-pub has_joined : (tells : ℕ → Type 0) (o : Opening) (root k : Known) (m : ℕ) (principal : Principal) → CanJoin o principal → IsRoot root → tells m → BecomesCaller o root m principal k → HasJoined tells principal k
+pub has_joined : (tells : ℕ → Type 0) (o : Opening) (root k : Known) (m : ℕ) (principal : Principal) → CanJoin o principal → IsRoot root
+    → tells m → BecomesCaller o root m principal k → HasJoined tells principal k
 has_joined tells o root k m principal can is so made =
-    let here : state o.limits o.first root.seen ≡ o.first = ap (λ (es : List Entry). state o.limits o.first es) is.seen ∙ state_none o.limits o.first in
-    let step : Steps tells o root k m (Joined principal) o.first (answers.Caller k.caller) = steps tells o root k m (Joined principal) (answers.Caller k.caller) o.first is.alone here made.made in record {
+    let here : state o.limits o.first root.seen ≡ o.first = ap (λ (es : List Entry). state o.limits o.first es) is.seen
+    ∙ state_none o.limits o.first in
+    let step : Steps tells o root k m (Joined principal) o.first (answers.Caller k.caller) =
+    steps tells o root k m (Joined principal) (answers.Caller k.caller) o.first is.alone here made.made in record {
       moment = m;
       told = so;
       seen = step.seen ∙ ap (λ (es : List Entry). es ++ (m, Joined principal) ∷ []) is.seen;

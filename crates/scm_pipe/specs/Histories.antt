@@ -17,8 +17,8 @@ use Rattle.scm_rules.specs.Launches.{first_wanted}
 use Rattle.scm_rules.specs.Room.{has_room}
 use Rattle.scm_rules.specs.Steps.{step_of}
 use Rattle.scm_rules.specs.Runs.{run_state}
-use Rattle.conn_desk.specs.declared.asked.Asked.{Asked}
-use Rattle.conn_desk.specs.declared.asked.Asked.TheVariants as asks
+use Rattle.conn_desk.specs.declared.asked.DecodedRequest.{DecodedRequest}
+use Rattle.conn_desk.specs.declared.asked.DecodedRequest.TheVariants as asks
 use Rattle.conn_worker.specs.Serving.{step_for}
 
 -- ## Replies
@@ -45,7 +45,7 @@ replies l f caller (e ∷ es) =
 -- ## Requests
 
 -- the step is what became of a caller's request: its call or what it raised, or that there was no memory for it
-abbrev pub IsAskedAs : ℕ → Asked → Step → Type 0
+abbrev pub IsAskedAs : ℕ → DecodedRequest → Step → Type 0
 IsAskedAs caller (asks.Call request) (Call of asked append) = (of ≡ caller) × (asked ≡ request)
 IsAskedAs caller (asks.Raise subtype) (Raised of raised) = (of ≡ caller) × (raised ≡ subtype)
 IsAskedAs caller request (NoMemory of) = of ≡ caller
@@ -70,17 +70,17 @@ Follows l f caller (answers.Begun plan) es = Waits l f caller plan es
 Follows l f caller answer es = es ≡ []
 
 -- the entries are what became of a caller's request
-abbrev pub IsServed : Limits → Flat → ℕ → Asked → List Entry → Type 0
+abbrev pub IsServed : Limits → Flat → ℕ → DecodedRequest → List Entry → Type 0
 IsServed l f caller request [] = ⊥
 IsServed l f caller request (e ∷ es) =
     IsAskedAs caller request e.1 × Follows l (step_of l f e.0 e.1).flat caller (step_of l f e.0 e.1).answer es
 
 -- whether the limits have room for a caller's request after a history
-abbrev pub has_room_after : Limits → Flat → (before : List Entry) → ℕ → Asked → Bool
+abbrev pub has_room_after : Limits → Flat → (before : List Entry) → ℕ → DecodedRequest → Bool
 has_room_after l f before caller request = has_room l (state l f before) (length before) (text_in before) (step_for caller request)
 
 -- The entries are what became of a caller's requests after a history, one after another: each found room in the state that it met there.
-abbrev pub AreServed : Limits → Flat → (before : List Entry) → ℕ → List Asked → List Entry → Type 0
+abbrev pub AreServed : Limits → Flat → (before : List Entry) → ℕ → List DecodedRequest → List Entry → Type 0
 AreServed l f before caller [] es = es ≡ []
 AreServed l f before caller (request ∷ requests) es =
     (served : List Entry) × (rest : List Entry) × (es ≡ served ++ rest) × (has_room_after l f before caller request ≡ true)
@@ -93,14 +93,15 @@ abbrev pub the_caller : ℕ
 the_caller = 1
 
 -- the caller joins, and what serves these requests comes
-pub record IsPipeRun (principal : Principal) (l : Limits) (f : Flat) (requests : List Asked) (history : List Entry) : Type 0 where
+pub record IsPipeRun (principal : Principal) (l : Limits) (f : Flat) (requests : List DecodedRequest) (history : List Entry) : Type 0 where
   pub joined : ℕ
   pub calls : List Entry
   pub order : history ≡ (joined, Joined principal) ∷ calls
   pub served : AreServed l f ((joined, Joined principal) ∷ []) the_caller requests calls
 
 -- then it goes; nothing else stands in the history
-pub record IsPipeHistory (principal : Principal) (l : Limits) (f : Flat) (requests : List Asked) (run history : List Entry) : Type 0 where
+pub record IsPipeHistory (principal : Principal) (l : Limits) (f : Flat) (requests : List DecodedRequest)
+    (run history : List Entry) : Type 0 where
   pub runs : IsPipeRun principal l f requests run
   pub gone : ℕ
   pub order : history ≡ run ++ (gone, Gone the_caller) ∷ []

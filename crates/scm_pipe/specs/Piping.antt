@@ -18,7 +18,7 @@ use Rattle.book_rule.specs.declared.view.Opening.{Opening}
 use Rattle.scm_book.specs.Holds.{RoseBy, failures_in}
 use Rattle.scm_book.specs.Joins.{has_place}
 use Rattle.scm_book.specs.Passes.{Known, room_behind}
-use Rattle.conn_desk.specs.declared.asked.Asked.{Asked}
+use Rattle.conn_desk.specs.declared.asked.DecodedRequest.{DecodedRequest}
 use Rattle.conn_desk.specs.declared.served.Served.{Served}
 use Rattle.conn_desk.specs.declared.served.Served.TheVariants as served
 use Rattle.conn_desk.specs.Bodies.{asked, asked_by}
@@ -30,13 +30,14 @@ use Rattle.scm_pipe.specs.Histories.{IsPipeHistory, IsPipeRun, has_room_after, r
 -- ## Room
 
 -- the limits have no room for a request of the one caller after a history
-abbrev pub HasNoRoomAfter : Limits → Flat → List Entry → Asked → Type 0
+abbrev pub HasNoRoomAfter : Limits → Flat → List Entry → DecodedRequest → Type 0
 HasNoRoomAfter l f run request = has_room_after l f run the_caller request ≡ false
 
 -- after whatever serves the first requests of these bytes, they have room for the next one
 abbrev pub HasRoomForAll : Principal → Limits → Flat → List ℕ → Type 0
 HasRoomForAll principal l f bytes =
-    (done : List Incoming) (next : Incoming) (request : Asked) → Begins (done ++ next ∷ []) (items bytes).items → asked_by next ≡ Some request
+    (done : List Incoming) (next : Incoming) (request : DecodedRequest) → Begins (done ++ next ∷ []) (items bytes).items
+    → asked_by next ≡ Some request
     → (run : List Entry) → IsPipeRun principal l f (asked done) run → Legal l f run → has_room_after l f run the_caller request ≡ true
 
 -- ## A connection
@@ -94,7 +95,8 @@ module _ {K : Type 0} (told : K → Option (List ℕ)) (faulted : K → ℕ) whe
     pub faults : RoseBy (failures_in history) o.faults (faulted keeper)
 
   -- a connection was served, and the keeper has the kept changes of its history
-  pub record IsJoined (tells : ℕ → Type 0) (principal : Principal) (o : Opening) (left left_now held held_now : Option (List ℕ)) (end : Piped K) : Type 0 where
+  pub record IsJoined (tells : ℕ → Type 0) (principal : Principal) (o : Opening) (left left_now held held_now : Option (List ℕ))
+      (end : Piped K) : Type 0 where
     pub history : List Entry
     pub piped : IsPiped tells principal o.limits o.first left left_now held held_now end.how history
     pub kept : IsKept o history end.keeper
@@ -105,7 +107,8 @@ module _ {K : Type 0} (told : K → Option (List ℕ)) (faulted : K → ℕ) whe
       IsJoined tells principal o left left_now held held_now end ⊎ (IsUnjoined left left_now held held_now end.how × IsKept o [] end.keeper)
 
   -- or there was no memory for a book either, and the keeper is as it was
-  abbrev pub IsEnd : (tells : ℕ → Type 0) → Principal → Limits → Flat → (left left_now held held_now : Option (List ℕ)) → K → Piped K → Type 0
+  abbrev pub IsEnd : (tells : ℕ → Type 0) → Principal → Limits → Flat → (left left_now held held_now : Option (List ℕ)) → K → Piped K
+      → Type 0
   IsEnd tells principal l f left left_now held held_now keeper end =
       IsEndAt tells principal (begun_with l f keeper) left left_now held held_now end
       ⊎ (IsUnjoined left left_now held held_now end.how × (end.keeper ≡ keeper))

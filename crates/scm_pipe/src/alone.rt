@@ -5,7 +5,7 @@ ghost use Rattle.scm_rules.specs.Opening.{IsOpening};
 ghost use Rattle.record_journal.specs.Bearing.{Bears};
 ghost use Rattle.conn_desk.specs.Connection.{IsServedFor};
 ghost use Rattle.conn_desk.specs.declared.served.Served.TheVariants as served;
-ghost use Rattle.conn_worker.specs.Complete.{IsComplete};
+ghost use Rattle.conn_worker.specs.Complete.{FindsRoom, IsComplete};
 ghost use Rattle.scm_book.specs.declared.answers.JoinFault.TheVariants as joins;
 ghost use Rattle.scm_book.specs.Passes.{IsOf};
 ghost use Rattle.scm_pipe.specs.Piping.{CanJoin, HasRoomForAll, IsEnd, IsEndAt, IsKept, IsRoot};
@@ -115,10 +115,12 @@ pub fn serve_alone<R: Wait, K: Keeper, I: Source, O: Sink, C: Clock>(
     ensures output { O.faults output.old ≤ O.faults output.new }
     ensures cause { IsServedFor result.how (I.faults input.old) (I.faults input.new)
         (O.faults output.old) (O.faults output.new) }
-    // Nothing else ends a connection without faults.
-    ensures complete { IsComplete (HasRoomForAll principal manager.limits manager.flat)
-        (I.left input.old) (I.faults input.old) (I.faults input.new)
+    // Nothing else ends a connection without faults, but that a request found no room.
+    ensures complete { IsComplete (I.left input.old) (I.faults input.old) (I.faults input.new)
         (O.faults output.old) (O.faults output.new) result.how }
+    // Where there is room for each request, it isn't full.
+    ensures room { FindsRoom (HasRoomForAll principal manager.limits manager.flat)
+        (I.left input.old) result.how }
 {
     let Ok(mut waiter) = PipeWaiter::new(rt, alloc) else {
         manager.close();

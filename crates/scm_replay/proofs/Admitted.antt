@@ -7,7 +7,8 @@ use Rattle.scm_model.specs.declared.flat.Flat.{Flat}
 use Rattle.scm_model.specs.declared.flat.Limits.{Limits}
 use Rattle.scm_model.specs.declared.steps.Kept.{Kept}
 use Rattle.scm_model.specs.declared.steps.Step.{Step}
-use Rattle.scm_model.specs.declared.steps.Step.TheVariants.{Joined, Call, EndStart, LaunchTaken, Launched, LaunchFailed, Report, Ended, ControlTaken, Tick, Raised, Gone, NoMemory}
+use Rattle.scm_model.specs.declared.steps.Step.TheVariants.{Joined, Call, EndStart, LaunchTaken, Launched, LaunchFailed, Report, Ended}
+use Rattle.scm_model.specs.declared.steps.Step.TheVariants.{ControlTaken, Tick, Raised, Gone, NoMemory}
 use Rattle.scm_rules.specs.Steps.{may, may_come}
 use Rattle.scm_model.specs.Texts.{text_of}
 use Rattle.scm_rules.specs.Verdicts.{change_of, change_of_call, tells_right}
@@ -24,8 +25,10 @@ told_rightly true false = refl
 told_rightly true true = refl
 
 -- a step that may come may be made once it tells what became of its change
-may_made : (l : Limits) (f : Flat) (moment : ℕ) (step : Step) (fails : Bool) → may_come l f moment step ≡ true → may l f moment (with_kept step (kept_as (is_some (change_of l f step)) fails)) ≡ true
-may_made l f moment (Call caller asked append) fails h = both (is_caller f caller && in_range asked) _ h (told_rightly (is_some (change_of_call l f caller asked)) fails)
+may_made : (l : Limits) (f : Flat) (moment : ℕ) (step : Step) (fails : Bool) → may_come l f moment step ≡ true
+    → may l f moment (with_kept step (kept_as (is_some (change_of l f step)) fails)) ≡ true
+may_made l f moment (Call caller asked append) fails h = both (is_caller f caller && in_range asked) _ h
+    (told_rightly (is_some (change_of_call l f caller asked)) fails)
 may_made l f moment (Joined principal) fails h = both _ true h refl
 may_made l f moment (EndStart caller plan) fails h = both _ true h refl
 may_made l f moment LaunchTaken fails h = both _ true h refl

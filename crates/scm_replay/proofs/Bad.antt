@@ -8,7 +8,8 @@ use Rattle.scm_replay.specs.declared.missed.Missed.{Missed}
 use Rattle.scm_replay.specs.declared.outcome.Outcome.{Outcome}
 use Rattle.scm_replay.specs.declared.outcome.Outcome.TheVariants.{Full}
 use Rattle.scm_replay.specs.Lines.{line_at}
-use Rattle.scm_replay.specs.Outcomes.{Standing, step_made, finds_room, goes_on, outcome_made, outcome_at, outcome_of, step_in, unless_missed, unmet}
+use Rattle.scm_replay.specs.Outcomes.{Standing, step_made, finds_room, goes_on, outcome_made, outcome_at, outcome_of, step_in}
+use Rattle.scm_replay.specs.Outcomes.{unless_missed, unmet}
 
 either : (may finds : Bool) (s : Standing) (first second : Outcome) (made : Outcome × Standing) → goes_on made.0 ≡ true
     → goes_on (cond may (first, s) (cond finds (second, s) made)).0 ≡ false → (cond may (first, s) (cond finds (second, s) made)).1 ≡ s

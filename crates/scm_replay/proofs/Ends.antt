@@ -1,9 +1,10 @@
 -- How a run ends.
-use Rattle.std.proofs.Common.{inl, inr, ℕ, ◌≡◌, ◌+◌, ◌<◌, ◌≤◌, ◌^◌, ◌==◌, Bool, true, false, cond, List, [], ◌∷◌, ◌++◌, length, refl, sym, ap, ◌∙◌, subst, append_assoc, append-nil, arith, length-append}
+use Rattle.std.proofs.Common.{inl, inr, ℕ, ◌≡◌, ◌+◌, ◌<◌, ◌≤◌, ◌^◌, ◌==◌, Bool, true, false, cond, List, [], ◌∷◌, ◌++◌, length, refl, sym}
+use Rattle.std.proofs.Common.{ap, ◌∙◌, subst, append_assoc, append-nil, arith, length-append}
 use Rattle.std.specs.Prelude.{◌⊎◌, Option}
 use Rattle.std.specs.Io.KnownBytes.{Appends, Consumes, IsAtEnd}
 use Rattle.std.proofs.KnownBytes.{Appends-nil, Appends-trans, Consumes-nil}
-use Rattle.feed_loop.specs.declared.fed.Fed.TheVariants as fed
+use Rattle.feed_loop.specs.declared.fed.ReadEnd.TheVariants as fed
 use Rattle.outside.specs.Written.{Begins}
 use Rattle.scm_model.specs.declared.flat.Limits.{Limits}
 use Rattle.scm_replay.specs.declared.replayed.Replayed.{Replayed}
@@ -12,7 +13,8 @@ use Rattle.scm_replay.specs.declared.stop.Stop.{Stop}
 use Rattle.scm_replay.specs.declared.stop.Stop.TheVariants as stop
 use Rattle.scm_replay.specs.Answers.{answer_line}
 use Rattle.scm_replay.specs.Outcomes.{Standing, goes_on, outcome_at}
-use Rattle.scm_replay.specs.Replay.{AtRest, BadLine, EndsBad, IsAnswered, IsCut, IsLeft, IsOpenText, IsReplayed, ReachedLine, StopsIn, Told, Unfinished, text_behind, text_end, ends_text, replayed, replayed_from, with_line}
+use Rattle.scm_replay.specs.Replay.{AtRest, BadLine, EndsBad, IsAnswered, IsCut, IsLeft, IsOpenText, IsReplayed, ReachedLine, StopsIn, Told}
+use Rattle.scm_replay.specs.Replay.{Unfinished, text_behind, text_end, ends_text, replayed, replayed_from, with_line}
 use Rattle.scm_replay.specs.Along.{Point, GoesOn, HaltsIn, replayed_as}
 use Rattle.scm_replay.proofs.Bad.{bad_at}
 use Rattle.scm_replay.proofs.Lines.{clean_none, rest_alone, told_behind, whole_line}
@@ -26,7 +28,8 @@ beginning s held = record { at = s; number = 1; pending = []; held = held }
 pub begins : (l : Limits) (s : Standing) (held : Option (List ℕ)) (pending : List ℕ) → pending ≡ []
     → GoesOn l [] (beginning s held) (record { at = s; number = 1; pending = pending; held = held })
 begins l s held pending e =
-    subst (λ p. GoesOn l [] (beginning s held) (record { at = s; number = 1; pending = p; held = held })) (sym e) (goes_nowhere l (beginning s held) clean_none)
+    subst (λ p. GoesOn l [] (beginning s held) (record { at = s; number = 1; pending = p; held = held })) (sym e)
+    (goes_nowhere l (beginning s held) clean_none)
 
 open_if : (b : Bool) → IsOpenText (cond b AtRest Unfinished)
 open_if true = tt
@@ -48,7 +51,8 @@ at_if false x y s p q = q
 begins_cut : (text front answer after all : List ℕ) → Begins front answer → all ≡ text ++ (answer ++ after) → Begins (text ++ front) all
 begins_cut text front answer after all h e = (
   h.0 ++ after,
-  e ∙ ap (λ z. text ++ (z ++ after)) h.1 ∙ ap (λ z. text ++ z) (append_assoc front h.0 after) ∙ sym (append_assoc text front (h.0 ++ after)),
+  e ∙ ap (λ z. text ++ (z ++ after)) h.1 ∙ ap (λ z. text ++ z) (append_assoc front h.0 after)
+      ∙ sym (append_assoc text front (h.0 ++ after)),
 )
 
 one_of : (x a b c d : Standing) → (x ≡ a) ⊎ (x ≡ b) → a ≡ c → b ≡ d → (x ≡ c) ⊎ (x ≡ d)
@@ -76,7 +80,8 @@ module _ (l : Limits) (s : Standing) (held : Option (List ℕ)) where
   line_more : (read : List ℕ) (m : Point) (on : GoesOn l read (beginning s held) m) (more : List ℕ)
       → replayed l s (on.lines ++ (m.pending ++ 10 ∷ more))
       ≡ text_behind on.text (told_behind l m.at m.number m.pending (replayed_from l (outcome_at l m.at m.pending).1 (m.number + 1) more))
-  line_more read m on more = on.told (m.pending ++ 10 ∷ more) ∙ ap (text_behind on.text) (whole_line l m.at m.number m.pending more on.clean)
+  line_more read m on more = on.told (m.pending ++ 10 ∷ more) ∙ ap (text_behind on.text)
+      (whole_line l m.at m.number m.pending more on.clean)
 
   line_at : (read : List ℕ) (m : Point) (on : GoesOn l read (beginning s held) m)
       → (replayed l s (with_line on.lines m.pending)).at ≡ (outcome_at l m.at m.pending).1
@@ -113,7 +118,8 @@ module _ (l : Limits) (s : Standing) (held : Option (List ℕ)) where
 
   -- the source ended
   pub source_ends : (left left_now : Option (List ℕ)) (read : List ℕ) (m : Point) (rest : Bool) → GoesOn l read (beginning s held) m
-      → Consumes left left_now read → IsAtEnd left_now → length read < 2 ^ 40 → (length m.pending == 0) ≡ rest → IsReplayed l s m.at left left_now held m.held (replayed_as fed.Ended rest)
+      → Consumes left left_now read → IsAtEnd left_now → length read < 2 ^ 40 → (length m.pending == 0) ≡ rest
+      → IsReplayed l s m.at left left_now held m.held (replayed_as fed.Ended rest)
   source_ends left left_now read m true on consumed out lt e =
       all_read left left_now read m ended.Ended on consumed (omega (arith, lt))
       (out, lt, so_far read m on ∙ ap (λ x. record { text = on.text; ending = x; at = m.at }) (end_if m.pending true e))
@@ -124,7 +130,8 @@ module _ (l : Limits) (s : Standing) (held : Option (List ℕ)) where
   -- a read failed
   pub read_fails : (left left_now : Option (List ℕ)) (read : List ℕ) (m : Point) → GoesOn l read (beginning s held) m
       → Consumes left left_now read → length read < 2 ^ 40 → IsReplayed l s m.at left left_now held m.held ended.ReadFault
-  read_fails left left_now read m on consumed lt = all_read left left_now read m ended.ReadFault on consumed (omega (arith, lt)) (lt, answered read m on)
+  read_fails left left_now read m on consumed lt = all_read left left_now read m ended.ReadFault on consumed (omega (arith, lt))
+      (lt, answered read m on)
 
   -- ## A line at which it stops
 
@@ -151,7 +158,8 @@ module _ (l : Limits) (s : Standing) (held : Option (List ℕ)) where
         stop = stops_in all read m (10 ∷ rest) on e little;
         told = λ more.
             line_more read m on more
-            ∙ ap (text_behind on.text) (if_bad (goes_on out.0) text (replayed_from l out.1 (m.number + 1) more) (ends_text BadLine out.1) bad)
+            ∙ ap (text_behind on.text) (if_bad (goes_on out.0) text (replayed_from l out.1 (m.number + 1) more)
+            (ends_text BadLine out.1) bad)
             ∙ ap (λ t. record { text = on.text ++ t; ending = BadLine; at = out.1 }) (append-nil text)
             ∙ ap (λ x. record { text = on.text ++ text; ending = BadLine; at = x }) (sym at);
         as_before = at ∙ bad_at l m.at m.pending bad ∙ sym (ap (λ (t : Told). t.at) (lines_alone read m on));
@@ -238,7 +246,8 @@ module _ (l : Limits) (s : Standing) (held : Option (List ℕ)) where
         (is_left (read ++ more) (read ++ t.before) t.point b (t.byte ∷ t.rest) go
         (parts stop.OutOfMemory t) (short stop.OutOfMemory t) t.halts.0)
 
-    pub stops_so : (why : Stop) (rest : Bool) → HaltsIn l more m b why → IsReplayed l s b.at left left_now held b.held (replayed_as (fed.Stopped why) rest)
+    pub stops_so : (why : Stop) (rest : Bool) → HaltsIn l more m b why →
+        IsReplayed l s b.at left left_now held b.held (replayed_as (fed.Stopped why) rest)
     stops_so stop.BadLine rest t = bad_line t
     stops_so stop.WriteFault rest t = write_fault t
     stops_so stop.OutOfMemory rest t = no_memory t

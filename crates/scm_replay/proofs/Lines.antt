@@ -1,5 +1,6 @@
 -- A line, from its beginning to its line feed.
-use Rattle.std.proofs.Common.{inl, inr, ℕ, ◌≡◌, ◌+◌, ◌<◌, ◌==◌, Bool, true, false, cond, List, [], ◌∷◌, ◌++◌, length, Result, refl, sym, ap, ◌∙◌, subst, append_assoc, append-nil, arith}
+use Rattle.std.proofs.Common.{inl, inr, ℕ, ◌≡◌, ◌+◌, ◌<◌, ◌==◌, Bool, true, false, cond, List, [], ◌∷◌, ◌++◌, length, Result, refl, sym, ap}
+use Rattle.std.proofs.Common.{◌∙◌, subst, append_assoc, append-nil, arith}
 use Rattle.std.specs.Prelude.{◌⊎◌, Option}
 use Rattle.std.specs.Io.KnownBytes.{Appends}
 use Rattle.std.proofs.KnownBytes.{Appends-nil}
@@ -16,7 +17,8 @@ use Rattle.scm_replay.specs.Along.{Point, GoesOn, Lined}
 -- what is told from a line on that is whole
 abbrev pub told_behind : Limits → Standing → ℕ → List ℕ → Told → Told
 told_behind l s number line more =
-    text_behind (answer_line number (outcome_at l s line).0) (cond (goes_on (outcome_at l s line).0) more (ends_text BadLine (outcome_at l s line).1))
+    text_behind (answer_line number (outcome_at l s line).0) (cond (goes_on (outcome_at l s line).0) more
+    (ends_text BadLine (outcome_at l s line).1))
 
 told_more : (l : Limits) (s : Standing) (number : ℕ) (line : List ℕ) (pieces : List (List ℕ)) → 0 < length pieces
     → told_from l s number (line ∷ pieces) ≡ told_behind l s number line (told_from l (outcome_at l s line).1 (number + 1) pieces)
@@ -33,7 +35,8 @@ whole_line l s number line more clean =
     ∙ told_more l s number line (lines_of more) (omega (arith, length-slice_split (λ b. b == 10) more))
 
 -- a rest that no line feed ends
-pub rest_alone : (l : Limits) (s : Standing) (number : ℕ) (rest : List ℕ) → IsOneLine rest → replayed_from l s number rest ≡ ends_text (text_end rest) s
+pub rest_alone : (l : Limits) (s : Standing) (number : ℕ) (rest : List ℕ) → IsOneLine rest
+    → replayed_from l s number rest ≡ ends_text (text_end rest) s
 unfolding replayed_from told_from
 rest_alone l s number rest clean = ap (told_from l s number) (slice_split_none (λ b. b == 10) rest clean)
 
@@ -79,6 +82,7 @@ line_done l a b clean empty next good state written =
     }
 
 -- what became of a line under another name of it
-pub lined_of : (l : Limits) (number : ℕ) (line given : List ℕ) (s t : Standing) (held held_now : Option (List ℕ)) (T : Type 0) (r : Result T Stop) → given ≡ line
+pub lined_of : (l : Limits) (number : ℕ) (line given : List ℕ) (s t : Standing) (held held_now : Option (List ℕ)) (T : Type 0)
+    (r : Result T Stop) → given ≡ line
     → Lined {T = T} l number given s t held held_now r → Lined {T = T} l number line s t held held_now r
 lined_of l number line given s t held held_now T r e h = subst (λ x. Lined {T = T} l number x s t held held_now r) e h

@@ -2,7 +2,7 @@
 use Rattle.std.proofs.Common.{ℕ, ◌≡◌, ◌+◌, ◌∙◌, Bool, true, false, not, if◌then◌else◌, ap, refl}
 use Rattle.std.specs.Prelude.{is_some}
 use Rattle.scm_model.specs.Entries.{with_kept}
-use Rattle.scm_model.specs.Outcomes.{Told}
+use Rattle.scm_model.specs.Outcomes.{StepResult}
 use Rattle.scm_model.specs.Texts.{text_of}
 use Rattle.scm_model.specs.declared.flat.Flat.{Flat}
 use Rattle.scm_model.specs.declared.flat.Limits.{Limits}
@@ -20,7 +20,8 @@ chosen x y z true false may room = absurd cc
 chosen x y z false b may room = absurd cc
 
 -- what a line's step comes to that may come and finds room
-pub made_there : (l : Limits) (s : Standing) (line : Line) → may_come l s.flat line.moment line.step ≡ true → finds_room l s line.step ≡ true
+pub made_there : (l : Limits) (s : Standing) (line : Line) → may_come l s.flat line.moment line.step ≡ true
+    → finds_room l s line.step ≡ true
     → outcome_made l s line ≡ step_made s line.step (step_of l s.flat line.moment (step_in l s.flat line))
 unfolding outcome_made
 made_there l s line may room =
@@ -38,7 +39,8 @@ told_over l k f g line changes append step limits flat changed kept is =
     ∙ ap (λ (x : Flat). step_of l x line.moment (step_in l x line)) flat
 
 -- a manager that has the state, the number and the text of a step stands where the step leaves it
-pub stands_behind : (s t : Standing) (step : Step) (told : Told) → t.flat ≡ told.flat → t.steps ≡ s.steps + 1 → t.text ≡ s.text + text_of step
+pub stands_behind : (s t : Standing) (step : Step) (told : StepResult) → t.flat ≡ told.flat → t.steps ≡ s.steps + 1 → t.text ≡ s.text
+    + text_of step
     → t ≡ (step_made s step told).1
 stands_behind s t step told flat steps text =
     ap (λ (x : Flat). record { flat = x; steps = t.steps; text = t.text }) flat

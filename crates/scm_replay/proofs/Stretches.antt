@@ -1,5 +1,6 @@
 -- Stretches of an input, one after another.
-use Rattle.std.proofs.Common.{inl, ℕ, ◌≡◌, ◌+◌, ◌<◌, take, take-add, drop, length, arith, List, [], ◌∷◌, ◌++◌, Err, refl, sym, ap, ◌∙◌, subst, append_assoc, append-nil}
+use Rattle.std.proofs.Common.{inl, ℕ, ◌≡◌, ◌+◌, ◌<◌, take, take-add, drop, length, arith, List, [], ◌∷◌, ◌++◌, Err, refl, sym, ap, ◌∙◌}
+use Rattle.std.proofs.Common.{subst, append_assoc, append-nil}
 use Rattle.std.proofs.KnownBytes.{Appends-nil, Appends-trans}
 use Rattle.std.proofs.lemmas.List.{take_more, drop_more, take-append-drop}
 use Rattle.scm_model.specs.declared.flat.Limits.{Limits}
@@ -40,7 +41,8 @@ module _ (l : Limits) where
         ∙ sym (append_assoc p.lines q.lines b.pending);
     written = Appends-trans a.held m.held b.held p.text q.text p.written q.written;
     told = λ more.
-        ap (replayed_from l a.at a.number) (append_assoc p.lines q.lines more) ∙ p.told (q.lines ++ more) ∙ ap (text_behind p.text) (q.told more)
+        ap (replayed_from l a.at a.number) (append_assoc p.lines q.lines more) ∙ p.told (q.lines ++ more)
+        ∙ ap (text_behind p.text) (q.told more)
         ∙ behind_both p.text q.text (replayed_from l b.at b.number more);
     clean = q.clean;
   }
@@ -61,11 +63,13 @@ module _ (l : Limits) where
   }
 
   -- a line stops the run
-  pub line_stops : (a b : Point) (why : Stop) → IsOneLine a.pending → IsOneLine b.pending → Halts l a.number a.pending a.at b.at a.held b.held why → HaltsIn l (10 ∷ []) a b why
+  pub line_stops : (a b : Point) (why : Stop) → IsOneLine a.pending → IsOneLine b.pending
+      → Halts l a.number a.pending a.at b.at a.held b.held why → HaltsIn l (10 ∷ []) a b why
   line_stops a b why clean still halts = halts_at a b 10 why clean still (is_feed why) halts
 
   -- there is no memory for some bytes more
-  pub bytes_lost : (a b : Point) (bytes : List ℕ) → 0 < length bytes → IsOneLine a.pending → IsOneLine b.pending → b.at ≡ a.at → b.held ≡ a.held
+  pub bytes_lost : (a b : Point) (bytes : List ℕ) → 0 < length bytes → IsOneLine a.pending → IsOneLine b.pending → b.at ≡ a.at
+      → b.held ≡ a.held
       → HaltsIn l bytes a b stop.OutOfMemory
   bytes_lost a b [] some clean still at held = absurd (omega (arith, some))
   bytes_lost a b (byte ∷ rest) some clean still at held = record {
@@ -101,20 +105,23 @@ module _ (l : Limits) where
   pub line_more : (bytes : List ℕ) (place : ℕ) (a m b : Point) → place < length bytes → slice_index bytes place ≡ 10
       → GoesOn l (take place bytes) a m → GoesOn l (10 ∷ []) m b → GoesOn l (take (place + 1) bytes) a b
   line_more bytes place a m b lt at p q =
-      subst (λ xs. GoesOn l xs a b) (ap (λ y. take place bytes ++ y ∷ []) (sym at) ∙ sym (take_more bytes place 0 lt)) (goes_further (take place bytes) (10 ∷ []) a m b p q)
+      subst (λ xs. GoesOn l xs a b) (ap (λ y. take place bytes ++ y ∷ []) (sym at) ∙ sym (take_more bytes place 0 lt))
+      (goes_further (take place bytes) (10 ∷ []) a m b p q)
 
   -- the run stops at a line feed
   pub line_lost : (bytes : List ℕ) (place : ℕ) (a m b : Point) (why : Stop) → place < length bytes → slice_index bytes place ≡ 10
       → GoesOn l (take place bytes) a m → HaltsIn l (10 ∷ []) m b why → HaltsIn l bytes a b why
   line_lost bytes place a m b why lt at p q =
       stops_there bytes (take place bytes) (10 ∷ []) (drop (place + 1) bytes) a m b why
-      (sym (take-append-drop place bytes) ∙ ap (λ r. take place bytes ++ r) (drop_more bytes place 0 lt ∙ ap (λ y. y ∷ drop (place + 1) bytes) at)) p q
+      (sym (take-append-drop place bytes) ∙ ap (λ r. take place bytes ++ r) (drop_more bytes place 0 lt
+      ∙ ap (λ y. y ∷ drop (place + 1) bytes) at)) p q
 
   -- so many bytes more of a piece
   pub front_more : (piece : List ℕ) (taken more : ℕ) (a m b : Point)
       → GoesOn l (take taken piece) a m → GoesOn l (take more (drop taken piece)) m b → GoesOn l (take (taken + more) piece) a b
   front_more piece taken more a m b p q =
-      subst (λ xs. GoesOn l xs a b) (sym (take-add taken more piece)) (goes_further (take taken piece) (take more (drop taken piece)) a m b p q)
+      subst (λ xs. GoesOn l xs a b) (sym (take-add taken more piece)) (goes_further (take taken piece)
+      (take more (drop taken piece)) a m b p q)
 
   -- what is left of a piece stops the run
   pub rest_stops : (piece : List ℕ) (taken : ℕ) (a m b : Point) (why : Stop)

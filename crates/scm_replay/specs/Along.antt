@@ -1,8 +1,8 @@
 -- What became of the bytes on a stretch of an input.
 use Rattle.std.specs.Prelude.{ℕ, ◌≡◌, ◌+◌, ◌<◌, ◌≤◌, ◌^◌, ◌⊎◌, Bool, true, false, List, ◌∷◌, ◌++◌, length, take, Option, Result, Ok, Err}
 use Rattle.std.specs.Io.KnownBytes.{Appends}
-use Rattle.feed_loop.specs.declared.fed.Fed.{Fed}
-use Rattle.feed_loop.specs.declared.fed.Fed.TheVariants as fed
+use Rattle.feed_loop.specs.declared.fed.ReadEnd.{ReadEnd}
+use Rattle.feed_loop.specs.declared.fed.ReadEnd.TheVariants as fed
 use Rattle.outside.specs.Causes.{Rose}
 use Rattle.outside.specs.Written.{AppendsFront}
 use Rattle.scm_model.specs.declared.flat.Limits.{Limits}
@@ -38,15 +38,18 @@ pub record GoesOn (l : Limits) (piece : List ℕ) (a b : Point) : Type 0 where
 -- what became of a line at which the run stopped
 abbrev pub Halts : Limits → (number : ℕ) → (line : List ℕ) → (s t : Standing) → (before now : Option (List ℕ)) → Stop → Type 0
 Halts l number line s t before now stop.BadLine =
-    (goes_on (outcome_at l s line).0 ≡ false) × (t ≡ (outcome_at l s line).1) × Appends before now (answer_line number (outcome_at l s line).0)
+    (goes_on (outcome_at l s line).0 ≡ false) × (t ≡ (outcome_at l s line).1)
+    × Appends before now (answer_line number (outcome_at l s line).0)
 Halts l number line s t before now stop.WriteFault =
     (t ≡ (outcome_at l s line).1) × AppendsFront before now (answer_line number (outcome_at l s line).0)
 Halts l number line s t before now stop.OutOfMemory = ((t ≡ s) ⊎ (t ≡ (outcome_at l s line).1)) × (now ≡ before)
 
 -- what became of one line
-abbrev pub Lined : {T : Type 0} → Limits → (number : ℕ) → (line : List ℕ) → (s t : Standing) → (before now : Option (List ℕ)) → Result T Stop → Type 0
+abbrev pub Lined : {T : Type 0} → Limits → (number : ℕ) → (line : List ℕ) → (s t : Standing) → (before now : Option (List ℕ))
+    → Result T Stop → Type 0
 Lined l number line s t before now (Ok done) =
-    (goes_on (outcome_at l s line).0 ≡ true) × (t ≡ (outcome_at l s line).1) × Appends before now (answer_line number (outcome_at l s line).0)
+    (goes_on (outcome_at l s line).0 ≡ true) × (t ≡ (outcome_at l s line).1)
+    × Appends before now (answer_line number (outcome_at l s line).0)
 Lined l number line s t before now (Err why) = Halts l number line s t before now why
 
 -- a line is answered where its line feed is read; memory may be wanting at any byte
@@ -110,7 +113,7 @@ pub record LinesHalted (old new : Managed) (piece : List ℕ) (a b : Point) (fau
   pub cause : HasStopCause {T = Unit {0}} faults faults_now (Err why)
 
 -- how a run ends whose feeding ended so, where nothing stands behind the last line or something does
-abbrev pub replayed_as : Fed Stop → Bool → Replayed
+abbrev pub replayed_as : ReadEnd Stop → Bool → Replayed
 replayed_as fed.Ended true = ended.Ended
 replayed_as fed.Ended false = ended.Truncated
 replayed_as fed.ReadFault rest = ended.ReadFault

@@ -1,5 +1,6 @@
 -- What a line comes to where a manager stands.
-use Rattle.std.specs.Prelude.{ℕ, Bool, true, false, not, ◌&&◌, ◌||◌, ◌==◌, ◌+◌, is_none, is_some, max, List, Option, None, Some, if◌then◌else◌}
+use Rattle.std.specs.Prelude.{ℕ, Bool, true, false, not, ◌&&◌, ◌||◌, ◌==◌, ◌+◌, is_none, is_some, max, List, Option, None, Some}
+use Rattle.std.specs.Prelude.{if◌then◌else◌}
 use Rattle.std.specs.List.{list_any}
 use Rattle.scm_model.specs.declared.flat.Flat.{Flat}
 use Rattle.scm_model.specs.declared.flat.Limits.{Limits}
@@ -8,7 +9,7 @@ use Rattle.scm_model.specs.declared.steps.Kept.TheVariants as appended
 use Rattle.scm_model.specs.declared.steps.Step.{Step}
 use Rattle.scm_model.specs.declared.steps.Step.TheVariants.{Joined, EndStart, LaunchTaken, ControlTaken, Tick}
 use Rattle.scm_model.specs.Entries.{with_kept}
-use Rattle.scm_model.specs.Outcomes.{Told}
+use Rattle.scm_model.specs.Outcomes.{StepResult}
 use Rattle.scm_model.specs.Texts.{text_of}
 use Rattle.start_plan.specs.Decided.{plan_caller, code_of}
 use Rattle.scm_rules.specs.Controls.{waiting}
@@ -77,7 +78,7 @@ abbrev pub finds_room : Limits → Standing → Step → Bool
 finds_room l s step = is_owed step || has_room l s.flat s.steps s.text step
 
 -- the step was made
-abbrev pub step_made : Standing → Step → Told → Outcome × Standing
+abbrev pub step_made : Standing → Step → StepResult → Outcome × Standing
 step_made s step done = (Answered done.answer, record { flat = done.flat; steps = s.steps + 1; text = s.text + text_of step })
 
 -- what the step of a line comes to that isn't a look in vain, and where the manager stands behind it

@@ -43,7 +43,8 @@ told_from l s number [] = ends_text AtRest s
 told_from l s number (rest ∷ []) = ends_text (text_end rest) s
 told_from l s number (line ∷ next ∷ more) =
     text_behind (answer_line number (outcome_at l s line).0)
-    (if goes_on (outcome_at l s line).0 then told_from l (outcome_at l s line).1 (number + 1) (next ∷ more) else ends_text BadLine (outcome_at l s line).1)
+    (if goes_on (outcome_at l s line).0 then told_from l (outcome_at l s line).1 (number + 1) (next ∷ more)
+    else ends_text BadLine (outcome_at l s line).1)
 
 -- the lines of an input, and the rest behind its last line feed
 abbrev pub lines_of : List ℕ → List (List ℕ)

@@ -1,5 +1,7 @@
-ghost use Rattle.std.specs.Prelude.{◌≡◌, ◌+◌, ◌++◌, ◌≤◌, ◌<◌, ◌^◌, ◌∷◌, [], IfErr, IfNone, IfSome, OnOk, length, slice_index, take};
-ghost use Rattle.scm_replay.specs.Along.{FrontFed, LinesFed, HasStopCause, IsFit, Keeps, Lined, point, line_stopped};
+ghost use Rattle.std.specs.Prelude.{◌≡◌, ◌+◌, ◌++◌, ◌≤◌, ◌<◌, ◌^◌, ◌∷◌, [], IfErr, IfNone, IfSome};
+ghost use Rattle.std.specs.Prelude.{OnOk, length, slice_index, take};
+ghost use Rattle.scm_replay.specs.Along.{FrontFed, LinesFed, HasStopCause, IsFit, Keeps, Lined};
+ghost use Rattle.scm_replay.specs.Along.{point, line_stopped};
 ghost use Rattle.scm_replay.specs.declared.stop.Stop.TheVariants as stop;
 ghost use Rattle.scm_replay.specs.Outcomes.{standing};
 ghost use Rattle.scm_replay.specs.Replay.{IsOneLine};

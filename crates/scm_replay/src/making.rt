@@ -3,7 +3,8 @@ ghost use Rattle.scm_model.specs.Entries.{unkept, with_kept};
 ghost use Rattle.scm_model.specs.Texts.{text_of};
 ghost use Rattle.scm_replay.specs.Along.{IsFit, Keeps};
 ghost use Rattle.scm_rules.specs.Room.{is_owed};
-ghost use Rattle.scm_replay.specs.Outcomes.{finds_room, kept_as, outcome_made, outcome_at, outcome_in, standing, unmet};
+ghost use Rattle.scm_replay.specs.Outcomes.{finds_room, kept_as, outcome_made, outcome_at};
+ghost use Rattle.scm_replay.specs.Outcomes.{outcome_in, standing, unmet};
 
 use super::line::Line;
 use super::looking::missed_by;

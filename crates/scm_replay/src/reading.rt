@@ -1,12 +1,15 @@
 ghost use Rattle.std.specs.Prelude.{◌≡◌, ◌^◌, IfOk, Result, map, option_map};
 ghost use Rattle.std.specs.Result.{result_ok};
 ghost use Rattle.scm_model.specs.declared.calls.Request.{Request};
-ghost use Rattle.scm_model.specs.declared.steps.Step.TheVariants.{ControlTaken, Ended, Gone, NoMemory};
+ghost use Rattle.scm_model.specs.declared.steps.Step.TheVariants.{ControlTaken, Ended, Gone};
+ghost use Rattle.scm_model.specs.declared.steps.Step.TheVariants.{NoMemory};
 ghost use Rattle.decimal_words.specs.Numbers.{number_at, number_below};
 ghost use Rattle.ndr_body.specs.declared.fault.BodyFault.{BodyFault};
 ghost use Rattle.ndr_body.specs.Reading.{Gives};
-ghost use Rattle.scm_replay.specs.Lines.{Leaves, call_in_words, end_at, joined_at, launched_at, line_at, line_in, line_in_words};
-ghost use Rattle.scm_replay.specs.Lines.{plain_at, raise_in_words, report_at, request_in, status_in_words, step_at, unlaunched_at};
+ghost use Rattle.scm_replay.specs.Lines.{Leaves, call_in_words, end_at, joined_at, launched_at};
+ghost use Rattle.scm_replay.specs.Lines.{line_at, line_in, line_in_words};
+ghost use Rattle.scm_replay.specs.Lines.{plain_at, raise_in_words, report_at, request_in};
+ghost use Rattle.scm_replay.specs.Lines.{status_in_words, step_at, unlaunched_at};
 
 use super::line::Line;
 use super::verb::{Verb, verb_at};

@@ -1,7 +1,7 @@
 // The lines of an input as what eats the pieces of a source.
 use super::feeding::{Reading, feed};
 use super::stop::Stop;
-use feed_loop::Eater;
+use feed_loop::ByteConsumer;
 use outside::Sink;
 use scm_core::Manager;
 use std::alloc::Global;
@@ -13,7 +13,7 @@ pub struct Replayer {
     pub reading: Reading,
 }
 
-impl<O: Sink> Eater<Manager, O> for Replayer {
+impl<O: Sink> ByteConsumer<Manager, O> for Replayer {
     ghost use Rattle.scm_replay.specs.Along.{IsFit, LinesEaten, LinesHalted, point};
     ghost use Rattle.scm_replay.specs.Replay.{IsOneLine};
 
@@ -32,7 +32,7 @@ impl<O: Sink> Eater<Manager, O> for Replayer {
         (point b.place b.eater.reading (O.held b.output))
         (O.faults a.output) (O.faults b.output) why };
 
-    fn eat(&mut self, manager: &mut Manager, output: &mut O, piece: &[u8]) -> Result<(), Stop> {
+    fn consume(&mut self, manager: &mut Manager, output: &mut O, piece: &[u8]) -> Result<(), Stop> {
         feed(self.alloc, manager, &mut self.reading, piece, output)
     }
 }

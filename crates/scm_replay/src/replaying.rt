@@ -1,5 +1,5 @@
 ghost use Rattle.std.specs.Prelude.{◌≡◌, ◌≤◌};
-ghost use Rattle.feed_loop.specs.declared.fed.Fed.{Fed};
+ghost use Rattle.feed_loop.specs.declared.fed.ReadEnd.{ReadEnd};
 ghost use Rattle.scm_replay.specs.Along.{replayed_as};
 ghost use Rattle.scm_replay.specs.Replay.{IsReplayCaused, IsFresh, IsReplayed};
 ghost use Rattle.scm_replay.specs.Outcomes.{standing};
@@ -8,24 +8,25 @@ use super::feeding::Reading;
 use super::replayed::Replayed;
 use super::replayer::Replayer;
 use super::stop::Stop;
-use feed_loop::{Fed, feed_all};
+use feed_loop::{ReadEnd, feed_all};
 use outside::{Sink, Source};
 use scm_core::Manager;
 use scm_shapes::Values;
 use std::alloc::Global;
 
-/// How a run ends whose feeding ended so, where nothing stands behind the last line or something does.
-fn replayed_as(fed: Fed<Stop>, at_rest: bool) -> Replayed
+/// How a run ends whose feeding ended so, where nothing stands behind the last line or something
+/// does.
+fn replayed_as(fed: ReadEnd<Stop>, at_rest: bool) -> Replayed
     ensures { result ≡ replayed_as fed at_rest }
 {
     match fed {
-        Fed::Ended if at_rest => Replayed::Ended,
-        Fed::Ended => Replayed::Truncated,
-        Fed::ReadFault => Replayed::ReadFault,
-        Fed::Worn => Replayed::Worn,
-        Fed::Stopped(Stop::BadLine) => Replayed::BadLine,
-        Fed::Stopped(Stop::WriteFault) => Replayed::WriteFault,
-        Fed::Stopped(Stop::OutOfMemory) => Replayed::OutOfMemory,
+        ReadEnd::Ended if at_rest => Replayed::Ended,
+        ReadEnd::Ended => Replayed::Truncated,
+        ReadEnd::ReadFault => Replayed::ReadFault,
+        ReadEnd::Worn => Replayed::Worn,
+        ReadEnd::Stopped(Stop::BadLine) => Replayed::BadLine,
+        ReadEnd::Stopped(Stop::WriteFault) => Replayed::WriteFault,
+        ReadEnd::Stopped(Stop::OutOfMemory) => Replayed::OutOfMemory,
     }
 }
 

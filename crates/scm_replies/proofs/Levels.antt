@@ -1,5 +1,6 @@
 -- No level of a configuration that is accepted is longer than its actions with their command.
-use Rattle.std.proofs.Common.{ℕ, ◌≡◌, ◌≤◌, ◌==◌, ◌||◌, Bool, true, false, cond, List, [], ◌∷◌, Option, None, Some, length, refl, arith, ltb-false}
+use Rattle.std.proofs.Common.{ℕ, ◌≡◌, ◌≤◌, ◌==◌, ◌||◌, Bool, true, false, cond, List, [], ◌∷◌, Option, None, Some, length, refl, arith}
+use Rattle.std.proofs.Common.{ltb-false}
 use Rattle.std.specs.Prelude.{nat_lt, unwrap_or}
 use Rattle.std.specs.List.{AllByRecursion, list_any}
 use Rattle.std.proofs.lemmas.Bool.{or_parts}
@@ -9,7 +10,8 @@ use Rattle.service_listing.specs.Layout.{text_size}
 use Rattle.service_listing.specs.Levels.{description_bytes, failure_bytes, flag_bytes, level_bytes, triggers_bytes}
 use Rattle.service_listing.specs.Placed.{HasUuid, some_text_size}
 use Rattle.service_listing.proofs.Placing.{levels_sized}
-use Rattle.service_record.specs.Checks.{check_new, has_bad_lists, has_bad_names, has_bad_numbers, has_bad_texts, is_bad_account, is_bad_line, is_longer, name_of_need}
+use Rattle.service_record.specs.Checks.{check_new, has_bad_lists, has_bad_names, has_bad_numbers, has_bad_texts, is_bad_account}
+use Rattle.service_record.specs.Checks.{is_bad_line, is_longer, name_of_need}
 use Rattle.scm_runs.proofs.Calls.{all_pass}
 use Rattle.scm_runs.proofs.Sizes.{are_short}
 

@@ -1,5 +1,6 @@
 -- How much room services take in a listing, and which numbers pages end with.
-use Rattle.std.proofs.Common.{ℕ, ◌≡◌, ◌≤◌, ◌<◌, ◌^◌, ◌-◌, ◌*◌, ◌∙◌, ◌==◌, suc, Bool, true, false, not, cond, List, [], ◌∷◌, Option, None, Some, filter, find, length, refl, ap, arith}
+use Rattle.std.proofs.Common.{ℕ, ◌≡◌, ◌≤◌, ◌<◌, ◌^◌, ◌-◌, ◌*◌, ◌∙◌, ◌==◌, suc, Bool, true, false, not, cond, List, [], ◌∷◌, Option, None}
+use Rattle.std.proofs.Common.{Some, filter, find, length, refl, ap, arith}
 use Rattle.std.specs.Prelude.{All, IfSome, min, nat_le, option_and_then, option_map}
 use Rattle.std.specs.List.{cons_option}
 use Rattle.std.proofs.lemmas.List.Elements.{All-cons, All-filter, All-head, All-nil, All-tail}

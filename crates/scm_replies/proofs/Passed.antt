@@ -10,7 +10,7 @@ use Rattle.scm_model.specs.declared.steps.Step.{Step}
 use Rattle.scm_model.specs.declared.steps.Step.TheVariants.{Call}
 use Rattle.scm_model.specs.Changes.{with_moment}
 use Rattle.scm_model.specs.Rows.{is_caller}
-use Rattle.scm_model.specs.Outcomes.{Told}
+use Rattle.scm_model.specs.Outcomes.{StepResult}
 use Rattle.scm_rules.specs.Needs.{start_order}
 use Rattle.scm_rules.specs.Start.{new_plan, with_start}
 use Rattle.scm_rules.specs.Steps.{effect_of, step_of, tells_plan}
@@ -34,7 +34,8 @@ told_zero : (l : Limits) (f : Flat) (moment caller : ℕ) (asked : Request) (app
 told_zero l f moment caller asked append plain none =
     let g = with_moment f moment in
     let code = verdict l g caller asked append in
-    ap (λ (r : Told). code_told (closed l r).answer) (passed_effect asked code g.next.plan (told_refused g caller asked code) g (done_of l g caller asked) (verdict_moved l f moment caller asked append ∙ none) plain)
+    ap (λ (r : StepResult). code_told (closed l r).answer) (passed_effect asked code g.next.plan (told_refused g caller asked code) g
+    (done_of l g caller asked) (verdict_moved l f moment caller asked append ∙ none) plain)
     ∙ ap (λ (n : ℕ). Some n) (done_code l g caller asked)
 
 -- a start waits, or is told what was decided
@@ -44,22 +45,27 @@ started : (l : Limits) (f : Flat) (moment caller handle : ℕ) (words : Option (
 started l f moment caller handle words append valid there none =
     let g = with_moment f moment in
     let code = verdict l g caller (request.Start handle words) append in
-    let effect = begun_effect code g.next.plan (told_refused g caller (request.Start handle words) code) g (done_of l g caller (request.Start handle words))
+    let effect = begun_effect code g.next.plan (told_refused g caller (request.Start handle words) code) g
+    (done_of l g caller (request.Start handle words))
     (verdict_moved l f moment caller (request.Start handle words) append ∙ none) in
     let held = start_held f caller handle words none in
     let begun = ap (λ found. leaving (answer.Begun g.next.plan) (if_found (with_start caller (unwrap_or words [])) found g)) held.is in
     subst (Comes l f moment) (sym (effect ∙ begun))
-    (comes l f moment (new_plan g caller held.row.number (start_order g held.row.number) (unwrap_or words [])) (still l f valid.settled) valid.purged
+    (comes l f moment (new_plan g caller held.row.number (start_order g held.row.number) (unwrap_or words []))
+    (still l f valid.settled) valid.purged
     (none_has f.next.plan f.plans valid.plans.below) refl (not_nobody caller f.callers valid.callers.positive there))
 
 as_stated : (l : Limits) (f : Flat) (moment : ℕ) (step : Step) → Comes l f moment (effect_of l (with_moment f moment) step)
     → Waits f (closed l (effect_of l (with_moment f moment) step)).answer (closed l (effect_of l (with_moment f moment) step)).flat
-    ⊎ IsDecided l f moment step (closed l (effect_of l (with_moment f moment) step)).answer (closed l (effect_of l (with_moment f moment) step)).flat
+    ⊎ IsDecided l f moment step (closed l (effect_of l (with_moment f moment) step)).answer
+    (closed l (effect_of l (with_moment f moment) step)).flat
 as_stated l f moment step (inl waits) = inl waits
 as_stated l f moment step (inr d) = inr (record { code = d.code; decided = d.decided; reply = d.reply; same = d.same })
 
 pub passes : (l : Limits) (f : Flat) (moment caller : ℕ) (asked : Request) (append : Kept) → IsValid l f
     → is_caller f caller ≡ true → verdict l f caller asked append ≡ 0
-    → Passes l f moment (Call caller asked append) asked (step_of l f moment (Call caller asked append)).answer (step_of l f moment (Call caller asked append)).flat
-passes l f moment caller (request.Start handle words) append valid there none = as_stated l f moment (Call caller (request.Start handle words) append) (started l f moment caller handle words append valid there none)
+    → Passes l f moment (Call caller asked append) asked (step_of l f moment (Call caller asked append)).answer
+    (step_of l f moment (Call caller asked append)).flat
+passes l f moment caller (request.Start handle words) append valid there none =
+    as_stated l f moment (Call caller (request.Start handle words) append) (started l f moment caller handle words append valid there none)
 passes l f moment caller asked append valid there none = told_zero l f moment caller asked append refl none

@@ -1,5 +1,6 @@
 -- Each reply to a call returns the sizes that are needed.
-use Rattle.std.proofs.Common.{ℕ, ◌≡◌, ◌≤◌, ◌^◌, ◌∙◌, ◌==◌, ◌||◌, ◌++◌, Bool, true, false, cond, List, [], Option, None, Some, length, refl, ap, sym, subst, arith}
+use Rattle.std.proofs.Common.{ℕ, ◌≡◌, ◌≤◌, ◌^◌, ◌∙◌, ◌==◌, ◌||◌, ◌++◌, Bool, true, false, cond, List, [], Option, None, Some, length, refl}
+use Rattle.std.proofs.Common.{ap, sym, subst, arith}
 use Rattle.std.specs.Prelude.{All, option_and_then}
 use Rattle.std.proofs.lemmas.List.Elements.{All-filter}
 use Rattle.scm_model.specs.declared.flat.Flat.{Flat}
@@ -38,10 +39,12 @@ use Rattle.scm_runs.proofs.Along.{Gives}
 use Rattle.scm_runs.proofs.Calls.{by_verdict}
 use Rattle.scm_runs.proofs.Histories.{state_is}
 use Rattle.scm_replies.specs.Replies.{reply_code}
-use Rattle.scm_replies.specs.Sizes.{AnswerReturnsSizes, AreSmall, HasUuids, LawOfNeededSizes, ReturnsSizes, StepReturnsSizes, config_size, name_units, needed_size, reply_resume, reply_size, resume_index, returns_size}
+use Rattle.scm_replies.specs.Sizes.{AnswerReturnsSizes, AreSmall, HasUuids, LawOfNeededSizes, ReturnsSizes, StepReturnsSizes, config_size}
+use Rattle.scm_replies.specs.Sizes.{name_units, needed_size, reply_resume, reply_size, resume_index, returns_size}
 use Rattle.scm_replies.proofs.Counted.{IsFew, next_begun, next_run}
 use Rattle.scm_replies.proofs.Listings.{IsLow, all_paged, listing_least, resume_whole}
-use Rattle.scm_replies.proofs.Needed.{IsWithinLimits, config_returned, display_returned, fits, greatest, held, held_whole, name_returned, within_limits}
+use Rattle.scm_replies.proofs.Needed.{IsWithinLimits, config_returned, display_returned, fits, greatest, held, held_whole, name_returned}
+use Rattle.scm_replies.proofs.Needed.{within_limits}
 
 abbrev ReturnsSize : Flat → ℕ → Request → Reply → Type 0
 ReturnsSize f caller asked told = reply_size told ≡ cond (returns_size asked (reply_code told)) (needed_size f caller asked) 0

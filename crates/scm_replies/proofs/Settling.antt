@@ -15,20 +15,34 @@ use Rattle.scm_runs.proofs.Rests.{same_length}
 
 -- what settling reads and changes of one state, and all else of another
 abbrev pub over : Flat → Flat → Flat
-over f g = record g { services = f.services; processes = f.processes; wanted = f.wanted; registrations = f.registrations; lock = f.lock; next = record g.next { process = f.next.process } }
+over f g = record g {
+  services = f.services;
+  processes = f.processes;
+  wanted = f.wanted;
+  registrations = f.registrations;
+  lock = f.lock;
+  next = record g.next { process = f.next.process };
+}
 
 entries_over : (l : Limits) (f g : Flat) (plan : Plan) (entries : List ℕ)
     → settle_entries l (over f g) plan entries ≡ (over (settle_entries l f plan entries).0 g, (settle_entries l f plan entries).1)
 entries_over l f g plan [] = refl
 entries_over l f g plan (s ∷ rest) =
-    elim (is_some plan.code) as (λ b. cond b (over f g, plan) (moved (over f g) plan s (settle_entries l (over f g) (dropped plan s rest (move_code (move_of l f plan.tried s))) rest) (move_of l f plan.tried s))
+    elim (is_some plan.code) as (λ b. cond b (over f g, plan) (moved (over f g) plan s
+    (settle_entries l (over f g) (dropped plan s rest (move_code (move_of l f plan.tried s))) rest) (move_of l f plan.tried s))
     ≡ (
-      over (cond b (f, plan) (moved f plan s (settle_entries l f (dropped plan s rest (move_code (move_of l f plan.tried s))) rest) (move_of l f plan.tried s))).0 g,
-      (cond b (f, plan) (moved f plan s (settle_entries l f (dropped plan s rest (move_code (move_of l f plan.tried s))) rest) (move_of l f plan.tried s))).1,
+      over (cond b (f, plan) (moved f plan s (settle_entries l f (dropped plan s rest (move_code (move_of l f plan.tried s))) rest)
+          (move_of l f plan.tried s))).0 g,
+      (cond b (f, plan) (moved f plan s (settle_entries l f (dropped plan s rest (move_code (move_of l f plan.tried s))) rest)
+          (move_of l f plan.tried s))).1,
     )) [
       | true ↦ refl
-      | false ↦ elim (move_of l f plan.tried s) as (λ m. moved (over f g) plan s (settle_entries l (over f g) (dropped plan s rest (move_code m)) rest) m
-          ≡ (over (moved f plan s (settle_entries l f (dropped plan s rest (move_code m)) rest) m).0 g, (moved f plan s (settle_entries l f (dropped plan s rest (move_code m)) rest) m).1)) [
+      | false ↦ elim (move_of l f plan.tried s) as (λ m. moved (over f g) plan s
+          (settle_entries l (over f g) (dropped plan s rest (move_code m)) rest) m
+          ≡ (
+            over (moved f plan s (settle_entries l f (dropped plan s rest (move_code m)) rest) m).0 g,
+            (moved f plan s (settle_entries l f (dropped plan s rest (move_code m)) rest) m).1,
+          )) [
             | moves.Passes ↦ entries_over l f g (dropped plan s rest 0) rest
             | moves.Waits ↦ refl
             | moves.Enters ↦ refl
@@ -61,14 +75,19 @@ pub record Settles (f : Flat) (plan : Plan) (end : Flat × Plan) : Type 0 where
 entries_settle : (l : Limits) (f : Flat) (plan : Plan) (entries : List ℕ) → Settles f plan (settle_entries l f plan entries)
 entries_settle l f plan [] = record { number = refl; caller = refl; state = inl refl }
 entries_settle l f plan (s ∷ rest) =
-    elim (is_some plan.code) as (λ b. is_some plan.code ≡ b → Settles f plan (cond b (f, plan) (moved f plan s (settle_entries l f (dropped plan s rest (move_code (move_of l f plan.tried s))) rest) (move_of l f plan.tried s)))) [
+    elim (is_some plan.code) as (λ b. is_some plan.code ≡ b → Settles f plan
+    (cond b (f, plan) (moved f plan s (settle_entries l f (dropped plan s rest (move_code (move_of l f plan.tried s))) rest)
+    (move_of l f plan.tried s)))) [
       | true ↦ λ e. record { number = refl; caller = refl; state = inl refl }
-      | false ↦ λ undecided. elim (move_of l f plan.tried s) as (λ m. Settles f plan (moved f plan s (settle_entries l f (dropped plan s rest (move_code m)) rest) m)) [
-        | moves.Passes ↦ (let r = entries_settle l f (dropped plan s rest 0) rest in record { number = r.number; caller = r.caller; state = r.state })
-        | moves.Waits ↦ record { number = refl; caller = refl; state = inl refl }
-        | moves.Enters ↦ record { number = refl; caller = refl; state = inr (record { up = omega arith; undecided = undecided }) }
-        | moves.Fails code ↦ (let r = entries_settle l f (dropped plan s rest code) rest in record { number = r.number; caller = r.caller; state = r.state })
-      ]
+      | false ↦ λ undecided. elim (move_of l f plan.tried s) as (λ m. Settles f plan
+          (moved f plan s (settle_entries l f (dropped plan s rest (move_code m)) rest) m)) [
+            | moves.Passes ↦ (let r = entries_settle l f (dropped plan s rest 0) rest in
+                record { number = r.number; caller = r.caller; state = r.state })
+            | moves.Waits ↦ record { number = refl; caller = refl; state = inl refl }
+            | moves.Enters ↦ record { number = refl; caller = refl; state = inr (record { up = omega arith; undecided = undecided }) }
+            | moves.Fails code ↦ (let r = entries_settle l f (dropped plan s rest code) rest in
+                record { number = r.number; caller = r.caller; state = r.state })
+          ]
     ] refl
 
 pub plan_settles : (l : Limits) (f : Flat) (plan : Plan) → Settles f plan (settle_plan l f plan)
@@ -106,7 +125,10 @@ still l f rest =
     let long : length (filter stays end.1) ≡ length end.1 = ap length kept ∙ sym (same_length l f f.plans) in
     let plans : end.1 ≡ f.plans = sym (filter_full stays end.1 long) ∙ kept in
     let process : end.0.next.process ≡ f.next.process = ap (λ (g : Flat). g.next.process) rest in
-    let state : end.0 ≡ f = elim (all_settle l f f.plans) as (λ _. end.0 ≡ f) [ inl same ↦ same | inr up ↦ absurd (omega (arith, up, process)) ] in
+    let state : end.0 ≡ f = elim (all_settle l f f.plans) as (λ _. end.0 ≡ f) [
+      | inl same ↦ same
+      | inr up ↦ absurd (omega (arith, up, process))
+    ] in
     let ends : end ≡ (f, f.plans) = ap (λ (g : Flat). (g, end.1)) state ∙ ap (λ (ps : List Plan). (f, ps)) plans in
     record { ends = ends; tidy = sym (ap (λ (r : Flat × List Plan). tidied r.0 r.1) ends) ∙ rest }
 

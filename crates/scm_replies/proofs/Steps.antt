@@ -26,14 +26,15 @@ use Rattle.scm_replies.specs.Replies.{ComesTo, Ends, LawOfReplies, code_told}
 use Rattle.scm_replies.proofs.Passed.{passes}
 use Rattle.scm_replies.proofs.Refused.{is_refused, stays_told}
 use Rattle.scm_rules.specs.Raise.{all_triggered, raise_verdict}
-use Rattle.scm_model.specs.Outcomes.{Told}
+use Rattle.scm_model.specs.Outcomes.{StepResult}
 use Rattle.scm_model.specs.Purge.{purged}
 use Rattle.std.proofs.lemmas.Bool.{and_parts}
 use Rattle.scm_rules.specs.Launches.{first_wanted, launch_taken, launch_told}
 use Rattle.scm_rules.specs.Controls.{control_sent, control_taken, controls_of, first_control}
 
 of_call : (l : Limits) (f : Flat) (moment caller : ℕ) (asked : Request) (append : Kept) → IsValid l f → is_caller f caller ≡ true
-    → ComesTo l f moment caller asked append (step_of l f moment (Call caller asked append)).answer (step_of l f moment (Call caller asked append)).flat
+    → ComesTo l f moment caller asked append (step_of l f moment (Call caller asked append)).answer
+    (step_of l f moment (Call caller asked append)).flat
 of_call l f moment caller asked append valid there = record {
   refused = is_refused l f moment caller asked append valid.settled valid.purged;
   passes = passes l f moment caller asked append valid there;
@@ -70,20 +71,27 @@ control_untold g None = refl
 control_untold g (Some code) = refl
 
 -- a raise that is refused begins nothing
-raise_refused : (l : Limits) (f : Flat) (moment caller : ℕ) (subtype : List ℕ) → IsValid l f → raise_verdict f caller ≢ 0 → (step_of l f moment (Raised caller subtype)).flat ≡ with_moment f moment
+raise_refused : (l : Limits) (f : Flat) (moment caller : ℕ) (subtype : List ℕ) → IsValid l f → raise_verdict f caller ≢ 0
+    → (step_of l f moment (Raised caller subtype)).flat ≡ with_moment f moment
 raise_refused l f moment caller subtype valid some =
     let g = with_moment f moment in
     ap (λ (b : Bool). purged (settled l (cond b (all_triggered l subtype f.services g) g))) (ne_eqb (raise_verdict f caller) 0 some)
-    ∙ ap (λ (told : Told). told.flat) (stays_told l f moment (reply.Code 0) valid.settled valid.purged)
+    ∙ ap (λ (told : StepResult). told.flat) (stays_told l f moment (reply.Code 0) valid.settled valid.purged)
 
 told_rightly : (l : Limits) (f : Flat) (e : Entry) → IsValid l f → IsTrue (may l f e.0 e.1)
     → LawOfReplies l f e (step_of l f e.0 e.1).answer (step_of l f e.0 e.1).flat
-told_rightly l f (moment, Call caller asked append) valid ok = of_call l f moment caller asked append valid (and_parts _ _ (and_parts _ _ ok).0).0
-told_rightly l f (moment, EndStart caller plan) valid ok = decided f plan (code_of f.plans plan) refl (and_parts _ _ (and_parts _ _ (and_parts _ _ ok).0).1).1
-told_rightly l f (moment, Report process status) valid ok = report_untold (settled l (reported (with_moment f moment) process status).flat) (current_of f process) status
-told_rightly l f (moment, Ended process) valid ok = end_untold (settled l (process_ended (with_moment f moment) process).flat) (current_of f process)
-told_rightly l f (moment, LaunchTaken) valid ok = launch_untold (settled l (launch_taken (with_moment f moment)).flat) (first_wanted f.wanted)
-told_rightly l f (moment, ControlTaken process) valid ok = control_untold (settled l (control_taken (with_moment f moment) process).flat) (first_control (controls_of f process))
+told_rightly l f (moment, Call caller asked append) valid ok = of_call l f moment caller asked append valid
+    (and_parts _ _ (and_parts _ _ ok).0).0
+told_rightly l f (moment, EndStart caller plan) valid ok = decided f plan (code_of f.plans plan) refl
+    (and_parts _ _ (and_parts _ _ (and_parts _ _ ok).0).1).1
+told_rightly l f (moment, Report process status) valid ok = report_untold (settled l (reported (with_moment f moment) process status).flat)
+    (current_of f process) status
+told_rightly l f (moment, Ended process) valid ok = end_untold (settled l (process_ended (with_moment f moment) process).flat)
+    (current_of f process)
+told_rightly l f (moment, LaunchTaken) valid ok = launch_untold (settled l (launch_taken (with_moment f moment)).flat)
+    (first_wanted f.wanted)
+told_rightly l f (moment, ControlTaken process) valid ok = control_untold (settled l (control_taken (with_moment f moment) process).flat)
+    (first_control (controls_of f process))
 told_rightly l f (moment, Raised caller subtype) valid ok = record { reply = refl; refused = raise_refused l f moment caller subtype valid }
 told_rightly l f (moment, step) valid ok = refl
 

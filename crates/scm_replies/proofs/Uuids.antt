@@ -1,5 +1,6 @@
 -- The subtypes of triggers stay whole.
-use Rattle.std.proofs.Common.{ℕ, ◌≡◌, ◌==◌, not, true, false, cond, List, [], ◌∷◌, ◌++◌, Option, None, Some, get_or, length, map, refl, subst, sym}
+use Rattle.std.proofs.Common.{ℕ, ◌≡◌, ◌==◌, not, true, false, cond, List, [], ◌∷◌, ◌++◌, Option, None, Some, get_or, length, map, refl}
+use Rattle.std.proofs.Common.{subst, sym}
 use Rattle.std.specs.Prelude.{All, IfSome, unwrap_or}
 use Rattle.std.specs.List.{AllByRecursion}
 use Rattle.std.proofs.lemmas.List.Elements.{All-filter, All-map, All-push}

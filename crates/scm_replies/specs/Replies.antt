@@ -79,8 +79,10 @@ Passes l before moment step (request.Start handle words) told after = Waits befo
 Passes l before moment step asked told after = code_told told ≡ Some 0
 
 -- a call comes to its verdict in the state before
-pub record ComesTo (l : Limits) (before : Flat) (moment caller : ℕ) (asked : Request) (append : Kept) (told : Answer) (after : Flat) : Type 0 where
-  pub refused : verdict l before caller asked append ≢ 0 → IsRefused before moment caller asked (verdict l before caller asked append) told after
+pub record ComesTo (l : Limits) (before : Flat) (moment caller : ℕ) (asked : Request) (append : Kept) (told : Answer)
+    (after : Flat) : Type 0 where
+  pub refused : verdict l before caller asked append ≢ 0 → IsRefused before moment caller asked
+      (verdict l before caller asked append) told after
   pub passes : verdict l before caller asked append ≡ 0 → Passes l before moment (Call caller asked append) asked told after
 
 -- ## Steps

@@ -1,5 +1,6 @@
 -- The sizes that replies return, and what they are the sizes of.
-use Rattle.std.specs.Prelude.{ℕ, Bool, ◌≡◌, ◌<◌, ◌≤◌, ◌^◌, ◌+◌, ◌*◌, ◌==◌, ◌||◌, All, IfSome, List, [], ◌∷◌, Option, None, Some, length, min, option_map, if◌then◌else◌}
+use Rattle.std.specs.Prelude.{ℕ, Bool, ◌≡◌, ◌<◌, ◌≤◌, ◌^◌, ◌+◌, ◌*◌, ◌==◌, ◌||◌, All, IfSome, List, [], ◌∷◌, Option, None, Some, length}
+use Rattle.std.specs.Prelude.{min, option_map, if◌then◌else◌}
 use Rattle.std.specs.List.{AllByRecursion}
 use Rattle.scm_model.specs.declared.codes.TheConstants.{ERROR_INSUFFICIENT_BUFFER, ERROR_MORE_DATA, MAX_ENUM_SIZE}
 use Rattle.scm_model.specs.declared.flat.Flat.{Flat}

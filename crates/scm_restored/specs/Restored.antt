@@ -26,7 +26,8 @@ Manages limits groups moment (Err fault) (Ok opened) = ⊥
 Manages limits groups moment (Err fault) (Err told) = told ≡ fault
 
 -- the journal of the bytes that stood is opened, and a manager over what it comes to
-pub record Comes (limits : Limits) (groups : List (List ℕ)) (moment : ℕ) (path : Bool) (old now : Option (List ℕ)) (result : Result Opened JournalFault) : Type 0 where
+pub record Comes (limits : Limits) (groups : List (List ℕ)) (moment : ℕ) (path : Bool) (old now : Option (List ℕ))
+    (result : Result Opened JournalFault) : Type 0 where
   pub restored : Result Restored JournalFault
   pub answer : IfSome (standing path old) (λ bytes. Answers bytes restored)
   pub leaves : Leaves path old now restored

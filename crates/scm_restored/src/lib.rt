@@ -23,8 +23,8 @@ pub struct Opened {
 }
 
 /// Opens a keeper, and makes a manager whose services have the configurations that its journal
-/// comes to: each is stopped, and never ran. Those that start by themselves are due, in the order of
-/// these groups. Where there was no memory for the manager, the keeper
+/// comes to: each is stopped, and never ran. Those that start by themselves are due, in the order
+/// of these groups. Where there was no memory for the manager, the keeper
 /// stays as the opening of its journal left it.
 pub fn open_manager<K: Keeper>(
     alloc: Global,

@@ -1,5 +1,6 @@
 -- RChangeServiceConfigW: a service gets another configuration.
-use Rattle.std.specs.Prelude.{ℕ, Bool, false, ◌||◌, ◌&&◌, ◌==◌, ◌++◌, List, [], ◌∷◌, length, Option, None, Some, is_none, is_some, unwrap_or, map, option_map, option_and_then, if◌then◌else◌}
+use Rattle.std.specs.Prelude.{ℕ, Bool, false, ◌||◌, ◌&&◌, ◌==◌, ◌++◌, List, [], ◌∷◌, length, Option, None, Some, is_none, is_some}
+use Rattle.std.specs.Prelude.{unwrap_or, map, option_map, option_and_then, if◌then◌else◌}
 use Rattle.std.specs.Cmp.Lexicographic.{pointwise}
 use Rattle.scm_model.specs.declared.flat.Flat.{Flat}
 use Rattle.scm_model.specs.declared.flat.Config.{Config}
@@ -13,10 +14,13 @@ use Rattle.scm_model.specs.Found.{if_found}
 use Rattle.scm_model.specs.Rows.{held_service, opened, is_shown_by_another}
 use Rattle.scm_model.specs.Changes.{configured_if}
 use Rattle.scm_model.specs.Refused.{first_refusal, Refusals, outcome}
-use Rattle.scm_model.specs.Outcomes.{Done}
-use Rattle.scm_model.specs.declared.codes.TheConstants.{ERROR_ACCESS_DENIED, ERROR_CIRCULAR_DEPENDENCY, ERROR_DUPLICATE_SERVICE_NAME, ERROR_INVALID_HANDLE, ERROR_INVALID_NAME, ERROR_INVALID_PARAMETER, ERROR_INVALID_SERVICE_ACCOUNT, ERROR_SERVICE_MARKED_FOR_DELETE, SERVICE_AUTO_START, SERVICE_CHANGE_CONFIG, SERVICE_NO_CHANGE}
+use Rattle.scm_model.specs.Outcomes.{CallResult}
+use Rattle.scm_model.specs.declared.codes.TheConstants.{ERROR_ACCESS_DENIED, ERROR_CIRCULAR_DEPENDENCY, ERROR_DUPLICATE_SERVICE_NAME}
+use Rattle.scm_model.specs.declared.codes.TheConstants.{ERROR_INVALID_HANDLE, ERROR_INVALID_NAME, ERROR_INVALID_PARAMETER}
+use Rattle.scm_model.specs.declared.codes.TheConstants.{ERROR_INVALID_SERVICE_ACCOUNT, ERROR_SERVICE_MARKED_FOR_DELETE, SERVICE_AUTO_START}
+use Rattle.scm_model.specs.declared.codes.TheConstants.{SERVICE_CHANGE_CONFIG, SERVICE_NO_CHANGE}
 use Rattle.service_record.specs.Checks.{check_change}
-use Rattle.service_record.specs.Spelling.{spelling}
+use Rattle.service_record.specs.Spelling.{encoding}
 use Rattle.scm_rules.specs.Rights.{lacks}
 use Rattle.scm_rules.specs.Delete.{is_marked, keeping_refusals}
 use Rattle.scm_rules.specs.Create.{display_of, next_tag, told_tag}
@@ -93,17 +97,23 @@ changing_refusals f caller change =
 abbrev pub asked_refusals : Flat → ChangeService → Option Service → Refusals
 asked_refusals f change service =
     (checked f change service == ERROR_INVALID_NAME, ERROR_INVALID_NAME)
-    ∷ (checked f change service == ERROR_INVALID_PARAMETER || tags_no_group change service || are_unreadable change.needs, ERROR_INVALID_PARAMETER)
+    ∷ (
+      checked f change service == ERROR_INVALID_PARAMETER || tags_no_group change service
+          || are_unreadable change.needs,
+      ERROR_INVALID_PARAMETER,
+    )
     ∷ (checked f change service == ERROR_INVALID_SERVICE_ACCOUNT, ERROR_INVALID_SERVICE_ACCOUNT)
     ∷ []
 
 -- for the other services
 abbrev pub clash_refusals : Flat → ChangeService → Option Service → Refusals
-clash_refusals f change service = (takes_name f change service, ERROR_DUPLICATE_SERVICE_NAME) ∷ (loops f change service, ERROR_CIRCULAR_DEPENDENCY) ∷ []
+clash_refusals f change service = (takes_name f change service, ERROR_DUPLICATE_SERVICE_NAME) ∷
+    (loops f change service, ERROR_CIRCULAR_DEPENDENCY) ∷ []
 
 -- for the service, where the caller may change it
 abbrev pub row_refusals : Flat → ChangeService → Option Service → Refusals
-row_refusals f change service = (is_marked service, ERROR_SERVICE_MARKED_FOR_DELETE) ∷ asked_refusals f change service ++ clash_refusals f change service
+row_refusals f change service = (is_marked service, ERROR_SERVICE_MARKED_FOR_DELETE) ∷ asked_refusals f change service
+    ++ clash_refusals f change service
 
 abbrev pub change_refusals : Flat → ℕ → ChangeService → Kept → Refusals
 change_refusals f caller change append =
@@ -126,20 +136,21 @@ new_tag change config = option_and_then (λ (new : Config). told_tag new.tag cha
 abbrev pub configured_in : (Service → Config) → Option Service → List Service → List Service
 configured_in new = if_found (λ row. map (configured_if row.number (new row)))
 
-abbrev pub change_done : Flat → ℕ → ChangeService → Done
+abbrev pub change_done : Flat → ℕ → ChangeService → CallResult
 change_done f caller change = record {
   reply = reply.Tag (new_tag change (asked_config f caller change)) 0;
   flat = record f { services = configured_in (new_config f change) (held_service f caller change.handle) f.services };
 }
 
-abbrev pub change_outcome : Flat → ℕ → ChangeService → Kept → Done
-change_outcome f caller change append = outcome (change_verdict f caller change append) (request.Change change) f (change_done f caller change)
+abbrev pub change_outcome : Flat → ℕ → ChangeService → Kept → CallResult
+change_outcome f caller change append = outcome (change_verdict f caller change append) (request.Change change) f
+    (change_done f caller change)
 
 -- ## What is kept
 
 -- whether two configurations are kept as the same bytes
 abbrev pub is_kept_alike : Config → Config → Bool
-is_kept_alike old new = pointwise ◌==◌ (spelling old) (spelling new)
+is_kept_alike old new = pointwise ◌==◌ (encoding old) (encoding new)
 
 -- a change that changes nothing isn't kept
 abbrev pub changed_from : Config → Config → Option Change

@@ -1,5 +1,6 @@
 -- RChangeServiceConfig2W: one level of a service's configuration is replaced.
-use Rattle.std.specs.Prelude.{ℕ, Bool, true, false, not, ◌||◌, ◌&&◌, ◌==◌, List, [], ◌∷◌, Option, None, Some, is_none, map, option_and_then, option_map, unwrap_or}
+use Rattle.std.specs.Prelude.{ℕ, Bool, true, false, not, ◌||◌, ◌&&◌, ◌==◌, List, [], ◌∷◌, Option, None, Some, is_none, map, option_and_then}
+use Rattle.std.specs.Prelude.{option_map, unwrap_or}
 use Rattle.std.specs.List.{list_any}
 use Rattle.scm_model.specs.declared.flat.Action.{Action}
 use Rattle.scm_model.specs.declared.flat.Config.{Config}
@@ -15,8 +16,11 @@ use Rattle.scm_model.specs.declared.steps.Change.{Change}
 use Rattle.scm_model.specs.declared.steps.Kept.{Kept}
 use Rattle.scm_model.specs.Rows.{held_service, opened}
 use Rattle.scm_model.specs.Refused.{first_refusal, Refusals, outcome}
-use Rattle.scm_model.specs.Outcomes.{Done}
-use Rattle.scm_model.specs.declared.codes.TheConstants.{ERROR_ACCESS_DENIED, ERROR_INVALID_HANDLE, ERROR_INVALID_LEVEL, ERROR_INVALID_PARAMETER, ERROR_SERVICE_MARKED_FOR_DELETE, SC_ACTION_RESTART, SERVICE_CHANGE_CONFIG, SERVICE_START, SERVICE_TRIGGER_ACTION_SERVICE_START, SERVICE_TRIGGER_ACTION_SERVICE_STOP, SERVICE_TRIGGER_TYPE_CUSTOM}
+use Rattle.scm_model.specs.Outcomes.{CallResult}
+use Rattle.scm_model.specs.declared.codes.TheConstants.{ERROR_ACCESS_DENIED, ERROR_INVALID_HANDLE, ERROR_INVALID_LEVEL}
+use Rattle.scm_model.specs.declared.codes.TheConstants.{ERROR_INVALID_PARAMETER, ERROR_SERVICE_MARKED_FOR_DELETE, SC_ACTION_RESTART}
+use Rattle.scm_model.specs.declared.codes.TheConstants.{SERVICE_CHANGE_CONFIG, SERVICE_START, SERVICE_TRIGGER_ACTION_SERVICE_START}
+use Rattle.scm_model.specs.declared.codes.TheConstants.{SERVICE_TRIGGER_ACTION_SERVICE_STOP, SERVICE_TRIGGER_TYPE_CUSTOM}
 use Rattle.service_record.specs.Checks.{check_change}
 use Rattle.scm_rules.specs.Change.{changed_from, configured_in}
 use Rattle.scm_rules.specs.Delete.{is_marked, keeping_refusals}
@@ -83,7 +87,11 @@ is_refused asked (Some row) = not (check_change row.config (level_config asked r
 abbrev pub change2_refusals : Flat → ℕ → ℕ → Info → Kept → Refusals
 change2_refusals f caller handle asked append =
     (is_none (opened f caller handle), ERROR_INVALID_HANDLE)
-    ∷ (lacks (opened f caller handle) SERVICE_CHANGE_CONFIG || asks_restart asked && lacks (opened f caller handle) SERVICE_START, ERROR_ACCESS_DENIED)
+    ∷ (
+      lacks (opened f caller handle) SERVICE_CHANGE_CONFIG || asks_restart asked
+          && lacks (opened f caller handle) SERVICE_START,
+      ERROR_ACCESS_DENIED,
+    )
     ∷ (is_marked (held_service f caller handle), ERROR_SERVICE_MARKED_FOR_DELETE)
     ∷ (is_other asked, ERROR_INVALID_LEVEL)
     ∷ (has_bad_trigger asked || is_refused asked (held_service f caller handle), ERROR_INVALID_PARAMETER)
@@ -98,14 +106,15 @@ change2_verdict f caller handle asked append = first_refusal (change2_refusals f
 abbrev pub asked_level : Flat → ℕ → ℕ → Info → Option Config
 asked_level f caller handle asked = option_map (level_config asked) (held_service f caller handle)
 
-abbrev pub change2_done : Flat → ℕ → ℕ → Info → Done
+abbrev pub change2_done : Flat → ℕ → ℕ → Info → CallResult
 change2_done f caller handle asked = record {
   reply = reply.Code 0;
   flat = record f { services = configured_in (level_config asked) (held_service f caller handle) f.services };
 }
 
-abbrev pub change2_outcome : Flat → ℕ → ℕ → Info → Kept → Done
-change2_outcome f caller handle asked append = outcome (change2_verdict f caller handle asked append) (request.Change2 handle asked) f (change2_done f caller handle asked)
+abbrev pub change2_outcome : Flat → ℕ → ℕ → Info → Kept → CallResult
+change2_outcome f caller handle asked append = outcome (change2_verdict f caller handle asked append) (request.Change2 handle asked) f
+    (change2_done f caller handle asked)
 
 -- ## What is kept: a level that changes nothing of what is held isn't
 

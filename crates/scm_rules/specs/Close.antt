@@ -6,7 +6,7 @@ use Rattle.scm_model.specs.declared.calls.Reply.TheVariants as reply
 use Rattle.scm_model.specs.Rows.{handle_of, is_closable}
 use Rattle.scm_model.specs.Changes.{without_handle}
 use Rattle.scm_model.specs.Refused.{first_refusal, outcome, Refusals}
-use Rattle.scm_model.specs.Outcomes.{Done}
+use Rattle.scm_model.specs.Outcomes.{CallResult}
 use Rattle.scm_model.specs.declared.codes.TheConstants.{ERROR_INVALID_HANDLE}
 use Rattle.scm_model.specs.declared.calls.Request.TheVariants as request
 
@@ -22,8 +22,8 @@ close_refusals f caller handle = (not (closes (handle_of f caller handle)), ERRO
 abbrev pub close_verdict : Flat → ℕ → ℕ → ℕ
 close_verdict f caller handle = first_refusal (close_refusals f caller handle)
 
-abbrev pub close_done : Flat → ℕ → Done
+abbrev pub close_done : Flat → ℕ → CallResult
 close_done f handle = record { reply = reply.Handle 0 0; flat = without_handle f handle }
 
-abbrev pub close_outcome : Flat → ℕ → ℕ → Done
+abbrev pub close_outcome : Flat → ℕ → ℕ → CallResult
 close_outcome f caller handle = outcome (close_verdict f caller handle) (request.Close handle) f (close_done f handle)

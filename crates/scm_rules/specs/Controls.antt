@@ -1,5 +1,6 @@
 -- RControlService: a control that waits for a service's process.
-use Rattle.std.specs.Prelude.{ℕ, Bool, not, ◌&&◌, ◌||◌, ◌==◌, ◌++◌, ◌-◌, ◌^◌, min, nat_lt, List, [], ◌∷◌, Option, None, Some, drop, filter, length, map, option_map, if◌then◌else◌}
+use Rattle.std.specs.Prelude.{ℕ, Bool, not, ◌&&◌, ◌||◌, ◌==◌, ◌++◌, ◌-◌, ◌^◌, min, nat_lt, List, [], ◌∷◌, Option, None, Some, drop, filter}
+use Rattle.std.specs.Prelude.{length, map, option_map, if◌then◌else◌}
 use Rattle.std.specs.List.{list_any}
 use Rattle.scm_model.specs.declared.flat.Flat.{Flat}
 use Rattle.scm_model.specs.declared.flat.Limits.{Limits}
@@ -14,8 +15,9 @@ use Rattle.scm_model.specs.declared.steps.Answer.TheVariants as answer
 use Rattle.scm_model.specs.Found.{if_found}
 use Rattle.scm_model.specs.Rows.{held_service, opened}
 use Rattle.scm_model.specs.Refused.{zero_status, answered}
-use Rattle.scm_model.specs.Outcomes.{Done, Told}
-use Rattle.scm_model.specs.declared.codes.TheConstants.{ERROR_INVALID_SERVICE_CONTROL, ERROR_SERVICE_CANNOT_ACCEPT_CTRL, ERROR_SERVICE_NOT_ACTIVE, SERVICE_STOPPED}
+use Rattle.scm_model.specs.Outcomes.{CallResult, StepResult}
+use Rattle.scm_model.specs.declared.codes.TheConstants.{ERROR_INVALID_SERVICE_CONTROL, ERROR_SERVICE_CANNOT_ACCEPT_CTRL}
+use Rattle.scm_model.specs.declared.codes.TheConstants.{ERROR_SERVICE_NOT_ACTIVE, SERVICE_STOPPED}
 use Rattle.control_dispatch.specs.Judging.{judge}
 use Rattle.dependency_index.specs.Naming.{is_named}
 use Rattle.scm_rules.specs.Launches.{process_of}
@@ -52,11 +54,11 @@ controlled_if limit process code row =
 abbrev pub with_control : Limits → Flat → ℕ → ℕ → Flat
 with_control l f process code = record f { processes = map (controlled_if l.controls process code) f.processes }
 
-abbrev pub relieved_if : ℕ → Process → Process
-relieved_if process row = if row.number == process then record row { controls = drop 1 row.controls } else row
+abbrev pub dequeued_if : ℕ → Process → Process
+dequeued_if process row = if row.number == process then record row { controls = drop 1 row.controls } else row
 
 abbrev pub with_control_taken : Flat → ℕ → Flat
-with_control_taken f process = record f { processes = map (relieved_if process) f.processes }
+with_control_taken f process = record f { processes = map (dequeued_if process) f.processes }
 
 -- a control that is taken in hand is told
 abbrev pub control_sent : Option ℕ → Answer
@@ -64,7 +66,7 @@ control_sent None = answer.Done
 control_sent (Some code) = answer.Control code
 
 -- the control that waits first is taken in hand
-abbrev pub control_taken : Flat → ℕ → Told
+abbrev pub control_taken : Flat → ℕ → StepResult
 control_taken f process = record { answer = control_sent (first_control (controls_of f process)); flat = with_control_taken f process }
 
 -- ## The call
@@ -107,13 +109,13 @@ abbrev pub controlled_in : Limits → ℕ → Option Service → List Process �
 controlled_in l control = if_found (λ row. map (controlled_if l.controls row.process control))
 
 -- the control waits, and the service's status is as it was
-abbrev pub control_done : Limits → Flat → ℕ → ℕ → ℕ → Done
+abbrev pub control_done : Limits → Flat → ℕ → ℕ → ℕ → CallResult
 control_done l f caller handle control = record {
   reply = reply.State (status_in (held_service f caller handle)) 0;
   flat = record f { processes = controlled_in l control (held_service f caller handle) f.processes };
 }
 
-abbrev pub control_outcome : Limits → Flat → ℕ → ℕ → ℕ → Done
+abbrev pub control_outcome : Limits → Flat → ℕ → ℕ → ℕ → CallResult
 control_outcome l f caller handle control =
     let code = control_verdict l f caller handle control in
     answered code (control_told f caller handle code) f (control_done l f caller handle control)

@@ -1,5 +1,6 @@
 -- RCreateServiceW: a stopped service, and a handle of it.
-use Rattle.std.specs.Prelude.{◌^◌, ◌-◌, ℕ, Bool, false, ◌||◌, ◌&&◌, ◌==◌, ◌+◌, ◌++◌, nat_le, length, List, [], ◌∷◌, Option, None, Some, is_none, is_some, unwrap_or, option_map, fold, max, min, if◌then◌else◌}
+use Rattle.std.specs.Prelude.{◌^◌, ◌-◌, ℕ, Bool, false, ◌||◌, ◌&&◌, ◌==◌, ◌+◌, ◌++◌, nat_le, length, List, [], ◌∷◌, Option, None, Some}
+use Rattle.std.specs.Prelude.{is_none, is_some, unwrap_or, option_map, fold, max, min, if◌then◌else◌}
 use Rattle.scm_model.specs.declared.flat.Flat.{Flat}
 use Rattle.scm_model.specs.declared.flat.Config.{Config}
 use Rattle.scm_model.specs.declared.flat.Service.{Service}
@@ -15,8 +16,12 @@ use Rattle.scm_model.specs.Rows.{manager_mask, members, named, is_shown, held_by
 use Rattle.scm_model.specs.Notices.{event_of_creation, with_noted}
 use Rattle.scm_model.specs.Changes.{with_service, with_handle}
 use Rattle.scm_model.specs.Refused.{first_refusal, Refusals, outcome}
-use Rattle.scm_model.specs.Outcomes.{Done}
-use Rattle.scm_model.specs.declared.codes.TheConstants.{ERROR_ACCESS_DENIED, ERROR_CIRCULAR_DEPENDENCY, ERROR_DUPLICATE_SERVICE_NAME, ERROR_INVALID_HANDLE, ERROR_INVALID_NAME, ERROR_INVALID_PARAMETER, ERROR_INVALID_SERVICE_ACCOUNT, ERROR_NOT_ENOUGH_QUOTA, ERROR_SERVICE_EXISTS, ERROR_SERVICE_MARKED_FOR_DELETE, ERROR_SERVICE_NEVER_STARTED, SC_MANAGER_CREATE_SERVICE, SERVICE_STOPPED}
+use Rattle.scm_model.specs.Outcomes.{CallResult}
+use Rattle.scm_model.specs.declared.codes.TheConstants.{ERROR_ACCESS_DENIED, ERROR_CIRCULAR_DEPENDENCY, ERROR_DUPLICATE_SERVICE_NAME}
+use Rattle.scm_model.specs.declared.codes.TheConstants.{ERROR_INVALID_HANDLE, ERROR_INVALID_NAME, ERROR_INVALID_PARAMETER}
+use Rattle.scm_model.specs.declared.codes.TheConstants.{ERROR_INVALID_SERVICE_ACCOUNT, ERROR_NOT_ENOUGH_QUOTA, ERROR_SERVICE_EXISTS}
+use Rattle.scm_model.specs.declared.codes.TheConstants.{ERROR_SERVICE_MARKED_FOR_DELETE, ERROR_SERVICE_NEVER_STARTED}
+use Rattle.scm_model.specs.declared.codes.TheConstants.{SC_MANAGER_CREATE_SERVICE, SERVICE_STOPPED}
 use Rattle.service_record.specs.Checks.{check_new}
 use Rattle.scm_rules.specs.Rights.{manager_lacks}
 use Rattle.scm_rules.specs.OpenService.{service_granted}
@@ -72,7 +77,15 @@ tags_nothing new = is_some new.tag && length (unwrap_or new.group []) == 0
 
 -- never run yet
 abbrev pub new_status : ℕ → Status
-new_status kind = record { kind = kind; state = SERVICE_STOPPED; accepted = 0; win32 = ERROR_SERVICE_NEVER_STARTED; specific = 0; checkpoint = 0; hint = 0 }
+new_status kind = record {
+  kind = kind;
+  state = SERVICE_STOPPED;
+  accepted = 0;
+  win32 = ERROR_SERVICE_NEVER_STARTED;
+  specific = 0;
+  checkpoint = 0;
+  hint = 0;
+}
 
 -- ## Refusals
 
@@ -80,7 +93,11 @@ new_status kind = record { kind = kind; state = SERVICE_STOPPED; accepted = 0; w
 abbrev pub right_refusals : Flat → ℕ → NewService → Refusals
 right_refusals f caller new =
     (is_none (manager_mask f caller new.handle), ERROR_INVALID_HANDLE)
-    ∷ (manager_lacks (manager_mask f caller new.handle) SC_MANAGER_CREATE_SERVICE || is_none (service_granted f caller new.access), ERROR_ACCESS_DENIED)
+    ∷ (
+      manager_lacks (manager_mask f caller new.handle) SC_MANAGER_CREATE_SERVICE
+          || is_none (service_granted f caller new.access),
+      ERROR_ACCESS_DENIED,
+    )
     ∷ []
 
 -- for what is asked
@@ -103,7 +120,8 @@ place_refusals l f caller config =
 
 abbrev pub create_refusals : Limits → Flat → ℕ → NewService → Kept → Refusals
 create_refusals l f caller new append =
-    right_refusals f caller new ++ config_refusals new (created_config f new) ++ place_refusals l f caller (created_config f new) ++ keeping_refusals append
+    right_refusals f caller new ++ config_refusals new (created_config f new) ++ place_refusals l f caller (created_config f new)
+    ++ keeping_refusals append
 
 abbrev pub create_verdict : Limits → Flat → ℕ → NewService → Kept → ℕ
 create_verdict l f caller new append = first_refusal (create_refusals l f caller new append)
@@ -118,15 +136,16 @@ told_tag tag asked = option_map (λ number. tag) asked
 abbrev pub with_creation : Flat → Config → Status → Flat
 with_creation f config status = with_noted (with_service f config status) (event_of_creation config.name status)
 
-abbrev pub create_done : Flat → ℕ → NewService → Done
+abbrev pub create_done : Flat → ℕ → NewService → CallResult
 create_done f caller new = record {
   reply = reply.Made (told_tag (created_config f new).tag new.tag) f.next.handle 0;
-  flat = with_handle (with_creation f (created_config f new) (new_status new.kind)) caller (kinds.Service f.next.service) (unwrap_or (service_granted f caller new.access) 0);
+  flat = with_handle (with_creation f (created_config f new) (new_status new.kind)) caller (kinds.Service f.next.service)
+      (unwrap_or (service_granted f caller new.access) 0);
 }
 
 -- the change of a Create that is not refused
 abbrev pub create_change : Flat → NewService → Option Change
 create_change f new = Some (Created (created_config f new))
 
-abbrev pub create_outcome : Limits → Flat → ℕ → NewService → Kept → Done
+abbrev pub create_outcome : Limits → Flat → ℕ → NewService → Kept → CallResult
 create_outcome l f caller new append = outcome (create_verdict l f caller new append) (request.Create new) f (create_done f caller new)

@@ -14,8 +14,9 @@ use Rattle.scm_model.specs.Notices.{event_of_mark, noted, pid_of}
 use Rattle.scm_model.specs.Rows.{held_service, opened}
 use Rattle.scm_model.specs.Changes.{marked_if}
 use Rattle.scm_model.specs.Refused.{first_refusal, Refusals, outcome}
-use Rattle.scm_model.specs.Outcomes.{Done}
-use Rattle.scm_model.specs.declared.codes.TheConstants.{DELETE, ERROR_ACCESS_DENIED, ERROR_CANTWRITE, ERROR_INVALID_HANDLE, ERROR_SERVICE_MARKED_FOR_DELETE}
+use Rattle.scm_model.specs.Outcomes.{CallResult}
+use Rattle.scm_model.specs.declared.codes.TheConstants.{DELETE, ERROR_ACCESS_DENIED, ERROR_CANTWRITE, ERROR_INVALID_HANDLE}
+use Rattle.scm_model.specs.declared.codes.TheConstants.{ERROR_SERVICE_MARKED_FOR_DELETE}
 use Rattle.scm_rules.specs.Rights.{lacks}
 use Rattle.scm_model.specs.declared.calls.Request.TheVariants as request
 
@@ -53,7 +54,7 @@ marked_in = if_found (λ row. map (marked_if row.number))
 abbrev pub told_of_mark : List Process → Option Service → List Registration → List Registration
 told_of_mark processes = if_found (λ row. noted (event_of_mark (pid_of processes row) row))
 
-abbrev pub delete_done : Flat → ℕ → ℕ → Done
+abbrev pub delete_done : Flat → ℕ → ℕ → CallResult
 delete_done f caller handle = record {
   reply = reply.Code 0;
   flat = record f {
@@ -70,5 +71,6 @@ removed row = Removed row.config.name
 abbrev pub delete_change : Flat → ℕ → ℕ → Option Change
 delete_change f caller handle = option_map removed (held_service f caller handle)
 
-abbrev pub delete_outcome : Flat → ℕ → ℕ → Kept → Done
-delete_outcome f caller handle append = outcome (delete_verdict f caller handle append) (request.Delete handle) f (delete_done f caller handle)
+abbrev pub delete_outcome : Flat → ℕ → ℕ → Kept → CallResult
+delete_outcome f caller handle append = outcome (delete_verdict f caller handle append) (request.Delete handle) f
+    (delete_done f caller handle)

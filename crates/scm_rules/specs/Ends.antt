@@ -6,7 +6,7 @@ use Rattle.scm_model.specs.declared.flat.Service.{Service}
 use Rattle.scm_model.specs.declared.steps.Answer.{Answer}
 use Rattle.scm_model.specs.declared.steps.Answer.TheVariants as answer
 use Rattle.scm_model.specs.Found.{if_found}
-use Rattle.scm_model.specs.Outcomes.{Told}
+use Rattle.scm_model.specs.Outcomes.{StepResult}
 use Rattle.scm_rules.specs.Failures.{with_failure}
 use Rattle.scm_rules.specs.Launches.{with_fallen, without_process}
 use Rattle.scm_rules.specs.Reports.{current_of}
@@ -21,5 +21,5 @@ abbrev pub with_end : Flat → ℕ → Flat
 with_end f process = if_found with_failure (current_of f process) (with_fallen f process ERROR_PROCESS_ABORTED)
 
 -- the process leaves
-abbrev pub process_ended : Flat → ℕ → Told
+abbrev pub process_ended : Flat → ℕ → StepResult
 process_ended f process = record { answer = end_told (current_of f process); flat = without_process (with_end f process) process }

@@ -1,5 +1,6 @@
 -- REnumDependentServicesW: the services that need a service by name.
-use Rattle.std.specs.Prelude.{◌^◌, ◌-◌, ℕ, Bool, not, ◌&&◌, ◌==◌, bit_and, nat_le, nat_lt, length, min, List, [], ◌∷◌, Option, None, Some, filter, filter_map, is_none, if◌then◌else◌}
+use Rattle.std.specs.Prelude.{◌^◌, ◌-◌, ℕ, Bool, not, ◌&&◌, ◌==◌, bit_and, nat_le, nat_lt, length, min, List, [], ◌∷◌, Option, None, Some}
+use Rattle.std.specs.Prelude.{filter, filter_map, is_none, if◌then◌else◌}
 use Rattle.scm_model.specs.declared.flat.Flat.{Flat}
 use Rattle.scm_model.specs.declared.flat.Opened.{Opened}
 use Rattle.scm_model.specs.declared.flat.Service.{Service}
@@ -7,8 +8,10 @@ use Rattle.scm_model.specs.declared.calls.Reply.{Reply}
 use Rattle.scm_model.specs.declared.calls.Reply.TheVariants as reply
 use Rattle.scm_model.specs.Rows.{opened, service_of}
 use Rattle.scm_model.specs.Refused.{answered, first_refusal, Refusals}
-use Rattle.scm_model.specs.Outcomes.{Done}
-use Rattle.scm_model.specs.declared.codes.TheConstants.{ERROR_ACCESS_DENIED, ERROR_INVALID_HANDLE, ERROR_INVALID_PARAMETER, ERROR_MORE_DATA, SERVICE_ACTIVE, SERVICE_ENUMERATE_DEPENDENTS, SERVICE_INACTIVE, SERVICE_STATE_ALL, SERVICE_STOPPED}
+use Rattle.scm_model.specs.Outcomes.{CallResult}
+use Rattle.scm_model.specs.declared.codes.TheConstants.{ERROR_ACCESS_DENIED, ERROR_INVALID_HANDLE, ERROR_INVALID_PARAMETER, ERROR_MORE_DATA}
+use Rattle.scm_model.specs.declared.codes.TheConstants.{SERVICE_ACTIVE, SERVICE_ENUMERATE_DEPENDENTS, SERVICE_INACTIVE, SERVICE_STATE_ALL}
+use Rattle.scm_model.specs.declared.codes.TheConstants.{SERVICE_STOPPED}
 use Rattle.scm_model.specs.Order.{is_cyclic}
 use Rattle.dependency_index.specs.Dependents.{dependents_in}
 use Rattle.service_listing.specs.Layout.{listing_bytes, listing_size}
@@ -70,7 +73,7 @@ enum_dependents_told f caller handle states size code =
     reply.Listing size [] (if code == ERROR_MORE_DATA then told_size (dependents_by f caller handle states) else 0) 0 code
 
 -- all of them
-abbrev pub enum_dependents_done : Flat → ℕ → ℕ → ℕ → ℕ → Done
+abbrev pub enum_dependents_done : Flat → ℕ → ℕ → ℕ → ℕ → CallResult
 enum_dependents_done f caller handle states size =
     let rows = dependents_by f caller handle states in
     record { reply = reply.Listing size (listing_bytes rows) 0 (length rows) 0; flat = f }

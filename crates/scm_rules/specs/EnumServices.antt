@@ -1,13 +1,15 @@
 -- REnumServicesStatusW: the services, page by page.
-use Rattle.std.specs.Prelude.{◌^◌, ◌-◌, ℕ, Bool, not, ◌&&◌, ◌||◌, ◌==◌, bit_and, nat_lt, length, min, List, [], ◌∷◌, Option, filter, is_none, option_map, unwrap_or, if◌then◌else◌}
+use Rattle.std.specs.Prelude.{◌^◌, ◌-◌, ℕ, Bool, not, ◌&&◌, ◌||◌, ◌==◌, bit_and, nat_lt, length, min, List, [], ◌∷◌, Option, filter}
+use Rattle.std.specs.Prelude.{is_none, option_map, unwrap_or, if◌then◌else◌}
 use Rattle.scm_model.specs.declared.flat.Flat.{Flat}
 use Rattle.scm_model.specs.declared.flat.Service.{Service}
 use Rattle.scm_model.specs.declared.calls.Reply.{Reply}
 use Rattle.scm_model.specs.declared.calls.Reply.TheVariants as reply
 use Rattle.scm_model.specs.Rows.{manager_mask}
 use Rattle.scm_model.specs.Refused.{answered, first_refusal, Refusals}
-use Rattle.scm_model.specs.Outcomes.{Done}
-use Rattle.scm_model.specs.declared.codes.TheConstants.{ERROR_ACCESS_DENIED, ERROR_INVALID_HANDLE, ERROR_INVALID_PARAMETER, ERROR_MORE_DATA, MAX_ENUM_SIZE, SC_MANAGER_ENUMERATE_SERVICE}
+use Rattle.scm_model.specs.Outcomes.{CallResult}
+use Rattle.scm_model.specs.declared.codes.TheConstants.{ERROR_ACCESS_DENIED, ERROR_INVALID_HANDLE, ERROR_INVALID_PARAMETER, ERROR_MORE_DATA}
+use Rattle.scm_model.specs.declared.codes.TheConstants.{MAX_ENUM_SIZE, SC_MANAGER_ENUMERATE_SERVICE}
 use Rattle.service_listing.specs.Layout.{listing_bytes, listing_size}
 use Rattle.service_listing.specs.Pages.{left_of, page_in}
 use Rattle.scm_rules.specs.EnumDependents.{are_states, is_in_states}
@@ -39,20 +41,22 @@ enum_services_refusals f caller handle kinds states size resume =
     ∷ []
 
 abbrev pub enum_services_verdict : Flat → ℕ → ℕ → ℕ → ℕ → ℕ → Option ℕ → ℕ
-enum_services_verdict f caller handle kinds states size resume = first_refusal (enum_services_refusals f caller handle kinds states size resume)
+enum_services_verdict f caller handle kinds states size resume = first_refusal
+    (enum_services_refusals f caller handle kinds states size resume)
 
 -- what fits, how much is needed for what is left, and the number of the last that is given
 abbrev pub page_of : ℕ → Option ℕ → List Service → Reply
 page_of size resume rows =
     let page = page_in size rows in
-    reply.Page size (listing_bytes page) (min MAX_ENUM_SIZE (listing_size (left_of size rows))) (length page) (option_map (λ read. last_number read page) resume) ERROR_MORE_DATA
+    reply.Page size (listing_bytes page) (min MAX_ENUM_SIZE (listing_size (left_of size rows))) (length page)
+    (option_map (λ read. last_number read page) resume) ERROR_MORE_DATA
 
 abbrev pub enum_services_told : Flat → ℕ → ℕ → ℕ → Option ℕ → ℕ → Reply
 enum_services_told f kinds states size resume code =
     if code == ERROR_MORE_DATA then page_of size resume (services_asked f kinds states resume) else reply.Page size [] 0 0 resume code
 
 -- all of them; the next page would begin with the first again
-abbrev pub enum_services_done : Flat → ℕ → ℕ → ℕ → Option ℕ → Done
+abbrev pub enum_services_done : Flat → ℕ → ℕ → ℕ → Option ℕ → CallResult
 enum_services_done f kinds states size resume =
     let rows = services_asked f kinds states resume in
     record { reply = reply.Page size (listing_bytes rows) 0 (length rows) (option_map (λ read. 0) resume) 0; flat = f }

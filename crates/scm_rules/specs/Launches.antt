@@ -1,5 +1,6 @@
 -- Processes: what is launched, and what becomes of it.
-use Rattle.std.specs.Prelude.{ℕ, Bool, false, true, not, ◌==◌, List, [], ◌∷◌, Option, None, Some, find, filter, map, option_and_then, option_map, if◌then◌else◌}
+use Rattle.std.specs.Prelude.{ℕ, Bool, false, true, not, ◌==◌, List, [], ◌∷◌, Option, None, Some, find, filter, map, option_and_then}
+use Rattle.std.specs.Prelude.{option_map, if◌then◌else◌}
 use Rattle.scm_model.specs.declared.flat.Flat.{Flat}
 use Rattle.scm_model.specs.declared.flat.Phase.{Phase}
 use Rattle.scm_model.specs.declared.flat.Phase.TheVariants as phases
@@ -10,8 +11,8 @@ use Rattle.scm_model.specs.declared.flat.Wanted.{Wanted}
 use Rattle.scm_model.specs.declared.steps.Answer.{Answer}
 use Rattle.scm_model.specs.declared.steps.Answer.TheVariants as answer
 use Rattle.scm_model.specs.Found.{if_found}
-use Rattle.scm_model.specs.Notices.{told_of_move}
-use Rattle.scm_model.specs.Outcomes.{Told}
+use Rattle.scm_model.specs.Notices.{notified_of_move}
+use Rattle.scm_model.specs.Outcomes.{StepResult}
 use Rattle.scm_model.specs.Rows.{service_of}
 use Rattle.start_plan.specs.Decided.{aims_at, decided_in}
 use Rattle.status_machine.specs.Moves.{take_end}
@@ -84,13 +85,13 @@ abbrev pub current_of : Flat → ℕ → Option Service
 current_of f process = find (λ (row : Service). row.process == process) f.services
 
 -- registrations are told that a service fell, which has no process any more
-abbrev pub told_of_fall : ℕ → ℕ → Option Service → List Registration → List Registration
-told_of_fall process code = if_found (λ row. told_of_move 0 row (fallen_if process code row))
+abbrev pub notified_of_fall : ℕ → ℕ → Option Service → List Registration → List Registration
+notified_of_fall process code = if_found (λ row. notified_of_move 0 row (fallen_if process code row))
 
 abbrev pub with_fallen : Flat → ℕ → ℕ → Flat
 with_fallen f process code = record f {
   services = map (fallen_if process code) f.services;
-  registrations = told_of_fall process code (current_of f process) f.registrations;
+  registrations = notified_of_fall process code (current_of f process) f.registrations;
 }
 
 -- the undecided plans with this target, if any, are decided
@@ -121,7 +122,7 @@ launch_told None = answer.Done
 launch_told (Some process) = answer.Launch process
 
 -- the launch that is wanted first is taken in hand
-abbrev pub launch_taken : Flat → Told
+abbrev pub launch_taken : Flat → StepResult
 launch_taken f = record {
   answer = launch_told (first_wanted f.wanted);
   flat = record f {

@@ -1,5 +1,6 @@
 -- RLockServiceDatabase, RUnlockServiceDatabase, RQueryServiceLockStatusW: the lock of the database.
-use Rattle.std.specs.Prelude.{◌^◌, ◌-◌, ℕ, Bool, false, not, ◌+◌, ◌*◌, ◌/◌, ◌==◌, nat_le, nat_lt, codes, length, min, List, [], ◌∷◌, Option, None, Some, is_none, is_some, option_and_then, if◌then◌else◌}
+use Rattle.std.specs.Prelude.{◌^◌, ◌-◌, ℕ, Bool, false, not, ◌+◌, ◌*◌, ◌/◌, ◌==◌, nat_le, nat_lt, codes, length, min, List, [], ◌∷◌, Option}
+use Rattle.std.specs.Prelude.{None, Some, is_none, is_some, option_and_then, if◌then◌else◌}
 use Rattle.scm_model.specs.declared.flat.Flat.{Flat}
 use Rattle.scm_model.specs.declared.flat.HandleRow.{HandleRow}
 use Rattle.scm_model.specs.declared.flat.HandleKind.TheVariants as kinds
@@ -12,8 +13,10 @@ use Rattle.scm_model.specs.declared.calls.Reply.TheVariants as reply
 use Rattle.scm_model.specs.Rows.{caller_of, handle_of, held_by, is_lock, manager_mask, owner_at, principal_in}
 use Rattle.scm_model.specs.Changes.{with_handle, without_handle}
 use Rattle.scm_model.specs.Refused.{answered, first_refusal, outcome, Refusals}
-use Rattle.scm_model.specs.Outcomes.{Done}
-use Rattle.scm_model.specs.declared.codes.TheConstants.{ERROR_ACCESS_DENIED, ERROR_INSUFFICIENT_BUFFER, ERROR_INVALID_HANDLE, ERROR_INVALID_SERVICE_LOCK, ERROR_NOT_ENOUGH_QUOTA, ERROR_SERVICE_DATABASE_LOCKED, SC_MANAGER_LOCK, SC_MANAGER_QUERY_LOCK_STATUS}
+use Rattle.scm_model.specs.Outcomes.{CallResult}
+use Rattle.scm_model.specs.declared.codes.TheConstants.{ERROR_ACCESS_DENIED, ERROR_INSUFFICIENT_BUFFER, ERROR_INVALID_HANDLE}
+use Rattle.scm_model.specs.declared.codes.TheConstants.{ERROR_INVALID_SERVICE_LOCK, ERROR_NOT_ENOUGH_QUOTA, ERROR_SERVICE_DATABASE_LOCKED}
+use Rattle.scm_model.specs.declared.codes.TheConstants.{SC_MANAGER_LOCK, SC_MANAGER_QUERY_LOCK_STATUS}
 use Rattle.database_lock.specs.Locking.{locked, unlocked}
 use Rattle.scm_rules.specs.Rights.{manager_lacks}
 use Rattle.scm_model.specs.declared.calls.Request.TheVariants as request
@@ -36,10 +39,10 @@ abbrev pub with_lock : Flat → ℕ → Flat
 with_lock f handle = record f { lock = locked f.lock handle f.moment }
 
 -- a new handle holds it
-abbrev pub lock_done : Flat → ℕ → Done
+abbrev pub lock_done : Flat → ℕ → CallResult
 lock_done f caller = record { reply = reply.Handle f.next.handle 0; flat = with_handle (with_lock f f.next.handle) caller kinds.Lock 0 }
 
-abbrev pub lock_outcome : Limits → Flat → ℕ → ℕ → Done
+abbrev pub lock_outcome : Limits → Flat → ℕ → ℕ → CallResult
 lock_outcome l f caller handle = outcome (lock_verdict l f caller handle) (request.Lock handle) f (lock_done f caller)
 
 -- ## Unlock
@@ -60,10 +63,10 @@ abbrev pub without_lock : Flat → ℕ → Flat
 without_lock f handle = record f { lock = unlocked f.lock handle }
 
 -- the handle leaves with it
-abbrev pub unlock_done : Flat → ℕ → Done
+abbrev pub unlock_done : Flat → ℕ → CallResult
 unlock_done f handle = record { reply = reply.Handle 0 0; flat = without_handle (without_lock f handle) handle }
 
-abbrev pub unlock_outcome : Flat → ℕ → ℕ → Done
+abbrev pub unlock_outcome : Flat → ℕ → ℕ → CallResult
 unlock_outcome f caller handle = outcome (unlock_verdict f caller handle) (request.Unlock handle) f (unlock_done f handle)
 
 -- ## QueryLock
@@ -107,7 +110,7 @@ query_lock_verdict f caller handle size = first_refusal (query_lock_refusals f c
 abbrev pub query_lock_told : Flat → ℕ → Reply
 query_lock_told f code = reply.LockState 0 None 0 (if code == ERROR_INSUFFICIENT_BUFFER then lock_size (lock_owner f) else 0) code
 
-abbrev pub query_lock_done : Flat → Done
+abbrev pub query_lock_done : Flat → CallResult
 query_lock_done f = record {
   reply = reply.LockState (is_held f.lock) (Some (lock_owner f)) (seconds_at f.moment f.lock) (lock_size (lock_owner f)) 0;
   flat = f;

@@ -5,7 +5,8 @@ use Rattle.scm_model.specs.declared.flat.Limits.{Limits}
 use Rattle.scm_model.specs.declared.steps.Answer.{Answer}
 use Rattle.scm_model.specs.declared.steps.Answer.TheVariants as answer
 use Rattle.scm_model.specs.declared.steps.Step.{Step}
-use Rattle.scm_model.specs.declared.steps.Step.TheVariants.{Joined, Call, EndStart, LaunchTaken, Launched, LaunchFailed, Report, Ended, Raised, Gone, NoMemory}
+use Rattle.scm_model.specs.declared.steps.Step.TheVariants.{Joined, Call, EndStart, LaunchTaken, Launched, LaunchFailed, Report, Ended}
+use Rattle.scm_model.specs.declared.steps.Step.TheVariants.{Raised, Gone, NoMemory}
 use Rattle.scm_rules.specs.Launches.{first_wanted}
 use Rattle.scm_model.specs.Entries.{Entry}
 use Rattle.scm_rules.specs.Steps.{step_of}
@@ -86,4 +87,5 @@ has_taken l f process (e ∷ es) = takes_process f process e.1 || has_taken l (s
 abbrev pub has_begun : Limits → Flat → ℕ → ℕ → List Entry → Bool
 has_begun l f caller plan [] = false
 has_begun l f caller plan (e ∷ es) =
-    (names_caller caller e.1 && is_it plan (plan_made (step_of l f e.0 e.1).answer)) || has_begun l (step_of l f e.0 e.1).flat caller plan es
+    (names_caller caller e.1 && is_it plan (plan_made (step_of l f e.0 e.1).answer))
+    || has_begun l (step_of l f e.0 e.1).flat caller plan es

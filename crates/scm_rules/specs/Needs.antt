@@ -1,5 +1,6 @@
 -- What services need: the names that a call gives, and whether needs would have a cycle.
-use Rattle.std.specs.Prelude.{ℕ, Bool, false, ◌+◌, ◌*◌, List, [], ◌∷◌, Option, None, Some, Ok, Err, is_none, map, option_map, option_and_then, unwrap_or, ◌==◌, if◌then◌else◌}
+use Rattle.std.specs.Prelude.{ℕ, Bool, false, ◌+◌, ◌*◌, List, [], ◌∷◌, Option, None, Some, Ok, Err, is_none, map, option_map}
+use Rattle.std.specs.Prelude.{option_and_then, unwrap_or, ◌==◌, if◌then◌else◌}
 use Rattle.scm_text.specs.Multi.{Reading, names_of}
 use Rattle.scm_model.specs.declared.flat.Config.{Config}
 use Rattle.scm_model.specs.declared.flat.Flat.{Flat}

@@ -9,8 +9,9 @@ use Rattle.scm_model.specs.Found.{if_found}
 use Rattle.scm_model.specs.Rows.{held_by, manager_mask, named, principal_of}
 use Rattle.scm_model.specs.Changes.{with_handle}
 use Rattle.scm_model.specs.Refused.{first_refusal, outcome, Refusals}
-use Rattle.scm_model.specs.Outcomes.{Done}
-use Rattle.scm_model.specs.declared.codes.TheConstants.{ERROR_ACCESS_DENIED, ERROR_INVALID_HANDLE, ERROR_INVALID_NAME, ERROR_NOT_ENOUGH_QUOTA, ERROR_SERVICE_DOES_NOT_EXIST}
+use Rattle.scm_model.specs.Outcomes.{CallResult}
+use Rattle.scm_model.specs.declared.codes.TheConstants.{ERROR_ACCESS_DENIED, ERROR_INVALID_HANDLE, ERROR_INVALID_NAME}
+use Rattle.scm_model.specs.declared.codes.TheConstants.{ERROR_NOT_ENOUGH_QUOTA, ERROR_SERVICE_DOES_NOT_EXIST}
 use Rattle.access_mask.specs.Granted.{granted}
 use Rattle.service_record.specs.Checks.{is_bad_name}
 use Rattle.scm_model.specs.declared.calls.Request.TheVariants as request
@@ -36,12 +37,13 @@ open_service_verdict l f caller handle name access = first_refusal (open_service
 abbrev pub with_opened : ℕ → ℕ → Service → Flat → Flat
 with_opened caller granted row f = with_handle f caller (kinds.Service row.number) granted
 
-abbrev pub open_service_done : Flat → ℕ → List ℕ → ℕ → Done
+abbrev pub open_service_done : Flat → ℕ → List ℕ → ℕ → CallResult
 open_service_done f caller name access = record {
   reply = reply.Handle f.next.handle 0;
   flat = if_found (with_opened caller (unwrap_or (service_granted f caller access) 0)) (named f name) f;
 }
 
-abbrev pub open_service_outcome : Limits → Flat → ℕ → ℕ → List ℕ → ℕ → Done
+abbrev pub open_service_outcome : Limits → Flat → ℕ → ℕ → List ℕ → ℕ → CallResult
 open_service_outcome l f caller handle name access =
-    outcome (open_service_verdict l f caller handle name access) (request.OpenService handle name access) f (open_service_done f caller name access)
+    outcome (open_service_verdict l f caller handle name access) (request.OpenService handle name access) f
+    (open_service_done f caller name access)

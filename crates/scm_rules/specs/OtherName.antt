@@ -6,7 +6,7 @@ use Rattle.scm_model.specs.declared.calls.Reply.{Reply}
 use Rattle.scm_model.specs.declared.calls.Reply.TheVariants as reply
 use Rattle.scm_model.specs.Rows.{manager_mask, named, displayed}
 use Rattle.scm_model.specs.Refused.{answered, first_refusal, Refusals}
-use Rattle.scm_model.specs.Outcomes.{Done}
+use Rattle.scm_model.specs.Outcomes.{CallResult}
 use Rattle.scm_model.specs.declared.codes.TheConstants.{ERROR_INSUFFICIENT_BUFFER, ERROR_INVALID_HANDLE, ERROR_SERVICE_DOES_NOT_EXIST}
 
 -- the display name of the service with a name
@@ -54,10 +54,11 @@ abbrev pub name_or_empty : Option (List ℕ) → List ℕ
 name_or_empty None = []
 name_or_empty (Some name) = name
 
-abbrev pub other_name_done : Flat → Option (List ℕ) → Done
+abbrev pub other_name_done : Flat → Option (List ℕ) → CallResult
 other_name_done f other = record { reply = reply.Name (name_or_empty other) (units_of other) 0; flat = f }
 
 -- what both calls are answered
 abbrev pub other_name_reply : Flat → ℕ → ℕ → ℕ → Option (List ℕ) → Reply
 other_name_reply f caller handle size other =
-    (answered (other_name_verdict f caller handle size other) (other_name_told other (other_name_verdict f caller handle size other)) f (other_name_done f other)).reply
+    (answered (other_name_verdict f caller handle size other) (other_name_told other (other_name_verdict f caller handle size other)) f
+    (other_name_done f other)).reply

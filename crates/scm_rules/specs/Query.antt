@@ -6,7 +6,7 @@ use Rattle.scm_model.specs.declared.flat.Service.{Service}
 use Rattle.scm_model.specs.declared.calls.Reply.TheVariants as reply
 use Rattle.scm_model.specs.Rows.{held_service, opened}
 use Rattle.scm_model.specs.Refused.{first_refusal, zero_status, outcome, Refusals}
-use Rattle.scm_model.specs.Outcomes.{Done}
+use Rattle.scm_model.specs.Outcomes.{CallResult}
 use Rattle.scm_model.specs.declared.codes.TheConstants.{ERROR_ACCESS_DENIED, ERROR_INVALID_HANDLE, SERVICE_QUERY_STATUS}
 use Rattle.scm_rules.specs.Rights.{lacks}
 use Rattle.scm_model.specs.declared.calls.Request.TheVariants as request
@@ -26,8 +26,8 @@ query_refusals f caller handle =
 abbrev pub query_verdict : Flat → ℕ → ℕ → ℕ
 query_verdict f caller handle = first_refusal (query_refusals f caller handle)
 
-abbrev pub query_done : Flat → ℕ → ℕ → Done
+abbrev pub query_done : Flat → ℕ → ℕ → CallResult
 query_done f caller handle = record { reply = reply.State (status_in (held_service f caller handle)) 0; flat = f }
 
-abbrev pub query_outcome : Flat → ℕ → ℕ → Done
+abbrev pub query_outcome : Flat → ℕ → ℕ → CallResult
 query_outcome f caller handle = outcome (query_verdict f caller handle) (request.QueryStatus handle) f (query_done f caller handle)

@@ -1,5 +1,6 @@
 -- RQueryServiceConfigW: what a service is configured as.
-use Rattle.std.specs.Prelude.{◌^◌, ◌-◌, ℕ, ◌+◌, ◌*◌, ◌++◌, ◌==◌, nat_lt, codes, length, min, List, [], ◌∷◌, Option, None, Some, is_none, if◌then◌else◌}
+use Rattle.std.specs.Prelude.{◌^◌, ◌-◌, ℕ, ◌+◌, ◌*◌, ◌++◌, ◌==◌, nat_lt, codes, length, min, List, [], ◌∷◌, Option, None, Some, is_none}
+use Rattle.std.specs.Prelude.{if◌then◌else◌}
 use Rattle.std.specs.List.{flat_map}
 use Rattle.scm_model.specs.declared.flat.Flat.{Flat}
 use Rattle.scm_model.specs.declared.flat.Config.{Config}
@@ -11,8 +12,9 @@ use Rattle.scm_model.specs.declared.calls.Reply.{Reply}
 use Rattle.scm_model.specs.declared.calls.Reply.TheVariants as reply
 use Rattle.scm_model.specs.Rows.{held_service, opened}
 use Rattle.scm_model.specs.Refused.{answered, first_refusal, Refusals}
-use Rattle.scm_model.specs.Outcomes.{Done}
-use Rattle.scm_model.specs.declared.codes.TheConstants.{ERROR_ACCESS_DENIED, ERROR_INSUFFICIENT_BUFFER, ERROR_INVALID_HANDLE, SERVICE_QUERY_CONFIG}
+use Rattle.scm_model.specs.Outcomes.{CallResult}
+use Rattle.scm_model.specs.declared.codes.TheConstants.{ERROR_ACCESS_DENIED, ERROR_INSUFFICIENT_BUFFER, ERROR_INVALID_HANDLE}
+use Rattle.scm_model.specs.declared.codes.TheConstants.{SERVICE_QUERY_CONFIG}
 use Rattle.scm_rules.specs.Rights.{lacks}
 
 -- ## What is shown
@@ -76,12 +78,17 @@ query_config_verdict f caller handle size = first_refusal (query_config_refusals
 
 -- where the size is too small, it is told how much is needed
 abbrev pub query_config_told : Flat → ℕ → ℕ → ℕ → Reply
-query_config_told f caller handle code = reply.Shown None (if code == ERROR_INSUFFICIENT_BUFFER then size_in (shown_by f caller handle) else 0) code
+query_config_told f caller handle code = reply.Shown None (if code == ERROR_INSUFFICIENT_BUFFER then size_in (shown_by f caller handle)
+    else 0) code
 
-abbrev pub query_config_done : Flat → ℕ → ℕ → Done
-query_config_done f caller handle = record { reply = reply.Shown (shown_by f caller handle) (size_in (shown_by f caller handle)) 0; flat = f }
+abbrev pub query_config_done : Flat → ℕ → ℕ → CallResult
+query_config_done f caller handle = record {
+  reply = reply.Shown (shown_by f caller handle) (size_in (shown_by f caller handle)) 0;
+  flat = f;
+}
 
 -- what the call is answered
 abbrev pub query_config_reply : Flat → ℕ → ℕ → ℕ → Reply
 query_config_reply f caller handle size =
-    (answered (query_config_verdict f caller handle size) (query_config_told f caller handle (query_config_verdict f caller handle size)) f (query_config_done f caller handle)).reply
+    (answered (query_config_verdict f caller handle size) (query_config_told f caller handle (query_config_verdict f caller handle size)) f
+    (query_config_done f caller handle)).reply

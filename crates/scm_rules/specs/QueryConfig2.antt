@@ -1,5 +1,6 @@
 -- RQueryServiceConfig2W: a level of a service's configuration.
-use Rattle.std.specs.Prelude.{ℕ, not, ◌^◌, ◌-◌, ◌==◌, nat_lt, List, [], ◌∷◌, length, min, Option, is_none, option_and_then, unwrap_or, if◌then◌else◌}
+use Rattle.std.specs.Prelude.{ℕ, not, ◌^◌, ◌-◌, ◌==◌, nat_lt, List, [], ◌∷◌, length, min, Option, is_none, option_and_then, unwrap_or}
+use Rattle.std.specs.Prelude.{if◌then◌else◌}
 use Rattle.scm_model.specs.declared.flat.Flat.{Flat}
 use Rattle.scm_model.specs.declared.flat.Service.{Service}
 use Rattle.scm_model.specs.declared.calls.Reply.{Reply}
@@ -7,8 +8,9 @@ use Rattle.scm_model.specs.declared.calls.Reply.TheVariants as reply
 use Rattle.scm_model.specs.Ranges.{is_level}
 use Rattle.scm_model.specs.Rows.{held_service, opened}
 use Rattle.scm_model.specs.Refused.{answered, first_refusal, Refusals}
-use Rattle.scm_model.specs.Outcomes.{Done}
-use Rattle.scm_model.specs.declared.codes.TheConstants.{ERROR_ACCESS_DENIED, ERROR_INSUFFICIENT_BUFFER, ERROR_INVALID_HANDLE, ERROR_INVALID_LEVEL, SERVICE_QUERY_CONFIG}
+use Rattle.scm_model.specs.Outcomes.{CallResult}
+use Rattle.scm_model.specs.declared.codes.TheConstants.{ERROR_ACCESS_DENIED, ERROR_INSUFFICIENT_BUFFER, ERROR_INVALID_HANDLE}
+use Rattle.scm_model.specs.declared.codes.TheConstants.{ERROR_INVALID_LEVEL, SERVICE_QUERY_CONFIG}
 use Rattle.service_listing.specs.Levels.{level_bytes}
 use Rattle.scm_rules.specs.Rights.{lacks}
 
@@ -39,7 +41,7 @@ abbrev pub query_config2_told : Flat → ℕ → ℕ → ℕ → ℕ → ℕ →
 query_config2_told f caller handle level size code =
     reply.Bytes size [] (if code == ERROR_INSUFFICIENT_BUFFER then level_size f caller handle level else 0) code
 
-abbrev pub query_config2_done : Flat → ℕ → ℕ → ℕ → ℕ → Done
+abbrev pub query_config2_done : Flat → ℕ → ℕ → ℕ → ℕ → CallResult
 query_config2_done f caller handle level size = record { reply = reply.Bytes size (level_by f caller handle level) 0 0; flat = f }
 
 -- what the call is answered

@@ -9,8 +9,9 @@ use Rattle.scm_model.specs.declared.calls.Reply.TheVariants as reply
 use Rattle.scm_model.specs.Notices.{pid_of, with_pid}
 use Rattle.scm_model.specs.Rows.{held_service, opened}
 use Rattle.scm_model.specs.Refused.{answered, first_refusal, zero_process_status, Refusals}
-use Rattle.scm_model.specs.Outcomes.{Done}
-use Rattle.scm_model.specs.declared.codes.TheConstants.{ERROR_ACCESS_DENIED, ERROR_INSUFFICIENT_BUFFER, ERROR_INVALID_HANDLE, ERROR_INVALID_LEVEL, SC_STATUS_PROCESS_INFO, SERVICE_QUERY_STATUS}
+use Rattle.scm_model.specs.Outcomes.{CallResult}
+use Rattle.scm_model.specs.declared.codes.TheConstants.{ERROR_ACCESS_DENIED, ERROR_INSUFFICIENT_BUFFER, ERROR_INVALID_HANDLE}
+use Rattle.scm_model.specs.declared.codes.TheConstants.{ERROR_INVALID_LEVEL, SC_STATUS_PROCESS_INFO, SERVICE_QUERY_STATUS}
 use Rattle.service_listing.specs.Layout.{process_status_bytes}
 use Rattle.scm_rules.specs.Rights.{lacks}
 
@@ -37,8 +38,11 @@ query_ex_verdict f caller handle level size = first_refusal (query_ex_refusals f
 abbrev pub query_ex_told : ℕ → ℕ → Reply
 query_ex_told size code = reply.Bytes size [] (if code == ERROR_INSUFFICIENT_BUFFER then 36 else 0) code
 
-abbrev pub query_ex_done : Flat → ℕ → ℕ → ℕ → Done
-query_ex_done f caller handle size = record { reply = reply.Bytes size (process_status_bytes (process_status_by f caller handle)) 0 0; flat = f }
+abbrev pub query_ex_done : Flat → ℕ → ℕ → ℕ → CallResult
+query_ex_done f caller handle size = record {
+  reply = reply.Bytes size (process_status_bytes (process_status_by f caller handle)) 0 0;
+  flat = f;
+}
 
 -- what the call is answered
 abbrev pub query_ex_reply : Flat → ℕ → ℕ → ℕ → ℕ → Reply

@@ -5,7 +5,8 @@ use Rattle.scm_model.specs.declared.flat.Limits.{Limits}
 use Rattle.scm_model.specs.declared.flat.Principal.{Principal}
 use Rattle.scm_model.specs.declared.flat.Principal.TheVariants.{Admin, User}
 use Rattle.scm_model.specs.declared.flat.Service.{Service}
-use Rattle.scm_model.specs.declared.codes.TheConstants.{ERROR_ACCESS_DENIED, SERVICE_CONTROL_STOP, SERVICE_STOP, SERVICE_TRIGGER_ACTION_SERVICE_START}
+use Rattle.scm_model.specs.declared.codes.TheConstants.{ERROR_ACCESS_DENIED, SERVICE_CONTROL_STOP, SERVICE_STOP}
+use Rattle.scm_model.specs.declared.codes.TheConstants.{SERVICE_TRIGGER_ACTION_SERVICE_START}
 use Rattle.scm_model.specs.Found.{if_found}
 use Rattle.scm_model.specs.Rows.{principal_of}
 use Rattle.scm_model.specs.Refused.{first_refusal, Refusals}
@@ -31,7 +32,8 @@ raise_verdict f caller = first_refusal (raise_refusals f caller)
 -- whether a service gets a STOP from whoever may stop it
 abbrev pub gets_stop : Limits → Flat → Service → Bool
 gets_stop l f row =
-    judge (Some SERVICE_STOP) SERVICE_CONTROL_STOP row.status (active_among f.services (Some row)) (waiting_for f (Some row)) l.controls == 0
+    judge (Some SERVICE_STOP) SERVICE_CONTROL_STOP row.status (active_among f.services (Some row))
+    (waiting_for f (Some row)) l.controls == 0
 
 -- a STOP waits for the service's process, where it gets one
 abbrev pub with_stop : Limits → Service → Flat → Flat

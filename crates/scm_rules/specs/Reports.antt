@@ -1,5 +1,6 @@
 -- RSetServiceStatus, and what a process tells of its service.
-use Rattle.std.specs.Prelude.{ℕ, Bool, false, not, ◌&&◌, ◌==◌, List, [], ◌∷◌, Option, None, Some, Result, Ok, Err, is_none, map, if◌then◌else◌}
+use Rattle.std.specs.Prelude.{ℕ, Bool, false, not, ◌&&◌, ◌==◌, List, [], ◌∷◌, Option, None, Some, Result, Ok, Err, is_none, map}
+use Rattle.std.specs.Prelude.{if◌then◌else◌}
 use Rattle.scm_model.specs.declared.flat.Flat.{Flat}
 use Rattle.scm_model.specs.declared.flat.Process.{Process}
 use Rattle.scm_model.specs.declared.flat.Registration.{Registration}
@@ -9,11 +10,12 @@ use Rattle.scm_model.specs.declared.calls.Reply.TheVariants as reply
 use Rattle.scm_model.specs.declared.steps.Answer.{Answer}
 use Rattle.scm_model.specs.declared.steps.Answer.TheVariants as answer
 use Rattle.scm_model.specs.Found.{if_found}
-use Rattle.scm_model.specs.Notices.{pid_of, told_of_move}
+use Rattle.scm_model.specs.Notices.{pid_of, notified_of_move}
 use Rattle.scm_model.specs.Rows.{held_service, opened}
 use Rattle.scm_model.specs.Refused.{first_refusal, outcome, Refusals}
-use Rattle.scm_model.specs.Outcomes.{Done, Told}
-use Rattle.scm_model.specs.declared.codes.TheConstants.{ERROR_ACCESS_DENIED, ERROR_INVALID_DATA, ERROR_INVALID_HANDLE, SERVICE_SET_STATUS, SERVICE_STOPPED}
+use Rattle.scm_model.specs.Outcomes.{CallResult, StepResult}
+use Rattle.scm_model.specs.declared.codes.TheConstants.{ERROR_ACCESS_DENIED, ERROR_INVALID_DATA, ERROR_INVALID_HANDLE, SERVICE_SET_STATUS}
+use Rattle.scm_model.specs.declared.codes.TheConstants.{SERVICE_STOPPED}
 use Rattle.status_machine.specs.Moves.{take_report, takes}
 use Rattle.scm_rules.specs.Failures.{failed_by, with_failure}
 use Rattle.scm_rules.specs.Launches.{is_launched, process_of}
@@ -36,16 +38,16 @@ abbrev pub reported_if : ℕ → Status → Service → Service
 reported_if process report row = if row.process == process then moved_by row (take_report row.status report) else row
 
 -- registrations are told of the state that a report brings a service to
-abbrev pub told_of_report : List Process → Status → Option Service → List Registration → List Registration
-told_of_report processes report =
-    if_found (λ row. told_of_move (pid_of processes (reported_if row.process report row)) row (reported_if row.process report row))
+abbrev pub notified_of_report : List Process → Status → Option Service → List Registration → List Registration
+notified_of_report processes report =
+    if_found (λ row. notified_of_move (pid_of processes (reported_if row.process report row)) row (reported_if row.process report row))
 
 -- the service whose current process this is takes the report, which may be a failure of it
 abbrev pub with_report : Flat → ℕ → Status → Flat
 with_report f process report =
     if_found with_failure (failed_by report (current_of f process)) (record f {
       services = map (reported_if process report) f.services;
-      registrations = told_of_report f.processes report (current_of f process) f.registrations;
+      registrations = notified_of_report f.processes report (current_of f process) f.registrations;
     })
 
 -- how a report of the current process is answered
@@ -58,7 +60,7 @@ abbrev pub report_told : Option Service → Status → Answer
 report_told None report = answer.Stale
 report_told (Some row) report = report_answer (take_report row.status report)
 
-abbrev pub reported : Flat → ℕ → Status → Told
+abbrev pub reported : Flat → ℕ → Status → StepResult
 reported f process report = record { answer = report_told (current_of f process) report; flat = with_report f process report }
 
 -- ## A report by a call
@@ -87,12 +89,12 @@ abbrev pub with_report_of : Flat → Option Service → Status → Flat
 with_report_of f service report =
     if_found with_failure (failed_by report service) (record f {
       services = reported_in report service f.services;
-      registrations = told_of_report f.processes report service f.registrations;
+      registrations = notified_of_report f.processes report service f.registrations;
     })
 
-abbrev pub set_status_done : Flat → ℕ → ℕ → Status → Done
+abbrev pub set_status_done : Flat → ℕ → ℕ → Status → CallResult
 set_status_done f caller handle report = record { reply = reply.Code 0; flat = with_report_of f (held_service f caller handle) report }
 
-abbrev pub set_status_outcome : Flat → ℕ → ℕ → Status → Done
+abbrev pub set_status_outcome : Flat → ℕ → ℕ → Status → CallResult
 set_status_outcome f caller handle report =
     outcome (set_status_verdict f caller handle report) (request.SetStatus handle report) f (set_status_done f caller handle report)

@@ -1,5 +1,6 @@
 -- The room that a step needs: for itself and for what it makes owed.
-use Rattle.std.specs.Prelude.{ℕ, Bool, true, false, ◌+◌, ◌*◌, ◌&&◌, ◌==◌, nat_le, List, Option, None, Some, filter, is_some, length, if◌then◌else◌}
+use Rattle.std.specs.Prelude.{ℕ, Bool, true, false, ◌+◌, ◌*◌, ◌&&◌, ◌==◌, nat_le, List, Option, None, Some, filter, is_some, length}
+use Rattle.std.specs.Prelude.{if◌then◌else◌}
 use Rattle.scm_model.specs.declared.codes.TheConstants.{SERVICE_TRIGGER_ACTION_SERVICE_START}
 use Rattle.scm_model.specs.declared.flat.Due.{Due}
 use Rattle.scm_model.specs.declared.flat.DueKind.{DueKind}
@@ -13,7 +14,8 @@ use Rattle.scm_model.specs.declared.flat.Limits.{Limits}
 use Rattle.scm_model.specs.declared.calls.Request.{Request}
 use Rattle.scm_model.specs.declared.calls.Request.TheVariants as request
 use Rattle.scm_model.specs.declared.steps.Step.{Step}
-use Rattle.scm_model.specs.declared.steps.Step.TheVariants.{Joined, Call, EndStart, LaunchTaken, Launched, LaunchFailed, Ended, Tick, Raised, Gone}
+use Rattle.scm_model.specs.declared.steps.Step.TheVariants.{Joined, Call, EndStart, LaunchTaken, Launched, LaunchFailed, Ended, Tick}
+use Rattle.scm_model.specs.declared.steps.Step.TheVariants.{Raised, Gone}
 use Rattle.scm_model.specs.Texts.{text_of}
 use Rattle.scm_rules.specs.Owed.{owed}
 

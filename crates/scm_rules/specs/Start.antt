@@ -1,5 +1,6 @@
 -- RStartServiceW: a plan to start a service after what it needs.
-use Rattle.std.specs.Prelude.{ℕ, Bool, true, false, not, ◌||◌, ◌&&◌, ◌==◌, ◌+◌, ◌-◌, ◌^◌, ◌++◌, min, List, [], ◌∷◌, Option, None, Some, is_none, is_some, unwrap_or}
+use Rattle.std.specs.Prelude.{ℕ, Bool, true, false, not, ◌||◌, ◌&&◌, ◌==◌, ◌+◌, ◌-◌, ◌^◌, ◌++◌, min, List, [], ◌∷◌, Option, None, Some}
+use Rattle.std.specs.Prelude.{is_none, is_some, unwrap_or}
 use Rattle.std.specs.List.{list_any}
 use Rattle.std.specs.Char.Utf16.{has_unpaired_surrogate}
 use Rattle.scm_model.specs.declared.flat.DueKind.TheVariants as dues
@@ -12,8 +13,11 @@ use Rattle.scm_model.specs.declared.calls.Reply.TheVariants as reply
 use Rattle.scm_model.specs.Found.{if_found}
 use Rattle.scm_model.specs.Rows.{held_service, named, opened}
 use Rattle.scm_model.specs.Refused.{first_refusal, Refusals, outcome}
-use Rattle.scm_model.specs.Outcomes.{Done}
-use Rattle.scm_model.specs.declared.codes.TheConstants.{ERROR_ACCESS_DENIED, ERROR_INVALID_HANDLE, ERROR_INVALID_PARAMETER, ERROR_SERVICE_ALREADY_RUNNING, ERROR_SERVICE_DATABASE_LOCKED, ERROR_SERVICE_DEPENDENCY_DELETED, ERROR_SERVICE_DISABLED, ERROR_SERVICE_MARKED_FOR_DELETE, SERVICE_DISABLED, SERVICE_START, SERVICE_STOPPED}
+use Rattle.scm_model.specs.Outcomes.{CallResult}
+use Rattle.scm_model.specs.declared.codes.TheConstants.{ERROR_ACCESS_DENIED, ERROR_INVALID_HANDLE, ERROR_INVALID_PARAMETER}
+use Rattle.scm_model.specs.declared.codes.TheConstants.{ERROR_SERVICE_ALREADY_RUNNING, ERROR_SERVICE_DATABASE_LOCKED}
+use Rattle.scm_model.specs.declared.codes.TheConstants.{ERROR_SERVICE_DEPENDENCY_DELETED, ERROR_SERVICE_DISABLED}
+use Rattle.scm_model.specs.declared.codes.TheConstants.{ERROR_SERVICE_MARKED_FOR_DELETE, SERVICE_DISABLED, SERVICE_START, SERVICE_STOPPED}
 use Rattle.start_plan.specs.Decided.{plan_caller, code_of, is_target, without_plan}
 use Rattle.scm_model.specs.Ready.{state_in}
 use Rattle.scm_rules.specs.Delete.{is_marked}
@@ -78,23 +82,37 @@ abbrev pub deadline_at : ℕ → ℕ
 deadline_at moment = min (moment + 120000) (2 ^ 64 - 1)
 
 abbrev pub new_plan : Flat → ℕ → ℕ → List ℕ → List (List ℕ) → Plan
-new_plan f caller target entries words = record { number = f.next.plan; caller = caller; target = target; entries = entries; tried = []; words = words; code = None }
+new_plan f caller target entries words = record {
+  number = f.next.plan;
+  caller = caller;
+  target = target;
+  entries = entries;
+  tried = [];
+  words = words;
+  code = None;
+}
 
 -- a plan more, which has the next number, and its deadline
 abbrev pub with_plan : Flat → Plan → Flat
 with_plan f plan =
-    with_due (record f { plans = f.plans ++ plan ∷ []; next = record f.next { plan = f.next.plan + 1 } }) (deadline_at f.moment) (dues.Deadline f.next.plan)
+    with_due (record f { plans = f.plans ++ plan ∷ []; next = record f.next { plan = f.next.plan + 1 } }) (deadline_at f.moment)
+    (dues.Deadline f.next.plan)
 
 -- a plan to start the service begins, which goes by the start order
 abbrev pub with_start : ℕ → List (List ℕ) → Service → Flat → Flat
 with_start caller words row f = with_plan f (new_plan f caller row.number (start_order f row.number) words)
 
 -- it is not answered until it is decided
-abbrev pub start_done : Flat → ℕ → ℕ → Option (List (List ℕ)) → Done
-start_done f caller handle words = record { reply = reply.Code 0; flat = if_found (with_start caller (unwrap_or words [])) (held_service f caller handle) f }
+abbrev pub start_done : Flat → ℕ → ℕ → Option (List (List ℕ)) → CallResult
+start_done f caller handle words = record {
+  reply = reply.Code 0;
+  flat =
+      if_found (with_start caller (unwrap_or words [])) (held_service f caller handle) f;
+}
 
-abbrev pub start_outcome : Flat → ℕ → ℕ → Option (List (List ℕ)) → Done
-start_outcome f caller handle words = outcome (start_verdict f caller handle words) (request.Start handle words) f (start_done f caller handle words)
+abbrev pub start_outcome : Flat → ℕ → ℕ → Option (List (List ℕ)) → CallResult
+start_outcome f caller handle words = outcome (start_verdict f caller handle words) (request.Start handle words) f
+    (start_done f caller handle words)
 
 -- ## What ends a start
 

@@ -1,6 +1,7 @@
 -- One step of the manager: its effect, then the plans are settled, then a start that this decided is answered, then marked services
 -- are purged.
-use Rattle.std.specs.Prelude.{ℕ, Bool, true, false, not, ◌&&◌, ◌==◌, nat_lt, length, max, List, [], ◌∷◌, Option, None, Some, is_some, unwrap_or, if◌then◌else◌}
+use Rattle.std.specs.Prelude.{ℕ, Bool, true, false, not, ◌&&◌, ◌==◌, nat_lt, length, max, List, [], ◌∷◌, Option, None, Some, is_some}
+use Rattle.std.specs.Prelude.{unwrap_or, if◌then◌else◌}
 use Rattle.std.specs.List.{list_any}
 use Rattle.scm_model.specs.declared.flat.Flat.{Flat}
 use Rattle.scm_model.specs.declared.flat.Limits.{Limits}
@@ -10,13 +11,14 @@ use Rattle.scm_model.specs.declared.calls.Reply.TheVariants as reply
 use Rattle.scm_model.specs.declared.calls.Request.{Request}
 use Rattle.scm_model.specs.declared.calls.Request.TheVariants as request
 use Rattle.scm_model.specs.declared.steps.Step.{Step}
-use Rattle.scm_model.specs.declared.steps.Step.TheVariants.{Joined, Call, EndStart, LaunchTaken, Launched, LaunchFailed, Report, Ended, ControlTaken, Tick, Raised, Gone, NoMemory}
+use Rattle.scm_model.specs.declared.steps.Step.TheVariants.{Joined, Call, EndStart, LaunchTaken, Launched, LaunchFailed, Report, Ended}
+use Rattle.scm_model.specs.declared.steps.Step.TheVariants.{ControlTaken, Tick, Raised, Gone, NoMemory}
 use Rattle.scm_model.specs.declared.steps.Answer.{Answer}
 use Rattle.scm_model.specs.declared.steps.Answer.TheVariants as answer
 use Rattle.scm_model.specs.Rows.{is_caller}
 use Rattle.scm_model.specs.Changes.{with_moment, with_caller, without_caller, without_handles_of, without_lock_of, without_registrations_of}
 use Rattle.scm_model.specs.Purge.{purged}
-use Rattle.scm_model.specs.Outcomes.{Told}
+use Rattle.scm_model.specs.Outcomes.{StepResult}
 use Rattle.scm_model.specs.Ranges.{in_range}
 use Rattle.start_plan.specs.Decided.{code_of, without_plans_of}
 use Rattle.start_plan.specs.Settle.{settled}
@@ -36,7 +38,8 @@ without_plans f caller = record f { plans = without_plans_of f.plans caller }
 
 -- what a caller leaves when it goes: its handles, registrations and plans leave too, and a lock that one of its handles held is free
 abbrev pub gone : Flat → ℕ → Flat
-gone f caller = without_caller (without_plans (without_registrations_of (without_handles_of (without_lock_of f caller) caller) caller) caller) caller
+gone f caller = without_caller (without_plans (without_registrations_of (without_handles_of (without_lock_of f caller) caller) caller)
+    caller) caller
 
 -- a start that isn't refused tells its plan, and every other call its reply
 abbrev pub tells_plan : Request → ℕ → Bool
@@ -51,12 +54,15 @@ abbrev pub at_moment : Flat → ℕ → Step → Flat
 at_moment f moment (NoMemory caller) = f
 at_moment f moment step = with_moment f moment
 
-abbrev pub effect_of : Limits → Flat → Step → Told
+abbrev pub effect_of : Limits → Flat → Step → StepResult
 effect_of l f (Joined principal) = record { answer = answer.Caller f.next.caller; flat = with_caller f principal }
 effect_of l f (Call caller asked append) =
     let done = call_of l f caller asked append in
     record { answer = call_answer (tells_plan asked (verdict l f caller asked append)) f.next.plan done.reply; flat = done.flat }
-effect_of l f (EndStart caller plan) = record { answer = answer.Reply (reply.Code (unwrap_or (code_of f.plans plan) 0)); flat = ended f plan }
+effect_of l f (EndStart caller plan) = record {
+  answer = answer.Reply (reply.Code (unwrap_or (code_of f.plans plan) 0));
+  flat = ended f plan;
+}
 effect_of l f LaunchTaken = launch_taken f
 effect_of l f (Launched process pid) = record { answer = answer.Done; flat = launched f process pid }
 effect_of l f (LaunchFailed process code) = record { answer = answer.Done; flat = launch_failed f process code }
@@ -64,7 +70,10 @@ effect_of l f (Report process status) = reported f process status
 effect_of l f (Ended process) = process_ended f process
 effect_of l f (ControlTaken process) = control_taken f process
 effect_of l f Tick = record { answer = answer.Done; flat = ticked l f }
-effect_of l f (Raised caller subtype) = record { answer = answer.Reply (reply.Code (raise_verdict f caller)); flat = raised l f caller subtype }
+effect_of l f (Raised caller subtype) = record {
+  answer = answer.Reply (reply.Code (raise_verdict f caller));
+  flat = raised l f caller subtype;
+}
 effect_of l f (Gone caller) = record { answer = answer.Done; flat = gone f caller }
 effect_of l f (NoMemory caller) = record { answer = answer.Done; flat = f }
 
@@ -77,18 +86,18 @@ abbrev pub left_by : Flat → ℕ → Option ℕ → Flat
 left_by f plan None = f
 left_by f plan (Some code) = ended f plan
 
-abbrev pub finished : Flat → Answer → Told
+abbrev pub finished : Flat → Answer → StepResult
 finished f (answer.Begun plan) = record { answer = answered_by plan (code_of f.plans plan); flat = left_by f plan (code_of f.plans plan) }
 finished f told = record { answer = told; flat = f }
 
 -- what a step answers, and the state before marked services leave
-abbrev pub finished_step : Limits → Flat → ℕ → Step → Told
+abbrev pub finished_step : Limits → Flat → ℕ → Step → StepResult
 finished_step l f moment step =
     let done = effect_of l (at_moment f moment step) step in
     finished (settled l done.flat) done.answer
 
 -- what a step answers, and the state after it
-abbrev pub step_of : Limits → Flat → ℕ → Step → Told
+abbrev pub step_of : Limits → Flat → ℕ → Step → StepResult
 step_of l f moment step =
     let done = finished_step l f moment step in
     record { answer = done.answer; flat = purged done.flat }

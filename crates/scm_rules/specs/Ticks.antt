@@ -1,5 +1,6 @@
 -- What is due takes place.
-use Rattle.std.specs.Prelude.{ℕ, Bool, true, not, ◌&&◌, ◌==◌, ◌+◌, ◌-◌, ◌^◌, ◌++◌, min, nat_lt, zero, suc, List, [], ◌∷◌, filter, length, if◌then◌else◌}
+use Rattle.std.specs.Prelude.{ℕ, Bool, true, not, ◌&&◌, ◌==◌, ◌+◌, ◌-◌, ◌^◌, ◌++◌, min, nat_lt, zero, suc, List, [], ◌∷◌, filter, length}
+use Rattle.std.specs.Prelude.{if◌then◌else◌}
 use Rattle.scm_model.specs.declared.flat.Due.{Due}
 use Rattle.scm_model.specs.declared.flat.DueKind.{DueKind}
 use Rattle.scm_model.specs.declared.flat.DueKind.TheVariants as dues
@@ -20,7 +21,8 @@ use Rattle.scm_rules.specs.Start.{with_start}
 -- whether a service can be started now: it is unmarked, STOPPED and not disabled, and no undecided plan has it as its target
 abbrev pub can_start : Flat → Service → Bool
 can_start f row =
-    not row.marked && row.status.state == SERVICE_STOPPED && not (row.config.start == SERVICE_DISABLED) && not (is_target f.plans row.number)
+    not row.marked && row.status.state == SERVICE_STOPPED && not (row.config.start == SERVICE_DISABLED)
+    && not (is_target f.plans row.number)
 
 -- a plan without a caller begins, where the service can be started
 abbrev pub with_restart : Service → Flat → Flat
@@ -72,13 +74,13 @@ abbrev pub fired : Limits → Due → Flat → Flat
 fired l row f = fire l row.kind (without_due row.number f)
 
 -- the row that is due first takes place, if one is due
-abbrev pub first_fired : Limits → Flat → Flat
-first_fired l f = if_found (fired l) (next_due f) f
+abbrev pub first_run : Limits → Flat → Flat
+first_run l f = if_found (fired l) (next_due f) f
 
 -- so many times
 abbrev pub all_fired : Limits → ℕ → Flat → Flat
 all_fired l zero f = f
-all_fired l (suc more) f = all_fired l more (first_fired l f)
+all_fired l (suc more) f = all_fired l more (first_run l f)
 
 -- the rows that are due take place in the order in which they became due, until none is: each row brings one more at most, a deadline, and
 -- a deadline none

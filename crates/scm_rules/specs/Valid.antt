@@ -1,5 +1,6 @@
 -- What is true of every state that a run reaches.
-use Rattle.std.specs.Prelude.{ℕ, Bool, ◌≡◌, ◌<◌, ◌≤◌, true, false, ◌==◌, ◌||◌, ◌&&◌, IsTrue, IfSome, None, List, AllPairs, All, filter, is_none, length, map}
+use Rattle.std.specs.Prelude.{ℕ, Bool, ◌≡◌, ◌<◌, ◌≤◌, true, false, ◌==◌, ◌||◌, ◌&&◌, IsTrue, IfSome, None, List, AllPairs, All, filter}
+use Rattle.std.specs.Prelude.{is_none, length, map}
 use Rattle.std.specs.List.{list_any}
 use Rattle.scm_text.specs.Fold.{same_text}
 use Rattle.scm_model.specs.declared.flat.Flat.{Flat}
@@ -147,7 +148,8 @@ pub record IsValid (l : Limits) (f : Flat) : Type 0 where
   pub locks : All (λ (row : HandleRow). is_lock row.kind ≡ is_held_by row.number f.lock) f.handles
   pub holder : IfSome f.lock (λ lock. IsTrue (list_any (λ (row : HandleRow). row.number == lock.handle) f.handles))
   pub masks : All (λ (row : HandleRow). HasPlainMask row.kind row.granted) f.handles
-  -- commands have their one word, registrations are of callers and were told of short names, and each service has one row at most that becomes due
+  -- commands have their one word, registrations are of callers and were told of short names, and each service has one row at most that
+  -- becomes due
   pub commands : All HasShortWord f.wanted
   pub registered : All (λ (row : Registration). IsTrue (is_caller f row.caller)) f.registrations
   pub told : All HasShortName f.registrations

@@ -11,14 +11,15 @@ use Rattle.scm_model.specs.declared.steps.Kept.TheVariants as appended
 use Rattle.scm_model.specs.declared.steps.Step.{Step}
 use Rattle.scm_model.specs.declared.steps.Step.TheVariants.{Call}
 use Rattle.scm_model.specs.Refused.{answered, refused}
-use Rattle.scm_model.specs.Outcomes.{Done}
+use Rattle.scm_model.specs.Outcomes.{CallResult}
 use Rattle.scm_rules.specs.Create.{create_verdict, create_done, create_change}
 use Rattle.scm_rules.specs.Controls.{control_verdict, control_told, control_done}
 use Rattle.scm_rules.specs.Delete.{delete_verdict, delete_done, delete_change}
 use Rattle.scm_rules.specs.Query.{query_verdict, query_done}
 use Rattle.scm_rules.specs.Change.{change_verdict, change_done, change_change}
 use Rattle.scm_rules.specs.QueryConfig.{query_config_verdict, query_config_told, query_config_done}
-use Rattle.scm_rules.specs.Locks.{lock_verdict, lock_done, unlock_verdict, unlock_done, query_lock_verdict, query_lock_told, query_lock_done}
+use Rattle.scm_rules.specs.Locks.{lock_verdict, lock_done, unlock_verdict, unlock_done, query_lock_verdict, query_lock_told}
+use Rattle.scm_rules.specs.Locks.{query_lock_done}
 use Rattle.scm_rules.specs.Reports.{set_status_verdict, set_status_done}
 use Rattle.scm_rules.specs.Start.{start_verdict, start_done}
 use Rattle.scm_rules.specs.OtherName.{display_by_name, name_by_display, other_name_verdict, other_name_told, other_name_done}
@@ -54,12 +55,14 @@ verdict l f caller (request.Notify handle mask) append = notify_verdict l f call
 verdict l f caller (request.GetNotify handle) append = notice_verdict f caller handle
 verdict l f caller (request.CloseNotify handle) append = notice_verdict f caller handle
 verdict l f caller (request.EnumDependents handle states size) append = enum_dependents_verdict f caller handle states size
-verdict l f caller (request.EnumServices handle kinds states size resume) append = enum_services_verdict f caller handle kinds states size resume
+verdict l f caller (request.EnumServices handle kinds states size resume) append =
+    enum_services_verdict f caller handle kinds states size resume
 verdict l f caller (request.Change2 handle asked) append = change2_verdict f caller handle asked append
 verdict l f caller (request.QueryConfig2 handle level size) append = query_config2_verdict f caller handle level size
 verdict l f caller (request.QueryStatusEx handle level size) append = query_ex_verdict f caller handle level size
 
--- what a call is told that is refused: where a size is too small, how much is needed, and what of a page there is room for; how a service stands that gets no control now
+-- what a call is told that is refused: where a size is too small, how much is needed, and what of a page there is room for; how a service
+-- stands that gets no control now
 abbrev pub told_refused : Flat → ℕ → Request → ℕ → Reply
 told_refused f caller (request.Control handle control) code = control_told f caller handle code
 told_refused f caller (request.QueryConfig handle size) code = query_config_told f caller handle code
@@ -73,7 +76,7 @@ told_refused f caller (request.QueryStatusEx handle level size) code = query_ex_
 told_refused f caller asked code = refused asked code
 
 -- the reply and the state of a call that is not refused
-abbrev pub done_of : Limits → Flat → ℕ → Request → Done
+abbrev pub done_of : Limits → Flat → ℕ → Request → CallResult
 done_of l f caller (request.Close handle) = close_done f handle
 done_of l f caller (request.Control handle control) = control_done l f caller handle control
 done_of l f caller (request.Delete handle) = delete_done f caller handle
@@ -100,7 +103,7 @@ done_of l f caller (request.QueryConfig2 handle level size) = query_config2_done
 done_of l f caller (request.QueryStatusEx handle level size) = query_ex_done f caller handle size
 
 -- the reply and the state of a call
-abbrev pub call_of : Limits → Flat → ℕ → Request → Kept → Done
+abbrev pub call_of : Limits → Flat → ℕ → Request → Kept → CallResult
 call_of l f caller asked append =
     answered (verdict l f caller asked append) (told_refused f caller asked (verdict l f caller asked append)) f (done_of l f caller asked)
 
@@ -110,9 +113,12 @@ unless_refused code change = if code == 0 then change else None
 
 -- the change that a call would make if it were kept: none where it is refused before
 abbrev pub change_of_call : Limits → Flat → ℕ → Request → Option Change
-change_of_call l f caller (request.Delete handle) = unless_refused (delete_verdict f caller handle appended.Kept) (delete_change f caller handle)
-change_of_call l f caller (request.Change change) = unless_refused (change_verdict f caller change appended.Kept) (change_change f caller change)
-change_of_call l f caller (request.Change2 handle asked) = unless_refused (change2_verdict f caller handle asked appended.Kept) (change2_change f caller handle asked)
+change_of_call l f caller (request.Delete handle) = unless_refused (delete_verdict f caller handle appended.Kept)
+    (delete_change f caller handle)
+change_of_call l f caller (request.Change change) = unless_refused (change_verdict f caller change appended.Kept)
+    (change_change f caller change)
+change_of_call l f caller (request.Change2 handle asked) = unless_refused (change2_verdict f caller handle asked appended.Kept)
+    (change2_change f caller handle asked)
 change_of_call l f caller (request.Create new) = unless_refused (create_verdict l f caller new appended.Kept) (create_change f new)
 change_of_call l f caller asked = None
 

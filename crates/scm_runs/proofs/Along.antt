@@ -15,7 +15,8 @@ Keeps I l = (f : Flat) (e : Entry) → I f → IsTrue (may l f e.0 e.1) → I (s
 abbrev pub Gives : (Flat → Type 0) → (Flat → Entry → Answer → Flat → Type 0) → Limits → Type 0
 Gives I P l = (f : Flat) (e : Entry) → I f → IsTrue (may l f e.0 e.1) → P f e (step_of l f e.0 e.1).answer (step_of l f e.0 e.1).flat
 
-pub along : (I : Flat → Type 0) (P : Flat → Entry → Answer → Flat → Type 0) (l : Limits) → Keeps I l → Gives I P l → (f : Flat) (es : List Entry) → I f → IsLegal l f es → EachStep P l f es
+pub along : (I : Flat → Type 0) (P : Flat → Entry → Answer → Flat → Type 0) (l : Limits) → Keeps I l → Gives I P l
+    → (f : Flat) (es : List Entry) → I f → IsLegal l f es → EachStep P l f es
 along I P l keeps gives f [] i legal = tt
 along I P l keeps gives f (e ∷ es) i legal =
     (gives f e i legal.0, along I P l keeps gives (step_of l f e.0 e.1).flat es (keeps f e i legal.0) legal.1)

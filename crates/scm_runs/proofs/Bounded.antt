@@ -1,5 +1,6 @@
 -- Commands have their short word, and each service has one row at most that becomes due.
-use Rattle.std.proofs.Common.{ℕ, suc, ◌≡◌, ◌∙◌, ◌+◌, ◌<◌, ◌≤◌, ◌==◌, Bool, true, false, not, cond, List, [], ◌∷◌, ◌++◌, filter, length, ap, sym, refl, subst, arith, eqb-true, get_or, ne_eqb}
+use Rattle.std.proofs.Common.{ℕ, suc, ◌≡◌, ◌∙◌, ◌+◌, ◌<◌, ◌≤◌, ◌==◌, Bool, true, false, not, cond, List, [], ◌∷◌, ◌++◌, filter, length, ap}
+use Rattle.std.proofs.Common.{sym, refl, subst, arith, eqb-true, get_or, ne_eqb}
 use Rattle.std.specs.Prelude.{All, AllPairs}
 use Rattle.std.proofs.lemmas.List.{append-nil}
 use Rattle.std.proofs.lemmas.List.Elements.{All-contains, All-cons, All-filter, All-nil, All-push, filter-append}
@@ -60,13 +61,15 @@ fewer_once p rows once service =
     omega (arith, less, one)
 
 -- a row that is of another service, or of none
-other_more : (service : ℕ) (rows : List Due) (new : Due) → is_due_of service new.kind ≡ false → length (dues_of service (rows ++ new ∷ [])) ≡ length (dues_of service rows)
+other_more : (service : ℕ) (rows : List Due) (new : Due) → is_due_of service new.kind ≡ false
+    → length (dues_of service (rows ++ new ∷ [])) ≡ length (dues_of service rows)
 other_more service rows new other =
     ap length (filter-append (λ (due : Due). is_due_of service due.kind) rows (new ∷ []))
     ∙ ap (λ (b : Bool). length (dues_of service rows ++ cond b (new ∷ []) [])) other
     ∙ ap length (append-nil (dues_of service rows))
 
-deadline_once : (plan moment number : ℕ) (rows : List Due) → AreOnce rows → AreOnce (rows ++ record { moment = moment; number = number; kind = dues.Deadline plan } ∷ [])
+deadline_once : (plan moment number : ℕ) (rows : List Due) → AreOnce rows
+    → AreOnce (rows ++ record { moment = moment; number = number; kind = dues.Deadline plan } ∷ [])
 deadline_once plan moment number rows once service =
     let same = other_more service rows (record { moment = moment; number = number; kind = dues.Deadline plan }) refl in
     let one = once service in
@@ -75,7 +78,8 @@ deadline_once plan moment number rows once service =
 none_of : (service : ℕ) (rows : List Due) → dues_of service (of_others service rows) ≡ []
 none_of service [] = refl
 none_of service (due ∷ rows) =
-    elim (is_due_of service due.kind) as (λ b. is_due_of service due.kind ≡ b → dues_of service (cond (not b) (due ∷ of_others service rows) (of_others service rows)) ≡ [])
+    elim (is_due_of service due.kind) as (λ b. is_due_of service due.kind ≡ b
+    → dues_of service (cond (not b) (due ∷ of_others service rows) (of_others service rows)) ≡ [])
     [ true ↦ λ e. none_of service rows | false ↦ λ e. rw e (none_of service rows) ] refl
 
 one_alone : (b : Bool) (new : Due) → length (cond b (new ∷ []) []) ≤ 1
@@ -83,13 +87,16 @@ one_alone true new = omega arith
 one_alone false new = omega arith
 
 -- a row of a service takes the place of an earlier one
-service_once : (number : ℕ) (rows : List Due) (new : Due) → ((service : ℕ) → is_due_of service new.kind ≡ (number == service)) → AreOnce rows → AreOnce (of_others number rows ++ new ∷ [])
+service_once : (number : ℕ) (rows : List Due) (new : Due) → ((service : ℕ) → is_due_of service new.kind ≡ (number == service))
+    → AreOnce rows → AreOnce (of_others number rows ++ new ∷ [])
 service_once number rows new of once service =
     let few = fewer_once (λ (due : Due). not (is_due_of number due.kind)) rows once service in
     elim (number == service) as (λ b. (number == service) ≡ b → length (dues_of service (of_others number rows ++ new ∷ [])) ≤ 1) [
       | true ↦ λ e. (
-          let none : dues_of service (of_others number rows) ≡ [] = subst (λ n. dues_of service (of_others n rows) ≡ []) (sym (eqb-true number service e)) (none_of service rows) in
-          let all : length (dues_of service (of_others number rows ++ new ∷ [])) ≡ length (cond (is_due_of service new.kind) (new ∷ []) []) =
+          let none : dues_of service (of_others number rows) ≡ [] = subst (λ n. dues_of service (of_others n rows) ≡ [])
+          (sym (eqb-true number service e)) (none_of service rows) in
+          let all : length (dues_of service (of_others number rows ++ new ∷ [])) ≡ length
+          (cond (is_due_of service new.kind) (new ∷ []) []) =
           ap length (filter-append (λ (due : Due). is_due_of service due.kind) (of_others number rows) (new ∷ []))
           ∙ ap (λ (xs : List Due). length (xs ++ cond (is_due_of service new.kind) (new ∷ []) [])) none in
           let one = one_alone (is_due_of service new.kind) new in
@@ -97,18 +104,30 @@ service_once number rows new of once service =
       | false ↦ λ e. (let same = other_more service (of_others number rows) new (of service ∙ e) in omega (arith, same, few))
     ] refl
 
-due_once : (f : Flat) (moment service : ℕ) (kind : DueKind) → is_due_of service kind ≡ true → IsBounded f → IsBounded (with_due f moment kind)
+due_once : (f : Flat) (moment service : ℕ) (kind : DueKind) → is_due_of service kind ≡ true → IsBounded f
+    → IsBounded (with_due f moment kind)
 due_once f moment service (dues.Deadline plan) is b = absurd cc
-due_once f moment service (dues.Start number) is b = record { commands = b.commands; once = service_once number f.dues _ (λ other. refl) b.once }
-due_once f moment service (dues.Command number) is b = record { commands = b.commands; once = service_once number f.dues _ (λ other. refl) b.once }
-due_once f moment service (dues.Reboot number) is b = record { commands = b.commands; once = service_once number f.dues _ (λ other. refl) b.once }
+due_once f moment service (dues.Start number) is b = record {
+  commands = b.commands;
+  once = service_once number f.dues _ (λ other. refl) b.once;
+}
+due_once f moment service (dues.Command number) is b = record {
+  commands = b.commands;
+  once = service_once number f.dues _ (λ other. refl) b.once;
+}
+due_once f moment service (dues.Reboot number) is b = record {
+  commands = b.commands;
+  once = service_once number f.dues _ (λ other. refl) b.once;
+}
 
 -- ## The state that a manager begins in
 
 count_head : {X : Type 0} (p : X → Bool) (x : X) (xs : List X) → length (filter p (x ∷ xs)) ≡ cond (p x) 1 0 + length (filter p xs)
-count_head p x xs = elim (p x) as (λ b. length (cond b (x ∷ filter p xs) (filter p xs)) ≡ cond b 1 0 + length (filter p xs)) [ true ↦ omega arith | false ↦ omega arith ]
+count_head p x xs = elim (p x) as (λ b. length (cond b (x ∷ filter p xs) (filter p xs)) ≡ cond b 1 0 + length (filter p xs))
+    [ true ↦ omega arith | false ↦ omega arith ]
 
-put_count : {X : Type 0} (before : X → X → Bool) (p : X → Bool) (x : X) (ys : List X) → length (filter p (put_in before x ys)) ≡ length (filter p (x ∷ ys))
+put_count : {X : Type 0} (before : X → X → Bool) (p : X → Bool) (x : X) (ys : List X)
+    → length (filter p (put_in before x ys)) ≡ length (filter p (x ∷ ys))
 put_count before p x [] = refl
 put_count before p x (y ∷ ys) =
     elim (before y x) as (λ b. length (filter p (cond b (y ∷ put_in before x ys) (x ∷ y ∷ ys))) ≡ length (filter p (x ∷ y ∷ ys))) [
@@ -122,7 +141,8 @@ put_count before p x (y ∷ ys) =
       | false ↦ refl
     ]
 
-order_count : {X : Type 0} (before : X → X → Bool) (p : X → Bool) (xs : List X) → length (filter p (in_order before xs)) ≡ length (filter p xs)
+order_count : {X : Type 0} (before : X → X → Bool) (p : X → Bool) (xs : List X)
+    → length (filter p (in_order before xs)) ≡ length (filter p xs)
 order_count before p [] = refl
 order_count before p (x ∷ xs) =
     let put = put_count before p x (in_order before xs) in
@@ -131,19 +151,26 @@ order_count before p (x ∷ xs) =
     let rest = order_count before p xs in
     omega (arith, put, first, second, rest)
 
-start_count : (service number moment : ℕ) (rows : List Service) → length (dues_of service (starts_from number moment rows)) ≡ length (filter (λ (row : Service). row.number == service) rows)
+start_count : (service number moment : ℕ) (rows : List Service) → length (dues_of service (starts_from number moment rows)) ≡ length
+    (filter (λ (row : Service). row.number == service) rows)
 start_count service number moment [] = refl
 start_count service number moment (row ∷ rows) =
     let rest = start_count service (number + 1) moment rows in
-    let one = count_head (λ (due : Due). is_due_of service due.kind) (record { moment = automatic_at moment row; number = number; kind = dues.Start row.number }) (starts_from (number + 1) moment rows) in
+    let one = count_head (λ (due : Due). is_due_of service due.kind) (record {
+      moment = automatic_at moment row;
+      number = number;
+      kind = dues.Start row.number;
+    }) (starts_from (number + 1) moment rows) in
     let other = count_head (λ (r : Service). r.number == service) row rows in
     omega (arith, rest, one, other)
 
-number_once : (service : ℕ) (rows : List Service) → AllPairs (λ (a b : Service). a.number < b.number) rows → length (filter (λ (row : Service). row.number == service) rows) ≤ 1
+number_once : (service : ℕ) (rows : List Service) → AllPairs (λ (a b : Service). a.number < b.number) rows
+    → length (filter (λ (row : Service). row.number == service) rows) ≤ 1
 number_once service [] rising = omega arith
 number_once service (row ∷ rows) rising =
     let rest = number_once service rows (λ i j d lt within. rising (suc i) (suc j) d (omega (arith, lt)) (omega (arith, within))) in
-    elim (row.number == service) as (λ b. (row.number == service) ≡ b → length (cond b (row ∷ filter (λ (r : Service). r.number == service) rows) (filter (λ (r : Service). r.number == service) rows)) ≤ 1) [
+    elim (row.number == service) as (λ b. (row.number == service) ≡ b →
+    length (cond b (row ∷ filter (λ (r : Service). r.number == service) rows) (filter (λ (r : Service). r.number == service) rows)) ≤ 1) [
       | true ↦ λ e. (
           let none : filter (λ (r : Service). r.number == service) rows ≡ [] =
           none_pass (λ (r : Service). r.number == service) rows (λ k d lt. ne_eqb (get_or rows k d).number service (λ same. absurd (
@@ -155,7 +182,8 @@ number_once service (row ∷ rows) rising =
       | false ↦ λ e. rest
     ] refl
 
-pub bounded_opened : (l : Limits) (groups : List (List ℕ)) (configs : List Config) (moment : ℕ) → CanOpen l configs → IsBounded (opening l groups configs moment)
+pub bounded_opened : (l : Limits) (groups : List (List ℕ)) (configs : List Config) (moment : ℕ) → CanOpen l configs
+    → IsBounded (opening l groups configs moment)
 bounded_opened l groups configs moment can = record {
   commands = All-nil HasShortWord;
   once = λ service. (
@@ -178,12 +206,15 @@ bounded_done l f caller (request.Start handle words) b =
 bounded_done l f caller (request.SetStatus handle status) b =
     failing_keeps IsBounded (failed_by status (held_service f caller handle)) _ (record { commands = b.commands; once = b.once })
     (λ row is. record { commands = b.commands; once = b.once }) (λ service g moment kind is c. due_once g moment service kind is c)
-bounded_done l f caller (request.Notify handle mask) b = notify_apart IsBounded f caller handle mask (λ rows next. record { commands = b.commands; once = b.once })
+bounded_done l f caller (request.Notify handle mask) b = notify_apart IsBounded f caller handle mask
+    (λ rows next. record { commands = b.commands; once = b.once })
 bounded_done l f caller asked b = record { commands = b.commands; once = b.once }
 
-bounded_call : (l : Limits) (f : Flat) (caller : ℕ) (asked : Request) (append : Kept) → IsBounded f → IsBounded (call_of l f caller asked append).flat
+bounded_call : (l : Limits) (f : Flat) (caller : ℕ) (asked : Request) (append : Kept) → IsBounded f
+    → IsBounded (call_of l f caller asked append).flat
 bounded_call l f caller asked append b =
-    by_verdict (λ r. IsBounded r.flat) (verdict l f caller asked append) (told_refused f caller asked (verdict l f caller asked append)) f (done_of l f caller asked)
+    by_verdict (λ r. IsBounded r.flat) (verdict l f caller asked append) (told_refused f caller asked (verdict l f caller asked append)) f
+    (done_of l f caller asked)
     (λ e. bounded_done l f caller asked b) (λ e. b)
 
 fewer_wanted : (process : ℕ) (rows : List Wanted) → All HasShortWord rows → All HasShortWord (wanted_of_others process rows)
@@ -195,53 +226,85 @@ record Stands (f : Flat) : Type 0 where
   bounded : IsBounded f
 
 start_stands : (f : Flat) (row : Service) → Stands f → Stands (with_start 0 [] row f)
-start_stands f row s = record { checked = s.checked; bounded = record { commands = s.bounded.commands; once = deadline_once _ _ _ f.dues s.bounded.once } }
+start_stands f row s = record {
+  checked = s.checked;
+  bounded = record {
+    commands = s.bounded.commands;
+    once = deadline_once _ _ _ f.dues s.bounded.once;
+  };
+}
 
 -- a command that is accepted is short
 command_short : (process : ℕ) (row : Service) → IsChecked row → HasShortWord (wanted_command process row.config.command)
 command_short process row checked is = record {
   one = refl;
-  short = All-cons (λ (word : List ℕ). length word ≤ 2048) row.config.command [] (are_short row.config checked).command (All-nil (λ (word : List ℕ). length word ≤ 2048));
+  short = All-cons (λ (word : List ℕ). length word ≤ 2048) row.config.command [] (are_short row.config checked).command
+      (All-nil (λ (word : List ℕ). length word ≤ 2048));
 }
 
 command_stands : (f : Flat) (row : Service) → IsChecked row → Stands f → Stands (with_wanted_command row.config.command f)
 command_stands f row checked s = record {
   checked = s.checked;
-  bounded = record { commands = All-push HasShortWord f.wanted _ s.bounded.commands (command_short f.next.process row checked); once = s.bounded.once };
+  bounded = record {
+    commands = All-push HasShortWord f.wanted _ s.bounded.commands (command_short f.next.process row checked);
+    once = s.bounded.once;
+  };
 }
 
-bounded_effect : (l : Limits) (f : Flat) (moment : ℕ) (step : Step) → Sound f → IsBounded f → IsBounded (effect_of l (at_moment f moment step) step).flat
-bounded_effect l f moment (Call caller asked append) s b = bounded_call l (with_moment f moment) caller asked append (record { commands = b.commands; once = b.once })
+bounded_effect : (l : Limits) (f : Flat) (moment : ℕ) (step : Step) → Sound f → IsBounded f
+    → IsBounded (effect_of l (at_moment f moment step) step).flat
+bounded_effect l f moment (Call caller asked append) s b = bounded_call l (with_moment f moment) caller asked append
+    (record { commands = b.commands; once = b.once })
 bounded_effect l f moment LaunchTaken s b = record {
-  commands = found_keeps (All HasShortWord) wanted_of_others (first_wanted f.wanted) f.wanted b.commands (λ number is. fewer_wanted number f.wanted b.commands);
+  commands = found_keeps (All HasShortWord) wanted_of_others (first_wanted f.wanted) f.wanted b.commands
+      (λ number is. fewer_wanted number f.wanted b.commands);
   once = b.once;
 }
 bounded_effect l f moment (Launched process pid) s b = record { commands = fewer_wanted process f.wanted b.commands; once = b.once }
 bounded_effect l f moment (LaunchFailed process code) s b = record { commands = fewer_wanted process f.wanted b.commands; once = b.once }
 bounded_effect l f moment (Report process status) s b =
-    failing_keeps IsBounded (failed_by status (current_of (with_moment f moment) process)) _ (record { commands = b.commands; once = b.once })
+    failing_keeps IsBounded (failed_by status (current_of (with_moment f moment) process)) _
+    (record { commands = b.commands; once = b.once })
     (λ row is. record { commands = b.commands; once = b.once }) (λ service g at kind is c. due_once g at service kind is c)
 bounded_effect l f moment (Ended process) s b =
-    let left : IsBounded (without_process (with_fallen (with_moment f moment) process 1067) process) = record { commands = fewer_wanted process f.wanted b.commands; once = b.once } in
-    failing_keeps (λ (g : Flat). IsBounded (without_process g process)) (current_of (with_moment f moment) process) (with_fallen (with_moment f moment) process 1067) left
-    (λ row is. record { commands = left.commands; once = left.once }) (λ service g at kind is c. due_once (without_process g process) at service kind is c)
+    let left : IsBounded (without_process (with_fallen (with_moment f moment) process 1067) process) =
+    record { commands = fewer_wanted process f.wanted b.commands; once = b.once } in
+    failing_keeps (λ (g : Flat). IsBounded (without_process g process)) (current_of (with_moment f moment) process)
+    (with_fallen (with_moment f moment) process 1067) left
+    (λ row is. record { commands = left.commands; once = left.once }) (λ service g at kind is c. due_once
+    (without_process g process) at service kind is c)
 bounded_effect l f moment Tick s b = (ticked_by Stands l (record {
-  spends = λ g row is t. record { checked = t.checked; bounded = record { commands = t.bounded.commands; once = fewer_once (λ (due : Due). not (due.number == row.number)) g.dues t.bounded.once } };
+  spends = λ g row is t. record {
+    checked = t.checked;
+    bounded = record {
+      commands = t.bounded.commands;
+      once = fewer_once (λ (due : Due). not (due.number == row.number)) g.dues t.bounded.once;
+    };
+  };
   starts = λ g row there can t. start_stands g row t;
   runs = λ g row there can t. command_stands g row (All-contains IsChecked g.services row t.checked there) t;
   reboots = λ g t. record { checked = t.checked; bounded = record { commands = t.bounded.commands; once = t.bounded.once } };
 }) (with_moment f moment) (record { checked = s.services.configs; bounded = record { commands = b.commands; once = b.once } })).bounded
 bounded_effect l f moment (Raised caller subtype) s b = (raised_by Stands l subtype (record {
   starts = λ g row there can t. start_stands g row t;
-  stops = λ g row action there is stops gets t. record { checked = t.checked; bounded = record { commands = t.bounded.commands; once = t.bounded.once } };
-}) (with_moment f moment) caller (record { checked = s.services.configs; bounded = record { commands = b.commands; once = b.once } })).bounded
+  stops = λ g row action there is stops gets t. record {
+    checked = t.checked;
+    bounded = record { commands = t.bounded.commands; once = t.bounded.once };
+  };
+}) (with_moment f moment) caller (record {
+  checked = s.services.configs;
+  bounded = record { commands = b.commands; once = b.once };
+})).bounded
 bounded_effect l f moment step s b = record { commands = b.commands; once = b.once }
 
 -- ## Settling
 
 entering_bounded : (l : Limits) → Lasts l IsBounded (λ plan. Unit {0})
 entering_bounded l = record {
-  enters = λ f plan service words entry b. record { commands = All-push HasShortWord f.wanted _ b.commands (λ is. absurd cc); once = b.once };
+  enters = λ f plan service words entry b. record {
+    commands = All-push HasShortWord f.wanted _ b.commands (λ is. absurd cc);
+    once = b.once;
+  };
   tries = λ f plan service entry q. tt;
   drops = λ plan service rest code q. tt;
 }
@@ -255,5 +318,6 @@ settled_bounded l f b =
 pub bounded_step : (l : Limits) (f : Flat) (moment : ℕ) (step : Step) → Sound f → IsBounded f → IsBounded (step_of l f moment step).flat
 bounded_step l f moment step s b =
     let done = effect_of l (at_moment f moment step) step in
-    let before = finished_keeps IsBounded (λ g plans h. record { commands = h.commands; once = h.once }) (settled l done.flat) done.answer (settled_bounded l done.flat (bounded_effect l f moment step s b)) in
+    let before = finished_keeps IsBounded (λ g plans h. record { commands = h.commands; once = h.once }) (settled l done.flat) done.answer
+    (settled_bounded l done.flat (bounded_effect l f moment step s b)) in
     record { commands = before.commands; once = before.once }

@@ -46,12 +46,16 @@ pub record AreTidy (f : Flat) : Type 0 where
 settled_tidy : (l : Limits) (f : Flat) → AreTidy (settled l f)
 settled_tidy l f =
     let ends = settle_all l f f.plans in
-    record { still = filter_passes (λ (due : Due). is_due_still (settled l f).plans due.kind) ends.0.dues; stay = filter_passes stays ends.1 }
+    record {
+      still = filter_passes (λ (due : Due). is_due_still (settled l f).plans due.kind) ends.0.dues;
+      stay = filter_passes stays ends.1;
+    }
 
 left_tidy : (g : Flat) (plan : ℕ) (code : Option ℕ) → code_of g.plans plan ≡ code → Sound g → AreTidy g → AreTidy (left_by g plan code)
 left_tidy g plan None e s t = t
 left_tidy g plan (Some code) e s t = record {
-  still = ended_still g.plans plan code (plan_of g.plans plan) g.dues (numbered g.next.plan g.next.service g.callers g.plans s.plans).rising refl e t.still;
+  still = ended_still g.plans plan code (plan_of g.plans plan) g.dues (numbered g.next.plan g.next.service g.callers g.plans s.plans).rising
+      refl e t.still;
   stay = All-filter _ (λ (row : Plan). stays row ≡ true) g.plans t.stay;
 }
 
@@ -71,7 +75,8 @@ nobody_told : (events : List Event) → all_noted events [] ≡ []
 nobody_told [] = refl
 nobody_told (event ∷ events) = nobody_told events
 
-opened_purged : (l : Limits) (groups : List (List ℕ)) (configs : List Config) (moment : ℕ) → purged (opening l groups configs moment) ≡ opening l groups configs moment
+opened_purged : (l : Limits) (groups : List (List ℕ)) (configs : List Config) (moment : ℕ)
+    → purged (opening l groups configs moment) ≡ opening l groups configs moment
 opened_purged l groups configs moment =
     let f = opening l groups configs moment in
     ap (λ (rows : List Registration). record (purged f) { registrations = rows }) (nobody_told (map event_of_leaving (leaving f)))
@@ -81,13 +86,21 @@ opened_purged l groups configs moment =
 starts_still : (number moment : ℕ) (rows : List Service) → AreStill [] (starts_from number moment rows)
 starts_still number moment [] = All-nil (λ (due : Due). is_due_still [] due.kind ≡ true)
 starts_still number moment (row ∷ rows) =
-    All-cons (λ (due : Due). is_due_still [] due.kind ≡ true) (record { moment = automatic_at moment row; number = number; kind = dues.Start row.number }) (starts_from (number + 1) moment rows) refl
+    All-cons (λ (due : Due). is_due_still [] due.kind ≡ true) (record {
+      moment = automatic_at moment row;
+      number = number;
+      kind = dues.Start row.number;
+    }) (starts_from (number + 1) moment rows) refl
     (starts_still (number + 1) moment rows)
 
 opened_tidy : (l : Limits) (groups : List (List ℕ)) (configs : List Config) (moment : ℕ) → AreTidy (opening l groups configs moment)
-opened_tidy l groups configs moment = record { still = starts_still 1 moment (auto_rows (services_from 1 configs) groups); stay = All-nil (λ (plan : Plan). stays plan ≡ true) }
+opened_tidy l groups configs moment = record {
+  still = starts_still 1 moment (auto_rows (services_from 1 configs) groups);
+  stay = All-nil (λ (plan : Plan). stays plan ≡ true);
+}
 
-opened_settled : (l : Limits) (groups : List (List ℕ)) (configs : List Config) (moment : ℕ) → settled l (opening l groups configs moment) ≡ opening l groups configs moment
+opened_settled : (l : Limits) (groups : List (List ℕ)) (configs : List Config) (moment : ℕ)
+    → settled l (opening l groups configs moment) ≡ opening l groups configs moment
 opened_settled l groups configs moment =
     let tidy = opened_tidy l groups configs moment in
     is_settled l (opening l groups configs moment) tt tidy.still tidy.stay
@@ -104,7 +117,8 @@ clear_begun l f o = record {
 pub clear_keeps : (l : Limits) → Keeps (Clear l) l
 clear_keeps l f e c ok =
     let done = effect_of l (at_moment f e.0 e.1) e.1 in
-    let tidy = finished_tidy (settled l done.flat) done.answer (settles l done.flat (of_effect l f e.0 e.1 c.sound ok)) (settled_tidy l done.flat) in
+    let tidy = finished_tidy (settled l done.flat) done.answer (settles l done.flat (of_effect l f e.0 e.1 c.sound ok))
+    (settled_tidy l done.flat) in
     let rests = purged_rest l (before_leaving l f e) (finished_rest l (settled l done.flat) done.answer (settled_rest l done.flat)) in
     record {
       sound = keeps l f e c.sound ok;
@@ -148,7 +162,8 @@ is_valid_clear l f c = record {
   held = c.sound.handles.held;
   locks = c.sound.handles.lock.locks;
   holder = c.sound.handles.lock.holder;
-  masks = All-weaker (HasRightsIn f.callers) (λ (row : HandleRow). HasPlainMask row.kind row.granted) (λ row rights. plain_mask _ row.kind row.granted rights) f.handles c.sound.handles.rights;
+  masks = All-weaker (HasRightsIn f.callers) (λ (row : HandleRow). HasPlainMask row.kind row.granted)
+      (λ row rights. plain_mask _ row.kind row.granted rights) f.handles c.sound.handles.rights;
   commands = c.bounded.commands;
   registered = c.sound.registrations.held;
   told = c.sound.registrations.told;

@@ -34,21 +34,28 @@ process_done l f caller (request.OpenService handle name access) =
     opened_keeps (λ (g : Flat). g.next.process ≡ f.next.process) f caller name access refl (λ row is. refl)
 process_done l f caller (request.Start handle words) =
     started_keeps (λ (g : Flat). g.next.process ≡ f.next.process) f caller handle words refl (λ row is. refl)
-process_done l f caller (request.SetStatus handle status) = failing_apart (λ (g : Flat). g.next.process ≡ f.next.process) (failed_by status (held_service f caller handle)) _ refl
-process_done l f caller (request.Notify handle mask) = notify_apart (λ (g : Flat). g.next.process ≡ f.next.process) f caller handle mask (λ rows next. refl)
+process_done l f caller (request.SetStatus handle status) = failing_apart (λ (g : Flat). g.next.process ≡ f.next.process)
+    (failed_by status (held_service f caller handle)) _ refl
+process_done l f caller (request.Notify handle mask) = notify_apart (λ (g : Flat). g.next.process ≡ f.next.process) f caller handle mask
+    (λ rows next. refl)
 process_done l f caller asked = refl
 
-process_call : (l : Limits) (f : Flat) (caller : ℕ) (asked : Request) (append : Kept) → (call_of l f caller asked append).flat.next.process ≡ f.next.process
+process_call : (l : Limits) (f : Flat) (caller : ℕ) (asked : Request) (append : Kept)
+    → (call_of l f caller asked append).flat.next.process ≡ f.next.process
 process_call l f caller asked append =
-    by_verdict (λ r. r.flat.next.process ≡ f.next.process) (verdict l f caller asked append) (told_refused f caller asked (verdict l f caller asked append)) f (done_of l f caller asked)
+    by_verdict (λ r. r.flat.next.process ≡ f.next.process) (verdict l f caller asked append)
+    (told_refused f caller asked (verdict l f caller asked append)) f (done_of l f caller asked)
     (λ e. process_done l f caller asked) (λ e. refl)
 
 -- an effect doesn't go back behind the next number of a process
-pub process_up : (l : Limits) (f : Flat) (moment : ℕ) (step : Step) → f.next.process ≤ (effect_of l (at_moment f moment step) step).flat.next.process
+pub process_up : (l : Limits) (f : Flat) (moment : ℕ) (step : Step) → f.next.process ≤
+    (effect_of l (at_moment f moment step) step).flat.next.process
 process_up l f moment (Call caller asked append) = (let e = process_call l (with_moment f moment) caller asked append in omega (arith, e))
 process_up l f moment (Report process status) =
-    failing_apart (λ (g : Flat). f.next.process ≤ g.next.process) (failed_by status (current_of (with_moment f moment) process)) _ (omega arith)
-process_up l f moment (Ended process) = failing_apart (λ (g : Flat). f.next.process ≤ g.next.process) (current_of (with_moment f moment) process) _ (omega arith)
+    failing_apart (λ (g : Flat). f.next.process ≤ g.next.process) (failed_by status (current_of (with_moment f moment) process)) _
+    (omega arith)
+process_up l f moment (Ended process) = failing_apart (λ (g : Flat). f.next.process ≤ g.next.process)
+    (current_of (with_moment f moment) process) _ (omega arith)
 process_up l f moment Tick = ticked_by (λ (g : Flat). f.next.process ≤ g.next.process) l (record {
   spends = λ g row is up. up;
   starts = λ g row there can up. up;
@@ -56,7 +63,8 @@ process_up l f moment Tick = ticked_by (λ (g : Flat). f.next.process ≤ g.next
   reboots = λ g up. up;
 }) (with_moment f moment) (omega arith)
 process_up l f moment (Raised caller subtype) =
-    raised_by (λ (g : Flat). f.next.process ≤ g.next.process) l subtype (record { starts = λ g row there can up. up; stops = λ g row action there is stops gets up. up }) (with_moment f moment) caller
+    raised_by (λ (g : Flat). f.next.process ≤ g.next.process) l subtype
+    (record { starts = λ g row there can up. up; stops = λ g row action there is stops gets up. up }) (with_moment f moment) caller
     (omega arith)
 process_up l f moment step = omega arith
 
@@ -66,15 +74,19 @@ low_rows f g s e = subst (λ n. All (λ (row : Service). row.process < n) g.serv
 -- and gives none to a service
 pub processes_low : (l : Limits) (f : Flat) (moment : ℕ) (step : Step) → Sound f → IsTrue (may l f moment step)
     → All (λ (row : Service). row.process < f.next.process) (effect_of l (at_moment f moment step) step).flat.services
-processes_low l f moment (Call caller asked append) s ok = low_rows f _ (of_effect l f moment (Call caller asked append) s ok) (process_call l (with_moment f moment) caller asked append)
+processes_low l f moment (Call caller asked append) s ok = low_rows f _ (of_effect l f moment (Call caller asked append) s ok)
+    (process_call l (with_moment f moment) caller asked append)
 processes_low l f moment (Report process status) s ok =
     low_rows f _ (of_effect l f moment (Report process status) s ok)
     (failing_apart (λ (g : Flat). g.next.process ≡ f.next.process) (failed_by status (current_of (with_moment f moment) process)) _ refl)
 processes_low l f moment (Ended process) s ok =
-    low_rows f _ (of_effect l f moment (Ended process) s ok) (failing_apart (λ (g : Flat). g.next.process ≡ f.next.process) (current_of (with_moment f moment) process) _ refl)
-processes_low l f moment Tick s ok = ticked_apart (λ (g : Flat). All (λ (row : Service). row.process < f.next.process) g.services) l (with_moment f moment) s.services.current
+    low_rows f _ (of_effect l f moment (Ended process) s ok) (failing_apart (λ (g : Flat). g.next.process ≡ f.next.process)
+    (current_of (with_moment f moment) process) _ refl)
+processes_low l f moment Tick s ok = ticked_apart (λ (g : Flat). All (λ (row : Service). row.process < f.next.process) g.services) l
+    (with_moment f moment) s.services.current
 processes_low l f moment (Raised caller subtype) s ok =
-    raised_apart (λ (g : Flat). All (λ (row : Service). row.process < f.next.process) g.services) l (with_moment f moment) caller subtype s.services.current
+    raised_apart (λ (g : Flat). All (λ (row : Service). row.process < f.next.process) g.services) l
+    (with_moment f moment) caller subtype s.services.current
 processes_low l f moment step s ok = low_rows f _ (of_effect l f moment step s ok) refl
 
 -- ## Entries of plans
@@ -83,24 +95,32 @@ processes_low l f moment step s ok = low_rows f _ (of_effect l f moment step s o
 abbrev AreOld : ℕ → Flat → Type 0
 AreOld bound g = ArePlans g.next.plan bound g.callers g.plans
 
-old_done : (l : Limits) (f : Flat) (caller : ℕ) (asked : Request) (append : Kept) → Sound f → IsTrue (is_caller f caller) → verdict l f caller asked append ≡ 0 → AreOld f.next.service (done_of l f caller asked).flat
+old_done : (l : Limits) (f : Flat) (caller : ℕ) (asked : Request) (append : Kept) → Sound f → IsTrue (is_caller f caller)
+    → verdict l f caller asked append ≡ 0 → AreOld f.next.service (done_of l f caller asked).flat
 old_done l f caller (request.Start handle words) append s there e =
-    subst (λ n. ArePlans (done_of l f caller (request.Start handle words)).flat.next.plan n (done_of l f caller (request.Start handle words)).flat.callers (done_of l f caller (request.Start handle words)).flat.plans)
+    subst (λ n. ArePlans (done_of l f caller (request.Start handle words)).flat.next.plan n
+    (done_of l f caller (request.Start handle words)).flat.callers (done_of l f caller (request.Start handle words)).flat.plans)
     (started_keeps (λ (g : Flat). g.next.service ≡ f.next.service) f caller handle words refl (λ row is. refl))
     (of_done l f caller (request.Start handle words) append s there e).plans
 old_done l f caller (request.OpenService handle name access) append s there e =
     opened_keeps (AreOld f.next.service) f caller name access s.plans (λ row is. s.plans)
-old_done l f caller (request.SetStatus handle status) append s there e = failing_apart (AreOld f.next.service) (failed_by status (held_service f caller handle)) _ s.plans
-old_done l f caller (request.Notify handle mask) append s there e = notify_apart (AreOld f.next.service) f caller handle mask (λ rows next. s.plans)
+old_done l f caller (request.SetStatus handle status) append s there e =
+    failing_apart (AreOld f.next.service) (failed_by status (held_service f caller handle)) _ s.plans
+old_done l f caller (request.Notify handle mask) append s there e = notify_apart (AreOld f.next.service) f caller handle mask
+    (λ rows next. s.plans)
 old_done l f caller asked append s there e = s.plans
 
-old_call : (l : Limits) (f : Flat) (caller : ℕ) (asked : Request) (append : Kept) → Sound f → IsTrue (is_caller f caller) → AreOld f.next.service (call_of l f caller asked append).flat
+old_call : (l : Limits) (f : Flat) (caller : ℕ) (asked : Request) (append : Kept) → Sound f → IsTrue (is_caller f caller)
+    → AreOld f.next.service (call_of l f caller asked append).flat
 old_call l f caller asked append s there =
-    by_verdict (λ r. AreOld f.next.service r.flat) (verdict l f caller asked append) (told_refused f caller asked (verdict l f caller asked append)) f (done_of l f caller asked)
+    by_verdict (λ r. AreOld f.next.service r.flat) (verdict l f caller asked append)
+    (told_refused f caller asked (verdict l f caller asked append)) f (done_of l f caller asked)
     (old_done l f caller asked append s there) (λ e. s.plans)
 
-pub old_plans : (l : Limits) (f : Flat) (moment : ℕ) (step : Step) → Sound f → IsTrue (may l f moment step) → AreOld f.next.service (effect_of l (at_moment f moment step) step).flat
-old_plans l f moment (Call caller asked append) s ok = old_call l (with_moment f moment) caller asked append (moved f moment s) (and_parts _ _ (and_parts _ _ ok).0).0
+pub old_plans : (l : Limits) (f : Flat) (moment : ℕ) (step : Step) → Sound f → IsTrue (may l f moment step)
+    → AreOld f.next.service (effect_of l (at_moment f moment step) step).flat
+old_plans l f moment (Call caller asked append) s ok = old_call l (with_moment f moment) caller asked append (moved f moment s)
+    (and_parts _ _ (and_parts _ _ ok).0).0
 old_plans l f moment (Report process status) s ok =
     let t = moved f moment s in
     failing_apart (AreOld f.next.service) (failed_by status (current_of (with_moment f moment) process)) _ t.plans
@@ -109,17 +129,20 @@ old_plans l f moment (Ended process) s ok =
     failing_apart (AreOld f.next.service) (current_of (with_moment f moment) process) _ t.plans
 old_plans l f moment Tick s ok =
     let g = ticked l (with_moment f moment) in
-    subst (λ n. ArePlans g.next.plan n g.callers g.plans) (ticked_apart (λ (h : Flat). h.next.service ≡ f.next.service) l (with_moment f moment) refl) (of_effect l f moment Tick s ok).plans
+    subst (λ n. ArePlans g.next.plan n g.callers g.plans) (ticked_apart (λ (h : Flat). h.next.service ≡ f.next.service) l
+    (with_moment f moment) refl) (of_effect l f moment Tick s ok).plans
 old_plans l f moment (Raised caller subtype) s ok =
     let g = raised l (with_moment f moment) caller subtype in
-    subst (λ n. ArePlans g.next.plan n g.callers g.plans) (raised_apart (λ (h : Flat). h.next.service ≡ f.next.service) l (with_moment f moment) caller subtype refl)
+    subst (λ n. ArePlans g.next.plan n g.callers g.plans) (raised_apart (λ (h : Flat). h.next.service ≡ f.next.service) l
+    (with_moment f moment) caller subtype refl)
     (of_effect l f moment (Raised caller subtype) s ok).plans
 old_plans l f moment step s ok = (of_effect l f moment step s ok).plans
 
 -- ## Services
 
 -- a lower number of processes
-lower : (low next bound : ℕ) (befores afters : List Service) → low ≤ next → AreSettled next bound befores afters → AreSettled low bound befores afters
+lower : (low next bound : ℕ) (befores afters : List Service) → low ≤ next → AreSettled next bound befores afters
+    → AreSettled low bound befores afters
 lower low next bound [] [] up each = tt
 lower low next bound [] (after ∷ afters) up each = each
 lower low next bound (before ∷ befores) [] up each = each
@@ -127,12 +150,18 @@ lower low next bound (before ∷ befores) (after ∷ afters) up each = (one_lowe
   where
     one_lower : IsSettled next bound before after → IsSettled low bound before after
     one_lower (inl same) = inl same
-    one_lower (inr is) = inr (record { entered = is.entered; process = (let top = is.process in omega (arith, top, up)); number = is.number })
+    one_lower (inr is) = inr (record {
+      entered = is.entered;
+      process = (let top = is.process in omega (arith, top, up));
+      number = is.number;
+    })
 
 -- settling enters services that stood before the step, with new processes
 pub step_settled : (l : Limits) (f : Flat) (moment : ℕ) (step : Step) → Sound f → IsTrue (may l f moment step)
-    → AreSettled f.next.process f.next.service (effect_of l (at_moment f moment step) step).flat.services (settled l (effect_of l (at_moment f moment step) step).flat).services
+    → AreSettled f.next.process f.next.service (effect_of l (at_moment f moment step) step).flat.services
+    (settled l (effect_of l (at_moment f moment step) step).flat).services
 step_settled l f moment step s ok =
     let g = (effect_of l (at_moment f moment step) step).flat in
     lower f.next.process g.next.process f.next.service g.services (settled l g).services (process_up l f moment step)
-    (all_grown l (λ rows. Unit {0}) g f.next.service (λ event rows proper p. tt) (of_effect l f moment step s ok) tt (old_plans l f moment step s ok)).flat.rows
+    (all_grown l (λ rows. Unit {0}) g f.next.service (λ event rows proper p. tt) (of_effect l f moment step s ok) tt
+    (old_plans l f moment step s ok)).flat.rows

@@ -1,5 +1,6 @@
 -- What a failure of a service keeps: it is counted, and a row may become due for the service.
-use Rattle.std.proofs.Common.{ℕ, ◌≡◌, ◌<◌, ◌+◌, ◌==◌, Bool, true, false, cond, List, Option, None, Some, eq-eqb, get_or, map, ap, sym, refl, subst, arith}
+use Rattle.std.proofs.Common.{ℕ, ◌≡◌, ◌<◌, ◌+◌, ◌==◌, Bool, true, false, cond, List, Option, None, Some, eq-eqb, get_or, map, ap, sym, refl}
+use Rattle.std.proofs.Common.{subst, arith}
 use Rattle.std.specs.Prelude.{All}
 use Rattle.std.proofs.lemmas.List.Elements.{All-map}
 use Rattle.scm_model.specs.declared.flat.Action.{Action}
@@ -22,7 +23,8 @@ use Rattle.scm_runs.proofs.Rows.{AreServices, IsMild, IsStoppedWithout, mildly}
 -- ## What becomes due
 
 by_tests : (nothing restart reboot : Bool) (service : ℕ) (kind : DueKind)
-    → cond nothing None (cond restart (Some (dues.Start service)) (cond reboot (Some (dues.Reboot service)) (Some (dues.Command service)))) ≡ Some kind → is_due_of service kind ≡ true
+    → cond nothing None (cond restart (Some (dues.Start service)) (cond reboot (Some (dues.Reboot service))
+    (Some (dues.Command service)))) ≡ Some kind → is_due_of service kind ≡ true
 by_tests true restart reboot service kind e = absurd cc
 by_tests false true reboot service kind e =
     (let same : dues.Start service ≡ kind = cc in subst (λ (k : DueKind). is_due_of service k ≡ true) same (eq-eqb service service refl))
@@ -51,9 +53,11 @@ failure_keeps P row f counted more =
     (λ kind due. more g (moment_after g.moment action.delay) kind (due_of row.number action kind due) counted))
 
 -- what holds as it was, once a failure is counted, and after a row more
-pub failing_keeps : (P : Flat → Type 0) (found : Option Service) (f : Flat) → P f → ((row : Service) → found ≡ Some row → P (with_count row f)) → ((service : ℕ) → KeepsDues P service)
+pub failing_keeps : (P : Flat → Type 0) (found : Option Service) (f : Flat) → P f
+    → ((row : Service) → found ≡ Some row → P (with_count row f)) → ((service : ℕ) → KeepsDues P service)
     → P (if_found with_failure found f)
-failing_keeps P found f was counted more = found_keeps P with_failure found f was (λ row is. failure_keeps P row f (counted row is) (more row.number))
+failing_keeps P found f was counted more = found_keeps P with_failure found f was
+    (λ row is. failure_keeps P row f (counted row is) (more row.number))
 
 -- ## What it doesn't change
 
@@ -64,36 +68,52 @@ failed_as f g = record f { services = g.services; dues = g.dues; next = record f
 pub failing_as : (found : Option Service) (f : Flat) → if_found with_failure found f ≡ failed_as f (if_found with_failure found f)
 failing_as found f =
     failing_keeps (λ (g : Flat). g ≡ failed_as f g) found f refl (λ row is. refl)
-    (λ service g moment kind is e. ap (λ (h : Flat). record h { dues = (with_due g moment kind).dues; next = record h.next { due = g.next.due + 1 } }) e)
+    (λ service g moment kind is e. ap (λ (h : Flat). record h {
+      dues = (with_due g moment kind).dues;
+      next = record h.next { due = g.next.due + 1 };
+    }) e)
 
 -- what speaks of neither services nor due rows
-pub failing_apart : (P : Flat → Type 0) (found : Option Service) (f : Flat) → P (failed_as f (if_found with_failure found f)) → P (if_found with_failure found f)
+pub failing_apart : (P : Flat → Type 0) (found : Option Service) (f : Flat) → P (failed_as f (if_found with_failure found f))
+    → P (if_found with_failure found f)
 failing_apart P found f p = subst P (sym (failing_as found f)) p
 
 -- ## Services
 
 -- only how often a service failed, and when it last did, is counted
 pub counted_as : (number moment : ℕ) (row : Service)
-    → counted_if number moment row ≡ record row { failures = (counted_if number moment row).failures; last_failure = (counted_if number moment row).last_failure }
+    → counted_if number moment row ≡ record row {
+      failures = (counted_if number moment row).failures;
+      last_failure = (counted_if number moment row).last_failure;
+    }
 counted_as number moment row =
     let new = record row { failures = (on_failure row.config row.failures row.last_failure moment).failures; last_failure = moment } in
-    elim (row.number == number) as (λ b. cond b new row ≡ record row { failures = (cond b new row).failures; last_failure = (cond b new row).last_failure }) [ true ↦ refl | false ↦ refl ]
+    elim (row.number == number) as (λ b. cond b new row ≡ record row {
+      failures = (cond b new row).failures;
+      last_failure = (cond b new row).last_failure;
+    }) [ true ↦ refl | false ↦ refl ]
 
-pub counted_or : (P : Service → Type 0) (number moment : ℕ) (row : Service) → ((failures last : ℕ) → P (record row { failures = failures; last_failure = last })) → P (counted_if number moment row)
-counted_or P number moment row any = subst P (sym (counted_as number moment row)) (any (counted_if number moment row).failures (counted_if number moment row).last_failure)
+pub counted_or : (P : Service → Type 0) (number moment : ℕ) (row : Service)
+    → ((failures last : ℕ) → P (record row { failures = failures; last_failure = last })) → P (counted_if number moment row)
+counted_or P number moment row any = subst P (sym (counted_as number moment row))
+    (any (counted_if number moment row).failures (counted_if number moment row).last_failure)
 
 -- what doesn't speak of that
 abbrev pub IsAsideCounts : (Service → Type 0) → Type 0
 IsAsideCounts P = (row : Service) (failures last : ℕ) → P row → P (record row { failures = failures; last_failure = last })
 
-pub all_counted : (P : Service → Type 0) → IsAsideCounts P → (number moment : ℕ) (rows : List Service) → All P rows → All P (map (counted_if number moment) rows)
+pub all_counted : (P : Service → Type 0) → IsAsideCounts P → (number moment : ℕ) (rows : List Service) → All P rows
+    → All P (map (counted_if number moment) rows)
 all_counted P aside number moment rows all =
-    All-map P (counted_if number moment) rows (λ k d lt. counted_or P number moment (get_or rows k d) (λ failures last. aside (get_or rows k d) failures last (all k d lt)))
+    All-map P (counted_if number moment) rows (λ k d lt. counted_or P number moment (get_or rows k d)
+    (λ failures last. aside (get_or rows k d) failures last (all k d lt)))
 
 -- what holds of each service, whether or not a failure is counted
-pub failing_rows : (P : Service → Type 0) → IsAsideCounts P → (found : Option Service) (f : Flat) → All P f.services → All P (if_found with_failure found f).services
+pub failing_rows : (P : Service → Type 0) → IsAsideCounts P → (found : Option Service) (f : Flat) → All P f.services
+    → All P (if_found with_failure found f).services
 failing_rows P aside found f all =
-    failing_keeps (λ (g : Flat). All P g.services) found f all (λ row is. all_counted P aside row.number f.moment f.services all) (λ service g moment kind is each. each)
+    failing_keeps (λ (g : Flat). All P g.services) found f all (λ row is. all_counted P aside row.number f.moment f.services all)
+    (λ service g moment kind is each. each)
 
 counts_mildly : (number moment : ℕ) → IsMild (counted_if number moment)
 counts_mildly number moment = record {
@@ -102,26 +122,31 @@ counts_mildly number moment = record {
   kind = λ row. counted_or (λ new. new.status.kind ≡ row.status.kind) number moment row (λ failures last. refl);
 }
 
-pub counted : (next process number moment : ℕ) (rows : List Service) → AreServices next process rows → AreServices next process (map (counted_if number moment) rows)
+pub counted : (next process number moment : ℕ) (rows : List Service) → AreServices next process rows
+    → AreServices next process (map (counted_if number moment) rows)
 counted next process number moment rows s =
     mildly next process process (counted_if number moment) rows (counts_mildly number moment) s (omega arith)
     (all_counted IsStoppedWithout (λ row failures last is. is) number moment rows s.stopped)
     (all_counted (λ (row : Service). row.process < process) (λ row failures last is. is) number moment rows s.current)
 
-pub processes_counted : (next number moment : ℕ) (processes : List Process) (wanted : List Wanted) (services : List Service) → AreProcesses next processes wanted services
+pub processes_counted : (next number moment : ℕ) (processes : List Process) (wanted : List Wanted) (services : List Service)
+    → AreProcesses next processes wanted services
     → AreProcesses next processes wanted (map (counted_if number moment) services)
 processes_counted next number moment processes wanted services s =
     beside next processes wanted services (map (counted_if number moment) services) s
     (all_counted (HasListed processes) (λ row failures last is. is) number moment services s.listed)
-    (starts_kept processes (counted_if number moment) services (λ process row is. counted_or (λ new. is_started_by process new ≡ true) number moment row (λ failures last. is)) s.starting)
+    (starts_kept processes (counted_if number moment) services (λ process row is. counted_or
+    (λ new. is_started_by process new ≡ true) number moment row (λ failures last. is)) s.starting)
 
 -- ## Reports
 
 -- who fails by a report is who was found
-pub failed_is : (report : Status) (found : Option Service) (row : Service) → failed_by report found ≡ Some row → (found ≡ Some row) × (is_failure report row ≡ true)
+pub failed_is : (report : Status) (found : Option Service) (row : Service) → failed_by report found ≡ Some row → (found ≡ Some row)
+    × (is_failure report row ≡ true)
 failed_is report None row e = absurd cc
 failed_is report (Some one) row e =
-    elim (is_failure report one) as (λ b. is_failure report one ≡ b → cond b (Some one) None ≡ Some row → (Some one ≡ Some row) × (is_failure report row ≡ true)) [
+    elim (is_failure report one) as (λ b. is_failure report one ≡ b → cond b (Some one) None ≡ Some row → (Some one ≡ Some row)
+    × (is_failure report row ≡ true)) [
       | true ↦ λ is h. (h, (let same : one ≡ row = cc in subst (λ r. is_failure report r ≡ true) same is))
       | false ↦ λ is h. absurd cc
     ] refl e

@@ -26,26 +26,36 @@ found_all P (Some one) none some = some one refl
 
 -- of an OpenService what holds as it was, and with a handle of a service of that name
 pub opened_keeps : (P : Flat → Type 0) (f : Flat) (caller : ℕ) (name : List ℕ) (access : ℕ) → P f
-    → ((row : Service) → named f name ≡ Some row → P (with_opened caller (unwrap_or (service_granted f caller access) 0) row f)) → P (open_service_done f caller name access).flat
-opened_keeps P f caller name access was by = found_keeps P (with_opened caller (unwrap_or (service_granted f caller access) 0)) (named f name) f was by
+    → ((row : Service) → named f name ≡ Some row → P (with_opened caller (unwrap_or (service_granted f caller access) 0) row f))
+    → P (open_service_done f caller name access).flat
+opened_keeps P f caller name access was by = found_keeps P (with_opened caller (unwrap_or (service_granted f caller access) 0))
+    (named f name) f was by
 
 -- of a Start what holds as it was, and with a plan to start the service that the handle is of
 pub started_keeps : (P : Flat → Type 0) (f : Flat) (caller handle : ℕ) (words : Option (List (List ℕ))) → P f
-    → ((row : Service) → held_service f caller handle ≡ Some row → P (with_start caller (unwrap_or words []) row f)) → P (start_done f caller handle words).flat
-started_keeps P f caller handle words was by = found_keeps P (with_start caller (unwrap_or words [])) (held_service f caller handle) f was by
+    → ((row : Service) → held_service f caller handle ≡ Some row → P (with_start caller (unwrap_or words []) row f))
+    → P (start_done f caller handle words).flat
+started_keeps P f caller handle words was by = found_keeps P (with_start caller (unwrap_or words []))
+    (held_service f caller handle) f was by
 
 -- of a Notify what holds with a handle more, whether or not there is what it is to watch
 pub notify_keeps : (P : Flat → Type 0) (f : Flat) (caller handle mask : ℕ) → P (with_handle f caller (kinds.Notify f.next.registration) 0)
-    → ((of : Opened) → watched f caller handle ≡ Some of → P (with_handle (registered f caller handle mask (Some of)) caller (kinds.Notify f.next.registration) 0)) → P (notify_done f caller handle mask).flat
+    → ((of : Opened) → watched f caller handle ≡ Some of → P (with_handle (registered f caller handle mask (Some of)) caller
+    (kinds.Notify f.next.registration) 0)) → P (notify_done f caller handle mask).flat
 notify_keeps P f caller handle mask without by =
-    found_all (λ found. P (with_handle (registered f caller handle mask found) caller (kinds.Notify f.next.registration) 0)) (watched f caller handle) without by
+    found_all (λ found. P (with_handle (registered f caller handle mask found) caller (kinds.Notify f.next.registration) 0))
+    (watched f caller handle) without by
 
 -- and what speaks of no registration
 pub notify_apart : (P : Flat → Type 0) (f : Flat) (caller handle mask : ℕ)
-    → ((rows : List Registration) (next : ℕ) → P (with_handle (record f { registrations = rows; next = record f.next { registration = next } }) caller (kinds.Notify f.next.registration) 0))
+    → ((rows : List Registration) (next : ℕ) → P (with_handle (record f {
+      registrations = rows;
+      next = record f.next { registration = next };
+    }) caller (kinds.Notify f.next.registration) 0))
     → P (notify_done f caller handle mask).flat
 notify_apart P f caller handle mask any =
-    notify_keeps P f caller handle mask (any f.registrations f.next.registration) (λ of is. any (registered f caller handle mask (Some of)).registrations (f.next.registration + 1))
+    notify_keeps P f caller handle mask (any f.registrations f.next.registration)
+    (λ of is. any (registered f caller handle mask (Some of)).registrations (f.next.registration + 1))
 
 -- ## What was found
 
@@ -60,7 +70,8 @@ if_some P (Some one) each = each one refl
 
 -- ## Answers of what was taken
 
-pub launch_is : (g : Flat) (found : Option ℕ) (number : ℕ) → found ≡ Some number → (finished g (launch_told found)).answer ≡ answer.Launch number
+pub launch_is : (g : Flat) (found : Option ℕ) (number : ℕ) → found ≡ Some number
+    → (finished g (launch_told found)).answer ≡ answer.Launch number
 launch_is g None number e = absurd cc
 launch_is g (Some one) number e = (let same : one ≡ number = cc in ap answer.Launch same)
 
@@ -79,6 +90,7 @@ pub record IsHeld (f : Flat) (caller handle : ℕ) : Type 0 where
   pub row : Service
   pub is : held_service f caller handle ≡ Some row
 
-pub stopped_there : (f : Flat) (caller handle : ℕ) (found : Option Service) → held_service f caller handle ≡ found → (state_in found == 1) ≡ true → IsHeld f caller handle
+pub stopped_there : (f : Flat) (caller handle : ℕ) (found : Option Service) → held_service f caller handle ≡ found
+    → (state_in found == 1) ≡ true → IsHeld f caller handle
 stopped_there f caller handle None e stopped = absurd cc
 stopped_there f caller handle (Some row) e stopped = record { row = row; is = e }

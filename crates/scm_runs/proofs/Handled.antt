@@ -1,5 +1,6 @@
 -- What is true of callers, handles and the lock, and what each change of them keeps.
-use Rattle.std.proofs.Common.{ℕ, ◌≡◌, ◌∙◌, ◌+◌, ◌≤◌, ◌==◌, Bool, true, not, IsTrue, List, [], ◌∷◌, ◌++◌, Option, None, filter, find, get_or, ap, sym, refl, subst, arith, eqb-true}
+use Rattle.std.proofs.Common.{ℕ, ◌≡◌, ◌∙◌, ◌+◌, ◌≤◌, ◌==◌, Bool, true, not, IsTrue, List, [], ◌∷◌, ◌++◌, Option, None, filter, find, get_or}
+use Rattle.std.proofs.Common.{ap, sym, refl, subst, arith, eqb-true}
 use Rattle.std.specs.Prelude.{All, is_some}
 use Rattle.std.proofs.lemmas.List.Elements.{All-filter, All-push, filter_passes, All-nil}
 use Rattle.scm_model.specs.declared.flat.Caller.{Caller}
@@ -28,7 +29,8 @@ IsHeld callers row = IsTrue (has_caller callers row.caller)
 abbrev pub HasRightsIn : List Caller → HandleRow → Type 0
 HasRightsIn callers row = AreRights (principal_in (found callers row.caller)) row.kind row.granted
 
-pub record AreHandled (next_caller : ℕ) (joined : List Caller) (next_handle : ℕ) (rows : List HandleRow) (by : Option LockRow) : Type 0 where
+pub record AreHandled (next_caller : ℕ) (joined : List Caller) (next_handle : ℕ) (rows : List HandleRow)
+    (by : Option LockRow) : Type 0 where
   pub callers : AreNumbered (λ (row : Caller). row.number) next_caller joined
   pub handles : AreNumbered (λ (row : HandleRow). row.number) next_handle rows
   pub first_caller : 1 ≤ next_caller
@@ -51,16 +53,19 @@ no_handles = record {
 -- ## Callers
 
 -- a caller more is not found in place of another
-pub still_found : (callers : List Caller) (new : Caller) (number : ℕ) → has_caller callers number ≡ true → found (callers ++ new ∷ []) number ≡ found callers number
+pub still_found : (callers : List Caller) (new : Caller) (number : ℕ) → has_caller callers number ≡ true
+    → found (callers ++ new ∷ []) number ≡ found callers number
 still_found callers new number there = find_more (λ (row : Caller). row.number == number) callers (new ∷ []) there
 
 -- another caller is found once one is gone
-pub found_still : (callers : List Caller) (caller number : ℕ) → not (number == caller) ≡ true → found (filter (λ (row : Caller). not (row.number == caller)) callers) number ≡ found callers number
+pub found_still : (callers : List Caller) (caller number : ℕ) → not (number == caller) ≡ true
+    → found (filter (λ (row : Caller). not (row.number == caller)) callers) number ≡ found callers number
 found_still callers caller number other =
     find_filter (λ (row : Caller). row.number == number) (λ (row : Caller). not (row.number == caller))
     (λ row same. subst (λ n. not (n == caller) ≡ true) (sym (eqb-true row.number number same)) other) callers
 
-pub caller_joined : (next_caller : ℕ) (callers : List Caller) (next_handle : ℕ) (handles : List HandleRow) (by : Option LockRow) (principal : Principal) → AreHandled next_caller callers next_handle handles by
+pub caller_joined : (next_caller : ℕ) (callers : List Caller) (next_handle : ℕ) (handles : List HandleRow) (by : Option LockRow)
+    (principal : Principal) → AreHandled next_caller callers next_handle handles by
     → AreHandled (next_caller + 1) (callers ++ record { number = next_caller; principal = principal } ∷ []) next_handle handles by
 caller_joined next_caller callers next_handle handles by principal s =
     let new : Caller = record { number = next_caller; principal = principal } in
@@ -70,12 +75,15 @@ caller_joined next_caller callers next_handle handles by principal s =
       first_caller = (let first = s.first_caller in omega arith);
       first_handle = s.first_handle;
       held = (λ k d lt. let there = s.held k d lt in ap is_some (still_found callers new _ there) ∙ there);
-      rights = (λ k d lt. subst (λ who. AreRights who (get_or handles k d).kind (get_or handles k d).granted) (sym (ap principal_in (still_found callers new _ (s.held k d lt)))) (s.rights k d lt));
+      rights = (λ k d lt. subst (λ who. AreRights who (get_or handles k d).kind (get_or handles k d).granted)
+          (sym (ap principal_in (still_found callers new _ (s.held k d lt)))) (s.rights k d lt));
       lock = s.lock;
     }
 
-pub caller_left : (next_caller : ℕ) (callers : List Caller) (next_handle : ℕ) (handles : List HandleRow) (by : Option LockRow) (caller : ℕ) → AreHandled next_caller callers next_handle handles by
-    → AreHandled next_caller (filter (λ (row : Caller). not (row.number == caller)) callers) next_handle (filter (λ (row : HandleRow). not (row.caller == caller)) handles) (free_of handles caller by)
+pub caller_left : (next_caller : ℕ) (callers : List Caller) (next_handle : ℕ) (handles : List HandleRow) (by : Option LockRow) (caller : ℕ)
+    → AreHandled next_caller callers next_handle handles by
+    → AreHandled next_caller (filter (λ (row : Caller). not (row.number == caller)) callers) next_handle
+    (filter (λ (row : HandleRow). not (row.caller == caller)) handles) (free_of handles caller by)
 caller_left next_caller callers next_handle handles by caller s =
     let p = λ (row : HandleRow). not (row.caller == caller) in
     record {
@@ -83,17 +91,21 @@ caller_left next_caller callers next_handle handles by caller s =
       handles = numbered_filter (λ (row : HandleRow). row.number) next_handle p handles s.handles;
       first_caller = s.first_caller;
       first_handle = s.first_handle;
-      held = (λ k d lt. ap is_some (found_still callers caller _ (filter_passes p handles k d lt)) ∙ All-filter p (IsHeld callers) handles s.held k d lt);
+      held = (λ k d lt. ap is_some (found_still callers caller _ (filter_passes p handles k d lt))
+          ∙ All-filter p (IsHeld callers) handles s.held k d lt);
       rights = (λ k d lt. subst (λ who. AreRights who (get_or (filter p handles) k d).kind (get_or (filter p handles) k d).granted)
-          (sym (ap principal_in (found_still callers caller _ (filter_passes p handles k d lt)))) (All-filter p (HasRightsIn callers) handles s.rights k d lt));
+          (sym (ap principal_in (found_still callers caller _ (filter_passes p handles k d lt))))
+          (All-filter p (HasRightsIn callers) handles s.rights k d lt));
       lock = all_left caller by handles s.handles.rising s.lock;
     }
 
 -- ## Handles
 
 -- a handle more, and who then holds the lock
-pub handle_given : (next_caller : ℕ) (callers : List Caller) (next_handle : ℕ) (handles : List HandleRow) (by held : Option LockRow) (row : HandleRow) → AreHandled next_caller callers next_handle handles by
-    → row.number ≡ next_handle → IsHeld callers row → HasRightsIn callers row → Locked held (handles ++ row ∷ []) → AreHandled next_caller callers (next_handle + 1) (handles ++ row ∷ []) held
+pub handle_given : (next_caller : ℕ) (callers : List Caller) (next_handle : ℕ) (handles : List HandleRow) (by held : Option LockRow)
+    (row : HandleRow) → AreHandled next_caller callers next_handle handles by
+    → row.number ≡ next_handle → IsHeld callers row → HasRightsIn callers row → Locked held (handles ++ row ∷ [])
+    → AreHandled next_caller callers (next_handle + 1) (handles ++ row ∷ []) held
 handle_given next_caller callers next_handle handles by held row s number there rights lock = record {
   callers = s.callers;
   handles = numbered_push (λ (r : HandleRow). r.number) next_handle handles row s.handles s.first_handle number;
@@ -105,7 +117,8 @@ handle_given next_caller callers next_handle handles by held row s number there 
 }
 
 -- a handle leaves, and the lock is free if it held it
-pub handle_left : (next_caller : ℕ) (callers : List Caller) (next_handle : ℕ) (handles : List HandleRow) (by : Option LockRow) (number : ℕ) → AreHandled next_caller callers next_handle handles by
+pub handle_left : (next_caller : ℕ) (callers : List Caller) (next_handle : ℕ) (handles : List HandleRow) (by : Option LockRow) (number : ℕ)
+    → AreHandled next_caller callers next_handle handles by
     → AreHandled next_caller callers next_handle (filter (λ (row : HandleRow). not (row.number == number)) handles) (unlocked by number)
 handle_left next_caller callers next_handle handles by number s =
     let p = λ (row : HandleRow). not (row.number == number) in

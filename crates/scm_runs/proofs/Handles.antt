@@ -1,7 +1,9 @@
 -- The law of handles.
-use Rattle.std.proofs.Common.{ℕ, ◌≡◌, ◌≢◌, ◌≤◌, ◌==◌, ◌||◌, Bool, true, false, not, cond, IsTrue, List, [], ◌∷◌, Some, filter, find, ap, sym, refl, subst, arith, eq-eqb, eqb-true, ne_eqb, inl, inr, get_or}
+use Rattle.std.proofs.Common.{ℕ, ◌≡◌, ◌≢◌, ◌≤◌, ◌==◌, ◌||◌, Bool, true, false, not, cond, IsTrue, List, [], ◌∷◌, Some, filter, find, ap}
+use Rattle.std.proofs.Common.{sym, refl, subst, arith, eq-eqb, eqb-true, ne_eqb, inl, inr, get_or}
 use Rattle.std.specs.Prelude.{All, Contains, is_some}
-use Rattle.std.proofs.lemmas.List.Elements.{All-from_recursion, All-push, All-filter, All-weaker, All-contains_itself, filter_passes, All-head, All-tail, All-map}
+use Rattle.std.proofs.lemmas.List.Elements.{All-from_recursion, All-push, All-filter, All-weaker, All-contains_itself, filter_passes}
+use Rattle.std.proofs.lemmas.List.Elements.{All-head, All-tail, All-map}
 use Rattle.std.proofs.lemmas.Option.{IfSome_then}
 use Rattle.scm_model.specs.declared.flat.Caller.{Caller}
 use Rattle.scm_model.specs.declared.flat.Flat.{Flat}
@@ -53,27 +55,50 @@ of_done : (l : Limits) (f : Flat) (caller : ℕ) (asked : Request) → Once f (d
 of_done l f caller (request.Close handle) = record { rows = All-filter _ (StoodOrIsNew f) f.handles (all_stood f); rising = omega arith }
 of_done l f caller (request.Control handle control) = record { rows = all_stood f; rising = omega arith }
 of_done l f caller (request.Delete handle) = record { rows = all_stood f; rising = omega arith }
-of_done l f caller (request.Lock handle) = record { rows = All-push (StoodOrIsNew f) f.handles _ (all_stood f) (inr (omega arith)); rising = omega arith }
+of_done l f caller (request.Lock handle) = record {
+  rows = All-push (StoodOrIsNew f) f.handles _ (all_stood f) (inr (omega arith));
+  rising = omega arith;
+}
 of_done l f caller (request.SetStatus handle status) =
     failing_apart (Once f) (failed_by status (held_service f caller handle)) _ (record { rows = all_stood f; rising = omega arith })
 of_done l f caller (request.Unlock handle) = record { rows = All-filter _ (StoodOrIsNew f) f.handles (all_stood f); rising = omega arith }
 of_done l f caller (request.Change change) = record { rows = all_stood f; rising = omega arith }
 of_done l f caller (request.Change2 handle asked) = record { rows = all_stood f; rising = omega arith }
-of_done l f caller (request.Create new) = record { rows = All-push (StoodOrIsNew f) f.handles _ (all_stood f) (inr (omega arith)); rising = omega arith }
-of_done l f caller (request.OpenManager database access) = record { rows = All-push (StoodOrIsNew f) f.handles _ (all_stood f) (inr (omega arith)); rising = omega arith }
+of_done l f caller (request.Create new) = record {
+  rows = All-push (StoodOrIsNew f) f.handles _ (all_stood f) (inr (omega arith));
+  rising = omega arith;
+}
+of_done l f caller (request.OpenManager database access) = record {
+  rows =
+      All-push (StoodOrIsNew f) f.handles _ (all_stood f) (inr (omega arith));
+  rising = omega arith;
+}
 of_done l f caller (request.OpenService handle name access) =
-    opened_keeps (Once f) f caller name access (same f) (λ row is. record { rows = All-push (StoodOrIsNew f) f.handles _ (all_stood f) (inr (omega arith)); rising = omega arith })
+    opened_keeps (Once f) f caller name access (same f) (λ row is. record {
+      rows =
+          All-push (StoodOrIsNew f) f.handles _ (all_stood f) (inr (omega arith));
+      rising = omega arith;
+    })
 of_done l f caller (request.Start handle words) =
     started_keeps (Once f) f caller handle words (same f) (λ row is. record { rows = all_stood f; rising = omega arith })
 of_done l f caller (request.Notify handle mask) =
-    notify_apart (Once f) f caller handle mask (λ rows next. record { rows = All-push (StoodOrIsNew f) f.handles _ (all_stood f) (inr (omega arith)); rising = omega arith })
+    notify_apart (Once f) f caller handle mask (λ rows next. record {
+      rows =
+          All-push (StoodOrIsNew f) f.handles _ (all_stood f) (inr (omega arith));
+      rising = omega arith;
+    })
 of_done l f caller (request.GetNotify handle) = record { rows = all_stood f; rising = omega arith }
-of_done l f caller (request.CloseNotify handle) = record { rows = All-filter _ (StoodOrIsNew f) f.handles (all_stood f); rising = omega arith }
+of_done l f caller (request.CloseNotify handle) = record {
+  rows = All-filter _ (StoodOrIsNew f) f.handles (all_stood f);
+  rising = omega arith;
+}
 of_done l f caller asked = same f
 
-of_call : (l : Limits) (f : Flat) (moment caller : ℕ) (asked : Request) (append : Kept) → Once (with_moment f moment) (call_of l (with_moment f moment) caller asked append).flat
+of_call : (l : Limits) (f : Flat) (moment caller : ℕ) (asked : Request) (append : Kept)
+    → Once (with_moment f moment) (call_of l (with_moment f moment) caller asked append).flat
 of_call l f moment caller asked append =
-    by_verdict (λ r. Once (with_moment f moment) r.flat) (verdict l (with_moment f moment) caller asked append) _ (with_moment f moment) (done_of l (with_moment f moment) caller asked)
+    by_verdict (λ r. Once (with_moment f moment) r.flat) (verdict l (with_moment f moment) caller asked append) _ (with_moment f moment)
+    (done_of l (with_moment f moment) caller asked)
     (λ e. of_done l (with_moment f moment) caller asked) (λ e. same (with_moment f moment))
 
 of_effect : (l : Limits) (f : Flat) (moment : ℕ) (step : Step) → Once f (effect_of l (at_moment f moment step) step).flat
@@ -82,11 +107,14 @@ of_effect l f moment (Call caller asked append) =
     record { rows = once.rows; rising = once.rising }
 of_effect l f moment (Gone caller) = record { rows = All-filter _ (StoodOrIsNew f) f.handles (all_stood f); rising = omega arith }
 of_effect l f moment (Report process status) =
-    failing_apart (Once f) (failed_by status (current_of (with_moment f moment) process)) _ (record { rows = all_stood f; rising = omega arith })
+    failing_apart (Once f) (failed_by status (current_of (with_moment f moment) process)) _
+    (record { rows = all_stood f; rising = omega arith })
 of_effect l f moment (Ended process) =
-    failing_apart (λ (g : Flat). Once f (without_process g process)) (current_of (with_moment f moment) process) _ (record { rows = all_stood f; rising = omega arith })
+    failing_apart (λ (g : Flat). Once f (without_process g process)) (current_of (with_moment f moment) process) _
+    (record { rows = all_stood f; rising = omega arith })
 of_effect l f moment Tick = ticked_apart (Once f) l (with_moment f moment) (record { rows = all_stood f; rising = omega arith })
-of_effect l f moment (Raised caller subtype) = raised_apart (Once f) l (with_moment f moment) caller subtype (record { rows = all_stood f; rising = omega arith })
+of_effect l f moment (Raised caller subtype) = raised_apart (Once f) l (with_moment f moment) caller subtype
+    (record { rows = all_stood f; rising = omega arith })
 of_effect l f moment step = record { rows = all_stood f; rising = omega arith }
 
 -- what settling leaves, and answering
@@ -104,10 +132,12 @@ of_step l f moment step =
 
 -- ## Who is gone has nothing
 
-others : (caller : ℕ) (rows : List HandleRow) → All (λ (row : HandleRow). not (row.caller == caller) ≡ true) rows → All (λ (row : HandleRow). row.caller ≢ caller) rows
+others : (caller : ℕ) (rows : List HandleRow) → All (λ (row : HandleRow). not (row.caller == caller) ≡ true) rows
+    → All (λ (row : HandleRow). row.caller ≢ caller) rows
 others caller rows passes =
     All-weaker (λ (row : HandleRow). not (row.caller == caller) ≡ true) (λ (row : HandleRow). row.caller ≢ caller)
-    (λ row h same. let t = eq-eqb row.caller caller same in absurd (let u : not true ≡ true = subst (λ b. not b ≡ true) t h in cc)) rows passes
+    (λ row h same. let t = eq-eqb row.caller caller same in absurd (let u : not true ≡ true = subst (λ b. not b ≡ true) t h in cc)) rows
+    passes
 
 -- events leave whose a registration is
 all_others : (caller : ℕ) → Tells (All (λ (row : Registration). row.caller ≢ caller))
@@ -115,18 +145,22 @@ all_others caller event rows proper other =
     All-map (λ (row : Registration). row.caller ≢ caller) (notified event) rows
     (λ k d lt. notified_or (λ (row : Registration). row.caller ≢ caller) event (get_or rows k d) (λ e. other k d lt) (other k d lt))
 
-other_rows : (caller : ℕ) (rows : List Registration) → All (λ (row : Registration). row.caller ≢ caller) (filter (λ (row : Registration). not (row.caller == caller)) rows)
+other_rows : (caller : ℕ) (rows : List Registration) → All (λ (row : Registration). row.caller ≢ caller)
+    (filter (λ (row : Registration). not (row.caller == caller)) rows)
 other_rows caller rows =
     All-weaker (λ (row : Registration). not (row.caller == caller) ≡ true) (λ (row : Registration). row.caller ≢ caller)
     (λ row h same. let t = eq-eqb row.caller caller same in absurd (let u : not true ≡ true = subst (λ b. not b ≡ true) t h in cc))
-    (filter (λ (row : Registration). not (row.caller == caller)) rows) (filter_passes (λ (row : Registration). not (row.caller == caller)) rows)
+    (filter (λ (row : Registration). not (row.caller == caller)) rows) (filter_passes
+    (λ (row : Registration). not (row.caller == caller)) rows)
 
 -- a caller isn't among the others
-pub not_there : (callers : List Caller) (caller : ℕ) → has_caller (filter (λ (row : Caller). not (row.number == caller)) callers) caller ≡ false
+pub not_there : (callers : List Caller) (caller : ℕ) → has_caller (filter (λ (row : Caller). not (row.number == caller)) callers) caller ≡
+    false
 not_there [] caller = refl
 not_there (row ∷ callers) caller =
     elim (row.number == caller) as (λ b. (row.number == caller) ≡ b
-    → has_caller (cond (not b) (row ∷ filter (λ (row : Caller). not (row.number == caller)) callers) (filter (λ (row : Caller). not (row.number == caller)) callers)) caller ≡ false) [
+    → has_caller (cond (not b) (row ∷ filter (λ (row : Caller). not (row.number == caller)) callers)
+    (filter (λ (row : Caller). not (row.number == caller)) callers)) caller ≡ false) [
       | true ↦ λ e. not_there callers caller
       | false ↦ λ e. rw e (not_there callers caller)
     ] refl
@@ -136,8 +170,10 @@ pub not_nobody : (caller : ℕ) (rows : List Caller) → All (λ (row : Caller).
     → is_some (find (λ (row : Caller). row.number == caller) rows) ≡ true → (caller == 0) ≡ false
 not_nobody caller [] positive there = absurd (cc)
 not_nobody caller (row ∷ rows) positive there =
-    elim (row.number == caller) as (λ b. (row.number == caller) ≡ b → is_some (cond b (Some row) (find (λ (row : Caller). row.number == caller) rows)) ≡ true → (caller == 0) ≡ false) [
-      | true ↦ λ e h. ne_eqb caller 0 (λ zero. absurd (let same = eqb-true row.number caller e in let up = All-head (λ (row : Caller). 1 ≤ row.number) row rows positive in omega (arith, same, up, zero)))
+    elim (row.number == caller) as (λ b. (row.number == caller) ≡ b → is_some
+    (cond b (Some row) (find (λ (row : Caller). row.number == caller) rows)) ≡ true → (caller == 0) ≡ false) [
+      | true ↦ λ e h. ne_eqb caller 0 (λ zero. absurd (let same = eqb-true row.number caller e in
+          let up = All-head (λ (row : Caller). 1 ≤ row.number) row rows positive in omega (arith, same, up, zero)))
       | false ↦ λ e h. not_nobody caller rows (All-tail (λ (row : Caller). 1 ≤ row.number) row rows positive) h
     ] refl there
 
@@ -145,33 +181,41 @@ neither_known : (a b : Bool) → a ≡ false → b ≡ false → (a || b) ≡ tr
 neither_known a b x y h = absurd cc
 
 -- its plans are gone with it
-no_plan : (next service caller : ℕ) (before after : List Caller) (plans : List Plan) → AreNumbered (λ (row : Caller). row.number) next before → has_caller before caller ≡ true
-    → after ≡ filter (λ (row : Caller). not (row.number == caller)) before → All (IsKnown after) plans → All (λ (row : Plan). row.caller ≢ caller) plans
+no_plan : (next service caller : ℕ) (before after : List Caller) (plans : List Plan)
+    → AreNumbered (λ (row : Caller). row.number) next before → has_caller before caller ≡ true
+    → after ≡ filter (λ (row : Caller). not (row.number == caller)) before → All (IsKnown after) plans
+    → All (λ (row : Plan). row.caller ≢ caller) plans
 no_plan next service caller before after plans numbered there e known =
     All-weaker (IsKnown after) (λ (row : Plan). row.caller ≢ caller)
-    (λ row h same. neither_known (caller == 0) (has_caller after caller) (not_nobody caller before numbered.positive there) (rw e (not_there before caller))
+    (λ row h same. neither_known (caller == 0) (has_caller after caller) (not_nobody caller before numbered.positive there)
+    (rw e (not_there before caller))
     (subst (λ n. (n == 0 || has_caller after n) ≡ true) same h)) plans known
 
-holds_nothing : (l : Limits) (f : Flat) (moment caller : ℕ) → Sound f → IsTrue (may l f moment (Gone caller)) → Sound (step_of l f moment (Gone caller)).flat → HoldsNothing caller (step_of l f moment (Gone caller)).flat
+holds_nothing : (l : Limits) (f : Flat) (moment caller : ℕ) → Sound f → IsTrue (may l f moment (Gone caller))
+    → Sound (step_of l f moment (Gone caller)).flat → HoldsNothing caller (step_of l f moment (Gone caller)).flat
 holds_nothing l f moment caller before ok s =
     let there = (and_parts _ _ ok).0 in
     let after = (step_of l f moment (Gone caller)).flat in
     let frame = framed l f moment (Gone caller) in
     let handles : after.handles ≡ filter (λ (row : HandleRow). not (row.caller == caller)) f.handles = ap (λ (x : Flat). x.handles) frame in
     let passes : All (λ (row : HandleRow). not (row.caller == caller) ≡ true) after.handles =
-    subst (λ (rows : List HandleRow). All (λ (row : HandleRow). not (row.caller == caller) ≡ true) rows) (sym handles) (filter_passes (λ (row : HandleRow). not (row.caller == caller)) f.handles) in
+    subst (λ (rows : List HandleRow). All (λ (row : HandleRow). not (row.caller == caller) ≡ true) rows) (sym handles)
+    (filter_passes (λ (row : HandleRow). not (row.caller == caller)) f.handles) in
     record {
       handles = others caller after.handles passes;
       registrations = step_tells l (All (λ (row : Registration). row.caller ≢ caller)) f moment (Gone caller) (all_others caller) before ok
           (other_rows caller f.registrations);
-      plans = no_plan f.next.caller f.next.service caller f.callers after.callers after.plans before.handles.callers there (ap (λ (x : Flat). x.callers) frame)
+      plans = no_plan f.next.caller f.next.service caller f.callers after.callers after.plans before.handles.callers there
+          (ap (λ (x : Flat). x.callers) frame)
           (All-weaker (IsPlan after.next.plan after.next.service after.callers) (IsKnown after.callers) (λ plan is. is.known) after.plans
           (All-from_recursion (IsPlan after.next.plan after.next.service after.callers) after.plans s.plans.each));
       lock = IfSome_then after.lock s.handles.lock.holder
-          (λ held. any_both (λ (row : HandleRow). row.number == held.handle) (λ (row : HandleRow). not (row.caller == caller)) after.handles passes);
+          (λ held. any_both (λ (row : HandleRow). row.number == held.handle)
+          (λ (row : HandleRow). not (row.caller == caller)) after.handles passes);
     }
 
-leaves_nothing : (l : Limits) (f : Flat) (moment : ℕ) (step : Step) → Sound f → IsTrue (may l f moment step) → Sound (step_of l f moment step).flat → LeavesNothing step (step_of l f moment step).flat
+leaves_nothing : (l : Limits) (f : Flat) (moment : ℕ) (step : Step) → Sound f → IsTrue (may l f moment step)
+    → Sound (step_of l f moment step).flat → LeavesNothing step (step_of l f moment step).flat
 leaves_nothing l f moment (Gone caller) before ok s = holds_nothing l f moment caller before ok s
 leaves_nothing l f moment step before ok s = tt
 

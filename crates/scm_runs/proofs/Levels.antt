@@ -49,23 +49,29 @@ kind_left asked row = ap (λ (config : Config). config.kind) (level_leaves asked
 
 -- ## Needs
 
-need_left : (number : ℕ) (asked : Info) (one row : Service) → ((row.number == number) ≡ true → row ≡ one) → need_row (configured_if number (level_config asked one) row) ≡ need_row row
+need_left : (number : ℕ) (asked : Info) (one row : Service) → ((row.number == number) ≡ true → row ≡ one)
+    → need_row (configured_if number (level_config asked one) row) ≡ need_row row
 need_left number asked one row only =
-    elim (row.number == number) as (λ b. (row.number == number) ≡ b → need_row (cond b (replaced (level_config asked one) row) row) ≡ need_row row) [
-      | true ↦ λ e. ap (need_row_of row.number) (level_leaves asked one.config) ∙ ap (λ (r : Service). need_row_of row.number r.config) (sym (only e))
+    elim (row.number == number) as (λ b. (row.number == number) ≡ b → need_row
+    (cond b (replaced (level_config asked one) row) row) ≡ need_row row) [
+      | true ↦ λ e. ap (need_row_of row.number) (level_leaves asked one.config)
+          ∙ ap (λ (r : Service). need_row_of row.number r.config) (sym (only e))
       | false ↦ λ e. refl
     ] refl
 
-rows_left : (change : Service → Service) (rows : List Service) → All (λ row. need_row (change row) ≡ need_row row) rows → need_rows (map change rows) ≡ need_rows rows
+rows_left : (change : Service → Service) (rows : List Service) → All (λ row. need_row (change row) ≡ need_row row) rows
+    → need_rows (map change rows) ≡ need_rows rows
 rows_left change [] same = refl
 rows_left change (row ∷ rows) same =
     ap (λ (r : NeedRow). r ∷ need_rows (map change rows)) (All-head (λ r. need_row (change r) ≡ need_row r) row rows same)
     ∙ ap (λ (rs : List NeedRow). need_row row ∷ rs) (rows_left change rows (All-tail (λ r. need_row (change r) ≡ need_row r) row rows same))
 
 -- the needs are those that they were
-pub needs_left : (f : Flat) (asked : Info) (row : Service) → AreServices f.next.service f.next.process f.services → IsFound f row.number row → HasNoCycle (map (configured_if row.number (level_config asked row)) f.services)
+pub needs_left : (f : Flat) (asked : Info) (row : Service) → AreServices f.next.service f.next.process f.services → IsFound f row.number row
+    → HasNoCycle (map (configured_if row.number (level_config asked row)) f.services)
 needs_left f asked row s found =
     let change = configured_if row.number (level_config asked row) in
-    let each = All-weaker (λ (r : Service). (r.number == row.number) ≡ true → r ≡ row) (λ (r : Service). need_row (change r) ≡ need_row r) (λ r only. need_left row.number asked row r only) f.services
+    let each = All-weaker (λ (r : Service). (r.number == row.number) ≡ true → r ≡ row) (λ (r : Service). need_row (change r) ≡ need_row r)
+    (λ r only. need_left row.number asked row r only) f.services
     (found_only (λ (r : Service). r.number) row.number row f.services s.numbered.rising found) in
     subst (λ (g : List NeedRow). IsAcyclic (needs_of g)) (sym (rows_left change f.services each)) s.acyclic

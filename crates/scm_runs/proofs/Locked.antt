@@ -1,5 +1,6 @@
 -- Who holds the lock, and what each change of the handles makes of it.
-use Rattle.std.proofs.Common.{ℕ, ◌≡◌, ◌∙◌, ◌<◌, ◌==◌, ◌||◌, ◌&&◌, Bool, true, false, not, IsTrue, cond, List, [], ◌∷◌, ◌++◌, Option, None, Some, filter, find, get_or, ap, sym, refl, subst, arith, eq-eqb, eqb-true, ne_eqb, is_none, option_and_then}
+use Rattle.std.proofs.Common.{ℕ, ◌≡◌, ◌∙◌, ◌<◌, ◌==◌, ◌||◌, ◌&&◌, Bool, true, false, not, IsTrue, cond, List, [], ◌∷◌, ◌++◌, Option, None}
+use Rattle.std.proofs.Common.{Some, filter, find, get_or, ap, sym, refl, subst, arith, eq-eqb, eqb-true, ne_eqb, is_none, option_and_then}
 use Rattle.std.specs.Prelude.{All, AllPairs, IfSome, is_some}
 use Rattle.std.specs.List.{list_any}
 use Rattle.std.proofs.lemmas.List.Elements.{All-filter, All-push, filter_passes}
@@ -33,16 +34,19 @@ not_lock is true stays e goes passes = absurd (let t = goes refl in cc)
 not_lock is false stays e goes passes = e
 
 -- the handle leaves that held the lock, and the lock is free
-freed : (stays : HandleRow → Bool) (lock : LockRow) (rows : List HandleRow) → All (λ (row : HandleRow). (lock.handle == row.number) ≡ true → stays row ≡ false) rows
+freed : (stays : HandleRow → Bool) (lock : LockRow) (rows : List HandleRow)
+    → All (λ (row : HandleRow). (lock.handle == row.number) ≡ true → stays row ≡ false) rows
     → Locked (Some lock) rows → Locked None (filter stays rows)
 freed stays lock rows goes old = record {
   locks = λ k d lt. not_lock _ _ _ (All-filter stays (Matches (Some lock)) rows old.locks k d lt)
-      (All-filter stays (λ (row : HandleRow). (lock.handle == row.number) ≡ true → stays row ≡ false) rows goes k d lt) (filter_passes stays rows k d lt);
+      (All-filter stays (λ (row : HandleRow). (lock.handle == row.number) ≡ true → stays row ≡ false) rows goes k d lt)
+      (filter_passes stays rows k d lt);
   holder = tt;
 }
 
 -- the handle stays that holds the lock
-still_held : (stays : HandleRow → Bool) (lock : LockRow) (rows : List HandleRow) → All (λ (row : HandleRow). (row.number == lock.handle) ≡ true → stays row ≡ true) rows
+still_held : (stays : HandleRow → Bool) (lock : LockRow) (rows : List HandleRow)
+    → All (λ (row : HandleRow). (row.number == lock.handle) ≡ true → stays row ≡ true) rows
     → Locked (Some lock) rows → Locked (Some lock) (filter stays rows)
 still_held stays lock rows keeps old = record {
   locks = All-filter stays (Matches (Some lock)) rows old.locks;
@@ -50,13 +54,15 @@ still_held stays lock rows keeps old = record {
 }
 
 -- one handle leaves, and the lock is free if it held it
-pub one_left : (number : ℕ) (held : Option LockRow) (rows : List HandleRow) → Locked held rows → Locked (unlocked held number) (filter (λ (row : HandleRow). not (row.number == number)) rows)
+pub one_left : (number : ℕ) (held : Option LockRow) (rows : List HandleRow) → Locked held rows
+    → Locked (unlocked held number) (filter (λ (row : HandleRow). not (row.number == number)) rows)
 one_left number None rows old = record { locks = All-filter _ (Matches None) rows old.locks; holder = tt }
 one_left number (Some lock) rows old =
     let stays = λ (row : HandleRow). not (row.number == number) in
     elim (lock.handle == number) as (λ b. (lock.handle == number) ≡ b → Locked (cond b None (Some lock)) (filter stays rows)) [
       | true ↦ λ e. freed stays lock rows
-          (λ k d lt same. ap not (eq-eqb (get_or rows k d).number number (sym (eqb-true lock.handle (get_or rows k d).number same) ∙ eqb-true lock.handle number e))) old
+          (λ k d lt same. ap not (eq-eqb (get_or rows k d).number number (sym (eqb-true lock.handle (get_or rows k d).number same)
+          ∙ eqb-true lock.handle number e))) old
       | false ↦ λ e. still_held stays lock rows
           (λ k d lt same. subst (λ n. not (n == number) ≡ true) (sym (eqb-true (get_or rows k d).number lock.handle same)) (ap not e)) old
     ] refl
@@ -66,7 +72,8 @@ another true same e is = absurd (cc)
 another false same e is = refl
 
 -- the handles of a caller leave, and the lock is free if one of them held it
-pub all_left : (caller : ℕ) (held : Option LockRow) (rows : List HandleRow) → AllPairs (λ (a b : HandleRow). a.number < b.number) rows → Locked held rows
+pub all_left : (caller : ℕ) (held : Option LockRow) (rows : List HandleRow) → AllPairs (λ (a b : HandleRow). a.number < b.number) rows
+    → Locked held rows
     → Locked (free_of rows caller held) (filter (λ (row : HandleRow). not (row.caller == caller)) rows)
 all_left caller None rows rising old = record { locks = All-filter _ (Matches None) rows old.locks; holder = tt }
 all_left caller (Some lock) rows rising old =
@@ -107,40 +114,49 @@ not_the_lock : (is : Bool) → not is ≡ true → is ≡ false
 not_the_lock true e = absurd cc
 not_the_lock false e = refl
 
-holds_nothing : (held : Option LockRow) (rows : List HandleRow) (caller number : ℕ) (found : Option HandleRow) → find (λ (row : HandleRow). row.caller == caller && row.number == number) rows ≡ found
+holds_nothing : (held : Option LockRow) (rows : List HandleRow) (caller number : ℕ) (found : Option HandleRow)
+    → find (λ (row : HandleRow). row.caller == caller && row.number == number) rows ≡ found
     → is_another found ≡ true → Locked held rows → is_held_by number held ≡ false
 holds_nothing held rows caller number None e closable old = absurd (cc)
 holds_nothing held rows caller number (Some row) e closable old =
     let test = λ (r : HandleRow). r.caller == caller && r.number == number in
     let same = eqb-true row.number number (and_parts (row.caller == caller) (row.number == number) (found_passes test row rows e)).1 in
-    subst (λ n. is_held_by n held ≡ false) same (sym (found_has (Matches held) test row rows old.locks e) ∙ not_the_lock (is_lock row.kind) closable)
+    subst (λ n. is_held_by n held ≡ false) same (sym (found_has (Matches held) test row rows old.locks e)
+    ∙ not_the_lock (is_lock row.kind) closable)
 
 -- the lock stays as it is where such a handle leaves
-pub not_unlocked : (held : Option LockRow) (rows : List HandleRow) (caller number : ℕ) (found : Option HandleRow) → find (λ (row : HandleRow). row.caller == caller && row.number == number) rows ≡ found
+pub not_unlocked : (held : Option LockRow) (rows : List HandleRow) (caller number : ℕ) (found : Option HandleRow)
+    → find (λ (row : HandleRow). row.caller == caller && row.number == number) rows ≡ found
     → is_another found ≡ true → Locked held rows → unlocked held number ≡ held
-not_unlocked held rows caller number found e closable old = ap (λ b. cond b None held) (holds_nothing held rows caller number found e closable old)
+not_unlocked held rows caller number found e closable old = ap (λ b. cond b None held)
+    (holds_nothing held rows caller number found e closable old)
 
 -- ## A handle more
 
 -- a number above all those of the handles holds no lock
-unheld : (number : ℕ) (lock : LockRow) (rows : List HandleRow) → All (λ (row : HandleRow). row.number < number) rows → list_any (λ (row : HandleRow). row.number == lock.handle) rows ≡ true
+unheld : (number : ℕ) (lock : LockRow) (rows : List HandleRow) → All (λ (row : HandleRow). row.number < number) rows
+    → list_any (λ (row : HandleRow). row.number == lock.handle) rows ≡ true
     → (lock.handle == number) ≡ false
 unheld number lock rows below there =
     ne_eqb lock.handle number (λ same. absurd (
-    let none = list_any_none (λ (row : HandleRow). row.number == lock.handle) rows (λ k d lt. ne_eqb (get_or rows k d).number lock.handle (λ here. let less = below k d lt in omega arith)) in
+    let none = list_any_none (λ (row : HandleRow). row.number == lock.handle) rows
+    (λ k d lt. ne_eqb (get_or rows k d).number lock.handle (λ here. let less = below k d lt in omega arith)) in
     cc))
 
 -- a handle more that is not the lock's
-pub one_more : (held : Option LockRow) (rows : List HandleRow) (row : HandleRow) → is_lock row.kind ≡ false → All (λ (r : HandleRow). r.number < row.number) rows → Locked held rows
+pub one_more : (held : Option LockRow) (rows : List HandleRow) (row : HandleRow) → is_lock row.kind ≡ false
+    → All (λ (r : HandleRow). r.number < row.number) rows → Locked held rows
     → Locked held (rows ++ row ∷ [])
 one_more None rows row other below old = record { locks = All-push (Matches None) rows row old.locks other; holder = tt }
 one_more (Some lock) rows row other below old = record {
   locks = All-push (Matches (Some lock)) rows row old.locks (other ∙ sym (unheld row.number lock rows below old.holder));
-  holder = list_any-append (λ (r : HandleRow). r.number == lock.handle) rows (row ∷ []) ∙ ap (λ b. b || list_any (λ (r : HandleRow). r.number == lock.handle) (row ∷ [])) old.holder;
+  holder = list_any-append (λ (r : HandleRow). r.number == lock.handle) rows (row ∷ [])
+      ∙ ap (λ b. b || list_any (λ (r : HandleRow). r.number == lock.handle) (row ∷ [])) old.holder;
 }
 
 -- a handle more that takes the lock, which is free
-pub one_holds : (held : Option LockRow) (rows : List HandleRow) (row : HandleRow) (moment : ℕ) → is_some held ≡ false → is_lock row.kind ≡ true → All (λ (r : HandleRow). r.number < row.number) rows
+pub one_holds : (held : Option LockRow) (rows : List HandleRow) (row : HandleRow) (moment : ℕ) → is_some held ≡ false
+    → is_lock row.kind ≡ true → All (λ (r : HandleRow). r.number < row.number) rows
     → Locked held rows → Locked (locked held row.number moment) (rows ++ row ∷ [])
 one_holds None rows row moment free is below old = record {
   locks = All-push (λ (r : HandleRow). is_lock r.kind ≡ (row.number == r.number)) rows row

@@ -47,26 +47,38 @@ mask_small : (manager : Bool) (desired : ℕ) → map_generic manager desired < 
 mask_small true desired = parts_small 0x20014 0x20022 0x20009 0xF003F desired (omega arith) (omega arith) (omega arith) (omega arith)
 mask_small false desired = parts_small 0x2008D 0x20002 0x20170 0xF01FF desired (omega arith) (omega arith) (omega arith) (omega arith)
 
-chosen_within : (mask rights : ℕ) → mask < 2 ^ 32 → bit_and rights rights ≡ rights → is_allowed mask rights ≡ true → bit_and rights (chosen mask rights) ≡ chosen mask rights
+chosen_within : (mask rights : ℕ) → mask < 2 ^ 32 → bit_and rights rights ≡ rights → is_allowed mask rights ≡ true
+    → bit_and rights (chosen mask rights) ≡ chosen mask rights
 chosen_within mask rights small own allowed =
-    elim (has_bits mask MAXIMUM_ALLOWED) as (λ b. has_bits mask MAXIMUM_ALLOWED ≡ b → bit_and rights (cond b rights mask) ≡ cond b rights mask) [
+    elim (has_bits mask MAXIMUM_ALLOWED) as (λ b. has_bits mask MAXIMUM_ALLOWED ≡ b
+    → bit_and rights (cond b rights mask) ≡ cond b rights mask) [
       | true ↦ λ e. own
-      | false ↦ λ e. subst (λ m. bit_and rights m ≡ m) (no_maximum mask small e) (eqb-true (bit_and rights (without mask MAXIMUM_ALLOWED)) (without mask MAXIMUM_ALLOWED) allowed)
+      | false ↦ λ e. subst (λ m. bit_and rights m ≡ m) (no_maximum mask small e)
+          (eqb-true (bit_and rights (without mask MAXIMUM_ALLOWED)) (without mask MAXIMUM_ALLOWED) allowed)
     ] refl
 
-connected_within : (manager : Bool) (mask rights : ℕ) → bit_and rights mask ≡ mask → (manager ≡ true → bit_and rights 1 ≡ 1) → bit_and rights (connected manager mask) ≡ connected manager mask
+connected_within : (manager : Bool) (mask rights : ℕ) → bit_and rights mask ≡ mask → (manager ≡ true → bit_and rights 1 ≡ 1)
+    → bit_and rights (connected manager mask) ≡ connected manager mask
 connected_within true mask rights lies one = or_within rights mask 1 lies (one refl)
 connected_within false mask rights lies one = lies
 
-of_granted : (mask rights : ℕ) (manager : Bool) → mask < 2 ^ 32 → bit_and rights rights ≡ rights → (manager ≡ true → bit_and rights 1 ≡ 1) → is_none (granted_of mask rights manager) ≡ false → has_bits rights (unwrap_or (granted_of mask rights manager) 0) ≡ true
+of_granted : (mask rights : ℕ) (manager : Bool) → mask < 2 ^ 32 → bit_and rights rights ≡ rights → (manager ≡ true → bit_and rights 1 ≡ 1)
+    → is_none (granted_of mask rights manager) ≡ false → has_bits rights (unwrap_or (granted_of mask rights manager) 0) ≡ true
 of_granted mask rights manager small own one given =
-    elim (is_allowed mask rights) as (λ b. is_allowed mask rights ≡ b → is_none (cond b (Some (connected manager (chosen mask rights))) None) ≡ false → has_bits rights (unwrap_or (cond b (Some (connected manager (chosen mask rights))) None) 0) ≡ true) [
+    elim (is_allowed mask rights) as (λ b. is_allowed mask rights ≡ b →
+    is_none (cond b (Some (connected manager (chosen mask rights))) None) ≡ false
+    → has_bits rights (unwrap_or (cond b (Some (connected manager (chosen mask rights))) None) 0) ≡ true) [
       | true ↦ λ e g. eq-eqb _ _ (connected_within manager (chosen mask rights) rights (chosen_within mask rights small own e) one)
       | false ↦ λ e g. absurd (cc)
     ] refl given
 
-pub granted_within : (principal : Principal) (manager : Bool) (desired : ℕ) → is_none (granted principal manager desired) ≡ false → has_bits (rights_of principal manager) (unwrap_or (granted principal manager desired) 0) ≡ true
-granted_within Admin true desired given = of_granted (map_generic true desired) (rights_of Admin true) true (mask_small true desired) refl (λ e. refl) given
-granted_within Admin false desired given = of_granted (map_generic false desired) (rights_of Admin false) false (mask_small false desired) refl (λ e. refl) given
-granted_within User true desired given = of_granted (map_generic true desired) (rights_of User true) true (mask_small true desired) refl (λ e. refl) given
-granted_within User false desired given = of_granted (map_generic false desired) (rights_of User false) false (mask_small false desired) refl (λ e. refl) given
+pub granted_within : (principal : Principal) (manager : Bool) (desired : ℕ) → is_none (granted principal manager desired) ≡ false
+    → has_bits (rights_of principal manager) (unwrap_or (granted principal manager desired) 0) ≡ true
+granted_within Admin true desired given = of_granted (map_generic true desired) (rights_of Admin true) true (mask_small true desired) refl
+    (λ e. refl) given
+granted_within Admin false desired given = of_granted (map_generic false desired) (rights_of Admin false) false
+    (mask_small false desired) refl (λ e. refl) given
+granted_within User true desired given = of_granted (map_generic true desired) (rights_of User true) true (mask_small true desired) refl
+    (λ e. refl) given
+granted_within User false desired given = of_granted (map_generic false desired) (rights_of User false) false
+    (mask_small false desired) refl (λ e. refl) given

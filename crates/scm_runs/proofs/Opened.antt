@@ -1,5 +1,6 @@
 -- The services of a manager that begins: one for each configuration, with numbers from 1 on, and none ever ran.
-use Rattle.std.proofs.Common.{ℕ, zero, suc, ◌≡◌, ◌∙◌, ◌+◌, ◌<◌, ◌≤◌, not, List, [], ◌∷◌, filter, length, get_or, ap, sym, refl, subst, arith}
+use Rattle.std.proofs.Common.{ℕ, zero, suc, ◌≡◌, ◌∙◌, ◌+◌, ◌<◌, ◌≤◌, not, List, [], ◌∷◌, filter, length, get_or, ap, sym, refl, subst}
+use Rattle.std.proofs.Common.{arith}
 use Rattle.std.specs.Prelude.{All, AllPairs}
 use Rattle.scm_model.specs.declared.flat.Config.{Config}
 use Rattle.scm_model.specs.declared.flat.HandleRow.{HandleRow}
@@ -20,29 +21,34 @@ pub as_many : (number : ℕ) (configs : List Config) → length (services_from n
 as_many number [] = refl
 as_many number (config ∷ configs) = let rest = as_many (number + 1) configs in omega (arith, rest)
 
-row_at : (number : ℕ) (configs : List Config) (k : ℕ) (d : Service) → k < length configs → get_or (services_from number configs) k d ≡ fresh (number + k) (get_or configs k d.config)
+row_at : (number : ℕ) (configs : List Config) (k : ℕ) (d : Service) → k < length configs
+    → get_or (services_from number configs) k d ≡ fresh (number + k) (get_or configs k d.config)
 row_at number [] k d lt = absurd (omega (arith, lt))
 row_at number (config ∷ configs) zero d lt = ap (λ (n : ℕ). fresh n config) (omega arith)
 row_at number (config ∷ configs) (suc k) d lt =
     row_at (number + 1) configs k d (omega (arith, lt)) ∙ ap (λ (n : ℕ). fresh n (get_or configs k d.config)) (omega arith)
 
 -- what holds of each configuration's service holds of each service
-pub each_opened : (P : Service → Type 0) (number : ℕ) (configs : List Config) → ((k : ℕ) (d : Config) → k < length configs → P (fresh (number + k) (get_or configs k d))) → All P (services_from number configs)
+pub each_opened : (P : Service → Type 0) (number : ℕ) (configs : List Config)
+    → ((k : ℕ) (d : Config) → k < length configs → P (fresh (number + k) (get_or configs k d))) → All P (services_from number configs)
 each_opened P number configs each k d lt =
     let many = as_many number configs in
     let within : k < length configs = omega (arith, lt, many) in
     subst P (sym (row_at number configs k d within)) (each k d.config within)
 
 pub pairs_opened : (R : Service → Service → Type 0) (number : ℕ) (configs : List Config)
-    → ((i j : ℕ) (d : Config) → i < j → j < length configs → R (fresh (number + i) (get_or configs i d)) (fresh (number + j) (get_or configs j d))) → AllPairs R (services_from number configs)
+    → ((i j : ℕ) (d : Config) → i < j → j < length configs → R (fresh (number + i) (get_or configs i d))
+    (fresh (number + j) (get_or configs j d))) → AllPairs R (services_from number configs)
 pairs_opened R number configs each i j d lt within =
     let many = as_many number configs in
     let last : j < length configs = omega (arith, within, many) in
     let first : i < length configs = omega (arith, lt, last) in
     subst (λ (row : Service). R row (get_or (services_from number configs) j d)) (sym (row_at number configs i d first))
-    (subst (λ (row : Service). R (fresh (number + i) (get_or configs i d.config)) row) (sym (row_at number configs j d last)) (each i j d.config lt last))
+    (subst (λ (row : Service). R (fresh (number + i) (get_or configs i d.config)) row) (sym (row_at number configs j d last))
+    (each i j d.config lt last))
 
-pub opened_services : (l : Limits) (configs : List Config) → CanOpen l configs → AreServices (length configs + 1) 1 (services_from 1 configs)
+pub opened_services : (l : Limits) (configs : List Config) → CanOpen l configs
+    → AreServices (length configs + 1) 1 (services_from 1 configs)
 opened_services l configs can = record {
   numbered = record {
     positive = each_opened (λ (row : Service). 1 ≤ row.number) 1 configs (λ k d lt. omega arith);
@@ -64,6 +70,8 @@ pub opened_listed : (configs : List Config) → All (HasListed []) (services_fro
 opened_listed configs = each_opened (HasListed []) 1 configs (λ k d lt. refl)
 
 -- none is marked, so none is to leave
-pub opened_stay : (handles : List HandleRow) (number : ℕ) (configs : List Config) → filter (λ (row : Service). not (leaves handles row)) (services_from number configs) ≡ services_from number configs
+pub opened_stay : (handles : List HandleRow) (number : ℕ) (configs : List Config)
+    → filter (λ (row : Service). not (leaves handles row)) (services_from number configs) ≡ services_from number configs
 opened_stay handles number [] = refl
-opened_stay handles number (config ∷ configs) = ap (λ (rows : List Service). fresh number config ∷ rows) (opened_stay handles (number + 1) configs)
+opened_stay handles number (config ∷ configs) = ap (λ (rows : List Service). fresh number config ∷ rows)
+    (opened_stay handles (number + 1) configs)

@@ -1,5 +1,6 @@
 -- What is settled stays settled when a start is answered and when services leave.
-use Rattle.std.proofs.Common.{ℕ, suc, ◌≡◌, ◌⊎◌, ◌∙◌, ◌≤◌, ◌==◌, ◌||◌, ◌&&◌, Bool, true, false, not, cond, List, [], ◌∷◌, Option, None, Some, filter, find, length, ap, sym, refl, subst, arith, eqb-true, inl, inr, length-append}
+use Rattle.std.proofs.Common.{ℕ, suc, ◌≡◌, ◌⊎◌, ◌∙◌, ◌≤◌, ◌==◌, ◌||◌, ◌&&◌, Bool, true, false, not, cond, List, [], ◌∷◌, Option, None, Some}
+use Rattle.std.proofs.Common.{filter, find, length, ap, sym, refl, subst, arith, eqb-true, inl, inr, length-append}
 use Rattle.std.specs.Prelude.{All, is_some}
 use Rattle.std.specs.List.{AllByRecursion}
 use Rattle.std.proofs.lemmas.List.Elements.{All-head, All-tail}
@@ -16,7 +17,8 @@ use Rattle.start_plan.specs.Decided.{code_of, is_numbered}
 use Rattle.start_plan.specs.Entered.{wanted_process}
 use Rattle.start_plan.specs.Moves.{entering_at, has, is_full, is_pending, move_by, move_of}
 use Rattle.scm_model.specs.Ready.{is_ready}
-use Rattle.start_plan.specs.Settle.{move_code, dropped, is_due_still, moved, settle_all, settle_entries, settle_plan, settled, stays, tidied}
+use Rattle.start_plan.specs.Settle.{move_code, dropped, is_due_still, moved, settle_all, settle_entries, settle_plan, settled, stays}
+use Rattle.start_plan.specs.Settle.{tidied}
 use Rattle.start_plan.specs.declared.settling.Move.{Move}
 use Rattle.start_plan.specs.declared.settling.Move.TheVariants as moves
 use Rattle.start_plan.proofs.Enterings.{all_units}
@@ -38,11 +40,13 @@ Rests l f plan = (is_some plan.code ≡ true) ⊎ RestsAt l f plan plan.entries
 
 -- ## What settling doesn't change rests
 
-pub entries_still : (l : Limits) (f : Flat) (plan : Plan) (entries : List ℕ) → (is_some plan.code ≡ true) ⊎ RestsAt l f plan entries → settle_entries l f plan entries ≡ (f, plan)
+pub entries_still : (l : Limits) (f : Flat) (plan : Plan) (entries : List ℕ) → (is_some plan.code ≡ true) ⊎ RestsAt l f plan entries
+    → settle_entries l f plan entries ≡ (f, plan)
 entries_still l f plan [] rests = refl
 entries_still l f plan (x ∷ xs) (inl decided) = rw decided refl
 entries_still l f plan (x ∷ xs) (inr waits) =
-    elim (is_some plan.code) as (λ b. cond b (f, plan) (moved f plan x (settle_entries l f (dropped plan x xs (move_code (move_of l f plan.tried x))) xs) (move_of l f plan.tried x)) ≡ (f, plan)) [
+    elim (is_some plan.code) as (λ b. cond b (f, plan) (moved f plan x (settle_entries l f
+    (dropped plan x xs (move_code (move_of l f plan.tried x))) xs) (move_of l f plan.tried x)) ≡ (f, plan)) [
       | true ↦ refl
       | false ↦ rw waits refl
     ]
@@ -54,52 +58,67 @@ all_still l f (plan ∷ plans) rests = rw (entries_still l f plan plan.entries r
 -- processes become no fewer
 more_processes : (l : Limits) (n : ℕ) → Keeps l (λ (f : Flat). n ≤ length f.processes) (λ plan. Unit {0})
 more_processes l n = record {
-  enters = λ f plan service words entry least. (let long = length-append f.processes (wanted_process f.next.process service ∷ []) in omega arith);
+  enters = λ f plan service words entry least. (let long = length-append f.processes (wanted_process f.next.process service ∷ []) in
+      omega arith);
   tries = λ f plan service entry q. tt;
   drops = λ plan service rest code q. tt;
 }
 
 no_fewer : (l : Limits) (f : Flat) (plans : List Plan) → length f.processes ≤ length (settle_all l f plans).0.processes
-no_fewer l f plans = (keeps_all l (λ (g : Flat). length f.processes ≤ length g.processes) (λ plan. Unit {0}) (more_processes l (length f.processes)) f plans (omega arith) (all_units plans)).flat
+no_fewer l f plans = (keeps_all l (λ (g : Flat). length f.processes ≤ length g.processes) (λ plan. Unit {0})
+    (more_processes l (length f.processes)) f plans (omega arith) (all_units plans)).flat
 
 -- entries become no more
-fewer_entries : (l : Limits) (f : Flat) (plan : Plan) (entries : List ℕ) → plan.entries ≡ entries → length (settle_entries l f plan entries).1.entries ≤ length entries
+fewer_entries : (l : Limits) (f : Flat) (plan : Plan) (entries : List ℕ) → plan.entries ≡ entries
+    → length (settle_entries l f plan entries).1.entries ≤ length entries
 fewer_entries l f plan [] e = (let none = ap length e in omega arith)
 fewer_entries l f plan (s ∷ rest) e =
     let long = ap length e in
-    elim (is_some plan.code) as (λ b. length (cond b (f, plan) (moved f plan s (settle_entries l f (dropped plan s rest (move_code (move_of l f plan.tried s))) rest) (move_of l f plan.tried s))).1.entries ≤ suc (length rest)) [
+    elim (is_some plan.code) as (λ b. length (cond b (f, plan) (moved f plan s
+    (settle_entries l f (dropped plan s rest (move_code (move_of l f plan.tried s))) rest) (move_of l f plan.tried s))).1.entries ≤ suc
+    (length rest)) [
       | true ↦ omega arith
-      | false ↦ elim (move_of l f plan.tried s) as (λ m. length (moved f plan s (settle_entries l f (dropped plan s rest (move_code m)) rest) m).1.entries ≤ suc (length rest)) [
-        | moves.Passes ↦ (let less = fewer_entries l f (dropped plan s rest 0) rest refl in omega arith)
-        | moves.Waits ↦ omega arith
-        | moves.Enters ↦ omega arith
-        | moves.Fails code ↦ (let less = fewer_entries l f (dropped plan s rest code) rest refl in omega arith)
-      ]
+      | false ↦ elim (move_of l f plan.tried s) as (λ m. length (moved f plan s
+          (settle_entries l f (dropped plan s rest (move_code m)) rest) m).1.entries ≤ suc (length rest)) [
+            | moves.Passes ↦ (let less = fewer_entries l f (dropped plan s rest 0) rest refl in omega arith)
+            | moves.Waits ↦ omega arith
+            | moves.Enters ↦ omega arith
+            | moves.Fails code ↦ (let less = fewer_entries l f (dropped plan s rest code) rest refl in omega arith)
+          ]
     ]
 
 -- a plan that comes out as it was, in a state with no more processes, rests
-plan_rests : (l : Limits) (f : Flat) (plan : Plan) (entries : List ℕ) → plan.entries ≡ entries → (settle_entries l f plan entries).1 ≡ plan → length (settle_entries l f plan entries).0.processes ≤ length f.processes
+plan_rests : (l : Limits) (f : Flat) (plan : Plan) (entries : List ℕ) → plan.entries ≡ entries → (settle_entries l f plan entries).1 ≡ plan
+    → length (settle_entries l f plan entries).0.processes ≤ length f.processes
     → (is_some plan.code ≡ true) ⊎ RestsAt l f plan entries
 plan_rests l f plan [] e same few = inr tt
 plan_rests l f plan (s ∷ rest) e same few =
     let long = ap length e in
-    elim (is_some plan.code) as (λ b. is_some plan.code ≡ b → (cond b (f, plan) (moved f plan s (settle_entries l f (dropped plan s rest (move_code (move_of l f plan.tried s))) rest) (move_of l f plan.tried s))).1 ≡ plan
-    → length (cond b (f, plan) (moved f plan s (settle_entries l f (dropped plan s rest (move_code (move_of l f plan.tried s))) rest) (move_of l f plan.tried s))).0.processes ≤ length f.processes
+    elim (is_some plan.code) as (λ b. is_some plan.code ≡ b → (cond b (f, plan)
+    (moved f plan s (settle_entries l f (dropped plan s rest (move_code (move_of l f plan.tried s))) rest)
+    (move_of l f plan.tried s))).1 ≡ plan
+    → length (cond b (f, plan) (moved f plan s (settle_entries l f (dropped plan s rest (move_code (move_of l f plan.tried s))) rest)
+    (move_of l f plan.tried s))).0.processes ≤ length f.processes
     → (is_some plan.code ≡ true) ⊎ (move_of l f plan.tried s ≡ moves.Waits)) [
       | true ↦ λ decided g h. inl decided
-      | false ↦ λ undecided. elim (move_of l f plan.tried s) as (λ m. move_of l f plan.tried s ≡ m → (moved f plan s (settle_entries l f (dropped plan s rest (move_code m)) rest) m).1 ≡ plan
-          → length (moved f plan s (settle_entries l f (dropped plan s rest (move_code m)) rest) m).0.processes ≤ length f.processes → (is_some plan.code ≡ true) ⊎ (move_of l f plan.tried s ≡ moves.Waits)) [
-            | moves.Passes ↦ λ is g h. absurd (let less = fewer_entries l f (dropped plan s rest 0) rest refl in let as_it = ap (λ (p : Plan). length p.entries) g in omega arith)
+      | false ↦ λ undecided. elim (move_of l f plan.tried s) as (λ m. move_of l f plan.tried s ≡ m
+          → (moved f plan s (settle_entries l f (dropped plan s rest (move_code m)) rest) m).1 ≡ plan
+          → length (moved f plan s (settle_entries l f (dropped plan s rest (move_code m)) rest) m).0.processes ≤ length f.processes
+          → (is_some plan.code ≡ true) ⊎ (move_of l f plan.tried s ≡ moves.Waits)) [
+            | moves.Passes ↦ λ is g h. absurd (let less = fewer_entries l f (dropped plan s rest 0) rest refl in
+                let as_it = ap (λ (p : Plan). length p.entries) g in omega arith)
             | moves.Waits ↦ λ is g h. inr is
             | moves.Enters ↦ λ is g h. absurd (let one = length-append f.processes (wanted_process f.next.process s ∷ []) in omega arith)
-            | moves.Fails code ↦ λ is g h. absurd (let less = fewer_entries l f (dropped plan s rest code) rest refl in let as_it = ap (λ (p : Plan). length p.entries) g in omega arith)
+            | moves.Fails code ↦ λ is g h. absurd (let less = fewer_entries l f (dropped plan s rest code) rest refl in
+                let as_it = ap (λ (p : Plan). length p.entries) g in omega arith)
           ] refl
     ] refl same few
 
 first_same : (a b : Plan) (more others : List Plan) → a ∷ more ≡ b ∷ others → (a ≡ b) × (more ≡ others)
 first_same a b more others e = (cc, cc)
 
-all_rest : (l : Limits) (f : Flat) (plans : List Plan) → (settle_all l f plans).1 ≡ plans → length (settle_all l f plans).0.processes ≤ length f.processes → AllByRecursion (Rests l f) plans
+all_rest : (l : Limits) (f : Flat) (plans : List Plan) → (settle_all l f plans).1 ≡ plans
+    → length (settle_all l f plans).0.processes ≤ length f.processes → AllByRecursion (Rests l f) plans
 all_rest l f [] same few = tt
 all_rest l f (plan ∷ plans) same few =
     let first = settle_plan l f plan in
@@ -107,8 +126,11 @@ all_rest l f (plan ∷ plans) same few =
     let one = no_fewer l f (plan ∷ []) in
     let others = no_fewer l first.0 plans in
     let rests = plan_rests l f plan plan.entries refl parts.0 (omega arith) in
-    let still : first.0 ≡ f = ap (λ (r : Flat × Plan). r.0) (entries_still l f plan plan.entries rests) in
-    (rests, all_rest l f plans (subst (λ (g : Flat). (settle_all l g plans).1 ≡ plans) still parts.1) (subst (λ (g : Flat). length (settle_all l g plans).0.processes ≤ length f.processes) still few))
+    let still : first.0 ≡ f = ap (λ (r : Flat × Plan). r.0) (entries_still l f plan plan.entries rests) in (
+      rests,
+      all_rest l f plans (subst (λ (g : Flat). (settle_all l g plans).1 ≡ plans) still parts.1)
+          (subst (λ (g : Flat). length (settle_all l g plans).0.processes ≤ length f.processes) still few),
+    )
 
 pub same_length : (l : Limits) (f : Flat) (plans : List Plan) → length (settle_all l f plans).1 ≡ length plans
 same_length l f [] = refl
@@ -127,7 +149,8 @@ settled_rest l f =
 
 -- ## When a start is answered
 
-rests_beside : (l : Limits) (g : Flat) (plans : List Plan) (plan : Plan) (entries : List ℕ) → RestsAt l g plan entries → RestsAt l (record g { plans = plans }) plan entries
+rests_beside : (l : Limits) (g : Flat) (plans : List Plan) (plan : Plan) (entries : List ℕ) → RestsAt l g plan entries
+    → RestsAt l (record g { plans = plans }) plan entries
 rests_beside l g plans plan [] rests = tt
 rests_beside l g plans plan (x ∷ xs) rests = rests
 
@@ -135,13 +158,16 @@ one_beside : (l : Limits) (g : Flat) (plans : List Plan) (plan : Plan) → Rests
 one_beside l g plans plan (inl decided) = inl decided
 one_beside l g plans plan (inr rests) = inr (rests_beside l g plans plan plan.entries rests)
 
-left_rest : (l : Limits) (g : Flat) (plan : ℕ) (code : Option ℕ) → AllByRecursion (Rests l g) g.plans → AllByRecursion (Rests l (left_by g plan code)) (left_by g plan code).plans
+left_rest : (l : Limits) (g : Flat) (plan : ℕ) (code : Option ℕ) → AllByRecursion (Rests l g) g.plans
+    → AllByRecursion (Rests l (left_by g plan code)) (left_by g plan code).plans
 left_rest l g plan None rests = rests
 left_rest l g plan (Some code) rests =
     let fewer = filter (λ (row : Plan). not (is_numbered plan row)) g.plans in
-    all_weaker (Rests l g) (Rests l (record g { plans = fewer })) (one_beside l g fewer) fewer (all_filter (Rests l g) (λ (row : Plan). not (is_numbered plan row)) g.plans rests)
+    all_weaker (Rests l g) (Rests l (record g { plans = fewer })) (one_beside l g fewer) fewer
+    (all_filter (Rests l g) (λ (row : Plan). not (is_numbered plan row)) g.plans rests)
 
-pub finished_rest : (l : Limits) (g : Flat) (told : Answer) → AllByRecursion (Rests l g) g.plans → AllByRecursion (Rests l (finished g told).flat) (finished g told).flat.plans
+pub finished_rest : (l : Limits) (g : Flat) (told : Answer) → AllByRecursion (Rests l g) g.plans
+    → AllByRecursion (Rests l (finished g told).flat) (finished g told).flat.plans
 finished_rest l g (answer.Begun plan) rests = left_rest l g plan (code_of g.plans plan) rests
 finished_rest l g told rests = rests
 
@@ -151,10 +177,12 @@ finished_rest l g told rests = rests
 abbrev MoveBy : Bool → Bool → Bool → Bool → Bool → Bool → Bool → Bool → Bool → Move
 MoveBy running pending marked disabled ready stopped tried full locked =
     cond running moves.Passes
-    (cond pending moves.Waits (move_by (entering_at (cond marked 1072 (cond disabled 1058 (cond (not ready || not stopped || tried) 1068 (cond full 1054 0)))) locked)))
+    (cond pending moves.Waits (move_by (entering_at (cond marked 1072 (cond disabled 1058
+    (cond (not ready || not stopped || tried) 1068 (cond full 1054 0)))) locked)))
 
 -- who waits waits still where it is ready still
-still_waits : (a b m d r r' s t p k : Bool) → (r ≡ true → r' ≡ true) → MoveBy a b m d r s t p k ≡ moves.Waits → MoveBy a b m d r' s t p k ≡ moves.Waits
+still_waits : (a b m d r r' s t p k : Bool) → (r ≡ true → r' ≡ true) → MoveBy a b m d r s t p k ≡ moves.Waits
+    → MoveBy a b m d r' s t p k ≡ moves.Waits
 still_waits true b m d r r' s t p k keeps h = absurd cc
 still_waits false true m d r r' s t p k keeps h = refl
 still_waits false false true d r r' s t p k keeps h = absurd cc
@@ -183,18 +211,24 @@ found_stays p q x [] found stay = absurd cc
 found_stays p q x (y ∷ ys) found stay =
     elim (p y) as (λ b. p y ≡ b → cond b (Some y) (find p ys) ≡ Some x → find p (cond (q y) (y ∷ filter q ys) (filter q ys)) ≡ Some x) [
       | true ↦ λ e h. (let same : y ≡ x = cc in let stay_y : q y ≡ true = ap q same ∙ stay in rw (stay_y, e) h)
-      | false ↦ λ e h. elim (q y) as (λ b. find p (cond b (y ∷ filter q ys) (filter q ys)) ≡ Some x) [ true ↦ rw e (found_stays p q x ys h stay) | false ↦ found_stays p q x ys h stay ]
+      | false ↦ λ e h. elim (q y) as (λ b. find p (cond b (y ∷ filter q ys) (filter q ys)) ≡ Some x)
+          [ true ↦ rw e (found_stays p q x ys h stay) | false ↦ found_stays p q x ys h stay ]
     ] refl found
 
-waits_found : (l : Limits) (g : Flat) (tried : List ℕ) (x : ℕ) (found : Option Service) → service_of g x ≡ found → move_of l g tried x ≡ moves.Waits → move_of l (purged g) tried x ≡ moves.Waits
+waits_found : (l : Limits) (g : Flat) (tried : List ℕ) (x : ℕ) (found : Option Service) → service_of g x ≡ found
+    → move_of l g tried x ≡ moves.Waits → move_of l (purged g) tried x ≡ moves.Waits
 waits_found l g tried x None e waits = absurd (let no : move_by (entering_at 1072 (is_some g.lock)) ≡ moves.Waits = rw e at waits in cc)
 waits_found l g tried x (Some row) e waits =
     let full = is_full l g in
-    let here : MoveBy (row.status.state == 4) (is_pending row.status.state) row.marked (row.config.start == 4) (is_ready g row) (row.status.state == 1) (has tried x) full (is_some g.lock) ≡ moves.Waits = rw e at waits in
-    let by = waits_by (row.status.state == 4) (is_pending row.status.state) row.marked (row.config.start == 4) (is_ready g row) (row.status.state == 1) (has tried x) full (is_some g.lock) here in
+    let here : MoveBy (row.status.state == 4) (is_pending row.status.state) row.marked (row.config.start == 4) (is_ready g row)
+    (row.status.state == 1) (has tried x) full (is_some g.lock) ≡ moves.Waits = rw e at waits in
+    let by = waits_by (row.status.state == 4) (is_pending row.status.state) row.marked (row.config.start == 4) (is_ready g row)
+    (row.status.state == 1) (has tried x) full (is_some g.lock) here in
     let there : service_of (purged g) x ≡ Some row =
-    found_stays (λ (r : Service). r.number == x) (λ (r : Service). not (leaves g.handles r)) row g.services e (stays_by row.marked _ row.status.state by) in
-    rw there (still_waits (row.status.state == 4) (is_pending row.status.state) row.marked (row.config.start == 4) (is_ready g row) (is_ready (purged g) row) (row.status.state == 1) (has tried x) full (is_some g.lock)
+    found_stays (λ (r : Service). r.number == x) (λ (r : Service). not (leaves g.handles r)) row g.services e
+    (stays_by row.marked _ row.status.state by) in
+    rw there (still_waits (row.status.state == 4) (is_pending row.status.state) row.marked (row.config.start == 4) (is_ready g row)
+    (is_ready (purged g) row) (row.status.state == 1) (has tried x) full (is_some g.lock)
     (all_fulfilled g row.config.needs) here)
 
 rests_purged : (l : Limits) (g : Flat) (plan : Plan) (entries : List ℕ) → RestsAt l g plan entries → RestsAt l (purged g) plan entries
@@ -212,10 +246,13 @@ purged_rest l g rests = all_weaker (Rests l g) (Rests l (purged g)) (one_purged 
 
 filter_all : {X : Type 0} (p : X → Bool) (xs : List X) → All (λ x. p x ≡ true) xs → filter p xs ≡ xs
 filter_all p [] all = refl
-filter_all p (x ∷ xs) all = rw (All-head (λ y. p y ≡ true) x xs all) (ap (λ ys. x ∷ ys) (filter_all p xs (All-tail (λ y. p y ≡ true) x xs all)))
+filter_all p (x ∷ xs) all = rw (All-head (λ y. p y ≡ true) x xs all) (ap (λ ys. x ∷ ys)
+    (filter_all p xs (All-tail (λ y. p y ≡ true) x xs all)))
 
-pub is_settled : (l : Limits) (g : Flat) → AllByRecursion (Rests l g) g.plans → AreStill g.plans g.dues → All (λ (plan : Plan). stays plan ≡ true) g.plans → settled l g ≡ g
+pub is_settled : (l : Limits) (g : Flat) → AllByRecursion (Rests l g) g.plans → AreStill g.plans g.dues
+    → All (λ (plan : Plan). stays plan ≡ true) g.plans → settled l g ≡ g
 is_settled l g rests still stay =
     ap (λ (r : Flat × List Plan). tidied r.0 r.1) (all_still l g g.plans rests)
-    ∙ ap (λ (plans : List Plan). record g { plans = plans; dues = filter (λ (due : Due). is_due_still plans due.kind) g.dues }) (filter_all stays g.plans stay)
+    ∙ ap (λ (plans : List Plan). record g { plans = plans; dues = filter (λ (due : Due). is_due_still plans due.kind) g.dues })
+    (filter_all stays g.plans stay)
     ∙ ap (λ (dues : List Due). record g { dues = dues }) (filter_all (λ (due : Due). is_due_still g.plans due.kind) g.dues still)

@@ -1,5 +1,6 @@
 -- What is true of the services of every state, and what each change of them keeps.
-use Rattle.std.proofs.Common.{ℕ, ◌≡◌, ◌∙◌, ◌+◌, ◌<◌, ◌≤◌, ◌==◌, Bool, true, false, cond, List, [], ◌∷◌, ◌++◌, None, filter, map, get_or, ap, sym, refl, subst, arith, eqb-true, ne_eqb}
+use Rattle.std.proofs.Common.{ℕ, ◌≡◌, ◌∙◌, ◌+◌, ◌<◌, ◌≤◌, ◌==◌, Bool, true, false, cond, List, [], ◌∷◌, ◌++◌, None, filter, map, get_or, ap}
+use Rattle.std.proofs.Common.{sym, refl, subst, arith, eqb-true, ne_eqb}
 use Rattle.std.specs.Prelude.{All, AllPairs, Ok, Err}
 use Rattle.std.proofs.lemmas.List.Elements.{All-filter, All-push, All-map, All-weaker}
 use Rattle.std.proofs.lemmas.List.Kept.{AllPairs-filter}
@@ -63,7 +64,8 @@ mild_row : (change : Service → Service) → IsMild change → (row : Service) 
 mild_row change mild row = rw (mild.number row, mild.config row) refl
 
 pub mildly : (next process later : ℕ) (change : Service → Service) (rows : List Service) → IsMild change → AreServices next process rows
-    → process ≤ later → All IsStoppedWithout (map change rows) → All (λ (row : Service). row.process < later) (map change rows) → AreServices next later (map change rows)
+    → process ≤ later → All IsStoppedWithout (map change rows) → All (λ (row : Service). row.process < later) (map change rows)
+    → AreServices next later (map change rows)
 mildly next process later change rows mild s up stopped current = record {
   numbered = numbered_map (λ (row : Service). row.number) next change mild.number rows s.numbered;
   first = s.first;
@@ -72,16 +74,20 @@ mildly next process later change rows mild s up stopped current = record {
       (λ a b p q h. rw (mild.config a, mild.config b) h) rows (λ k d lt. tt) s.names;
   displays = pairs_map (λ row. Unit {0}) AreOtherDisplays AreOtherDisplays change
       (λ a b p q h. rw (mild.config a, mild.config b) h) rows (λ k d lt. tt) s.displays;
-  configs = All-map IsChecked change rows (λ k d lt. subst (λ (c : Config). check_new c None ≡ 0) (sym (mild.config (get_or rows k d))) (s.configs k d lt));
-  kinds = All-map HasKind change rows (λ k d lt. mild.kind (get_or rows k d) ∙ s.kinds k d lt ∙ ap (λ (c : Config). c.kind) (sym (mild.config (get_or rows k d))));
+  configs = All-map IsChecked change rows (λ k d lt. subst (λ (c : Config). check_new c None ≡ 0) (sym (mild.config (get_or rows k d)))
+      (s.configs k d lt));
+  kinds = All-map HasKind change rows (λ k d lt. mild.kind (get_or rows k d) ∙ s.kinds k d lt
+      ∙ ap (λ (c : Config). c.kind) (sym (mild.config (get_or rows k d))));
   stopped = stopped;
   current = current;
   acyclic = same_graph change (mild_row change mild) rows s.acyclic;
 }
 
-pub marked : (next process number : ℕ) (rows : List Service) → AreServices next process rows → AreServices next process (map (marked_if number) rows)
+pub marked : (next process number : ℕ) (rows : List Service) → AreServices next process rows
+    → AreServices next process (map (marked_if number) rows)
 marked next process number rows s =
-    mildly next process process (marked_if number) rows (record { number = λ row. refl; config = λ row. refl; kind = λ row. refl }) s (omega arith)
+    mildly next process process (marked_if number) rows (record { number = λ row. refl; config = λ row. refl; kind = λ row. refl }) s
+    (omega arith)
     (All-map IsStoppedWithout (marked_if number) rows s.stopped)
     (All-map (λ (row : Service). row.process < process) (marked_if number) rows s.current)
 
@@ -96,17 +102,23 @@ starts_mildly number process = record {
 positive_other : (n : ℕ) → 1 ≤ n → false ≡ (n == 0)
 positive_other n first = sym (ne_eqb n 0 (λ e. absurd (omega (arith, e, first))))
 
-pub begun : (next process number : ℕ) (rows : List Service) → AreServices next process rows → AreServices next (process + 1) (map (started_if number process) rows)
+pub begun : (next process number : ℕ) (rows : List Service) → AreServices next process rows
+    → AreServices next (process + 1) (map (started_if number process) rows)
 begun next process number rows s =
     mildly next process (process + 1) (started_if number process) rows (starts_mildly number process) s (omega arith)
-    (All-map IsStoppedWithout (started_if number process) rows (λ k d lt. started_or IsStoppedWithout number process (get_or rows k d) (λ e. positive_other process s.first_process) (s.stopped k d lt)))
+    (All-map IsStoppedWithout (started_if number process) rows (λ k d lt. started_or IsStoppedWithout number process (get_or rows k d)
+    (λ e. positive_other process s.first_process) (s.stopped k d lt)))
     (All-map (λ (row : Service). row.process < process + 1) (started_if number process) rows
-    (λ k d lt. started_or (λ (row : Service). row.process < process + 1) number process (get_or rows k d) (λ e. omega arith) (let below = s.current k d lt in omega arith)))
+    (λ k d lt. started_or (λ (row : Service). row.process < process + 1) number process (get_or rows k d) (λ e. omega arith)
+    (let below = s.current k d lt in omega arith)))
 
 -- who has this process falls
-pub fallen_or : (P : Service → Type 0) (process code : ℕ) (row : Service) → ((row.process == process) ≡ true → P (record row { status = take_end row.status code; process = 0 })) → P row → P (fallen_if process code row)
+pub fallen_or : (P : Service → Type 0) (process code : ℕ) (row : Service)
+    → ((row.process == process) ≡ true → P (record row { status = take_end row.status code; process = 0 })) → P row
+    → P (fallen_if process code row)
 fallen_or P process code row falls stays =
-    elim (row.process == process) as (λ b. (row.process == process) ≡ b → P (cond b (record row { status = take_end row.status code; process = 0 }) row)) [ true ↦ falls | false ↦ λ e. stays ] refl
+    elim (row.process == process) as (λ b. (row.process == process) ≡ b
+    → P (cond b (record row { status = take_end row.status code; process = 0 }) row)) [ true ↦ falls | false ↦ λ e. stays ] refl
 
 pub falls_mildly : (process code : ℕ) → IsMild (fallen_if process code)
 falls_mildly process code = record {
@@ -115,18 +127,24 @@ falls_mildly process code = record {
   kind = λ row. fallen_or (λ new. new.status.kind ≡ row.status.kind) process code row (λ e. refl) refl;
 }
 
-pub fallen : (next process number code : ℕ) (rows : List Service) → AreServices next process rows → AreServices next process (map (fallen_if number code) rows)
+pub fallen : (next process number code : ℕ) (rows : List Service) → AreServices next process rows
+    → AreServices next process (map (fallen_if number code) rows)
 fallen next process number code rows s =
     mildly next process process (fallen_if number code) rows (falls_mildly number code) s (omega arith)
-    (All-map IsStoppedWithout (fallen_if number code) rows (λ k d lt. fallen_or IsStoppedWithout number code (get_or rows k d) (λ e. refl) (s.stopped k d lt)))
+    (All-map IsStoppedWithout (fallen_if number code) rows (λ k d lt. fallen_or IsStoppedWithout number code (get_or rows k d) (λ e. refl)
+    (s.stopped k d lt)))
     (All-map (λ (row : Service). row.process < process) (fallen_if number code) rows
-    (λ k d lt. fallen_or (λ (row : Service). row.process < process) number code (get_or rows k d) (λ e. let first = s.first_process in omega arith) (s.current k d lt)))
+    (λ k d lt. fallen_or (λ (row : Service). row.process < process) number code (get_or rows k d)
+    (λ e. let first = s.first_process in omega arith) (s.current k d lt)))
 
 -- who has this process moves by a report that is taken
-pub reported_or : (P : Service → Type 0) (process : ℕ) (report : Status) (row : Service) → ((row.process == process) ≡ true → takes row.status report ≡ true → P (moved_by row (Ok report))) → P row → P (reported_if process report row)
+pub reported_or : (P : Service → Type 0) (process : ℕ) (report : Status) (row : Service)
+    → ((row.process == process) ≡ true → takes row.status report ≡ true → P (moved_by row (Ok report))) → P row
+    → P (reported_if process report row)
 reported_or P process report row moves stays =
     elim (row.process == process) as (λ b. (row.process == process) ≡ b → P (cond b (moved_by row (take_report row.status report)) row)) [
-      | true ↦ λ e. elim (takes row.status report) as (λ t. takes row.status report ≡ t → P (moved_by row (cond t (Ok report) (Err 13)))) [ true ↦ moves e | false ↦ λ t. stays ] refl
+      | true ↦ λ e. elim (takes row.status report) as (λ t. takes row.status report ≡ t → P (moved_by row (cond t (Ok report) (Err 13))))
+          [ true ↦ moves e | false ↦ λ t. stays ] refl
       | false ↦ λ e. stays
     ] refl
 
@@ -146,14 +164,19 @@ stopped_without : (state process : ℕ) → (process == 0) ≡ false → (state 
 stopped_without state process has = elim (state == 1) as (λ b. b ≡ (cond b 0 process == 0)) [ true ↦ refl | false ↦ sym has ]
 
 below_still : (bound state process : ℕ) → 1 ≤ bound → process < bound → process_in_state state process < bound
-below_still bound state process first below = elim (state == 1) as (λ b. cond b 0 process < bound) [ true ↦ omega (arith, first) | false ↦ below ]
+below_still bound state process first below = elim (state == 1) as (λ b. cond b 0 process < bound) [
+  | true ↦ omega (arith, first)
+  | false ↦ below
+]
 
-pub reported : (next process number : ℕ) (report : Status) (rows : List Service) → 1 ≤ number → AreServices next process rows → AreServices next process (map (reported_if number report) rows)
+pub reported : (next process number : ℕ) (report : Status) (rows : List Service) → 1 ≤ number → AreServices next process rows
+    → AreServices next process (map (reported_if number report) rows)
 reported next process number report rows there s =
     mildly next process process (reported_if number report) rows (reports_mildly number report) s (omega arith)
     (All-map IsStoppedWithout (reported_if number report) rows
     (λ k d lt. (let row = get_or rows k d in reported_or IsStoppedWithout number report row
-    (λ e t. stopped_without report.state row.process (ne_eqb row.process 0 (λ none. absurd (let is = eqb-true row.process number e in omega (arith, none, is, there))))) (s.stopped k d lt))))
+    (λ e t. stopped_without report.state row.process (ne_eqb row.process 0
+    (λ none. absurd (let is = eqb-true row.process number e in omega (arith, none, is, there))))) (s.stopped k d lt))))
     (All-map (λ (row : Service). row.process < process) (reported_if number report) rows
     (λ k d lt. (let row = get_or rows k d in reported_or (λ (row : Service). row.process < process) number report row
     (λ e t. below_still process report.state row.process s.first_process (s.current k d lt)) (s.current k d lt))))
@@ -169,7 +192,8 @@ later next process rows s = record {
   configs = s.configs;
   kinds = s.kinds;
   stopped = s.stopped;
-  current = All-weaker (λ (row : Service). row.process < process) (λ (row : Service). row.process < process + 1) (λ row below. omega (arith, below)) rows s.current;
+  current = All-weaker (λ (row : Service). row.process < process) (λ (row : Service). row.process < process + 1)
+      (λ row below. omega (arith, below)) rows s.current;
   acyclic = s.acyclic;
 }
 
@@ -178,7 +202,8 @@ later next process rows s = record {
 pub added : (next process : ℕ) (rows : List Service) (row : Service) → AreServices next process rows → row.number ≡ next
     → All (λ (old : Service). same_text old.config.name row.config.name ≡ false) rows
     → All (λ (old : Service). same_text old.config.display row.config.display ≡ false) rows
-    → IsChecked row → HasKind row → IsStoppedWithout row → row.process ≡ 0 → HasNoCycle (rows ++ row ∷ []) → AreServices (next + 1) process (rows ++ row ∷ [])
+    → IsChecked row → HasKind row → IsStoppedWithout row → row.process ≡ 0 → HasNoCycle (rows ++ row ∷ [])
+    → AreServices (next + 1) process (rows ++ row ∷ [])
 added next process rows row s number names displays checked kind stopped none free = record {
   numbered = numbered_push (λ (row : Service). row.number) next rows row s.numbered s.first number;
   first = (let first = s.first in omega arith);
@@ -188,11 +213,13 @@ added next process rows row s number names displays checked kind stopped none fr
   configs = All-push IsChecked rows row s.configs checked;
   kinds = All-push HasKind rows row s.kinds kind;
   stopped = All-push IsStoppedWithout rows row s.stopped stopped;
-  current = All-push (λ (row : Service). row.process < process) rows row s.current (let first = s.first_process in omega (arith, none, first));
+  current = All-push (λ (row : Service). row.process < process) rows row s.current
+      (let first = s.first_process in omega (arith, none, first));
   acyclic = free;
 }
 
-pub cleared : (next process : ℕ) (p : Service → Bool) (rows : List Service) → AreServices next process rows → AreServices next process (filter p rows)
+pub cleared : (next process : ℕ) (p : Service → Bool) (rows : List Service) → AreServices next process rows
+    → AreServices next process (filter p rows)
 cleared next process p rows s = record {
   numbered = numbered_filter (λ (row : Service). row.number) next p rows s.numbered;
   first = s.first;

@@ -1,5 +1,6 @@
 -- What is true of every state, before and after services leave, and that each change keeps it.
-use Rattle.std.proofs.Common.{ℕ, zero, suc, get_or, ◌≡◌, ◌<◌, ◌≤◌, ◌==◌, ◌&&◌, true, false, not, cond, List, [], ◌∷◌, ◌++◌, Option, None, drop, length, map, ap, sym, refl, subst, arith, eqb, ◌+◌, filter, eqb-true, Some, Bool, ◌∙◌}
+use Rattle.std.proofs.Common.{ℕ, zero, suc, get_or, ◌≡◌, ◌<◌, ◌≤◌, ◌==◌, ◌&&◌, true, false, not, cond, List, [], ◌∷◌, ◌++◌, Option, None}
+use Rattle.std.proofs.Common.{drop, length, map, ap, sym, refl, subst, arith, eqb, ◌+◌, filter, eqb-true, Some, Bool, ◌∙◌}
 use Rattle.std.specs.Prelude.{All, Contains, is_some, nat_lt}
 use Rattle.std.proofs.lemmas.List.Elements.{All-contains, All-filter, All-map, All-push, recursion_from_All}
 use Rattle.std.specs.List.{AllByRecursion, IsDistinct}
@@ -23,17 +24,17 @@ use Rattle.scm_model.specs.declared.flat.Status.{Status}
 use Rattle.scm_model.specs.Rows.{is_caller, is_lock, principal_of}
 use Rattle.scm_model.specs.Changes.{marked_if, with_caller, with_handle, with_mark, with_moment, with_service, without_handle}
 use Rattle.scm_model.specs.Purge.{leaves, leaving, purged}
-use Rattle.scm_model.specs.Notices.{Event, all_noted, event_of_leaving, noted, pid_of, told_of_move, with_noted, with_registration}
+use Rattle.scm_model.specs.Notices.{Event, all_noted, event_of_leaving, noted, pid_of, notified_of_move, with_noted, with_registration}
 use Rattle.scm_rules.specs.Valid.{HasShortName}
-use Rattle.scm_rules.specs.Launches.{current_of, told_of_fall, with_fallen, without_process}
-use Rattle.scm_rules.specs.Reports.{reported_if, told_of_report}
+use Rattle.scm_rules.specs.Launches.{current_of, notified_of_fall, with_fallen, without_process}
+use Rattle.scm_rules.specs.Reports.{reported_if, notified_of_report}
 use Rattle.scm_runs.proofs.Lists.{found_has}
 use Rattle.scm_runs.proofs.Registered.{AreRegistered, IsOfCaller, events_keep, no_registrations, one_registered, who_joined, who_left}
 use Rattle.scm_runs.proofs.Told.{IsNamed, IsProper, all_named, fall_tells, leaving_tells, report_tells}
 use Rattle.database_lock.specs.Locking.{unlocked}
 use Rattle.service_record.specs.Checks.{check_new}
 use Rattle.start_plan.specs.Decided.{aims_at, is_callers, is_numbered, decided_in}
-use Rattle.scm_rules.specs.Controls.{controlled_if, relieved_if, with_control, with_control_taken}
+use Rattle.scm_rules.specs.Controls.{controlled_if, dequeued_if, with_control, with_control_taken}
 use Rattle.scm_rules.specs.Launches.{is_launched, launch_failed, launch_taken, launched, process_of, service_of_process}
 use Rattle.scm_rules.specs.Locks.{lock_done, unlock_done}
 use Rattle.scm_rules.specs.Opening.{CanOpen, IsOpening, automatic_starts, opening, services_from, starts_from}
@@ -50,16 +51,21 @@ use Rattle.scm_runs.proofs.Ordered.{order_below}
 use Rattle.scm_rules.specs.Steps.{gone, wants_launch}
 use Rattle.scm_rules.specs.Valid.{AreNumbered, HasListed}
 use Rattle.scm_runs.specs.Handles.{AreRights}
-use Rattle.scm_runs.proofs.Deadlines.{AreDeadlines, IsBelow, no_plans_yet, plan_more, plans_decided, plans_fewer, fired as deadlines_fired, service_more as service_due}
+use Rattle.scm_runs.proofs.Deadlines.{AreDeadlines, IsBelow, no_plans_yet, plan_more, plans_decided, plans_fewer, fired as deadlines_fired}
+use Rattle.scm_runs.proofs.Deadlines.{service_more as service_due}
 use Rattle.scm_runs.proofs.Handled.{AreHandled, caller_joined, caller_left as handles_left, handle_given, handle_left, no_handles}
 use Rattle.scm_runs.proofs.Lists.{filter_twice, alone}
 use Rattle.scm_runs.proofs.Locked.{Locked, one_holds, one_more}
 use Rattle.scm_rules.proofs.Needed.{HasNoCycle}
 use Rattle.scm_runs.proofs.Opened.{opened_listed, opened_services}
 use Rattle.scm_runs.proofs.Numbers.{numbered_filter, numbered_push}
-use Rattle.scm_runs.proofs.Plans.{AreBelow, ArePlans, IsKnown, IsPlan, all_weaker, caller_left as plans_left, caller_more, decided, fewer, more, no_plans, service_more, has_expired}
-use Rattle.scm_runs.proofs.Processes.{AreProcesses, IsOfControls, beside as processes_beside, command_more, controlled, failed, first_taken, no_processes, one_launched, reported as processes_reported, running_first, running_launched, starts_kept, starts_more, starts_stay}
-use Rattle.scm_runs.proofs.Rows.{AreServices, added as row_added, cleared as rows_cleared, fallen, later, marked as rows_marked, reported as rows_reported}
+use Rattle.scm_runs.proofs.Plans.{AreBelow, ArePlans, IsKnown, IsPlan, all_weaker, caller_left as plans_left, caller_more, decided, fewer}
+use Rattle.scm_runs.proofs.Plans.{more, no_plans, service_more, has_expired}
+use Rattle.scm_runs.proofs.Processes.{AreProcesses, IsOfControls, beside as processes_beside, command_more, controlled, failed, first_taken}
+use Rattle.scm_runs.proofs.Processes.{no_processes, one_launched, reported as processes_reported, running_first, running_launched}
+use Rattle.scm_runs.proofs.Processes.{starts_kept, starts_more, starts_stay}
+use Rattle.scm_runs.proofs.Rows.{AreServices, added as row_added, cleared as rows_cleared, fallen, later, marked as rows_marked}
+use Rattle.scm_runs.proofs.Rows.{reported as rows_reported}
 use Rattle.scm_model.specs.Found.{if_found}
 use Rattle.scm_model.proofs.Found.{found_keeps}
 use Rattle.scm_model.specs.declared.flat.Caller.{Caller}
@@ -84,16 +90,19 @@ pub record Sound (f : Flat) : Type 0 where
 -- ## Changes
 
 -- the starts that become due have numbers from this one on
-start_at : (number moment : ℕ) (rows : List Service) (k : ℕ) (d : Due) → k < length rows → (get_or (starts_from number moment rows) k d).number ≡ number + k
+start_at : (number moment : ℕ) (rows : List Service) (k : ℕ) (d : Due) → k < length rows
+    → (get_or (starts_from number moment rows) k d).number ≡ number + k
 start_at number moment [] k d lt = absurd (omega (arith, lt))
 start_at number moment (row ∷ rows) zero d lt = omega arith
-start_at number moment (row ∷ rows) (suc k) d lt = (let rest = start_at (number + 1) moment rows k d (omega (arith, lt)) in omega (arith, rest))
+start_at number moment (row ∷ rows) (suc k) d lt = (let rest = start_at (number + 1) moment rows k d (omega (arith, lt)) in
+    omega (arith, rest))
 
 as_many_starts : (number moment : ℕ) (rows : List Service) → length (starts_from number moment rows) ≡ length rows
 as_many_starts number moment [] = refl
 as_many_starts number moment (row ∷ rows) = (let rest = as_many_starts (number + 1) moment rows in omega (arith, rest))
 
-opened_dues : (moment : ℕ) (rows : List Service) → AreNumbered (λ (row : Due). row.number) (length (starts_from 1 moment rows) + 1) (starts_from 1 moment rows)
+opened_dues : (moment : ℕ) (rows : List Service) → AreNumbered (λ (row : Due). row.number) (length (starts_from 1 moment rows) + 1)
+    (starts_from 1 moment rows)
 opened_dues moment rows =
     let many = as_many_starts 1 moment rows in
     record {
@@ -105,11 +114,13 @@ opened_dues moment rows =
           omega (arith, one, other, lt));
     }
 
-opened_below : (moment number : ℕ) (rows : List Service) → AllByRecursion (λ (due : Due). IsBelow 1 due.kind) (starts_from number moment rows)
+opened_below : (moment number : ℕ) (rows : List Service) → AllByRecursion (λ (due : Due). IsBelow 1 due.kind)
+    (starts_from number moment rows)
 opened_below moment number [] = tt
 opened_below moment number (row ∷ rows) = (tt, opened_below moment (number + 1) rows)
 
-opened : (l : Limits) (groups : List (List ℕ)) (configs : List Config) (moment : ℕ) → CanOpen l configs → Sound (opening l groups configs moment)
+opened : (l : Limits) (groups : List (List ℕ)) (configs : List Config) (moment : ℕ) → CanOpen l configs
+    → Sound (opening l groups configs moment)
 opened l groups configs moment can = record {
   services = opened_services l configs can;
   handles = no_handles;
@@ -124,7 +135,15 @@ pub begun : (l : Limits) (f : Flat) → IsOpening l f → Sound f
 begun l f o = subst Sound (sym o.is) (opened l o.groups o.configs o.moment o.can)
 
 pub moved : (f : Flat) (moment : ℕ) → Sound f → Sound (with_moment f moment)
-moved f moment s = record { services = s.services; handles = s.handles; processes = s.processes; plans = s.plans; dues = s.dues; deadlines = s.deadlines; registrations = s.registrations }
+moved f moment s = record {
+  services = s.services;
+  handles = s.handles;
+  processes = s.processes;
+  plans = s.plans;
+  dues = s.dues;
+  deadlines = s.deadlines;
+  registrations = s.registrations;
+}
 
 -- its services have numbers and short names
 pub are_named : (f : Flat) → Sound f → All IsNamed f.services
@@ -133,7 +152,8 @@ are_named f s = all_named f.next.service f.next.process f.services s.services
 -- ## Registrations
 
 -- other registrations
-pub retold : (f : Flat) (rows : List Registration) → AreRegistered f.next.registration f.callers rows → Sound f → Sound (record f { registrations = rows })
+pub retold : (f : Flat) (rows : List Registration) → AreRegistered f.next.registration f.callers rows → Sound f
+    → Sound (record f { registrations = rows })
 retold f rows told s = record {
   services = s.services;
   handles = s.handles;
@@ -145,7 +165,8 @@ retold f rows told s = record {
 }
 
 -- one more, with the next number
-pub watching : (f : Flat) (row : Registration) → row.number ≡ f.next.registration → IsOfCaller f.callers row → HasShortName row → Sound f → Sound (with_registration f row)
+pub watching : (f : Flat) (row : Registration) → row.number ≡ f.next.registration → IsOfCaller f.callers row → HasShortName row → Sound f
+    → Sound (with_registration f row)
 watching f row number there short s = record {
   services = s.services;
   handles = s.handles;
@@ -158,7 +179,8 @@ watching f row number there short s = record {
 
 -- an event of a service or of the manager
 pub told : (f : Flat) (event : Event) → IsProper event → Sound f → Sound (with_noted f event)
-told f event proper s = retold f (noted event f.registrations) (events_keep f.next.registration f.callers event f.registrations proper s.registrations) s
+told f event proper s = retold f (noted event f.registrations) (events_keep f.next.registration f.callers event f.registrations proper
+    s.registrations) s
 
 -- ## Callers and handles
 
@@ -170,7 +192,8 @@ joined f principal s = record {
   plans = caller_more f.next.plan f.next.service f.callers (record { number = f.next.caller; principal = principal }) f.plans s.plans;
   dues = s.dues;
   deadlines = s.deadlines;
-  registrations = who_joined f.next.registration f.callers (record { number = f.next.caller; principal = principal }) f.registrations s.registrations;
+  registrations = who_joined f.next.registration f.callers (record { number = f.next.caller; principal = principal }) f.registrations
+      s.registrations;
 }
 
 pub left : (f : Flat) (caller : ℕ) → Sound f → Sound (gone f caller)
@@ -185,11 +208,13 @@ left f caller s = record {
 }
 
 -- a handle more, and who then holds the lock
-given : (f : Flat) (held : Option LockRow) (caller : ℕ) (kind : HandleKind) (granted : ℕ) → Sound f → is_caller f caller ≡ true → AreRights (principal_of f caller) kind granted
+given : (f : Flat) (held : Option LockRow) (caller : ℕ) (kind : HandleKind) (granted : ℕ) → Sound f → is_caller f caller ≡ true
+    → AreRights (principal_of f caller) kind granted
     → Locked held (with_handle f caller kind granted).handles → Sound (with_handle (record f { lock = held }) caller kind granted)
 given f held caller kind granted s there rights lock = record {
   services = s.services;
-  handles = handle_given f.next.caller f.callers f.next.handle f.handles f.lock held (record { number = f.next.handle; caller = caller; kind = kind; granted = granted }) s.handles refl there rights lock;
+  handles = handle_given f.next.caller f.callers f.next.handle f.handles f.lock held
+      (record { number = f.next.handle; caller = caller; kind = kind; granted = granted }) s.handles refl there rights lock;
   processes = s.processes;
   plans = s.plans;
   dues = s.dues;
@@ -197,12 +222,15 @@ given f held caller kind granted s there rights lock = record {
   registrations = s.registrations;
 }
 
-pub handed : (f : Flat) (caller : ℕ) (kind : HandleKind) (granted : ℕ) → Sound f → is_caller f caller ≡ true → AreRights (principal_of f caller) kind granted → is_lock kind ≡ false
+pub handed : (f : Flat) (caller : ℕ) (kind : HandleKind) (granted : ℕ) → Sound f → is_caller f caller ≡ true
+    → AreRights (principal_of f caller) kind granted → is_lock kind ≡ false
     → Sound (with_handle f caller kind granted)
-handed f caller kind granted s there rights other = given f f.lock caller kind granted s there rights (one_more f.lock f.handles _ other s.handles.handles.below s.handles.lock)
+handed f caller kind granted s there rights other = given f f.lock caller kind granted s there rights
+    (one_more f.lock f.handles _ other s.handles.handles.below s.handles.lock)
 
 pub taken : (f : Flat) (caller : ℕ) → Sound f → is_caller f caller ≡ true → is_some f.lock ≡ false → Sound (lock_done f caller).flat
-taken f caller s there free = given f _ caller kinds.Lock 0 s there refl (one_holds f.lock f.handles _ f.moment free refl s.handles.handles.below s.handles.lock)
+taken f caller s there free = given f _ caller kinds.Lock 0 s there refl
+    (one_holds f.lock f.handles _ f.moment free refl s.handles.handles.below s.handles.lock)
 
 -- a handle leaves, and the lock is free if it held it
 pub given_back : (f : Flat) (number : ℕ) → Sound f → Sound (unlock_done f number).flat
@@ -217,18 +245,21 @@ given_back f number s = record {
 }
 
 pub closed : (f : Flat) (number : ℕ) → Sound f → unlocked f.lock number ≡ f.lock → Sound (without_handle f number)
-closed f number s same = subst (λ (held : Option LockRow). Sound (without_handle (record f { lock = held }) number)) same (given_back f number s)
+closed f number s same = subst (λ (held : Option LockRow). Sound (without_handle (record f { lock = held }) number)) same
+    (given_back f number s)
 
 -- ## Services
 
 pub added : (f : Flat) (config : Config) (status : Status) → Sound f
     → All (λ (row : Service). same_text row.config.name config.name ≡ false) f.services
     → All (λ (row : Service). same_text row.config.display config.display ≡ false) f.services
-    → check_new config None ≡ 0 → status.kind ≡ config.kind → (status.state == 1) ≡ true → HasNoCycle (with_service f config status).services → Sound (with_service f config status)
+    → check_new config None ≡ 0 → status.kind ≡ config.kind → (status.state == 1) ≡ true
+    → HasNoCycle (with_service f config status).services → Sound (with_service f config status)
 added f config status s names displays checked kind state free = record {
   services = row_added f.next.service f.next.process f.services _ s.services refl names displays checked kind state refl free;
   handles = s.handles;
-  processes = processes_beside f.next.process f.processes f.wanted f.services _ s.processes (All-push (HasListed f.processes) f.services _ s.processes.listed refl)
+  processes = processes_beside f.next.process f.processes f.wanted f.services _ s.processes
+      (All-push (HasListed f.processes) f.services _ s.processes.listed refl)
       (starts_more f.processes f.services _ s.processes.starting);
   plans = service_more f.next.plan f.next.service f.callers f.plans s.plans;
   dues = s.dues;
@@ -240,7 +271,8 @@ pub marked : (f : Flat) (number : ℕ) → Sound f → Sound (with_mark f number
 marked f number s = record {
   services = rows_marked f.next.service f.next.process number f.services s.services;
   handles = s.handles;
-  processes = processes_beside f.next.process f.processes f.wanted f.services _ s.processes (All-map (HasListed f.processes) (marked_if number) f.services s.processes.listed)
+  processes = processes_beside f.next.process f.processes f.wanted f.services _ s.processes
+      (All-map (HasListed f.processes) (marked_if number) f.services s.processes.listed)
       (starts_kept f.processes (marked_if number) f.services (λ process row is. is) s.processes.starting);
   plans = s.plans;
   dues = s.dues;
@@ -254,12 +286,14 @@ cleared f s =
     record {
       services = rows_cleared f.next.service f.next.process p f.services s.services;
       handles = s.handles;
-      processes = processes_beside f.next.process f.processes f.wanted f.services _ s.processes (All-filter p (HasListed f.processes) f.services s.processes.listed)
+      processes = processes_beside f.next.process f.processes f.wanted f.services _ s.processes
+          (All-filter p (HasListed f.processes) f.services s.processes.listed)
           (starts_stay f.handles f.processes f.services s.processes.starting);
       plans = s.plans;
       dues = s.dues;
       deadlines = s.deadlines;
-      registrations = leaving_tells (AreRegistered f.next.registration f.callers) (events_keep f.next.registration f.callers) (leaving f) f.registrations
+      registrations = leaving_tells (AreRegistered f.next.registration f.callers) (events_keep f.next.registration f.callers)
+          (leaving f) f.registrations
           (All-filter (leaves f.handles) IsNamed f.services (are_named f s)) s.registrations;
     }
 
@@ -269,7 +303,9 @@ none_tried : IsDistinct eqb []
 unfolding IsDistinct
 none_tried = tt
 
-pub planned : (f : Flat) (caller target : ℕ) (entries : List ℕ) (words : List (List ℕ)) → Sound f → IsKnown f.callers (new_plan f caller target entries words) → AreBelow f.next.service entries → Sound (with_plan f (new_plan f caller target entries words))
+pub planned : (f : Flat) (caller target : ℕ) (entries : List ℕ) (words : List (List ℕ)) → Sound f
+    → IsKnown f.callers (new_plan f caller target entries words) → AreBelow f.next.service entries
+    → Sound (with_plan f (new_plan f caller target entries words))
 planned f caller target entries words s known below = record {
   services = s.services;
   handles = s.handles;
@@ -286,7 +322,8 @@ planned f caller target entries words s known below = record {
     first = (let first = s.dues.first in omega arith);
   };
   deadlines = plan_more f.next.plan f.plans f.dues _ _ refl refl
-      (all_weaker (IsPlan f.next.plan f.next.service f.callers) (λ (plan : Plan). plan.number < f.next.plan) (λ plan is. is.below) f.plans s.plans.each) s.deadlines;
+      (all_weaker (IsPlan f.next.plan f.next.service f.callers) (λ (plan : Plan). plan.number < f.next.plan)
+      (λ plan is. is.below) f.plans s.plans.each) s.deadlines;
   registrations = s.registrations;
 }
 
@@ -310,8 +347,13 @@ one_spent f row is s =
       handles = s.handles;
       processes = s.processes;
       plans = has_expired f.next.plan f.next.service f.callers f.plans row.kind s.plans;
-      dues = record { numbered = numbered_filter (λ (due : Due). due.number) f.next.due (λ (due : Due). not (due.number == row.number)) f.dues s.dues.numbered; first = s.dues.first };
-      deadlines = deadlines_fired f.next.plan f.plans f.dues row (recursion_from_All (λ (due : Due). (due.number == row.number) ≡ true → due ≡ row) f.dues only) s.deadlines;
+      dues = record {
+        numbered = numbered_filter (λ (due : Due). due.number) f.next.due
+            (λ (due : Due). not (due.number == row.number)) f.dues s.dues.numbered;
+        first = s.dues.first;
+      };
+      deadlines = deadlines_fired f.next.plan f.plans f.dues row (recursion_from_All (λ (due : Due). (due.number == row.number) ≡ true
+          → due ≡ row) f.dues only) s.deadlines;
       registrations = s.registrations;
     }
 
@@ -329,14 +371,18 @@ in_hand f is s = record {
 }
 
 -- the starts of a process's service are decided
-starts_decided : (next service : ℕ) (callers : List Caller) (target : Option ℕ) (code : ℕ) (plans : List Plan) → ArePlans next service callers plans
+starts_decided : (next service : ℕ) (callers : List Caller) (target : Option ℕ) (code : ℕ) (plans : List Plan)
+    → ArePlans next service callers plans
     → ArePlans next service callers (if_found (λ one. decided_in (aims_at one) code) target plans)
 starts_decided next service callers target code plans s =
-    found_keeps (ArePlans next service callers) (λ one. decided_in (aims_at one) code) target plans s (λ one is. decided next service callers (aims_at one) code plans s)
+    found_keeps (ArePlans next service callers) (λ one. decided_in (aims_at one) code) target plans s
+    (λ one is. decided next service callers (aims_at one) code plans s)
 
-deadlines_decided : (next : ℕ) (target : Option ℕ) (code : ℕ) (plans : List Plan) (rows : List Due) → AreDeadlines next plans rows → AreDeadlines next (if_found (λ one. decided_in (aims_at one) code) target plans) rows
+deadlines_decided : (next : ℕ) (target : Option ℕ) (code : ℕ) (plans : List Plan) (rows : List Due) → AreDeadlines next plans rows
+    → AreDeadlines next (if_found (λ one. decided_in (aims_at one) code) target plans) rows
 deadlines_decided next target code plans rows s =
-    found_keeps (λ (ps : List Plan). AreDeadlines next ps rows) (λ one. decided_in (aims_at one) code) target plans s (λ one is. plans_decided next (aims_at one) code plans rows s)
+    found_keeps (λ (ps : List Plan). AreDeadlines next ps rows) (λ one. decided_in (aims_at one) code) target plans s
+    (λ one is. plans_decided next (aims_at one) code plans rows s)
 
 pub running : (f : Flat) (number pid : ℕ) → Sound f → Sound (launched f number pid)
 running f number pid s = record {
@@ -363,11 +409,15 @@ counts f number moment s = record {
   registrations = s.registrations;
 }
 
-beside_numbered : (next : ℕ) (kind : DueKind) (rows : List Due) → AreNumbered (λ (row : Due). row.number) next rows → AreNumbered (λ (row : Due). row.number) next (beside kind rows)
+beside_numbered : (next : ℕ) (kind : DueKind) (rows : List Due) → AreNumbered (λ (row : Due). row.number) next rows
+    → AreNumbered (λ (row : Due). row.number) next (beside kind rows)
 beside_numbered next (dues.Deadline plan) rows s = s
-beside_numbered next (dues.Start service) rows s = numbered_filter (λ (row : Due). row.number) next (λ (due : Due). not (is_due_of service due.kind)) rows s
-beside_numbered next (dues.Command service) rows s = numbered_filter (λ (row : Due). row.number) next (λ (due : Due). not (is_due_of service due.kind)) rows s
-beside_numbered next (dues.Reboot service) rows s = numbered_filter (λ (row : Due). row.number) next (λ (due : Due). not (is_due_of service due.kind)) rows s
+beside_numbered next (dues.Start service) rows s = numbered_filter (λ (row : Due). row.number) next
+    (λ (due : Due). not (is_due_of service due.kind)) rows s
+beside_numbered next (dues.Command service) rows s = numbered_filter (λ (row : Due). row.number) next
+    (λ (due : Due). not (is_due_of service due.kind)) rows s
+beside_numbered next (dues.Reboot service) rows s = numbered_filter (λ (row : Due). row.number) next
+    (λ (due : Due). not (is_due_of service due.kind)) rows s
 
 -- a row becomes due for a service
 pub due_more : (f : Flat) (moment service : ℕ) (kind : DueKind) → is_due_of service kind ≡ true → Sound f → Sound (with_due f moment kind)
@@ -377,7 +427,8 @@ due_more f moment service kind is s = record {
   processes = s.processes;
   plans = s.plans;
   dues = record {
-    numbered = numbered_push (λ (row : Due). row.number) f.next.due (beside kind f.dues) (record { moment = moment; number = f.next.due; kind = kind })
+    numbered = numbered_push (λ (row : Due). row.number) f.next.due (beside kind f.dues)
+        (record { moment = moment; number = f.next.due; kind = kind })
         (beside_numbered f.next.due kind f.dues s.dues.numbered) s.dues.first refl;
     first = (let first = s.dues.first in omega arith);
   };
@@ -387,12 +438,15 @@ due_more f moment service kind is s = record {
 
 -- a service that was found, if any was, fails
 pub failing : (found : Option Service) (f : Flat) → Sound f → Sound (if_found with_failure found f)
-failing found f s = failing_keeps Sound found f s (λ row is. counts f row.number f.moment s) (λ service g moment kind is t. due_more g moment service kind is t)
+failing found f s = failing_keeps Sound found f s (λ row is. counts f row.number f.moment s)
+    (λ service g moment kind is t. due_more g moment service kind is t)
 
 -- a service falls
-registrations_fallen : (f : Flat) (number code : ℕ) → Sound f → AreRegistered f.next.registration f.callers (told_of_fall number code (current_of f number) f.registrations)
+registrations_fallen : (f : Flat) (number code : ℕ) → Sound f → AreRegistered f.next.registration f.callers
+    (notified_of_fall number code (current_of f number) f.registrations)
 registrations_fallen f number code s =
-    fall_tells (AreRegistered f.next.registration f.callers) (events_keep f.next.registration f.callers) number code f.services f.registrations (are_named f s) s.registrations
+    fall_tells (AreRegistered f.next.registration f.callers) (events_keep f.next.registration f.callers) number code f.services
+    f.registrations (are_named f s) s.registrations
 
 pub not_running : (f : Flat) (number code : ℕ) → Sound f → Sound (launch_failed f number code)
 not_running f number code s = record {
@@ -406,12 +460,15 @@ not_running f number code s = record {
 }
 
 -- a process that runs tells how its service stands, and registrations are told of it
-retold_report : (f : Flat) (number : ℕ) (report : Status) (rows : List Registration) → is_launched (process_of f number) ≡ true → Sound f → AreRegistered f.next.registration f.callers rows
+retold_report : (f : Flat) (number : ℕ) (report : Status) (rows : List Registration) → is_launched (process_of f number) ≡ true → Sound f
+    → AreRegistered f.next.registration f.callers rows
     → Sound (record f { services = map (reported_if number report) f.services; registrations = rows })
 retold_report f number report rows runs s told = record {
-  services = rows_reported f.next.service f.next.process number report f.services (running_first f.next.process number f.processes (process_of f number) s.processes.numbered refl runs) s.services;
+  services = rows_reported f.next.service f.next.process number report f.services
+      (running_first f.next.process number f.processes (process_of f number) s.processes.numbered refl runs) s.services;
   handles = s.handles;
-  processes = processes_reported f.next.process number report f.processes f.wanted f.services (running_launched number f.processes (process_of f number) s.processes.numbered.rising refl runs) s.processes;
+  processes = processes_reported f.next.process number report f.processes f.wanted f.services
+      (running_launched number f.processes (process_of f number) s.processes.numbered.rising refl runs) s.processes;
   plans = s.plans;
   dues = s.dues;
   deadlines = s.deadlines;
@@ -420,18 +477,25 @@ retold_report f number report rows runs s told = record {
 
 -- the service that is found takes it
 pub reported_by : (f : Flat) (report : Status) (row : Service) → IsNamed row → is_launched (process_of f row.process) ≡ true → Sound f
-    → Sound (record f { services = map (reported_if row.process report) f.services; registrations = told_of_report f.processes report (Some row) f.registrations })
+    → Sound (record f {
+      services = map (reported_if row.process report) f.services;
+      registrations = notified_of_report f.processes report (Some row) f.registrations;
+    })
 reported_by f report row is runs s =
-    retold_report f row.process report (told_of_report f.processes report (Some row) f.registrations) runs s
-    (report_tells (AreRegistered f.next.registration f.callers) (events_keep f.next.registration f.callers) f.processes report row f.registrations is s.registrations)
+    retold_report f row.process report (notified_of_report f.processes report (Some row) f.registrations) runs s
+    (report_tells (AreRegistered f.next.registration f.callers) (events_keep f.next.registration f.callers) f.processes report row
+    f.registrations is s.registrations)
 
-pub reported : (f : Flat) (number : ℕ) (report : Status) → is_launched (process_of f number) ≡ true → Sound f → Sound (with_report f number report)
+pub reported : (f : Flat) (number : ℕ) (report : Status) → is_launched (process_of f number) ≡ true → Sound f
+    → Sound (with_report f number report)
 reported f number report runs s =
     failing (failed_by report (current_of f number)) _
-    (retold_report f number report (told_of_report f.processes report (current_of f number) f.registrations) runs s
-    (found_keeps (AreRegistered f.next.registration f.callers) (λ (row : Service). told_of_move (pid_of f.processes (reported_if row.process report row)) row (reported_if row.process report row))
+    (retold_report f number report (notified_of_report f.processes report (current_of f number) f.registrations) runs s
+    (found_keeps (AreRegistered f.next.registration f.callers) (λ (row : Service). notified_of_move
+    (pid_of f.processes (reported_if row.process report row)) row (reported_if row.process report row))
     (current_of f number) f.registrations s.registrations
-    (λ row is. report_tells (AreRegistered f.next.registration f.callers) (events_keep f.next.registration f.callers) f.processes report row f.registrations
+    (λ row is. report_tells (AreRegistered f.next.registration f.callers)
+    (events_keep f.next.registration f.callers) f.processes report row f.registrations
     (found_has IsNamed (λ (row : Service). row.process == number) row f.services (are_named f s) is) s.registrations)))
 
 -- a process leaves, and its service falls
@@ -448,13 +512,15 @@ gone_with f number code s = record {
 
 pub no_more : (f : Flat) (number : ℕ) → Sound f → Sound (process_ended f number).flat
 no_more f number s =
-    failing_keeps (λ (g : Flat). Sound (without_process g number)) (current_of f number) (with_fallen f number 1067) (gone_with f number 1067 s)
+    failing_keeps (λ (g : Flat). Sound (without_process g number)) (current_of f number) (with_fallen f number 1067)
+    (gone_with f number 1067 s)
     (λ row is. counts (without_process (with_fallen f number 1067) number) row.number f.moment (gone_with f number 1067 s))
     (λ service g moment kind is t. due_more (without_process g number) moment service kind is t)
 
 -- ## Controls
 
-of_controls : (f : Flat) (change : Process → Process) → IsOfControls change → Sound f → Sound (record f { processes = map change f.processes })
+of_controls : (f : Flat) (change : Process → Process) → IsOfControls change → Sound f
+    → Sound (record f { processes = map change f.processes })
 of_controls f change only s = record {
   services = s.services;
   handles = s.handles;
@@ -467,12 +533,14 @@ of_controls f change only s = record {
 
 pub controls_more : (limit number code : ℕ) → IsOfControls (controlled_if limit number code)
 controls_more limit number code row =
-    elim (row.number == number && nat_lt (length row.controls) limit) as (λ b. cond b (record row { controls = row.controls ++ code ∷ [] }) row
+    elim (row.number == number && nat_lt (length row.controls) limit) as (λ b. cond b
+    (record row { controls = row.controls ++ code ∷ [] }) row
     ≡ record row { controls = (cond b (record row { controls = row.controls ++ code ∷ [] }) row).controls }) [ true ↦ refl | false ↦ refl ]
 
-pub controls_fewer : (number : ℕ) → IsOfControls (relieved_if number)
+pub controls_fewer : (number : ℕ) → IsOfControls (dequeued_if number)
 controls_fewer number row =
-    elim (row.number == number) as (λ b. cond b (record row { controls = drop 1 row.controls }) row ≡ record row { controls = (cond b (record row { controls = drop 1 row.controls }) row).controls }) [ true ↦ refl | false ↦ refl ]
+    elim (row.number == number) as (λ b. cond b (record row { controls = drop 1 row.controls }) row ≡
+    record row { controls = (cond b (record row { controls = drop 1 row.controls }) row).controls }) [ true ↦ refl | false ↦ refl ]
 
 pub control_waits : (l : Limits) (f : Flat) (number code : ℕ) → Sound f → Sound (with_control l f number code)
 control_waits l f number code s = of_controls f (controlled_if l.controls number code) (controls_more l.controls number code) s
@@ -493,13 +561,22 @@ command_begins f command s = record {
 
 pub rebooted : (f : Flat) → Sound f → Sound (with_reboot f)
 rebooted f s =
-    record { services = s.services; handles = s.handles; processes = s.processes; plans = s.plans; dues = s.dues; deadlines = s.deadlines; registrations = s.registrations }
+    record {
+      services = s.services;
+      handles = s.handles;
+      processes = s.processes;
+      plans = s.plans;
+      dues = s.dues;
+      deadlines = s.deadlines;
+      registrations = s.registrations;
+    }
 
 -- a start that no caller asks for
 pub start_begins : (f : Flat) (row : Service) → Contains f.services row → Sound f → Sound (with_start 0 [] row f)
 start_begins f row there s =
     planned f 0 row.number (start_order f row.number) [] s refl
-    (order_below f f.next.service row.number s.services.numbered.below (All-contains (λ (r : Service). r.number < f.next.service) f.services row s.services.numbered.below there))
+    (order_below f f.next.service row.number s.services.numbered.below (All-contains
+    (λ (r : Service). r.number < f.next.service) f.services row s.services.numbered.below there))
 
 pub due : (l : Limits) (f : Flat) → Sound f → Sound (ticked l f)
 due l f s = ticked_by Sound l (record {
@@ -512,11 +589,12 @@ due l f s = ticked_by Sound l (record {
 pub triggers : (l : Limits) (f : Flat) (caller : ℕ) (subtype : List ℕ) → Sound f → Sound (raised l f caller subtype)
 triggers l f caller subtype s = raised_by Sound l subtype (record {
   starts = λ g row there can t. start_begins g row there t;
-  stops = λ g row action there is stops gets t. of_controls g (controlled_if l.controls row.process SERVICE_CONTROL_STOP) (controls_more l.controls row.process SERVICE_CONTROL_STOP) t;
+  stops = λ g row action there is stops gets t. of_controls g (controlled_if l.controls row.process SERVICE_CONTROL_STOP)
+      (controls_more l.controls row.process SERVICE_CONTROL_STOP) t;
 }) f caller s
 
 pub control_sent : (f : Flat) (number : ℕ) → Sound f → Sound (with_control_taken f number)
-control_sent f number s = of_controls f (relieved_if number) (controls_fewer number) s
+control_sent f number s = of_controls f (dequeued_if number) (controls_fewer number) s
 
 -- ## Services that leave
 
@@ -524,13 +602,20 @@ control_sent f number s = of_controls f (relieved_if number) (controls_fewer num
 none_left : (p : Service → Bool) (rows : List Service) → filter p (filter (λ (row : Service). not (p row)) rows) ≡ []
 none_left p [] = refl
 none_left p (row ∷ rows) =
-    elim (p row) as (λ b. p row ≡ b → filter p (cond (not b) (row ∷ filter (λ (r : Service). not (p r)) rows) (filter (λ (r : Service). not (p r)) rows)) ≡ []) [
+    elim (p row) as (λ b. p row ≡ b → filter p (cond (not b) (row ∷ filter (λ (r : Service). not (p r)) rows)
+    (filter (λ (r : Service). not (p r)) rows)) ≡ []) [
       | true ↦ λ e. none_left p rows
       | false ↦ λ e. rw e (none_left p rows)
     ] refl
 
 pub purged_twice : (f : Flat) → purged (purged f) ≡ purged f
 purged_twice f =
-    ap (λ (services : List Service). record (purged f) { services = services; registrations = all_noted (map event_of_leaving (leaving (purged f))) (purged f).registrations })
+    ap (λ (services : List Service). record (purged f) {
+      services = services;
+      registrations = all_noted (map event_of_leaving (leaving (purged f))) (purged f).registrations;
+    })
     (filter_twice (λ (row : Service). not (leaves f.handles row)) f.services)
-    ∙ ap (λ (services : List Service). record (purged f) { registrations = all_noted (map event_of_leaving services) (purged f).registrations }) (none_left (leaves f.handles) f.services)
+    ∙ ap (λ (services : List Service). record (purged f) {
+      registrations =
+          all_noted (map event_of_leaving services) (purged f).registrations;
+    }) (none_left (leaves f.handles) f.services)

@@ -14,11 +14,13 @@ use Rattle.scm_runs.proofs.Settling.{settled_tells}
 use Rattle.scm_runs.proofs.Sound.{Sound, are_named}
 use Rattle.scm_runs.proofs.Told.{IsNamed, Tells, leaving_tells}
 
-pub step_tells : (l : Limits) (P : List Registration → Type 0) (f : Flat) (moment : ℕ) (step : Step) → Tells P → Sound f → IsTrue (may l f moment step)
+pub step_tells : (l : Limits) (P : List Registration → Type 0) (f : Flat) (moment : ℕ) (step : Step) → Tells P → Sound f
+    → IsTrue (may l f moment step)
     → P (effect_of l (at_moment f moment step) step).flat.registrations → P (step_of l f moment step).flat.registrations
 step_tells l P f moment step tells s ok p =
     let done = effect_of l (at_moment f moment step) step in
     let before = (finished_step l f moment step).flat in
-    leaving_tells P tells (leaving before) before.registrations (All-filter (leaves before.handles) IsNamed before.services (are_named before (before_sound l f moment step s ok)))
+    leaving_tells P tells (leaving before) before.registrations (All-filter (leaves before.handles) IsNamed before.services
+    (are_named before (before_sound l f moment step s ok)))
     (finished_keeps (λ (g : Flat). P g.registrations) (λ g plans q. q) (settled l done.flat) done.answer
     (settled_tells l P done.flat tells (of_effect l f moment step s ok) p))

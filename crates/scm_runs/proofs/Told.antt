@@ -1,18 +1,20 @@
 -- What events keep of registrations: whatever each event keeps, each change of a service keeps.
-use Rattle.std.proofs.Common.{ℕ, ◌≡◌, ◌∙◌, ◌≤◌, ◌==◌, ◌||◌, None, length, ne_eqb, get_or, ltb-false, Bool, true, false, cond, List, [], ◌∷◌, find, map, sym, refl, subst, arith}
+use Rattle.std.proofs.Common.{ℕ, ◌≡◌, ◌∙◌, ◌≤◌, ◌==◌, ◌||◌, None, length, ne_eqb, get_or, ltb-false, Bool, true, false, cond, List, [], ◌∷◌}
+use Rattle.std.proofs.Common.{find, map, sym, refl, subst, arith}
 use Rattle.std.specs.Prelude.{All}
 use Rattle.std.proofs.lemmas.Bool.{or_parts}
 use Rattle.std.proofs.lemmas.List.Elements.{All-head, All-tail}
 use Rattle.scm_model.proofs.Found.{found_keeps}
-use Rattle.scm_model.specs.Notices.{Event, all_noted, event_of_creation, event_of_leaving, event_of_mark, event_of_state, noted, notified, pid_of, takes_event, told_of_move}
+use Rattle.scm_model.specs.Notices.{Event, all_noted, event_of_creation, event_of_leaving, event_of_mark, event_of_state, noted, notified}
+use Rattle.scm_model.specs.Notices.{pid_of, takes_event, notified_of_move}
 use Rattle.scm_model.specs.declared.flat.Config.{Config}
 use Rattle.scm_model.specs.declared.flat.Process.{Process}
 use Rattle.scm_model.specs.declared.flat.Registration.{Registration}
 use Rattle.scm_model.specs.declared.flat.Service.{Service}
 use Rattle.scm_model.specs.declared.flat.Status.{Status}
 use Rattle.service_record.specs.Checks.{check_new, has_bad_names, is_longer}
-use Rattle.start_plan.specs.Entered.{started_if, told_of_start}
-use Rattle.scm_rules.specs.Launches.{fallen_if, told_of_fall}
+use Rattle.start_plan.specs.Entered.{started_if, notified_of_start}
+use Rattle.scm_rules.specs.Launches.{fallen_if, notified_of_fall}
 use Rattle.scm_rules.specs.Reports.{reported_if}
 use Rattle.scm_runs.proofs.Lists.{found_has}
 use Rattle.scm_runs.proofs.Rows.{AreServices, IsMild, falls_mildly, reports_mildly, starts_mildly}
@@ -41,7 +43,8 @@ pub name_short : (config : Config) → check_new config None ≡ 0 → length co
 unfolding check_new
 name_short config e =
     let names = or_parts _ (is_longer 256 config.display) (first_passes (has_bad_names config) 123 _ refl e) in
-    ltb-false 256 (length config.name) (or_parts (length config.name == 0) (is_longer 256 config.name) (or_parts (length config.name == 0 || is_longer 256 config.name) _ names.0).0).1
+    ltb-false 256 (length config.name) (or_parts (length config.name == 0) (is_longer 256 config.name)
+    (or_parts (length config.name == 0 || is_longer 256 config.name) _ names.0).0).1
 
 pub all_named : (next process : ℕ) (rows : List Service) → AreServices next process rows → All IsNamed rows
 all_named next process rows s k d lt = record {
@@ -77,9 +80,13 @@ creation_proper config status checked = record { short = name_short config check
 abbrev pub Tells : (List Registration → Type 0) → Type 0
 Tells P = (event : Event) (rows : List Registration) → IsProper event → P rows → P (noted event rows)
 
-pub move_tells : (P : List Registration → Type 0) → Tells P → (pid : ℕ) (old new : Service) (rows : List Registration) → IsNamed new → P rows → P (told_of_move pid old new rows)
+pub move_tells : (P : List Registration → Type 0) → Tells P → (pid : ℕ) (old new : Service) (rows : List Registration) → IsNamed new
+    → P rows → P (notified_of_move pid old new rows)
 move_tells P tells pid old new rows named p =
-    elim (old.status.state == new.status.state) as (λ b. P (cond b rows (noted (event_of_state pid new) rows))) [ true ↦ p | false ↦ tells (event_of_state pid new) rows (state_proper pid new named) p ]
+    elim (old.status.state == new.status.state) as (λ b. P (cond b rows (noted (event_of_state pid new) rows))) [
+      | true ↦ p
+      | false ↦ tells (event_of_state pid new) rows (state_proper pid new named) p
+    ]
 
 -- a change that leaves number and name
 named_still : (change : Service → Service) → IsMild change → (row : Service) → IsNamed row → IsNamed (change row)
@@ -89,32 +96,42 @@ named_still change mild row named = record {
 }
 
 -- of the service that is found
-pub start_tells : (P : List Registration → Type 0) → Tells P → (number process : ℕ) (services : List Service) (rows : List Registration) → All IsNamed services → P rows
-    → P (told_of_start number process (find (λ (row : Service). row.number == number) services) rows)
+pub start_tells : (P : List Registration → Type 0) → Tells P → (number process : ℕ) (services : List Service) (rows : List Registration)
+    → All IsNamed services → P rows
+    → P (notified_of_start number process (find (λ (row : Service). row.number == number) services) rows)
 start_tells P tells number process services rows named p =
-    found_keeps P (λ (row : Service). told_of_move 0 row (started_if number process row)) (find (λ (row : Service). row.number == number) services) rows p
+    found_keeps P (λ (row : Service). notified_of_move 0 row (started_if number process row))
+    (find (λ (row : Service). row.number == number) services) rows p
     (λ row is. move_tells P tells 0 row (started_if number process row) rows
-    (named_still (started_if number process) (starts_mildly number process) row (found_has IsNamed (λ (row : Service). row.number == number) row services named is)) p)
+    (named_still (started_if number process) (starts_mildly number process) row
+    (found_has IsNamed (λ (row : Service). row.number == number) row services named is)) p)
 
-pub fall_tells : (P : List Registration → Type 0) → Tells P → (process code : ℕ) (services : List Service) (rows : List Registration) → All IsNamed services → P rows
-    → P (told_of_fall process code (find (λ (row : Service). row.process == process) services) rows)
+pub fall_tells : (P : List Registration → Type 0) → Tells P → (process code : ℕ) (services : List Service) (rows : List Registration)
+    → All IsNamed services → P rows
+    → P (notified_of_fall process code (find (λ (row : Service). row.process == process) services) rows)
 fall_tells P tells process code services rows named p =
-    found_keeps P (λ (row : Service). told_of_move 0 row (fallen_if process code row)) (find (λ (row : Service). row.process == process) services) rows p
+    found_keeps P (λ (row : Service). notified_of_move 0 row (fallen_if process code row))
+    (find (λ (row : Service). row.process == process) services) rows p
     (λ row is. move_tells P tells 0 row (fallen_if process code row) rows
-    (named_still (fallen_if process code) (falls_mildly process code) row (found_has IsNamed (λ (row : Service). row.process == process) row services named is)) p)
+    (named_still (fallen_if process code) (falls_mildly process code) row
+    (found_has IsNamed (λ (row : Service). row.process == process) row services named is)) p)
 
-pub report_tells : (P : List Registration → Type 0) → Tells P → (processes : List Process) (report : Status) (row : Service) (rows : List Registration) → IsNamed row → P rows
-    → P (told_of_move (pid_of processes (reported_if row.process report row)) row (reported_if row.process report row) rows)
+pub report_tells : (P : List Registration → Type 0) → Tells P → (processes : List Process) (report : Status) (row : Service)
+    (rows : List Registration) → IsNamed row → P rows
+    → P (notified_of_move (pid_of processes (reported_if row.process report row)) row (reported_if row.process report row) rows)
 report_tells P tells processes report row rows named p =
     move_tells P tells (pid_of processes (reported_if row.process report row)) row (reported_if row.process report row) rows
     (named_still (reported_if row.process report) (reports_mildly row.process report) row named) p
 
-pub mark_tells : (P : List Registration → Type 0) → Tells P → (processes : List Process) (row : Service) (rows : List Registration) → IsNamed row → P rows
+pub mark_tells : (P : List Registration → Type 0) → Tells P → (processes : List Process) (row : Service) (rows : List Registration)
+    → IsNamed row → P rows
     → P (noted (event_of_mark (pid_of processes row) row) rows)
-mark_tells P tells processes row rows named p = tells (event_of_mark (pid_of processes row) row) rows (mark_proper (pid_of processes row) row named) p
+mark_tells P tells processes row rows named p = tells (event_of_mark (pid_of processes row) row) rows
+    (mark_proper (pid_of processes row) row named) p
 
 -- those who leave
-pub leaving_tells : (P : List Registration → Type 0) → Tells P → (services : List Service) (rows : List Registration) → All IsNamed services → P rows → P (all_noted (map event_of_leaving services) rows)
+pub leaving_tells : (P : List Registration → Type 0) → Tells P → (services : List Service) (rows : List Registration) → All IsNamed services
+    → P rows → P (all_noted (map event_of_leaving services) rows)
 leaving_tells P tells [] rows named p = p
 leaving_tells P tells (row ∷ services) rows named p =
     leaving_tells P tells services (noted (event_of_leaving row) rows) (All-tail IsNamed row services named)
@@ -122,6 +139,12 @@ leaving_tells P tells (row ∷ services) rows named p =
 
 -- ## What an event leaves of a registration
 
-pub notified_or : (P : Registration → Type 0) (event : Event) (row : Registration) → (takes_event event row ≡ true → P (record row { fired = event.bit; status = event.status; name = event.name })) → P row → P (notified event row)
+pub notified_or : (P : Registration → Type 0) (event : Event) (row : Registration)
+    → (takes_event event row ≡ true → P (record row { fired = event.bit; status = event.status; name = event.name })) → P row
+    → P (notified event row)
 notified_or P event row takes stays =
-    elim (takes_event event row) as (λ b. takes_event event row ≡ b → P (cond b (record row { fired = event.bit; status = event.status; name = event.name }) row)) [ true ↦ takes | false ↦ λ e. stays ] refl
+    elim (takes_event event row) as (λ b. takes_event event row ≡ b → P
+    (cond b (record row { fired = event.bit; status = event.status; name = event.name }) row)) [
+      | true ↦ takes
+      | false ↦ λ e. stays
+    ] refl

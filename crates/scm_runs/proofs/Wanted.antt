@@ -29,16 +29,20 @@ IsTaken number f = is_taken (process_of f number) ≡ true
 stays_taken : (l : Limits) (number : ℕ) → Keeps l (IsTaken number) (λ plan. Unit {0})
 stays_taken l number = record {
   enters = λ f plan service words entry taken.
-      ap is_taken (find_more (λ (row : Process). row.number == number) f.processes (wanted_process f.next.process service ∷ []) (taken_listed (process_of f number) taken)) ∙ taken;
+      ap is_taken (find_more (λ (row : Process). row.number == number) f.processes (wanted_process f.next.process service ∷ [])
+      (taken_listed (process_of f number) taken)) ∙ taken;
   tries = λ f plan service entry q. tt;
   drops = λ plan service rest code q. tt;
 }
 
 -- after LaunchTaken the process that was wanted first is in hand
-pub taken_is_listed : (l : Limits) (f : Flat) (moment number : ℕ) → Sound f → first_wanted f.wanted ≡ Some number → is_taken (process_of (step_of l f moment LaunchTaken).flat number) ≡ true
+pub taken_is_listed : (l : Limits) (f : Flat) (moment number : ℕ) → Sound f → first_wanted f.wanted ≡ Some number
+    → is_taken (process_of (step_of l f moment LaunchTaken).flat number) ≡ true
 taken_is_listed l f moment number s first =
     let done = launch_taken (with_moment f moment) in
-    let taken : IsTaken number done.flat = subst (λ found. is_taken (find (λ (row : Process). row.number == number) (if_found (λ process. map (taken_if process)) found f.processes)) ≡ true) (sym first)
+    let taken : IsTaken number done.flat = subst (λ found. is_taken (find (λ (row : Process). row.number == number)
+    (if_found (λ process. map (taken_if process)) found f.processes)) ≡ true) (sym first)
     (taken_found number f.processes (first_there f.wanted f.processes number s.processes.wanted first)) in
     finished_keeps (IsTaken number) (λ g plans is. is) (settled l done.flat) done.answer
-    (keeps_all l (IsTaken number) (λ plan. Unit {0}) (stays_taken l number) done.flat done.flat.plans taken (all_units done.flat.plans)).flat
+    (keeps_all l (IsTaken number) (λ plan. Unit {0}) (stays_taken l number) done.flat done.flat.plans taken
+    (all_units done.flat.plans)).flat

@@ -1,5 +1,6 @@
 -- Who leaves in a step, and nobody else.
-use Rattle.std.specs.Prelude.{ℕ, Bool, ◌≡◌, true, false, not, ◌&&◌, ◌||◌, ◌==◌, ◌++◌, List, [], ◌∷◌, Option, None, Some, All, drop, filter, length, map, take, if◌then◌else◌}
+use Rattle.std.specs.Prelude.{ℕ, Bool, ◌≡◌, true, false, not, ◌&&◌, ◌||◌, ◌==◌, ◌++◌, List, [], ◌∷◌, Option, None, Some, All, drop, filter}
+use Rattle.std.specs.Prelude.{length, map, take, if◌then◌else◌}
 use Rattle.std.specs.List.{AllZip}
 use Rattle.scm_model.specs.declared.flat.Flat.{Flat}
 use Rattle.scm_model.specs.declared.flat.Limits.{Limits}
@@ -93,7 +94,8 @@ reports f step row = false
 abbrev pub fails : Flat → Step → Service → Bool
 fails f (Ended process) row = row.process == process
 fails f (Report process status) row = row.process == process && is_failure status row
-fails f (Call caller (request.SetStatus handle status) append) row = is_process_of (held_service f caller handle) row.process && is_failure status row
+fails f (Call caller (request.SetStatus handle status) append) row = is_process_of (held_service f caller handle) row.process
+    && is_failure status row
 fails f step row = false
 
 -- a service after a step is the one before it: only its Delete marks it, and only its changes give it another configuration, with another
@@ -127,5 +129,6 @@ pub record LawOfLeaving (l : Limits) (before : Flat) (e : Entry) (told : Answer)
   pub stood : numbers (before_leaving l before e).services ≡ numbers before.services ++ created before e.1 told
   pub rows : AllZip (IsSameService before e.1 told) before.services (take (length before.services) (before_leaving l before e).services)
   pub fresh : All IsFresh (drop (length before.services) (before_leaving l before e).services)
-  pub left : after.services ≡ filter (λ (row : Service). not (leaves (before_leaving l before e).handles row)) (before_leaving l before e).services
+  pub left : after.services ≡ filter (λ (row : Service). not (leaves (before_leaving l before e).handles row))
+      (before_leaving l before e).services
   pub none : All (λ (row : Service). leaves after.handles row ≡ false) after.services

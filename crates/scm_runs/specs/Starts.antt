@@ -24,4 +24,5 @@ had_process before row = list_any (λ (old : Service). old.number == row.number 
 -- a service has a process that no service had before only where it starts; any other had its process before, or has none
 pub record LawOfStarts (l : Limits) (before : Flat) (e : Entry) (told : Answer) (after : Flat) : Type 0 where
   pub started : All (λ (row : Service). before.next.process ≤ row.process → IsStarting after row) after.services
-  pub others : All (λ (row : Service). row.process < before.next.process → (row.process == 0 || had_process before row) ≡ true) after.services
+  pub others : All (λ (row : Service). row.process < before.next.process
+      → (row.process == 0 || had_process before row) ≡ true) after.services

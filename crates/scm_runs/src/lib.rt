@@ -1,4 +1,5 @@
-//! What every run of the service manager keeps: states, starts, services that leave, handles, plans.
+//! What every run of the service manager keeps: states, starts, services that leave, handles,
+//! plans.
 #![tactic(auto)]
 
 ghost use Rattle.std.specs.Prelude.{All};

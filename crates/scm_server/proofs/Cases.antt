@@ -1,5 +1,6 @@
 -- What becomes of a connection: the first case from a join that was refused, the second from a caller's pass that was spent.
-use Rattle.std.proofs.Common.{◌≡◌, ◌≢◌, ◌∙◌, ℕ, true, false, List, [], ◌∷◌, ◌++◌, length, map, Option, None, Some, refl, sym, ap, subst, inl, inr, eq-eqb}
+use Rattle.std.proofs.Common.{◌≡◌, ◌≢◌, ◌∙◌, ℕ, true, false, List, [], ◌∷◌, ◌++◌, length, map, Option, None, Some, refl, sym, ap, subst}
+use Rattle.std.proofs.Common.{inl, inr, eq-eqb}
 use Rattle.std.specs.Prelude.{IfSome}
 use Rattle.std.proofs.lemmas.List.Elements.{All-cons}
 use mathlib.Core.List.{IsPrefix}
@@ -36,7 +37,8 @@ use Rattle.conn_worker.specs.Owning.{FoundRoom, HadRoom, Owns, StandAt, unowed_p
 use Rattle.conn_worker.specs.Serving.{step_for}
 use Rattle.conn_worker.proofs.Owning.{found_behind, had_behind, had_room}
 use Rattle.scm_listener.specs.Connections.{PastConnection}
-use Rattle.scm_server.specs.Handling.{Handed, HasNoRoomBehind, IsHandledAs, JoinedBehind, NamedOnlyAt, StandsForIt, WasRefused, is_without_memory, wants_memory}
+use Rattle.scm_server.specs.Handling.{Handed, HasNoRoomBehind, IsHandledAs, JoinedBehind, NamedOnlyAt, StandsForIt, WasRefused}
+use Rattle.scm_server.specs.Handling.{is_without_memory, wants_memory}
 use Rattle.scm_server.specs.Pairs.{IsRising}
 use Rattle.scm_server.specs.Works.{HasJoined, IsDone, Out}
 use Rattle.scm_server.proofs.Chains.{Goes, goes_on, of_chain, of_left, rises}
@@ -45,7 +47,8 @@ use Rattle.scm_server.proofs.Entries.{but_last, caller_at, has_named, made_behin
 
 -- ## Histories that go on
 
-module _ (tells : ℕ → Type 0) (o : Opening) (begins : IsOpening o.limits o.first) (principal : Principal) (log later : List Entry) (is : IsPrefix log later) (legal : Legal o.limits o.first later) (h : Handed) where
+module _ (tells : ℕ → Type 0) (o : Opening) (begins : IsOpening o.limits o.first) (principal : Principal) (log later : List Entry)
+    (is : IsPrefix log later) (legal : Legal o.limits o.first later) (h : Handed) where
   refused_still : WasRefused o log principal h → WasRefused o later principal h
   refused_still r = record {
     fresh = r.fresh;
@@ -92,9 +95,12 @@ module _ (tells : ℕ → Type 0) (o : Opening) (begins : IsOpening o.limits o.f
 
 -- ## Refused
 
-pub refused_by : (tells : ℕ → Type 0) (o : Opening) (principal : Principal) (by by' : Known) (given began : Option (List ℕ)) (past : PastConnection) (fault : JoinFault)
-    → Watches o by by' → JoinCause o by' principal fault → IfSome began (λ bytes. bytes ≡ []) → past.left ≡ given → past.written ≡ began → past.read_faults ≡ 0 → past.write_faults ≡ 0
-    → is_without_memory fault ≡ false → WasRefused o by'.seen principal (record { given = given; began = began; past = past; caller = None })
+pub refused_by : (tells : ℕ → Type 0) (o : Opening) (principal : Principal) (by by' : Known) (given began : Option (List ℕ))
+    (past : PastConnection) (fault : JoinFault)
+    → Watches o by by' → JoinCause o by' principal fault → IfSome began (λ bytes. bytes ≡ []) → past.left ≡ given → past.written ≡ began
+    → past.read_faults ≡ 0 → past.write_faults ≡ 0
+    → is_without_memory fault ≡ false → WasRefused o by'.seen principal
+    (record { given = given; began = began; past = past; caller = None })
 refused_by tells o principal by by' given began past joins.TooMany watches cause fresh left written reads writes short = record {
   fresh = fresh;
   unread = left;
@@ -119,8 +125,10 @@ refused_by tells o principal by by' given began past joins.OutOfMemory watches c
 
 -- ## Served
 
-reached_behind : (o : Opening) (caller : ℕ) (how : Served) (k : Known) (read : List ℕ) (left : Option (List ℕ)) (done : List Incoming) (heard : List (Option Reply)) (written : List ℕ)
-    → k.caller ≡ caller → Reached (HasNoRoomFor o) k how read left done heard written → Reached (HasNoRoomBehind o caller) k.seen how read left done heard written
+reached_behind : (o : Opening) (caller : ℕ) (how : Served) (k : Known) (read : List ℕ) (left : Option (List ℕ)) (done : List Incoming)
+    (heard : List (Option Reply)) (written : List ℕ)
+    → k.caller ≡ caller → Reached (HasNoRoomFor o) k how read left done heard written
+    → Reached (HasNoRoomBehind o caller) k.seen how read left done heard written
 reached_behind o caller served.Full k read left done heard written same reached = (
   reached.0,
   record {
@@ -133,7 +141,8 @@ reached_behind o caller served.Full k read left done heard written same reached 
 )
 reached_behind o caller how k read left done heard written same reached = reached
 
-module _ (tells : ℕ → Type 0) (o : Opening) (begins : IsOpening o.limits o.first) (principal : Principal) (by mid p : Known) (moment : ℕ) (so : tells moment) (joins : Joins o by moment principal mid p) where
+module _ (tells : ℕ → Type 0) (o : Opening) (begins : IsOpening o.limits o.first) (principal : Principal) (by mid p : Known) (moment : ℕ)
+    (so : tells moment) (joins : Joins o by moment principal mid p) where
   made : Made o (fresh by) moment (Joined principal) (answers.Caller p.caller) p
   made = joins.made.made
 
@@ -143,36 +152,46 @@ module _ (tells : ℕ → Type 0) (o : Opening) (begins : IsOpening o.limits o.f
   pub joined_made : has_made o.limits o.first p.caller p.seen ≡ true
   joined_made =
       subst (λ (es : List Entry). has_made o.limits o.first p.caller es ≡ true) (sym made.seen)
-      (caller_at o.limits o.first p.caller made.before (moment, Joined principal) [] (eq-eqb p.caller (state o.limits o.first made.before).next.caller next_is))
+      (caller_at o.limits o.first p.caller made.before (moment, Joined principal) []
+      (eq-eqb p.caller (state o.limits o.first made.before).next.caller next_is))
 
   pub joined_behind : JoinedBehind o by.seen p.caller
   joined_behind =
-      let legal : Legal o.limits o.first (made.before ++ (moment, Joined principal) ∷ []) = subst (Legal o.limits o.first) made.seen made.legal in
+      let legal : Legal o.limits o.first (made.before ++ (moment, Joined principal) ∷ []) =
+      subst (Legal o.limits o.first) made.seen made.legal in
       let anew : MakesAnew o.limits o.first made.before (moment, Joined principal) =
-      makes_anew o.limits o.first (made.before ++ (moment, Joined principal) ∷ []) (begun o.limits o.first begins) (legal_made o.limits o.first (made.before ++ (moment, Joined principal) ∷ []) legal) made.before (moment, Joined principal) [] refl in
-      let there : has_made o.limits o.first p.caller made.before ≡ false = subst (λ (n : ℕ). has_made o.limits o.first n made.before ≡ false) (sym next_is) anew.joined in
+      makes_anew o.limits o.first (made.before ++ (moment, Joined principal) ∷ []) (begun o.limits o.first begins)
+      (legal_made o.limits o.first (made.before ++ (moment, Joined principal) ∷ []) legal) made.before (moment, Joined principal)
+      [] refl in
+      let there : has_made o.limits o.first p.caller made.before ≡ false =
+      subst (λ (n : ℕ). has_made o.limits o.first n made.before ≡ false) (sym next_is) anew.joined in
       not_made_before o.limits o.first p.caller by.seen made.before made.longer there
 
   joined_stands : Owns o p (made_of (moment, Joined principal) (answers.Caller p.caller) ∷ [])
   joined_stands =
-      subst (λ (places : List ℕ). StandAt o p.seen places (made_of (moment, Joined principal) (answers.Caller p.caller) ∷ [])) (sym made.own)
+      subst (λ (places : List ℕ). StandAt o p.seen places (made_of (moment, Joined principal) (answers.Caller p.caller) ∷ []))
+      (sym made.own)
       (record { front = made.before; rest = []; is = made.seen; at = refl; told = made.answer }, tt)
 
   one_rises : IsRising p.own
   one_rises = subst IsRising (sym made.own) ((λ y none. absurd none), tt)
 
-  module _ (spent : Known) (given began : Option (List ℕ)) (past : PastConnection) (how : Served) (connects : Connects true tells o p spent given past.left began past.written how)
+  module _ (spent : Known) (given began : Option (List ℕ)) (past : PastConnection) (how : Served)
+      (connects : Connects true tells o p spent given past.left began past.written how)
       (ends : IsServedFor how 0 past.read_faults 0 past.write_faults) where
     gone : Made o connects.stood connects.moment (Gone p.caller) answers.Done spent
     gone = connects.goes
 
     goes_stood : Goes p connects.stood
-    goes_stood = goes_on p connects.last connects.stood (of_chain o tells p connects.last (asked connects.done) connects.heard connects.chain) (of_left o how connects.last connects.stood connects.leaves)
+    goes_stood = goes_on p connects.last connects.stood (of_chain o tells p connects.last
+        (asked connects.done) connects.heard connects.chain) (of_left o how connects.last connects.stood connects.leaves)
 
     all_stand : StandAt o spent.seen (connects.stood.own ++ length gone.before ∷ [])
-        (made_of (moment, Joined principal) (answers.Caller p.caller) ∷ connects.entries ++ made_of (connects.moment, Gone p.caller) answers.Done ∷ [])
+        (made_of (moment, Joined principal) (answers.Caller p.caller) ∷ connects.entries
+        ++ made_of (connects.moment, Gone p.caller) answers.Done ∷ [])
     all_stand =
-        subst (λ (places : List ℕ). StandAt o spent.seen places (made_of (moment, Joined principal) (answers.Caller p.caller) ∷ connects.entries ++ made_of (connects.moment, Gone p.caller) answers.Done ∷ [])) gone.own
+        subst (λ (places : List ℕ). StandAt o spent.seen places (made_of (moment, Joined principal)
+        (answers.Caller p.caller) ∷ connects.entries ++ made_of (connects.moment, Gone p.caller) answers.Done ∷ [])) gone.own
         (connects.adds.own (made_of (moment, Joined principal) (answers.Caller p.caller) ∷ []) joined_stands)
 
     joining_found : HadRoom o spent.seen (length joins.made.made.before) (Joined principal)
@@ -180,10 +199,12 @@ module _ (tells : ℕ → Type 0) (o : Opening) (begins : IsOpening o.limits o.f
         had_behind o p.seen spent.seen (length joins.made.made.before) (Joined principal) connects.adds.longer
         (had_room o (fresh by) p moment (Joined principal) (answers.Caller p.caller) joins.made.made (Joined principal) joins.made.room)
 
-    all_found : FoundRoom o spent.seen (unowed_places connects.stood.own (made_of (moment, Joined principal) (answers.Caller p.caller) ∷ connects.entries))
+    all_found : FoundRoom o spent.seen (unowed_places connects.stood.own
+        (made_of (moment, Joined principal) (answers.Caller p.caller) ∷ connects.entries))
         (Joined principal ∷ map (step_for p.caller) (asked connects.done))
     all_found =
-        subst (λ (places : List ℕ). FoundRoom o spent.seen (unowed_places places (made_of (moment, Joined principal) (answers.Caller p.caller) ∷ connects.entries))
+        subst (λ (places : List ℕ). FoundRoom o spent.seen (unowed_places places
+        (made_of (moment, Joined principal) (answers.Caller p.caller) ∷ connects.entries))
         (Joined principal ∷ map (step_for p.caller) (asked connects.done)))
         (sym (connects.own ∙ ap (λ (own : List ℕ). own ++ connects.places) joins.made.made.own)) (joining_found, connects.found)
 
@@ -191,17 +212,28 @@ module _ (tells : ℕ → Type 0) (o : Opening) (begins : IsOpening o.limits o.f
     only some front e rest split named =
         let same : connects.stood.caller ≡ p.caller = goes_stood.caller in
         let held : Has (names.Caller connects.stood.caller) connects.stood.names = gone.until.caller (λ none. some (sym same ∙ none)) in
-        let mine : Has (names.Caller p.caller) connects.stood.names = subst (λ (c : ℕ). Has (names.Caller c) connects.stood.names) same held in
-        let still : Has (names.Caller p.caller) spent.names = subst (Has (names.Caller p.caller)) (sym gone.names) (has_left (names.Caller p.caller) connects.stood.names _ mine) in
+        let mine : Has (names.Caller p.caller) connects.stood.names = subst
+        (λ (c : ℕ). Has (names.Caller c) connects.stood.names) same held in
+        let still : Has (names.Caller p.caller) spent.names = subst (Has (names.Caller p.caller)) (sym gone.names)
+        (has_left (names.Caller p.caller) connects.stood.names _ mine) in
         subst (Has (length front)) gone.own
-        (gone.claims.named (names.Caller p.caller) still (length front) (record { front = front; entry = e; rest = rest; is = split; place = refl; named = has_named p.caller (caller_named e.1) _ named }))
+        (gone.claims.named (names.Caller p.caller) still (length front)
+        (record {
+          front = front;
+          entry = e;
+          rest = rest;
+          is = split;
+          place = refl;
+          named = has_named p.caller (caller_named e.1) _ named;
+        }))
 
     pub stands_for : p.caller ≢ 0 → IfSome began (λ bytes. bytes ≡ []) → (how ≡ served.OutOfMemory → ⊥)
         → StandsForIt tells o spent.seen principal (record { given = given; began = began; past = past; caller = Some p.caller }) p.caller
     stands_for some fresh memory =
         let one : Told = made_of (moment, Joined principal) (answers.Caller p.caller) in
         let last : Told = made_of (connects.moment, Gone p.caller) answers.Done in
-        let before : IsPrefix gone.before spent.seen = subst (IsPrefix gone.before) (sym gone.seen) (prefix_snoc gone.before gone.before (connects.moment, Gone p.caller) (prefix_self gone.before)) in
+        let before : IsPrefix gone.before spent.seen = subst (IsPrefix gone.before) (sym gone.seen)
+        (prefix_snoc gone.before gone.before (connects.moment, Gone p.caller) (prefix_self gone.before)) in
         let kept : IsPrefix p.seen spent.seen = connects.adds.longer in
         record {
           how = how;
@@ -217,7 +249,8 @@ module _ (tells : ℕ → Type 0) (o : Opening) (begins : IsOpening o.limits o.f
             most = connects.most;
             written = connects.written;
             appended = connects.appended;
-            reached = reached_behind o p.caller how connects.stood connects.read past.left connects.done connects.heard connects.written goes_stood.caller connects.reached;
+            reached = reached_behind o p.caller how connects.stood connects.read past.left connects.done connects.heard connects.written
+                goes_stood.caller connects.reached;
             cause = ends;
           };
           joined = moment;
@@ -232,7 +265,8 @@ module _ (tells : ℕ → Type 0) (o : Opening) (begins : IsOpening o.limits o.f
           stand = but_last o spent.seen connects.stood.own (length gone.before) (one ∷ connects.entries) last all_stand;
           goes = record { front = gone.before; rest = []; is = gone.seen; at = refl; told = gone.answer };
           found = all_found;
-          rising = subst IsRising gone.own (rises o connects.stood spent connects.moment (Gone p.caller) answers.Done gone (goes_stood.rising one_rises));
+          rising = subst IsRising gone.own (rises o connects.stood spent connects.moment (Gone p.caller) answers.Done gone
+              (goes_stood.rising one_rises));
           ahead = gone.until.within;
           no_other = only some;
           made = made_behind o.limits o.first p.caller p.seen spent.seen kept joined_made;
@@ -240,7 +274,8 @@ module _ (tells : ℕ → Type 0) (o : Opening) (begins : IsOpening o.limits o.f
 
 -- ## At work
 
-module _ (tells : ℕ → Type 0) (o : Opening) (begins : IsOpening o.limits o.first) (principal : Principal) (w : Out) (joined : HasJoined tells o principal w) where
+module _ (tells : ℕ → Type 0) (o : Opening) (begins : IsOpening o.limits o.first) (principal : Principal) (w : Out)
+    (joined : HasJoined tells o principal w) where
   pub worker_behind : JoinedBehind o joined.by.seen w.pass.caller
   worker_behind = joined_behind tells o begins principal joined.by joined.by' w.pass joined.moment joined.told joined.joins
 
@@ -249,14 +284,19 @@ module _ (tells : ℕ → Type 0) (o : Opening) (begins : IsOpening o.limits o.f
       subst (λ (es : List Entry). has_made o.limits o.first w.pass.caller es ≡ true) (sym joined.joins.seen)
       (joined_made tells o begins principal joined.by joined.by' w.pass joined.moment joined.told joined.joins)
 
-  pub stood_for : (b : Identity) (spent : Known) (past : PastConnection) (how : Served) → b.opening ≡ o → IsDone tells b w spent past how → (how ≡ served.OutOfMemory → ⊥)
-      → StandsForIt tells o spent.seen principal (record { given = w.given; began = w.began; past = past; caller = Some w.pass.caller }) w.pass.caller
+  pub stood_for : (b : Identity) (spent : Known) (past : PastConnection) (how : Served) → b.opening ≡ o → IsDone tells b w spent past how
+      → (how ≡ served.OutOfMemory → ⊥)
+      → StandsForIt tells o spent.seen principal (record { given = w.given; began = w.began; past = past; caller = Some w.pass.caller })
+      w.pass.caller
   stood_for b spent past how same done memory =
       let connects : Connects true tells o w.pass spent w.given past.left w.began past.written how =
       subst (λ (p : Opening). Connects true tells p w.pass spent w.given past.left w.began past.written how) same done.connects in
-      let one : IsServedFor how 0 past.read_faults w.write_faults past.write_faults = subst (λ (n : ℕ). IsServedFor how n past.read_faults w.write_faults past.write_faults) joined.untouched.unread done.cause in
-      let both : IsServedFor how 0 past.read_faults 0 past.write_faults = subst (λ (n : ℕ). IsServedFor how 0 past.read_faults n past.write_faults) joined.untouched.unfailed one in
-      stands_for tells o begins principal joined.by joined.by' w.pass joined.moment joined.told joined.joins spent w.given w.began past how connects both joined.somebody joined.untouched.unwritten memory
+      let one : IsServedFor how 0 past.read_faults w.write_faults past.write_faults =
+      subst (λ (n : ℕ). IsServedFor how n past.read_faults w.write_faults past.write_faults) joined.untouched.unread done.cause in
+      let both : IsServedFor how 0 past.read_faults 0 past.write_faults =
+      subst (λ (n : ℕ). IsServedFor how 0 past.read_faults n past.write_faults) joined.untouched.unfailed one in
+      stands_for tells o begins principal joined.by joined.by' w.pass joined.moment joined.told joined.joins spent w.given w.began past how
+      connects both joined.somebody joined.untouched.unwritten memory
 
 pub memory_of : (how : Served) → wants_memory how ≡ false → how ≡ served.OutOfMemory → ⊥
 memory_of how quiet is = let loud : wants_memory how ≡ true = ap wants_memory is in absurd cc

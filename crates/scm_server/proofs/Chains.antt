@@ -1,5 +1,6 @@
 -- The places of a pass's own entries rise, and its caller stays, along the requests of a connection.
-use Rattle.std.proofs.Common.{◌≡◌, ◌∙◌, ℕ, ◌<◌, ◌≤◌, true, false, List, [], ◌∷◌, length, Option, None, Some, refl, sym, subst, inl, inr, arith}
+use Rattle.std.proofs.Common.{◌≡◌, ◌∙◌, ℕ, ◌<◌, ◌≤◌, true, false, List, [], ◌∷◌, length, Option, None, Some, refl, sym, subst, inl, inr}
+use Rattle.std.proofs.Common.{arith}
 use Rattle.scm_model.specs.declared.calls.Reply.{Reply}
 use Rattle.scm_model.specs.declared.steps.Answer.{Answer}
 use Rattle.scm_model.specs.declared.steps.Answer.TheVariants as answers
@@ -9,8 +10,8 @@ use Rattle.book_rule.specs.declared.view.Opening.{Opening}
 use Rattle.book_rule.proofs.Prefixes.{prefix_length}
 use Rattle.scm_book.specs.Called.{RaisedSo}
 use Rattle.scm_book.specs.Passes.{Known, Learnt, Made}
-use Rattle.conn_desk.specs.declared.asked.Asked.{Asked}
-use Rattle.conn_desk.specs.declared.asked.Asked.TheVariants as asks
+use Rattle.conn_desk.specs.declared.asked.DecodedRequest.{DecodedRequest}
+use Rattle.conn_desk.specs.declared.asked.DecodedRequest.TheVariants as asks
 use Rattle.conn_desk.specs.declared.served.Served.{Served}
 use Rattle.conn_desk.specs.declared.served.Served.TheVariants as served
 use Rattle.conn_desk.specs.Desks.{Chain}
@@ -37,7 +38,8 @@ module _ (o : Opening) where
   rises k k' moment step told made rising =
       let n : length k.seen ≤ length made.before = prefix_length k.seen made.before made.longer in
       subst IsRising (sym made.own)
-      (pairwise_more (λ (a : ℕ) (b : ℕ). a < b) k.own (length made.before) rising (λ place has. let w : place < length k.seen = made.until.within place has in omega arith))
+      (pairwise_more (λ (a : ℕ) (b : ℕ). a < b) k.own (length made.before) rising
+      (λ place has. let w : place < length k.seen = made.until.within place has in omega arith))
 
   goes_made : (k k' : Known) (moment : ℕ) (step : Step) (told : Answer) → Made o k moment step told k' → k'.caller ≡ k.caller → Goes k k'
   goes_made k k' moment step told made caller = record { rising = rises k k' moment step told made; caller = caller }
@@ -57,7 +59,8 @@ module _ (o : Opening) where
       goes_on k once.looked k' (goes_learnt k once.looked once.learnt)
       (goes_on once.looked waits.0 k' (of_turn once.looked waits.0 moment once.turns) (of_waits plan moments waits.0 k' waits.2))
 
-  of_served : (tells : ℕ → Type 0) (k k' : Known) (asked : Asked) (heard : Option Reply) → IsServed true tells o k k' asked heard → Goes k k'
+  of_served : (tells : ℕ → Type 0) (k k' : Known) (asked : DecodedRequest) (heard : Option Reply) → IsServed true tells o k k' asked heard
+      → Goes k k'
   of_served tells k k' asked None wanted =
       let made : Lacked o k wanted.moment asked k' = want_made o k k' wanted.moment asked wanted.wants in
       goes_made k k' wanted.moment (NoMemory k.caller) answers.Done made.made made.made.caller
@@ -65,16 +68,19 @@ module _ (o : Opening) where
       let made : RaisedSo o k raised.moment subtype reply k' = raised.made in
       goes_made k k' raised.moment (Raised k.caller subtype) (answers.Reply reply) made.made.made made.made.made.caller
   of_served tells k k' (asks.Call asked) (Some reply) (inl at_once) =
-      goes_made k k' at_once.moment (Call k.caller asked at_once.made.append) (answers.Reply reply) at_once.made.made at_once.made.made.caller
+      goes_made k k' at_once.moment (Call k.caller asked at_once.made.append)
+      (answers.Reply reply) at_once.made.made at_once.made.made.caller
   of_served tells k k' (asks.Call asked) (Some reply) (inr waited) =
       let ends = waited.ends in
       let last = ends.ends in
       goes_on k waited.begun k'
-      (goes_made k waited.begun waited.moment (Call k.caller asked waited.made.append) (answers.Begun waited.plan) waited.made.made waited.made.made.caller)
+      (goes_made k waited.begun waited.moment (Call k.caller asked waited.made.append)
+      (answers.Begun waited.plan) waited.made.made waited.made.made.caller)
       (goes_on waited.begun ends.waited k' (of_waits waited.plan ends.turns waited.begun ends.waited ends.waits)
       (goes_made ends.waited k' last.moment (EndStart ends.waited.caller waited.plan) (answers.Reply reply) last.made last.made.caller))
 
-  pub of_chain : (tells : ℕ → Type 0) (k k' : Known) (requests : List Asked) (heard : List (Option Reply)) → Chain (IsServed true tells o) k k' requests heard → Goes k k'
+  pub of_chain : (tells : ℕ → Type 0) (k k' : Known) (requests : List DecodedRequest) (heard : List (Option Reply))
+      → Chain (IsServed true tells o) k k' requests heard → Goes k k'
   of_chain tells k k' [] [] same = goes_same k k' same
   of_chain tells k k' (asked ∷ requests) (told ∷ heard) chain =
       goes_on k chain.0 k' (of_served tells k chain.0 asked told chain.1) (of_chain tells chain.0 k' requests heard chain.2)

@@ -1,5 +1,6 @@
 -- Entries of a history that goes on, and those that name a caller.
-use Rattle.std.proofs.Common.{◌≡◌, ◌∙◌, ◌||◌, ℕ, Bool, true, false, IsTrue, List, [], ◌∷◌, ◌++◌, Option, None, Some, refl, sym, ap, subst, inl, ⊎_elim, append_assoc, eq-eqb, eqb-true}
+use Rattle.std.proofs.Common.{◌≡◌, ◌∙◌, ◌||◌, ℕ, Bool, true, false, IsTrue, List, [], ◌∷◌, ◌++◌, Option, None, Some, refl, sym, ap, subst}
+use Rattle.std.proofs.Common.{inl, ⊎_elim, append_assoc, eq-eqb, eqb-true}
 use Rattle.std.specs.Prelude.{IfSome}
 use mathlib.Core.List.{IsPrefix}
 use Rattle.scm_model.specs.declared.flat.Flat.{Flat}
@@ -34,25 +35,34 @@ stays_at o log more place one stands =
     let l = o.limits in
     let f = o.first in
     let e = one.entry in
-    let whole : log ++ more ≡ stands.front ++ e ∷ (stands.rest ++ more) = ap (λ (es : List Entry). es ++ more) stands.is ∙ append_assoc stands.front (e ∷ stands.rest) more in
-    let first : answer l f log place ≡ Some (step_of l (state l f stands.front) e.0 e.1).answer = (λ i. answer l f (stands.is i) (stands.at i)) ∙ told l f stands.front e stands.rest in
-    let then : answer l f (log ++ more) place ≡ Some (step_of l (state l f stands.front) e.0 e.1).answer = (λ i. answer l f (whole i) (stands.at i)) ∙ told l f stands.front e (stands.rest ++ more) in
+    let whole : log ++ more ≡ stands.front ++ e ∷ (stands.rest ++ more) = ap (λ (es : List Entry). es ++ more) stands.is
+    ∙ append_assoc stands.front (e ∷ stands.rest) more in
+    let first : answer l f log place ≡ Some (step_of l (state l f stands.front) e.0 e.1).answer =
+    (λ i. answer l f (stands.is i) (stands.at i)) ∙ told l f stands.front e stands.rest in
+    let then : answer l f (log ++ more) place ≡ Some (step_of l (state l f stands.front) e.0 e.1).answer =
+    (λ i. answer l f (whole i) (stands.at i)) ∙ told l f stands.front e (stands.rest ++ more) in
     record { front = stands.front; rest = stands.rest ++ more; is = whole; at = stands.at; told = then ∙ (sym first ∙ stands.told) }
 
-stay_at : (o : Opening) (log more : List Entry) (places : List ℕ) (own : List Told) → StandAt o log places own → StandAt o (log ++ more) places own
+stay_at : (o : Opening) (log more : List Entry) (places : List ℕ) (own : List Told) → StandAt o log places own
+    → StandAt o (log ++ more) places own
 stay_at o log more [] [] stand = tt
 stay_at o log more (place ∷ places) (one ∷ own) stand = (stays_at o log more place one stand.0, stay_at o log more places own stand.1)
 stay_at o log more [] (one ∷ own) stand = absurd stand
 stay_at o log more (place ∷ places) [] stand = absurd stand
 
-pub stands_behind : (o : Opening) (log longer : List Entry) (place : ℕ) (one : Told) → IsPrefix log longer → StandsAt o log place one → StandsAt o longer place one
-stands_behind o log longer place one is stand = subst (λ (es : List Entry). StandsAt o es place one) is.1 (stays_at o log is.0 place one stand)
+pub stands_behind : (o : Opening) (log longer : List Entry) (place : ℕ) (one : Told) → IsPrefix log longer → StandsAt o log place one
+    → StandsAt o longer place one
+stands_behind o log longer place one is stand = subst (λ (es : List Entry). StandsAt o es place one) is.1
+    (stays_at o log is.0 place one stand)
 
-pub stand_behind : (o : Opening) (log longer : List Entry) (places : List ℕ) (own : List Told) → IsPrefix log longer → StandAt o log places own → StandAt o longer places own
-stand_behind o log longer places own is stand = subst (λ (es : List Entry). StandAt o es places own) is.1 (stay_at o log is.0 places own stand)
+pub stand_behind : (o : Opening) (log longer : List Entry) (places : List ℕ) (own : List Told) → IsPrefix log longer
+    → StandAt o log places own → StandAt o longer places own
+stand_behind o log longer places own is stand = subst (λ (es : List Entry). StandAt o es places own) is.1
+    (stay_at o log is.0 places own stand)
 
 -- those but the last
-pub but_last : (o : Opening) (log : List Entry) (places : List ℕ) (place : ℕ) (own : List Told) (one : Told) → StandAt o log (places ++ place ∷ []) (own ++ one ∷ []) → StandAt o log places own
+pub but_last : (o : Opening) (log : List Entry) (places : List ℕ) (place : ℕ) (own : List Told) (one : Told)
+    → StandAt o log (places ++ place ∷ []) (own ++ one ∷ []) → StandAt o log places own
 but_last o log [] place [] one stand = tt
 but_last o log [] place (x ∷ []) one stand = absurd stand.1
 but_last o log [] place (x ∷ y ∷ own) one stand = absurd stand.1
@@ -86,20 +96,26 @@ or_more : (a b c : Bool) → (b ≡ true → c ≡ true) → (a || b) ≡ true �
 or_more true b c later is = refl
 or_more false b c later is = later is
 
-pub caller_at : (l : Limits) (f : Flat) (number : ℕ) (front : List Entry) (e : Entry) (rest : List Entry) → makes_caller (state l f front) number e.1 ≡ true → has_made l f number (front ++ e ∷ rest) ≡ true
+pub caller_at : (l : Limits) (f : Flat) (number : ℕ) (front : List Entry) (e : Entry) (rest : List Entry)
+    → makes_caller (state l f front) number e.1 ≡ true → has_made l f number (front ++ e ∷ rest) ≡ true
 unfolding state
 caller_at l f number [] e rest is = or_left (makes_caller f number e.1) (has_made l (step_of l f e.0 e.1).flat number rest) is
 caller_at l f number (x ∷ front) e rest is =
-    or_right (makes_caller f number x.1) (has_made l (step_of l f x.0 x.1).flat number (front ++ e ∷ rest)) (caller_at l (step_of l f x.0 x.1).flat number front e rest is)
+    or_right (makes_caller f number x.1) (has_made l (step_of l f x.0 x.1).flat number (front ++ e ∷ rest))
+    (caller_at l (step_of l f x.0 x.1).flat number front e rest is)
 
-caller_more : (l : Limits) (f : Flat) (number : ℕ) (front rest : List Entry) → has_made l f number front ≡ true → has_made l f number (front ++ rest) ≡ true
+caller_more : (l : Limits) (f : Flat) (number : ℕ) (front rest : List Entry) → has_made l f number front ≡ true
+    → has_made l f number (front ++ rest) ≡ true
 caller_more l f number [] rest is = absurd cc
 caller_more l f number (x ∷ front) rest is =
     let later = (step_of l f x.0 x.1).flat in
-    or_more (makes_caller f number x.1) (has_made l later number front) (has_made l later number (front ++ rest)) (caller_more l later number front rest) is
+    or_more (makes_caller f number x.1) (has_made l later number front) (has_made l later number (front ++ rest))
+    (caller_more l later number front rest) is
 
-pub made_behind : (l : Limits) (f : Flat) (number : ℕ) (front longer : List Entry) → IsPrefix front longer → has_made l f number front ≡ true → has_made l f number longer ≡ true
-made_behind l f number front longer is made = subst (λ (es : List Entry). has_made l f number es ≡ true) is.1 (caller_more l f number front is.0 made)
+pub made_behind : (l : Limits) (f : Flat) (number : ℕ) (front longer : List Entry) → IsPrefix front longer
+    → has_made l f number front ≡ true → has_made l f number longer ≡ true
+made_behind l f number front longer is made = subst (λ (es : List Entry). has_made l f number es ≡ true) is.1
+    (caller_more l f number front is.0 made)
 
 not_made_at : (l : Limits) (f : Flat) (number : ℕ) (front longer : List Entry) → IsPrefix front longer → has_made l f number longer ≡ false
     → (b : Bool) → has_made l f number front ≡ b → has_made l f number front ≡ false
@@ -107,35 +123,45 @@ not_made_at l f number front longer is none true made = let made' = made_behind 
 not_made_at l f number front longer is none false made = made
 
 -- who wasn't made by the whole wasn't by a front
-pub not_made_before : (l : Limits) (f : Flat) (number : ℕ) (front longer : List Entry) → IsPrefix front longer → has_made l f number longer ≡ false → has_made l f number front ≡ false
+pub not_made_before : (l : Limits) (f : Flat) (number : ℕ) (front longer : List Entry) → IsPrefix front longer
+    → has_made l f number longer ≡ false → has_made l f number front ≡ false
 not_made_before l f number front longer is none = not_made_at l f number front longer is none (has_made l f number front) refl
 
 -- ## Behind a going
 
 module _ (o : Opening) (begins : IsOpening o.limits o.first) (caller : ℕ) where
   -- whoever an entry names is there
-  named_there : (front : List Entry) (e : Entry) (rest : List Entry) → IsLegal o.limits o.first (front ++ e ∷ rest) → names_caller caller e.1 ≡ true → IsTrue (is_caller (run_state o.limits o.first front) caller)
+  named_there : (front : List Entry) (e : Entry) (rest : List Entry) → IsLegal o.limits o.first (front ++ e ∷ rest)
+      → names_caller caller e.1 ≡ true → IsTrue (is_caller (run_state o.limits o.first front) caller)
   named_there front e rest legal named =
-      at_some (λ (n : ℕ). IsTrue (is_caller (run_state o.limits o.first front) n)) (caller_named e.1) caller (is_some_of caller (caller_named e.1) named)
+      at_some (λ (n : ℕ). IsTrue (is_caller (run_state o.limits o.first front) n)) (caller_named e.1) caller
+      (is_some_of caller (caller_named e.1) named)
       (caller_there o.limits (run_state o.limits o.first front) e.0 e.1 (may_behind o.limits o.first front e rest legal))
 
-  gone_there : (log : List Entry) (place moment : ℕ) → IsLegal o.limits o.first log → StandsAt o log place (made_of (moment, Gone caller) answers.Done) → is_caller (state o.limits o.first log) caller ≡ false
+  gone_there : (log : List Entry) (place moment : ℕ) → IsLegal o.limits o.first log
+      → StandsAt o log place (made_of (moment, Gone caller) answers.Done) → is_caller (state o.limits o.first log) caller ≡ false
   gone_there log place moment legal goes =
-      gone_for_good o.limits o.first log (begun o.limits o.first begins) legal caller goes.front (moment, Gone caller) goes.rest goes.is (eq-eqb caller caller refl)
+      gone_for_good o.limits o.first log (begun o.limits o.first begins) legal caller goes.front (moment, Gone caller) goes.rest goes.is
+      (eq-eqb caller caller refl)
 
-  contradicts : (front : List Entry) → is_caller (state o.limits o.first front) caller ≡ false → IsTrue (is_caller (run_state o.limits o.first front) caller) → ⊥
+  contradicts : (front : List Entry) → is_caller (state o.limits o.first front) caller ≡ false
+      → IsTrue (is_caller (run_state o.limits o.first front) caller) → ⊥
   contradicts front out there =
-      let out' : is_caller (run_state o.limits o.first front) caller ≡ false = subst (λ (f : Flat). is_caller f caller ≡ false) (state_is o.limits o.first front) out in
+      let out' : is_caller (run_state o.limits o.first front) caller ≡ false =
+      subst (λ (f : Flat). is_caller f caller ≡ false) (state_is o.limits o.first front) out in
       absurd cc
 
   -- nothing more names a caller that has gone
-  pub named_only : (log longer : List Entry) (places : List ℕ) (place moment : ℕ) → IsPrefix log longer → Legal o.limits o.first longer → StandsAt o log place (made_of (moment, Gone caller) answers.Done)
+  pub named_only : (log longer : List Entry) (places : List ℕ) (place moment : ℕ) → IsPrefix log longer → Legal o.limits o.first longer
+      → StandsAt o log place (made_of (moment, Gone caller) answers.Done)
       → NamedOnlyAt log caller places → NamedOnlyAt longer caller places
   named_only log longer places place moment is legal goes only front e rest split named =
       ⊎_elim
       (λ (w : Within log front e). only front e w.rest w.is named)
       (λ (p : IsPrefix log front).
-      let whole : IsLegal o.limits o.first (front ++ e ∷ rest) = subst (IsLegal o.limits o.first) split (legal_made o.limits o.first longer legal) in
+      let whole : IsLegal o.limits o.first (front ++ e ∷ rest) = subst (IsLegal o.limits o.first) split
+      (legal_made o.limits o.first longer legal) in
       let before : IsLegal o.limits o.first front = made_front o.limits o.first front (e ∷ rest) whole in
-      absurd (contradicts front (gone_there front place moment before (stands_behind o log front place (made_of (moment, Gone caller) answers.Done) p goes)) (named_there front e rest whole named)))
+      absurd (contradicts front (gone_there front place moment before (stands_behind o log front place
+      (made_of (moment, Gone caller) answers.Done) p goes)) (named_there front e rest whole named)))
       (split_at log is.0 front e rest (is.1 ∙ split))

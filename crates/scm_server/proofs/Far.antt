@@ -21,8 +21,12 @@ module _ (o : Opening) where
     legal = λ so. then.legal (first.legal so);
   }
 
-  same_but : (by by' : Known) (seen : List Entry) (alone : Bool) → by' ≡ record by { seen = seen; alone = alone } → by' ≡ record by { seen = by'.seen; alone = by'.alone }
-  same_but by by' seen alone is = is ∙ (λ i. record by { seen = (sym (ap (λ (k : Known). k.seen) is)) i; alone = (sym (ap (λ (k : Known). k.alone) is)) i })
+  same_but : (by by' : Known) (seen : List Entry) (alone : Bool) → by' ≡ record by { seen = seen; alone = alone }
+      → by' ≡ record by { seen = by'.seen; alone = by'.alone }
+  same_but by by' seen alone is = is ∙ (λ i. record by {
+    seen = (sym (ap (λ (k : Known). k.seen) is)) i;
+    alone = (sym (ap (λ (k : Known). k.alone) is)) i;
+  })
 
   pub far_watched : (by by' : Known) → Watches o by by' → GoesFar o by by'
   far_watched by by' watches = record {
@@ -31,15 +35,19 @@ module _ (o : Opening) where
     legal = λ so. watches.legal;
   }
 
-  legal_either : (xs ys : List Entry) → Legal o.limits o.first xs → Legal o.limits o.first ys → (b : Bool) → Legal o.limits o.first (cond b ys xs)
+  legal_either : (xs ys : List Entry) → Legal o.limits o.first xs → Legal o.limits o.first ys → (b : Bool)
+      → Legal o.limits o.first (cond b ys xs)
   legal_either xs ys first then true = then
   legal_either xs ys first then false = first
 
-  pub takes_legal : (by spent by' : Known) → TakesIn by spent by' → Legal o.limits o.first by.seen → Legal o.limits o.first spent.seen → Legal o.limits o.first by'.seen
+  pub takes_legal : (by spent by' : Known) → TakesIn by spent by' → Legal o.limits o.first by.seen → Legal o.limits o.first spent.seen
+      → Legal o.limits o.first by'.seen
   takes_legal by spent by' takes first then =
-      subst (Legal o.limits o.first) (sym (ap (λ (k : Known). k.seen) takes.same)) (legal_either by.seen spent.seen first then (nat_lt (length by.seen) (length spent.seen)))
+      subst (Legal o.limits o.first) (sym (ap (λ (k : Known). k.seen) takes.same)) (legal_either by.seen spent.seen first
+      then (nat_lt (length by.seen) (length spent.seen)))
 
-  pub far_taken : (by spent by' : Known) → TakesIn by spent by' → (Legal o.limits o.first by.seen → Legal o.limits o.first spent.seen) → GoesFar o by by'
+  pub far_taken : (by spent by' : Known) → TakesIn by spent by' → (Legal o.limits o.first by.seen → Legal o.limits o.first spent.seen)
+      → GoesFar o by by'
   far_taken by spent by' takes legal = record {
     same = same_but by by' (longer by.seen spent.seen) by.alone takes.same;
     longer = takes.this;
@@ -47,10 +55,13 @@ module _ (o : Opening) where
   }
 
   -- a pass that has made another, seen more, and taken that one in
-  pub both_far : (pass one two by' : Known) → GoesFar o (fresh pass) one → GoesFar o (accompanied pass) two → TakesIn two one by' → GoesFar o pass by'
+  pub both_far : (pass one two by' : Known) → GoesFar o (fresh pass) one → GoesFar o (accompanied pass) two → TakesIn two one by'
+      → GoesFar o pass by'
   both_far pass one two by' first other takes =
-      let seen : by' ≡ record two { seen = by'.seen; alone = by'.alone } = same_but two by' (longer two.seen one.seen) two.alone takes.same in
-      let all : by' ≡ record pass { seen = by'.seen; alone = by'.alone } = seen ∙ ap (λ (k : Known). record k { seen = by'.seen; alone = by'.alone }) other.same in
+      let seen : by' ≡ record two { seen = by'.seen; alone = by'.alone } =
+      same_but two by' (longer two.seen one.seen) two.alone takes.same in
+      let all : by' ≡ record pass { seen = by'.seen; alone = by'.alone } = seen
+      ∙ ap (λ (k : Known). record k { seen = by'.seen; alone = by'.alone }) other.same in
       record {
         same = all;
         longer = prefix_trans pass.seen two.seen by'.seen other.longer takes.this;

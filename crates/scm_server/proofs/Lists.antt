@@ -1,5 +1,6 @@
 -- Pairs of a list, lists that go on, and lists without one element.
-use Rattle.std.proofs.Common.{◌≡◌, ◌⊎◌, ℕ, zero, suc, ◌+◌, ◌<◌, List, [], ◌∷◌, ◌++◌, length, take, drop, slice_get, slice_index_or, refl, sym, ap, subst, inl, inr, ⊎_elim, ◌∙◌, arith}
+use Rattle.std.proofs.Common.{◌≡◌, ◌⊎◌, ℕ, zero, suc, ◌+◌, ◌<◌, List, [], ◌∷◌, ◌++◌, length, take, drop, slice_get, slice_index_or, refl}
+use Rattle.std.proofs.Common.{sym, ap, subst, inl, inr, ⊎_elim, ◌∙◌, arith}
 use mathlib.Core.List.{IsPrefix}
 use Rattle.book_rule.specs.Ways.{Has}
 use Rattle.book_rule.proofs.Places.{has_cases, has_left, has_one, has_right}
@@ -8,10 +9,12 @@ use Rattle.scm_server.specs.Pairs.{Each, Pairwise}
 -- ## One more
 
 -- one element more, which each earlier one is so with
-pub pairwise_more : {A : Type 0} (R : A → A → Type 0) (xs : List A) (y : A) → Pairwise R xs → ((x : A) → Has x xs → R x y) → Pairwise R (xs ++ y ∷ [])
+pub pairwise_more : {A : Type 0} (R : A → A → Type 0) (xs : List A) (y : A) → Pairwise R xs → ((x : A) → Has x xs → R x y)
+    → Pairwise R (xs ++ y ∷ [])
 pairwise_more R [] y pairs last = ((λ z none. absurd none), tt)
 pairwise_more R (x ∷ xs) y pairs last = (
-  (λ z there. ⊎_elim (λ (one : Has z xs). pairs.0 z one) (λ (one : Has z (y ∷ [])). subst (λ (w : _). R x w) (sym (has_one z y one)) (last x (inl refl))) (has_cases z xs (y ∷ []) there)),
+  (λ z there. ⊎_elim (λ (one : Has z xs). pairs.0 z one) (λ (one : Has z (y ∷ [])). subst (λ (w : _). R x w) (sym (has_one z y one))
+      (last x (inl refl))) (has_cases z xs (y ∷ []) there)),
   pairwise_more R xs y pairs.1 (λ w there. last w (inr there)),
 )
 
@@ -25,7 +28,8 @@ pairwise_so R S so [] pairs = tt
 pairwise_so R S so (x ∷ xs) pairs = ((λ y there. so x y (pairs.0 y there)), pairwise_so R S so xs pairs.1)
 
 -- two lists, each element of the first so with each of the second
-pub pairwise_both : {A : Type 0} (R : A → A → Type 0) (xs ys : List A) → Pairwise R xs → Pairwise R ys → ((x : A) → Has x xs → (y : A) → Has y ys → R x y) → Pairwise R (xs ++ ys)
+pub pairwise_both : {A : Type 0} (R : A → A → Type 0) (xs ys : List A) → Pairwise R xs → Pairwise R ys
+    → ((x : A) → Has x xs → (y : A) → Has y ys → R x y) → Pairwise R (xs ++ ys)
 pairwise_both R [] ys first then both = then
 pairwise_both R (x ∷ xs) ys first then both = (
   (λ y there. ⊎_elim (λ (one : Has y xs). first.0 y one) (λ (other : Has y ys). both x (inl refl) y other) (has_cases y xs ys there)),
@@ -39,14 +43,20 @@ has_mid front w rest = has_right w front (w ∷ rest) (inl refl)
 
 pub has_without : {A : Type 0} (x : A) (front : List A) (w : A) (rest : List A) → Has x (front ++ rest) → Has x (front ++ w ∷ rest)
 has_without x front w rest there =
-    ⊎_elim (λ (before : Has x front). has_left x front (w ∷ rest) before) (λ (behind : Has x rest). has_right x front (w ∷ rest) (inr behind)) (has_cases x front rest there)
+    ⊎_elim (λ (before : Has x front). has_left x front (w ∷ rest) before)
+    (λ (behind : Has x rest). has_right x front (w ∷ rest) (inr behind)) (has_cases x front rest there)
 
-pub pairwise_without : {A : Type 0} (R : A → A → Type 0) (front : List A) (w : A) (rest : List A) → Pairwise R (front ++ w ∷ rest) → Pairwise R (front ++ rest)
+pub pairwise_without : {A : Type 0} (R : A → A → Type 0) (front : List A) (w : A) (rest : List A) → Pairwise R (front ++ w ∷ rest)
+    → Pairwise R (front ++ rest)
 pairwise_without R [] w rest pairs = pairs.1
-pairwise_without R (x ∷ front) w rest pairs = ((λ y there. pairs.0 y (has_without y front w rest there)), pairwise_without R front w rest pairs.1)
+pairwise_without R (x ∷ front) w rest pairs = (
+  (λ y there. pairs.0 y (has_without y front w rest there)),
+  pairwise_without R front w rest pairs.1,
+)
 
 -- the one that is left out, with each other
-pub pairwise_with : {A : Type 0} (R : A → A → Type 0) → ((x y : A) → R x y → R y x) → (front : List A) (w : A) (rest : List A) → Pairwise R (front ++ w ∷ rest) → (x : A) → Has x (front ++ rest) → R w x
+pub pairwise_with : {A : Type 0} (R : A → A → Type 0) → ((x y : A) → R x y → R y x) → (front : List A) (w : A) (rest : List A)
+    → Pairwise R (front ++ w ∷ rest) → (x : A) → Has x (front ++ rest) → R w x
 pairwise_with R turned [] w rest pairs x there = pairs.0 x there
 pairwise_with R turned (y ∷ front) w rest pairs x (inl here) = subst (R w) (sym here) (turned y w (pairs.0 w (has_mid front w rest)))
 pairwise_with R turned (y ∷ front) w rest pairs x (inr there) = pairwise_with R turned front w rest pairs.1 x there
@@ -65,7 +75,8 @@ pub record Within {A : Type 0} (xs front : List A) (y : A) : Type 0 where
   pub rest : List A
   pub is : xs ≡ front ++ y ∷ rest
 
-pub split_at : {A : Type 0} (xs more front : List A) (y : A) (rest : List A) → xs ++ more ≡ front ++ y ∷ rest → Within xs front y ⊎ IsPrefix xs front
+pub split_at : {A : Type 0} (xs more front : List A) (y : A) (rest : List A) → xs ++ more ≡ front ++ y ∷ rest → Within xs front y
+    ⊎ IsPrefix xs front
 split_at [] more front y rest is = inr (front, refl)
 split_at (x ∷ xs) more [] y rest is =
     let same : x ≡ y = cc in
@@ -74,22 +85,29 @@ split_at (x ∷ xs) more (z ∷ front) y rest is =
     let heads : x ≡ z = cc in
     let tails : xs ++ more ≡ front ++ y ∷ rest = cc in
     ⊎_elim
-    (λ (w : Within xs front y). inl (record { rest = w.rest; is = ap (λ (v : List _). x ∷ v) w.is ∙ ap (λ (v : _). v ∷ (front ++ y ∷ w.rest)) heads }))
+    (λ (w : Within xs front y). inl (record {
+      rest = w.rest;
+      is = ap (λ (v : List _). x ∷ v) w.is
+          ∙ ap (λ (v : _). v ∷ (front ++ y ∷ w.rest)) heads;
+    }))
     (λ (p : IsPrefix xs front). inr (p.0, ap (λ (v : List _). x ∷ v) p.1 ∙ ap (λ (v : _). v ∷ front) heads))
     (split_at xs more front y rest tails)
 
 -- ## One element taken out
 
-pub split_out : {A : Type 0} (xs : List A) (i : ℕ) (x : A) → i < length xs → x ≡ slice_index_or xs i x → xs ≡ take i xs ++ x ∷ drop (i + 1) xs
+pub split_out : {A : Type 0} (xs : List A) (i : ℕ) (x : A) → i < length xs → x ≡ slice_index_or xs i x → xs ≡ take i xs
+    ++ x ∷ drop (i + 1) xs
 split_out [] i x short is = absurd (omega (arith, short))
 split_out (y ∷ ys) zero x short is = ap (λ (z : _). z ∷ ys) (sym is)
 split_out (y ∷ ys) (suc i) x short is =
     let next : suc (i + 1) ≡ suc i + 1 = omega arith in
-    subst (λ (n : ℕ). y ∷ ys ≡ y ∷ (take i ys ++ x ∷ drop n (y ∷ ys))) next (ap (λ (zs : List _). y ∷ zs) (split_out ys i x (omega (arith, short)) is))
+    subst (λ (n : ℕ). y ∷ ys ≡ y ∷ (take i ys ++ x ∷ drop n (y ∷ ys))) next
+    (ap (λ (zs : List _). y ∷ zs) (split_out ys i x (omega (arith, short)) is))
 
 pub has_it : {A : Type 0} (xs : List A) (i : ℕ) (x : A) → i < length xs → x ≡ slice_index_or xs i x → Has x xs
 has_it xs i x short is = subst (Has x) (sym (split_out xs i x short is)) (has_mid (take i xs) x (drop (i + 1) xs))
 
-pub each_without : {A : Type 0} (P : A → Type 0) (xs ys : List A) (i : ℕ) (x : A) → i < length xs → x ≡ slice_index_or xs i x → ys ≡ take i xs ++ drop (i + 1) xs → Each P xs → Each P ys
+pub each_without : {A : Type 0} (P : A → Type 0) (xs ys : List A) (i : ℕ) (x : A) → i < length xs → x ≡ slice_index_or xs i x
+    → ys ≡ take i xs ++ drop (i + 1) xs → Each P xs → Each P ys
 each_without P xs ys i x short is left all y there =
     all y (subst (Has y) (sym (split_out xs i x short is)) (has_without y (take i xs) x (drop (i + 1) xs) (subst (Has y) left there)))

@@ -46,14 +46,17 @@ module _ (tells : ℕ → Type 0) (o : Opening) where
       }
 
 module _ (o : Opening) where
-  either : (xs ys : List Entry) → IsPrefix xs ys → Legal o.limits o.first ys → (b : Bool) → IsPrefix ys (cond b ys xs) → Legal o.limits o.first (cond b ys xs)
+  either : (xs ys : List Entry) → IsPrefix xs ys → Legal o.limits o.first ys → (b : Bool) → IsPrefix ys (cond b ys xs)
+      → Legal o.limits o.first (cond b ys xs)
   either xs ys is legal true that = legal
   either xs ys is legal false that = subst (Legal o.limits o.first) (sym (prefix_whole xs ys is (prefix_length ys xs that))) legal
 
-  taken_legal : (by spent by' : Known) → TakesIn by spent by' → IsPrefix by.seen spent.seen → Legal o.limits o.first spent.seen → Legal o.limits o.first by'.seen
+  taken_legal : (by spent by' : Known) → TakesIn by spent by' → IsPrefix by.seen spent.seen → Legal o.limits o.first spent.seen
+      → Legal o.limits o.first by'.seen
   taken_legal by spent by' takes is legal =
       let seen : by'.seen ≡ longer by.seen spent.seen = ap (λ (k : Known). k.seen) takes.same in
-      subst (Legal o.limits o.first) (sym seen) (either by.seen spent.seen is legal (nat_lt (length by.seen) (length spent.seen)) (subst (IsPrefix spent.seen) seen takes.that))
+      subst (Legal o.limits o.first) (sym seen) (either by.seen spent.seen is legal (nat_lt (length by.seen) (length spent.seen))
+      (subst (IsPrefix spent.seen) seen takes.that))
 
 seen_alone : (by spent by' : Known) → TakesIn by spent by' → by' ≡ record by { seen = by'.seen }
 seen_alone by spent by' takes = takes.same ∙ ap (λ (es : List Entry). record by { seen = es }) (sym (ap (λ (k : Known). k.seen) takes.same))
@@ -63,9 +66,12 @@ pub record AllSeen (o : Opening) (root both root' : Known) : Type 0 where
   pub within : IsPrefix both.seen root'.seen
   pub legal : Legal o.limits o.first root'.seen
 
-pub all_seen : (tells : ℕ → Type 0) (o : Opening) (root by t0 t1 t2 t3 ln sv ticked launched both root' : Known) (moment : ℕ) (end : TickEnd) → by ≡ accompanied root → t0 ≡ fresh root → TickEnds o t0 moment end t1 → ln ≡ fresh t1 → t2 ≡ accompanied t1
-    → sv ≡ fresh t2 → t3 ≡ accompanied t2 → TicksOn tells o t3 ticked → SeesOn o ln launched → GoesFar o sv both → TakesAll by ticked launched both root' → AllSeen o root both root'
-all_seen tells o root by t0 t1 t2 t3 ln sv ticked launched both root' moment end is_by is_t0 ends is_ln is_t2 is_sv is_t3 ticks sees serves takes =
+pub all_seen : (tells : ℕ → Type 0) (o : Opening) (root by t0 t1 t2 t3 ln sv ticked launched both root' : Known) (moment : ℕ)
+    (end : TickEnd) → by ≡ accompanied root → t0 ≡ fresh root → TickEnds o t0 moment end t1 → ln ≡ fresh t1 → t2 ≡ accompanied t1
+    → sv ≡ fresh t2 → t3 ≡ accompanied t2 → TicksOn tells o t3 ticked → SeesOn o ln launched → GoesFar o sv both
+    → TakesAll by ticked launched both root' → AllSeen o root both root'
+all_seen tells o root by t0 t1 t2 t3 ln sv ticked launched both root' moment end is_by is_t0 ends is_ln is_t2 is_sv is_t3 ticks sees serves
+    takes =
     let seen : Known → List Entry = λ (k : Known). k.seen in
     let at2 : t2.seen ≡ t1.seen = ap seen is_t2 in
     let at3 : t3.seen ≡ t1.seen = ap seen is_t3 ∙ at2 in
@@ -76,14 +82,17 @@ all_seen tells o root by t0 t1 t2 t3 ln sv ticked launched both root' moment end
     let legal_launched : Legal o.limits o.first launched.seen = sees.legal (subst (Legal o.limits o.first) (sym (ap seen is_ln)) legal) in
     let legal_both : Legal o.limits o.first both.seen = serves.legal (subst (Legal o.limits o.first) (sym (ap seen is_sv ∙ at2)) legal) in
     let behind : IsPrefix by.seen ticked.seen = subst (λ (es : List Entry). IsPrefix es ticked.seen) first
-    (prefix_trans t0.seen t1.seen ticked.seen (tick_longer tells o t0 t1 moment end ends) (subst (λ (es : List Entry). IsPrefix es ticked.seen) at3 far.longer)) in
+    (prefix_trans t0.seen t1.seen ticked.seen (tick_longer tells o t0 t1 moment end ends)
+    (subst (λ (es : List Entry). IsPrefix es ticked.seen) at3 far.longer)) in
     let one : Legal o.limits o.first takes.one.seen = taken_legal o by ticked takes.one takes.first behind legal_ticked in
     let two : Legal o.limits o.first takes.two.seen = takes_legal o takes.one launched takes.two takes.second one legal_launched in
     let all : Legal o.limits o.first root'.seen = takes_legal o takes.two both root' takes.third two legal_both in
     let with : Known → Known = λ (k : Known). record k { seen = root'.seen } in
     let same : root' ≡ record root { seen = root'.seen; alone = false } =
-    seen_alone takes.two both root' takes.third ∙ (ap with (seen_alone takes.one launched takes.two takes.second) ∙ (ap with (seen_alone by ticked takes.one takes.first) ∙ ap with is_by)) in
-    let from : IsPrefix by.seen root'.seen = prefix_trans by.seen takes.one.seen root'.seen takes.first.this (prefix_trans takes.one.seen takes.two.seen root'.seen takes.second.this takes.third.this) in
+    seen_alone takes.two both root' takes.third ∙ (ap with (seen_alone takes.one launched takes.two takes.second)
+    ∙ (ap with (seen_alone by ticked takes.one takes.first) ∙ ap with is_by)) in
+    let from : IsPrefix by.seen root'.seen = prefix_trans by.seen takes.one.seen root'.seen takes.first.this
+    (prefix_trans takes.one.seen takes.two.seen root'.seen takes.second.this takes.third.this) in
     record {
       goes = record { same = same; longer = subst (λ (es : List Entry). IsPrefix es root'.seen) (ap seen is_by) from; legal = λ so. all };
       within = takes.third.that;
@@ -91,11 +100,15 @@ all_seen tells o root by t0 t1 t2 t3 ln sv ticked launched both root' moment end
     }
 
 -- what is the same, said of what comes back
-pub served_as : (tells : ℕ → Type 0) (o : Opening) (log : List Entry) (end end' : ServeEnd) (a a' a'' u u' u'' : Told) → end' ≡ end → a'' ≡ a' → u'' ≡ u' → ServedIn tells o log a a' u u' (was_short end) → ServedIn tells o log a a'' u u'' (was_short end')
+pub served_as : (tells : ℕ → Type 0) (o : Opening) (log : List Entry) (end end' : ServeEnd) (a a' a'' u u' u'' : Told) → end' ≡ end
+    → a'' ≡ a' → u'' ≡ u' → ServedIn tells o log a a' u u' (was_short end) → ServedIn tells o log a a'' u u'' (was_short end')
 served_as tells o log end end' a a' a'' u u' u'' is at_a at_u served =
     subst (λ (e : ServeEnd). ServedIn tells o log a a'' u u'' (was_short e)) (sym is)
-    (subst (λ (t : Told). ServedIn tells o log a t u u'' (was_short end)) (sym at_a) (subst (λ (t : Told). ServedIn tells o log a a' u t (was_short end)) (sym at_u) served))
+    (subst (λ (t : Told). ServedIn tells o log a t u u'' (was_short end)) (sym at_a)
+    (subst (λ (t : Told). ServedIn tells o log a a' u t (was_short end)) (sym at_u) served))
 
-pub ends_as : (end end' : ServeEnd) (a a' a'' u u' u'' : Told) → end' ≡ end → a'' ≡ a' → u'' ≡ u' → EndsAll end a a' u u' → EndsAll end' a a'' u u''
+pub ends_as : (end end' : ServeEnd) (a a' a'' u u' u'' : Told) → end' ≡ end → a'' ≡ a' → u'' ≡ u' → EndsAll end a a' u u'
+    → EndsAll end' a a'' u u''
 ends_as end end' a a' a'' u u' u'' is at_a at_u ends =
-    subst (λ (e : ServeEnd). EndsAll e a a'' u u'') (sym is) (subst (λ (t : Told). EndsAll end a t u u'') (sym at_a) (subst (λ (t : Told). EndsAll end a a' u t) (sym at_u) ends))
+    subst (λ (e : ServeEnd). EndsAll e a a'' u u'') (sym is) (subst (λ (t : Told). EndsAll end a t u u'') (sym at_a)
+    (subst (λ (t : Told). EndsAll end a a' u t) (sym at_u) ends))

@@ -16,4 +16,5 @@ EndsBy false l l' = IsClosed l l'
 
 abbrev pub ServesNext : (ℕ → Type 0) → Opening → Principal → Stand → Known → Told → List Out → Next → Type 0
 ServesNext tells o principal s by l outs (nexts.Came now) = GoesOn tells o principal s (standing by l outs now) × (l.faults ≡ s.told.faults)
-ServesNext tells o principal s by l outs (nexts.Over over) = GoesOn tells o principal s (standing by l outs over.is_short) × EndsBy over.is_failed s.told l
+ServesNext tells o principal s by l outs (nexts.Over over) = GoesOn tells o principal s (standing by l outs over.is_short)
+    × EndsBy over.is_failed s.told l

@@ -19,7 +19,8 @@ pub record GoesFor (o : Opening) (by by' : Known) : Type 0 where
   pub longer : IsPrefix by.seen by'.seen
   pub legal : Legal o.limits o.first by.seen → Legal o.limits o.first by'.seen
 
--- Each connection that either listener handed out is noted once, and unless there was want of memory is one of the two cases in this history,
+-- Each connection that either listener handed out is noted once, and unless there was want of memory is one of the two cases in this
+-- history,
 -- an administrator's or a user's; no caller stands for two of them, of one listener or of both.
 pub record ServedIn (tells : ℕ → Type 0) (o : Opening) (log : List Entry) (a a' u u' : Told) (is_short : Bool) : Type 0 where
   pub admins : List Handed
@@ -32,7 +33,8 @@ pub record ServedIn (tells : ℕ → Type 0) (o : Opening) (log : List Entry) (a
 
 -- so it is in each legal history that goes on from what was seen
 abbrev pub ServedFrom : (tells : ℕ → Type 0) → Opening → (seen : List Entry) → (a a' u u' : Told) → (is_short : Bool) → Type 0
-ServedFrom tells o seen a a' u u' is_short = (log : List Entry) → IsPrefix seen log → Legal o.limits o.first log → ServedIn tells o log a a' u u' is_short
+ServedFrom tells o seen a a' u u' is_short = (log : List Entry) → IsPrefix seen log → Legal o.limits o.first log
+    → ServedIn tells o log a a' u u' is_short
 
 -- how serving ended, of how it ended with each
 abbrev pub of_both : (admin user : ServeEnd) → ServeEnd

@@ -16,7 +16,7 @@ use Rattle.scm_book.specs.declared.answers.JoinFault.{JoinFault}
 use Rattle.scm_book.specs.declared.answers.JoinFault.TheVariants as joins
 use Rattle.scm_book.specs.Joins.{has_place}
 use Rattle.scm_book.specs.Passes.{room_behind}
-use Rattle.conn_desk.specs.declared.asked.Asked.{Asked}
+use Rattle.conn_desk.specs.declared.asked.DecodedRequest.{DecodedRequest}
 use Rattle.conn_desk.specs.declared.served.Served.{Served}
 use Rattle.conn_desk.specs.declared.served.Served.TheVariants as served
 use Rattle.conn_desk.specs.Bodies.{asked}
@@ -41,7 +41,8 @@ IsFresh h = IfSome h.began (λ bytes. bytes ≡ [])
 
 -- ## The first case
 
--- nothing of it was read or written, and there is a state of the history in which the callers are at their limit or nobody finds room to join
+-- nothing of it was read or written, and there is a state of the history in which the callers are at their limit or nobody finds room to
+-- join
 pub record WasRefused (o : Opening) (log : List Entry) (principal : Principal) (h : Handed) : Type 0 where
   pub fresh : IsFresh h
   pub unread : h.past.left ≡ h.given
@@ -55,15 +56,17 @@ pub record WasRefused (o : Opening) (log : List Entry) (principal : Principal) (
 -- ## The second case
 
 -- behind this front the limits have no room for the caller's request
-abbrev pub HasNoRoomBehind : Opening → ℕ → List Entry → Asked → Type 0
+abbrev pub HasNoRoomBehind : Opening → ℕ → List Entry → DecodedRequest → Type 0
 HasNoRoomBehind o caller front request = room_behind o front (step_for caller request) ≡ false
 
 -- no entry of the history but those at these places names the caller
 abbrev pub NamedOnlyAt : List Entry → ℕ → List ℕ → Type 0
-NamedOnlyAt log caller places = (front : List Entry) (e : Entry) (rest : List Entry) → log ≡ front ++ e ∷ rest → names_caller caller e.1 ≡ true → Has (length front) places
+NamedOnlyAt log caller places = (front : List Entry) (e : Entry) (rest : List Entry) → log ≡ front ++ e ∷ rest
+    → names_caller caller e.1 ≡ true → Has (length front) places
 
 -- what was read, answered and written of a connection, and how it ended
-pub record WasServed (full : List Entry → Asked → Type 0) (stood : List Entry) (h : Handed) (done : List Incoming) (heard : List (Option Reply)) (how : Served) : Type 0 where
+pub record WasServed (full : List Entry → DecodedRequest → Type 0) (stood : List Entry) (h : Handed) (done : List Incoming)
+    (heard : List (Option Reply)) (how : Served) : Type 0 where
   pub fresh : IsFresh h
   pub read : List ℕ
   pub consumed : Consumes h.given h.past.left read
@@ -73,9 +76,11 @@ pub record WasServed (full : List Entry → Asked → Type 0) (stood : List Entr
   pub reached : Reached full stood how read h.past.left done heard written
   pub cause : IsServedFor how 0 h.past.read_faults 0 h.past.write_faults
 
--- The caller joined with the principal, made the requests that were answered, and went: these are its entries in the history, and each of them
+-- The caller joined with the principal, made the requests that were answered, and went: these are its entries in the history, and each of
+-- them
 -- names it, also those of a start that waited. How the connection ended is told behind all of them but the going.
-pub record StandsForIt (tells : ℕ → Type 0) (o : Opening) (log : List Entry) (principal : Principal) (h : Handed) (caller : ℕ) : Type 0 where
+pub record StandsForIt (tells : ℕ → Type 0) (o : Opening) (log : List Entry) (principal : Principal) (h : Handed)
+    (caller : ℕ) : Type 0 where
   pub how : Served
   pub done : List Incoming
   pub heard : List (Option Reply)

@@ -1,5 +1,6 @@
 -- What serving a port comes to.
-use Rattle.std.specs.Prelude.{ℕ, ◌≡◌, ◌≢◌, ◌≤◌, ◌<◌, ◌+◌, ◌-◌, ◌++◌, ◌⊎◌, Bool, true, false, List, [], length, map, drop, slice_get, Option, None, Some, IfSome, option_map}
+use Rattle.std.specs.Prelude.{ℕ, ◌≡◌, ◌≢◌, ◌≤◌, ◌<◌, ◌+◌, ◌-◌, ◌++◌, ◌⊎◌, Bool, true, false, List, [], length, map, drop, slice_get, Option}
+use Rattle.std.specs.Prelude.{None, Some, IfSome, option_map}
 use mathlib.Core.List.{IsPrefix}
 use Rattle.outside.specs.Causes.{Rose}
 use Rattle.scm_model.specs.declared.flat.Principal.{Principal}
@@ -27,7 +28,8 @@ abbrev pub told : Option (List (List ℕ)) → ℕ → Option (List PastConnecti
 told left accepted noted listened faults = record { left = left; accepted = accepted; noted = noted; listened = listened; faults = faults }
 
 -- what a listener tells
-abbrev pub told_by : {N : Type 0} → (left : N → Option (List (List ℕ))) → (accepted : N → ℕ) → (noted : N → Option (List PastConnection)) → (listened : N → Option (List Listening))
+abbrev pub told_by : {N : Type 0} → (left : N → Option (List (List ℕ))) → (accepted : N → ℕ) → (noted : N → Option (List PastConnection))
+    → (listened : N → Option (List Listening))
     → (faults : N → ℕ) → N → Told
 told_by left accepted noted listened faults l = told (left l) (accepted l) (noted l) (listened l) (faults l)
 
@@ -93,7 +95,8 @@ pub record GoesFar (o : Opening) (by by' : Known) : Type 0 where
 
 -- Each connection that was handed out is noted once, and unless there was want of memory is one of the two cases in this history; no caller
 -- stands for two of them.
-pub record ServesPort (tells : ℕ → Type 0) (o : Opening) (principal : Principal) (log : List Entry) (l l' : Told) (is_short : Bool) : Type 0 where
+pub record ServesPort (tells : ℕ → Type 0) (o : Opening) (principal : Principal) (log : List Entry) (l l' : Told)
+    (is_short : Bool) : Type 0 where
   pub handed : List Handed
   pub hands : Hands l l' handed
   pub handled : is_short ≡ false → Each (IsHandled tells o log principal) handed

@@ -63,12 +63,15 @@ pub record Serves (tells : ℕ → Type 0) (o : Opening) (principal : Principal)
 
 -- whatever came before, it goes on from one stand to the next
 abbrev pub GoesOn : (ℕ → Type 0) → Opening → Principal → (s s' : Stand) → Type 0
-GoesOn tells o principal s s' = IsOpening o.limits o.first → (by : Known) (l : Told) → Serves tells o principal by l s → Serves tells o principal by l s'
+GoesOn tells o principal s s' = IsOpening o.limits o.first → (by : Known) (l : Told) → Serves tells o principal by l s
+    → Serves tells o principal by l s'
 
 -- whoever its connections are of, and whether there was no memory before or there was none for one of these
-abbrev pub Continues : (tells : ℕ → Type 0) → Opening → (by : Known) → Told → List Out → (by' : Known) → Told → List Out → (is_short : Bool) → Type 0
+abbrev pub Continues : (tells : ℕ → Type 0) → Opening → (by : Known) → Told → List Out → (by' : Known) → Told → List Out → (is_short : Bool)
+    → Type 0
 Continues tells o by told outs by' told' outs' is_short =
-    (principal : Principal) (before : Bool) → GoesOn tells o principal (standing by told outs before) (standing by' told' outs' (before || is_short))
+    (principal : Principal) (before : Bool) → GoesOn tells o principal (standing by told outs before)
+    (standing by' told' outs' (before || is_short))
 
 -- ## Its steps
 

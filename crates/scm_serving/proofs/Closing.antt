@@ -20,12 +20,14 @@ use Rattle.scm_serving.specs.Serving.{EndsAs, HasClosed, IsServed, IsTold, lacke
 
 -- ## How it is told
 
-short_where : (history : List Entry) (services : ℕ) (how : ServeEnd) (end : BookEnd) → IsTold history services how end → lacked_memory end ≡ false → was_short how ≡ false
+short_where : (history : List Entry) (services : ℕ) (how : ServeEnd) (end : BookEnd) → IsTold history services how end
+    → lacked_memory end ≡ false → was_short how ≡ false
 short_where history services ends.Ended end t enough = refl
 short_where history services ends.ListenFault end t enough = refl
 short_where history services ends.OutOfMemory end t enough = absurd (false≢true (sym enough ∙ ap lacked_memory t))
 
-ends_as : (o : Opening) (history : List Entry) (a a' u u' : Told) (how : ServeEnd) (end : BookEnd) → IsTold history (length (state o.limits o.first history).services) how end
+ends_as : (o : Opening) (history : List Entry) (a a' u u' : Told) (how : ServeEnd) (end : BookEnd)
+    → IsTold history (length (state o.limits o.first history).services) how end
     → EndsAll how a a' u u' → EndsAs o history a a' u u' end
 ends_as o history a a' u u' ends.Ended (Ended text) t e = (t, e)
 ends_as o history a a' u u' ends.Ended ListenFault t e = absurd cc
@@ -34,7 +36,8 @@ ends_as o history a a' u u' ends.ListenFault end t e = subst (EndsAs o history a
 ends_as o history a a' u u' ends.OutOfMemory end t e = subst (EndsAs o history a a' u u') (sym t) e
 
 -- where less is known of memory, less is said
-said_where : (tells : ℕ → Type 0) (o : Opening) (log : List Entry) (a a' u u' : Told) (is_short now : Bool) → (now ≡ false → is_short ≡ false)
+said_where : (tells : ℕ → Type 0) (o : Opening) (log : List Entry) (a a' u u' : Told) (is_short now : Bool)
+    → (now ≡ false → is_short ≡ false)
     → ServedIn tells o log a a' u u' is_short → ServedIn tells o log a a' u u' now
 said_where tells o log a a' u u' is_short now so s = record {
   admins = s.admins;
@@ -49,7 +52,8 @@ said_where tells o log a a' u u' is_short now so s = record {
 -- ## The book
 
 module _ {K : Type 0} (told : K → Option (List ℕ)) (faulted : K → ℕ) where
-  pub closed_so : (o : Opening) (last : Known) (c : Closed K) (how : ServeEnd) (end : BookEnd) → Closes told faulted o last c → IsTold c.trail.entries c.services how end
+  pub closed_so : (o : Opening) (last : Known) (c : Closed K) (how : ServeEnd) (end : BookEnd) → Closes told faulted o last c
+      → IsTold c.trail.entries c.services how end
       → HasClosed told faulted o last.seen how end c.keeper
   closed_so o last c how end cl t = record {
     history = c.trail.entries;
@@ -59,11 +63,14 @@ module _ {K : Type 0} (told : K → Option (List ℕ)) (faulted : K → ℕ) whe
     told_is = subst (λ (n : ℕ). IsTold c.trail.entries n how end) cl.services t;
   }
 
-  pub served_so : (tells : ℕ → Type 0) (o : Opening) (by last : Known) (moment : ℕ) (a a' u u' : Told) (how : ServeEnd) (end : BookEnd) (keeper : K) → IsOpening o.limits o.first
-      → by.caller ≡ 0 → Goes o by moment last → ServedIn tells o by.seen a a' u u' (was_short how) → EndsAll how a a' u u' → HasClosed told faulted o last.seen how end keeper
+  pub served_so : (tells : ℕ → Type 0) (o : Opening) (by last : Known) (moment : ℕ) (a a' u u' : Told) (how : ServeEnd) (end : BookEnd)
+      (keeper : K) → IsOpening o.limits o.first
+      → by.caller ≡ 0 → Goes o by moment last → ServedIn tells o by.seen a a' u u' (was_short how) → EndsAll how a a' u u'
+      → HasClosed told faulted o last.seen how end keeper
       → IsServed told faulted tells o a a' u u' keeper end
   served_so tells o by last moment a a' u u' how end keeper begins nobody goes served over c =
-      let longer : IsPrefix by.seen c.history = subst (λ (es : List Entry). IsPrefix es c.history) (ap (λ (k : Known). k.seen) (goes.nobody nobody)) c.longer in record {
+      let longer : IsPrefix by.seen c.history = subst (λ (es : List Entry). IsPrefix es c.history)
+      (ap (λ (k : Known). k.seen) (goes.nobody nobody)) c.longer in record {
         history = c.history;
         legal = c.legal;
         kept = c.kept;

@@ -19,4 +19,5 @@ pub record HandsNothing (l l' : Told) : Type 0 where
 -- both listen, or one failed
 abbrev pub ListenBoth : {E : Type 0} → (admin_at user_at : Listening) → (a a' u u' : Told) → Result (Unit {0}) E → Type 0
 ListenBoth admin_at user_at a a' u u' (Ok done) = (a' ≡ listening_at a admin_at) × (u' ≡ listening_at u user_at)
-ListenBoth admin_at user_at a a' u u' (Err fault) = HandsNothing a a' × HandsNothing u u' × (Rose a.faults a'.faults ⊎ Rose u.faults u'.faults)
+ListenBoth admin_at user_at a a' u u' (Err fault) = HandsNothing a a' × HandsNothing u u'
+    × (Rose a.faults a'.faults ⊎ Rose u.faults u'.faults)

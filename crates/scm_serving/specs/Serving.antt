@@ -61,4 +61,5 @@ module _ {K : Type 0} (told : K → Option (List ℕ)) (faulted : K → ℕ) whe
     pub same : now ≡ keeper
 
   abbrev pub ServesBook : (tells : ℕ → Type 0) → Limits → Flat → (a a' u u' : Told) → (keeper now : K) → BookEnd → Type 0
-  ServesBook tells l f a a' u u' keeper now end = IsServed tells (begun_with told faulted l f keeper) a a' u u' now end ⊎ IsUnserved a a' u u' keeper now end
+  ServesBook tells l f a a' u u' keeper now end = IsServed tells (begun_with told faulted l f keeper) a a' u u' now end
+      ⊎ IsUnserved a a' u u' keeper now end

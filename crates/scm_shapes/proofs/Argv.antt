@@ -1,5 +1,6 @@
 -- Words are read exactly where they stand, and those that are written are read back.
-use Rattle.std.proofs.Common.{◌≡◌, ℕ, zero, suc, ◌≤◌, ◌<◌, Bool, true, false, not, cond, eqb, filter, replicate, List, [], ◌∷◌, length, Option, Some, None, Result, Ok, Err, refl, ap, ◌++◌, subst, arith, inl, inr}
+use Rattle.std.proofs.Common.{◌≡◌, ℕ, zero, suc, ◌≤◌, ◌<◌, Bool, true, false, not, cond, eqb, filter, replicate, List, [], ◌∷◌, length}
+use Rattle.std.proofs.Common.{Option, Some, None, Result, Ok, Err, refl, ap, ◌++◌, subst, arith, inl, inr}
 use Rattle.std.specs.Prelude.{◌⊎◌, IfSome}
 use Rattle.std.specs.List.{list_any}
 use Rattle.std.proofs.lemmas.Bool.{eqb-true, eqb-false, eq-eqb, ne_eqb, le-leb}
@@ -29,10 +30,12 @@ guard_pass : {A : Type 0} (b : Bool) (d : BodyFault) (r : Result A BodyFault) (y
 guard_pass true d r y e = (refl, e)
 guard_pass false d r y e = absurd cc
 
-listed_found : (argc : ℕ) (body : List ℕ) (place : ℕ) (pointer : ℕ × ℕ) (x : Option (List (List ℕ)) × ℕ) → IsBytes body → 0 < pointer.0 → Stands IsNumber body place pointer.0 pointer.1 → listed_at argc body pointer.1 ≡ Ok x → IsListed argc body place x.0 x.1
+listed_found : (argc : ℕ) (body : List ℕ) (place : ℕ) (pointer : ℕ × ℕ) (x : Option (List (List ℕ)) × ℕ) → IsBytes body → 0 < pointer.0
+    → Stands IsNumber body place pointer.0 pointer.1 → listed_at argc body pointer.1 ≡ Ok x → IsListed argc body place x.0 x.1
 unfolding listed_at pointed_at
 listed_found argc body place pointer x fits points stands e =
-    let a = bind_ok (number_at body pointer.1) (λ count. cond (eqb count.0 argc) (pointed_at argc body count.1) (Err (BadCount (aligned pointer.1)))) x e in
+    let a = bind_ok (number_at body pointer.1) (λ count. cond (eqb count.0 argc) (pointed_at argc body count.1)
+    (Err (BadCount (aligned pointer.1)))) x e in
     let g = guard_pass (eqb a.0.0 argc) (BadCount (aligned pointer.1)) (pointed_at argc body a.0.1) x a.2 in
     record {
       to_list = pointer.0;
@@ -40,37 +43,48 @@ listed_found argc body place pointer x fits points stands e =
       behind_to_list = pointer.1;
       to_list_stands = stands;
       behind_count = a.0.1;
-      count_stands = subst (λ (n : ℕ). Stands IsNumber body pointer.1 n a.0.1) (eqb-true a.0.0 argc g.0) (number_spelled body (aligned pointer.1) (aligned pointer.1) a.0 fits a.1);
+      count_stands = subst (λ (n : ℕ). Stands IsNumber body pointer.1 n a.0.1) (eqb-true a.0.0 argc g.0)
+          (number_spelled body (aligned pointer.1) (aligned pointer.1) a.0 fits a.1);
       words_stand = (record_exactly argc (λ pointers. Ok (pointing pointers)) words_of body fits a.0.1 x.0 x.1).0 g.1;
     }
 
-argv_by : (argc : ℕ) (body : List ℕ) (place : ℕ) (pointer : ℕ × ℕ) (b : Bool) (x : Option (List (List ℕ)) × ℕ) → IsBytes body → Stands IsNumber body place pointer.0 pointer.1 → eqb pointer.0 0 ≡ b
-    → cond b (Ok (unlisted argc, pointer.1)) (listed_at argc body pointer.1) ≡ Ok x → IsUnlisted argc body place x.0 x.1 ⊎ IsListed argc body place x.0 x.1
+argv_by : (argc : ℕ) (body : List ℕ) (place : ℕ) (pointer : ℕ × ℕ) (b : Bool) (x : Option (List (List ℕ)) × ℕ) → IsBytes body
+    → Stands IsNumber body place pointer.0 pointer.1 → eqb pointer.0 0 ≡ b
+    → cond b (Ok (unlisted argc, pointer.1)) (listed_at argc body pointer.1) ≡ Ok x → IsUnlisted argc body place x.0 x.1
+    ⊎ IsListed argc body place x.0 x.1
 argv_by argc body place pointer true x fits stands null e =
     let made : Option (List (List ℕ)) × ℕ = (unlisted argc, pointer.1) in
-    let found : IsUnlisted argc body place made.0 made.1 = record { pointer_stands = subst (λ (n : ℕ). Stands IsNumber body place n pointer.1) (eqb-true pointer.0 0 null) stands; is = refl } in
+    let found : IsUnlisted argc body place made.0 made.1 = record {
+      pointer_stands =
+          subst (λ (n : ℕ). Stands IsNumber body place n pointer.1) (eqb-true pointer.0 0 null) stands;
+      is = refl;
+    } in
     inl (subst (λ (y : Option (List (List ℕ)) × ℕ). IsUnlisted argc body place y.0 y.1) (ok_is made x e) found)
 argv_by argc body place pointer false x fits stands points e =
     let positive : 0 < pointer.0 = let ne : pointer.0 ≡ 0 → ⊥ = eqb-false pointer.0 0 points in omega (arith, ne) in
     inr (listed_found argc body place pointer x fits positive stands e)
 
-pub words_found : (body : List ℕ) (place : ℕ) (x : Option (List (List ℕ)) × ℕ) → IsBytes body → words_at body place ≡ Ok x → WordsStand body place x.0 x.1
+pub words_found : (body : List ℕ) (place : ℕ) (x : Option (List (List ℕ)) × ℕ) → IsBytes body → words_at body place ≡ Ok x
+    → WordsStand body place x.0 x.1
 unfolding words_at argv_at
 words_found body place x fits e =
     let a = bind_ok (within_at 1024 body place) (λ argc. argv_at argc.0 body argc.1) x e in
-    let b = bind_ok (number_at body a.0.1) (λ pointer. cond (eqb pointer.0 0) (Ok (unlisted a.0.0, pointer.1)) (listed_at a.0.0 body pointer.1)) x a.2 in
+    let b = bind_ok (number_at body a.0.1) (λ pointer. cond (eqb pointer.0 0) (Ok (unlisted a.0.0, pointer.1))
+    (listed_at a.0.0 body pointer.1)) x a.2 in
     let w = within_found 1024 body place a.0 fits a.1 in
     record {
       argc = a.0.0;
       behind_argc = a.0.1;
       argc_stands = w.stands;
       in_range = w.in_range;
-      argv_stands = argv_by a.0.0 body a.0.1 b.0 (eqb b.0.0 0) x fits (number_spelled body (aligned a.0.1) (aligned a.0.1) b.0 fits b.1) refl b.2;
+      argv_stands = argv_by a.0.0 body a.0.1 b.0 (eqb b.0.0 0) x fits (number_spelled body (aligned a.0.1) (aligned a.0.1) b.0 fits b.1)
+          refl b.2;
     }
 
 -- ## Words are read
 
-listed_read : (argc : ℕ) (body : List ℕ) (place : ℕ) (words : Option (List (List ℕ))) (after : ℕ) → IsBytes body → IsListed argc body place words after → argv_at argc body place ≡ Ok (words, after)
+listed_read : (argc : ℕ) (body : List ℕ) (place : ℕ) (words : Option (List (List ℕ))) (after : ℕ) → IsBytes body
+    → IsListed argc body place words after → argv_at argc body place ≡ Ok (words, after)
 unfolding argv_at listed_at pointed_at
 listed_read argc body place words after fits h =
     rw (
@@ -81,21 +95,26 @@ listed_read argc body place words after fits h =
       (record_exactly argc (λ pointers. Ok (pointing pointers)) words_of body fits h.behind_count words after).1 h.words_stand,
     ) refl
 
-unlisted_read : (argc : ℕ) (body : List ℕ) (place : ℕ) (words : Option (List (List ℕ))) (after : ℕ) → IsUnlisted argc body place words after → argv_at argc body place ≡ Ok (words, after)
+unlisted_read : (argc : ℕ) (body : List ℕ) (place : ℕ) (words : Option (List (List ℕ))) (after : ℕ) → IsUnlisted argc body place words after
+    → argv_at argc body place ≡ Ok (words, after)
 unfolding argv_at
 unlisted_read argc body place words after h = rw (number_read body (aligned place) (aligned place) 0 after h.pointer_stands, h.is) refl
 
-pub words_read : (body : List ℕ) (place : ℕ) (words : Option (List (List ℕ))) (after : ℕ) → IsBytes body → WordsStand body place words after → words_at body place ≡ Ok (words, after)
+pub words_read : (body : List ℕ) (place : ℕ) (words : Option (List (List ℕ))) (after : ℕ) → IsBytes body → WordsStand body place words after
+    → words_at body place ≡ Ok (words, after)
 unfolding words_at
 words_read body place words after fits h =
     elim h.argv_stands [
-      | inl u ↦ rw (within_read 1024 body place h.argc h.behind_argc h.argc_stands h.in_range) (unlisted_read h.argc body h.behind_argc words after u)
-      | inr l ↦ rw (within_read 1024 body place h.argc h.behind_argc h.argc_stands h.in_range) (listed_read h.argc body h.behind_argc words after fits l)
+      | inl u ↦ rw (within_read 1024 body place h.argc h.behind_argc h.argc_stands h.in_range)
+          (unlisted_read h.argc body h.behind_argc words after u)
+      | inr l ↦ rw (within_read 1024 body place h.argc h.behind_argc h.argc_stands h.in_range)
+          (listed_read h.argc body h.behind_argc words after fits l)
     ]
 
 -- ## Ranges
 
-one_most : (ps : List ℕ) (p : ℕ) (b : Bool) → pointing ps ≤ length ps → length (cond (not b) (p ∷ filter (λ pointer. not (eqb pointer 0)) ps) (filter (λ pointer. not (eqb pointer 0)) ps)) ≤ length (p ∷ ps)
+one_most : (ps : List ℕ) (p : ℕ) (b : Bool) → pointing ps ≤ length ps →
+    length (cond (not b) (p ∷ filter (λ pointer. not (eqb pointer 0)) ps) (filter (λ pointer. not (eqb pointer 0)) ps)) ≤ length (p ∷ ps)
 one_most ps p true le = omega (arith, le)
 one_most ps p false le = omega (arith, le)
 
@@ -116,7 +135,8 @@ count_of (Ok count) = count
 count_of (Err far) = far
 
 -- words that stand in a body are in the range
-pub words_sent : (bytes : List ℕ) (place : ℕ) (words : Option (List (List ℕ))) (after : ℕ) → WordsStand bytes place words after → IfSome words AreSent
+pub words_sent : (bytes : List ℕ) (place : ℕ) (words : Option (List (List ℕ))) (after : ℕ) → WordsStand bytes place words after
+    → IfSome words AreSent
 words_sent bytes place words after h =
     elim h.argv_stands [
       | inl u ↦ rw u.is (empty_sent (eqb h.argc 0))
@@ -124,7 +144,12 @@ words_sent bytes place words after h =
           let w = l.words_stand in
           let same : pointing w.numbers ≡ length w.texts = ap count_of w.told_of in
           let few : length w.texts ≤ 1024 = omega (arith, same, w.counted, h.in_range, pointing_most w.numbers) in
-          rw w.is (told_sent (list_any (λ pointer. eqb pointer 0) w.numbers) w.texts (record { few = few; sent = (record_small h.argc (λ pointers. Ok (pointing pointers)) words_of bytes l.behind_count words after w).1 }))
+          rw w.is (told_sent (list_any (λ pointer. eqb pointer 0) w.numbers) w.texts
+          (record {
+            few = few;
+            sent = (record_small h.argc (λ pointers. Ok (pointing pointers)) words_of bytes l.behind_count words
+                after w).1;
+          }))
     ]
 
 -- ## Words that are written are read back
@@ -133,17 +158,20 @@ all_small : (n : ℕ) → AreSmall (replicate n None)
 all_small zero = tt
 all_small (suc n) = (tt, all_small n)
 
-all_point : (n : ℕ) (d : Draft) → IsReferent d.next → (pointing (marked (replicate n None) d) ≡ n) × (list_any (λ pointer. eqb pointer 0) (marked (replicate n None) d) ≡ false)
+all_point : (n : ℕ) (d : Draft) → IsReferent d.next → (pointing (marked (replicate n None) d) ≡ n)
+    × (list_any (λ pointer. eqb pointer 0) (marked (replicate n None) d) ≡ false)
 all_point zero d referent = (refl, refl)
 all_point (suc n) d referent =
     let more = all_point n (put_referent d) (referent_next d referent) in
     rw (no_null d.next referent) (omega (arith, more.0), more.1)
 
-pointed_put : (words : List (List ℕ)) → AreSent words → IsPutAs (pointed_at (length words)) (put_record (replicate (length words) None) words) (Some words)
+pointed_put : (words : List (List ℕ)) → AreSent words → IsPutAs (pointed_at (length words))
+    (put_record (replicate (length words) None) words) (Some words)
 unfolding pointed_at
 pointed_put words h =
     let n = length words in
-    subst (λ (k : ℕ). IsPutAs (record_at k (λ pointers. Ok (pointing pointers)) words_of) (put_record (replicate n None) words) (Some words)) (length-replicate {A = Option ℕ} n None)
+    subst (λ (k : ℕ). IsPutAs (record_at k (λ pointers. Ok (pointing pointers)) words_of) (put_record (replicate n None) words)
+    (Some words)) (length-replicate {A = Option ℕ} n None)
     (record_put (λ pointers. Ok (pointing pointers)) words_of (replicate n None) words (Some words) (all_small n) h.sent
     (λ d referent. rw (all_point n d referent).0 refl) (λ d referent. rw (all_point n d referent).1 refl))
 
@@ -176,7 +204,8 @@ list_put words h =
             eq-eqb n n refl,
             read_there (pointed_at n) (put_record (replicate n None) words) (Some words) body d3 pointed (law.next d2 next2) held4,
           ) refl;
-      behind = behind_both (λ (d : Draft). put_number n (put_referent (put_number n d))) (put_record (replicate n None) words) three pointed.behind;
+      behind = behind_both (λ (d : Draft). put_number n (put_referent (put_number n d)))
+          (put_record (replicate n None) words) three pointed.behind;
       next = λ d referent. pointed.next _ (law.next _ (referent_next _ (law.next d referent)));
     }
 
@@ -191,16 +220,32 @@ short_put n le =
           let d1 = put_number n d in
           let body = (put_number 0 d1).bytes ++ rest in
           let held1 = held_before number_at (put_number 0) 0 body d1 none (rest, refl) in
-          rw (read_there number_at (put_number n) n body d law referent held1, le-leb n 1024 (omega (arith, le)), read_there number_at (put_number 0) 0 body d1 none (law.next d referent) (rest, refl)) refl;
+          rw (
+            read_there number_at (put_number n) n body d law referent held1,
+            le-leb n 1024 (omega (arith, le)),
+            read_there number_at (put_number 0) 0 body d1 none (law.next d referent) (rest, refl),
+          ) refl;
       behind = behind_both (put_number n) (put_number 0) law.behind none.behind;
       next = λ d referent. none.next (put_number n d) (law.next d referent);
     }
 
 pub words_put : (words : Option (List (List ℕ))) → IfSome words AreSent → IsPutAs words_at (put_words words) words
 unfolding put_words
-words_put None h = let law = short_put 1 (omega arith) in record { read = λ d rest referent. law.read d rest referent; behind = λ d. law.behind d; next = λ d referent. law.next d referent }
-words_put (Some []) h = let law = short_put 0 (omega arith) in record { read = λ d rest referent. law.read d rest referent; behind = λ d. law.behind d; next = λ d referent. law.next d referent }
+words_put None h = let law = short_put 1 (omega arith) in record {
+  read = λ d rest referent. law.read d rest referent;
+  behind = λ d. law.behind d;
+  next = λ d referent. law.next d referent;
+}
+words_put (Some []) h = let law = short_put 0 (omega arith) in record {
+  read = λ d rest referent. law.read d rest referent;
+  behind = λ d. law.behind d;
+  next = λ d referent. law.next d referent;
+}
 words_put (Some (word ∷ words)) h =
     let listed : eqb (length (word ∷ words)) 0 ≡ false = ne_eqb (length (word ∷ words)) 0 (λ e. omega (arith, e)) in
     let law = list_put (word ∷ words) h in
-    record { read = λ d rest referent. rw listed (law.read d rest referent); behind = λ d. rw listed (law.behind d); next = λ d referent. rw listed (law.next d referent) }
+    record {
+      read = λ d rest referent. rw listed (law.read d rest referent);
+      behind = λ d. rw listed (law.behind d);
+      next = λ d referent. rw listed (law.next d referent);
+    }

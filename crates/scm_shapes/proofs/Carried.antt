@@ -7,13 +7,13 @@ use Rattle.scm_shapes.specs.declared.item.Item.{Item}
 use Rattle.scm_shapes.specs.declared.item.Item.TheVariants as item
 use Rattle.scm_shapes.specs.declared.item.Value.{Value}
 use Rattle.scm_shapes.specs.declared.item.Value.TheVariants as value
-use Rattle.scm_shapes.specs.Laws.{AreSent, CanHold, CanHoldAll, IsCarried}
+use Rattle.scm_shapes.specs.Laws.{AreSent, CanHold, CanHoldAll, IsEncodable}
 
 words_carried : (words : Option (List (List ℕ))) → IfSome words AreSent → IfSome words (λ words. AllByRecursion IsSent words)
 words_carried None h = tt
 words_carried (Some words) h = h.sent
 
-value_carried : (kind : Item) (v : Value) → CanHold kind v → IsCarried v
+value_carried : (kind : Item) (v : Value) → CanHold kind v → IsEncodable v
 value_carried item.Handle (value.Handle n) h = h
 value_carried item.Number (value.Number n) h = h
 value_carried (item.NumberTo most) (value.Number n) h = h.small
@@ -30,7 +30,7 @@ value_carried item.Shown (value.Shown shown) h = h
 value_carried item.Info (value.Info asked) h = h.sent
 value_carried _ _ h = absurd h
 
-pub all_carried : (shape : List Item) (vs : List Value) → CanHoldAll shape vs → AllByRecursion IsCarried vs
+pub all_carried : (shape : List Item) (vs : List Value) → CanHoldAll shape vs → AllByRecursion IsEncodable vs
 all_carried [] [] h = tt
 all_carried (kind ∷ kinds) (v ∷ vs) h = (value_carried kind v h.0, all_carried kinds vs h.1)
 all_carried [] (v ∷ vs) h = absurd h

@@ -1,5 +1,6 @@
 -- Drafts with what is asked at a level only grow, by as many bytes wherever it begins.
-use Rattle.std.proofs.Common.{◌≡◌, ◌≤◌, ◌+◌, ◌*◌, ◌<◌, ℕ, Bool, true, false, cond, eqb, List, [], ◌∷◌, length, get_or, drop, Option, Some, None, refl, ap, arith, add-one, drop-cons}
+use Rattle.std.proofs.Common.{◌≡◌, ◌≤◌, ◌+◌, ◌*◌, ◌<◌, ℕ, Bool, true, false, cond, eqb, List, [], ◌∷◌, length, get_or, drop, Option, Some}
+use Rattle.std.proofs.Common.{None, refl, ap, arith, add-one, drop-cons}
 use Rattle.std.proofs.lemmas.List.{drop_all}
 use Rattle.std.specs.Prelude.{is_some}
 use Rattle.scm_model.specs.declared.flat.Action.{Action}
@@ -8,9 +9,11 @@ use Rattle.scm_model.specs.declared.calls.Info.TheVariants as info
 use Rattle.scm_model.specs.declared.calls.TriggerIn.{TriggerIn}
 use Rattle.ndr_body.specs.Reading.{aligned}
 use Rattle.ndr_body.specs.Writing.{Draft, blank, put_number, put_text, put_some_text, put_uuid, put_referent}
-use Rattle.ndr_body.proofs.Lengths.{length_with_item, length_put_number, length_put_text, length_put_referent, length_no_text, length_some_text}
+use Rattle.ndr_body.proofs.Lengths.{length_with_item, length_put_number, length_put_text, length_put_referent, length_no_text}
+use Rattle.ndr_body.proofs.Lengths.{length_some_text}
 use Rattle.scm_shapes.specs.Parts.{put_pointer, put_flag, put_if, put_all}
-use Rattle.scm_shapes.specs.Levels.{count_of, level_of, put_failure_head, put_action, put_actions, put_failure, put_trigger_head, put_subtype, put_listed_triggers, put_listing, put_triggers, put_referent_of, put_level, put_info}
+use Rattle.scm_shapes.specs.Levels.{count_of, level_of, put_failure_head, put_action, put_actions, put_failure, put_trigger_head}
+use Rattle.scm_shapes.specs.Levels.{put_subtype, put_listed_triggers, put_listing, put_triggers, put_referent_of, put_level, put_info}
 
 -- ## So many bytes, behind a place that 4 divides
 
@@ -69,7 +72,8 @@ ends_all put (v ∷ vs) laws = ends_both (put v) (put_all put vs) (laws v) (ends
 ends_failure_head : (reset : ℕ) (command : Option (List ℕ)) (actions : Option (List Action)) → Ends (put_failure_head reset command actions)
 unfolding put_failure_head
 ends_failure_head reset command actions =
-    ends_both _ _ (ends_both _ _ (ends_both _ _ (ends_both _ _ (ends_number reset) (ends_pointer false)) (ends_pointer (is_some command))) (ends_number (count_of actions))) (ends_pointer (is_some actions))
+    ends_both _ _ (ends_both _ _ (ends_both _ _ (ends_both _ _ (ends_number reset) (ends_pointer false)) (ends_pointer (is_some command)))
+    (ends_number (count_of actions))) (ends_pointer (is_some actions))
 
 pub ends_action : (action : Action) → Ends (put_action action)
 unfolding put_action
@@ -81,12 +85,14 @@ ends_actions actions = ends_both _ _ (ends_number (length actions)) (ends_all pu
 
 ends_failure : (reset : ℕ) (command : Option (List ℕ)) (actions : Option (List Action)) → Ends (put_failure reset command actions)
 unfolding put_failure
-ends_failure reset command actions = ends_both _ _ (ends_both _ _ (ends_failure_head reset command actions) (ends_if put_text command ends_text)) (ends_if put_actions actions ends_actions)
+ends_failure reset command actions = ends_both _ _ (ends_both _ _ (ends_failure_head reset command actions)
+    (ends_if put_text command ends_text)) (ends_if put_actions actions ends_actions)
 
 pub ends_trigger_head : (trigger : TriggerIn) → Ends (put_trigger_head trigger)
 unfolding put_trigger_head
 ends_trigger_head trigger =
-    ends_both _ _ (ends_both _ _ (ends_both _ _ (ends_both _ _ (ends_number trigger.kind) (ends_number trigger.action)) (ends_pointer (is_some trigger.subtype))) (ends_number trigger.items)) (ends_number 0)
+    ends_both _ _ (ends_both _ _ (ends_both _ _ (ends_both _ _ (ends_number trigger.kind) (ends_number trigger.action))
+    (ends_pointer (is_some trigger.subtype))) (ends_number trigger.items)) (ends_number 0)
 
 pub ends_subtype : (trigger : TriggerIn) → Ends (put_subtype trigger)
 unfolding put_subtype
@@ -94,7 +100,8 @@ ends_subtype trigger = ends_if put_uuid trigger.subtype ends_uuid
 
 ends_listed : (triggers : List TriggerIn) → Ends (put_listed_triggers triggers)
 unfolding put_listed_triggers
-ends_listed triggers = ends_both _ _ (ends_both _ _ (ends_number (length triggers)) (ends_all put_trigger_head triggers ends_trigger_head)) (ends_all put_subtype triggers ends_subtype)
+ends_listed triggers = ends_both _ _ (ends_both _ _ (ends_number (length triggers)) (ends_all put_trigger_head triggers ends_trigger_head))
+    (ends_all put_subtype triggers ends_subtype)
 
 ends_listing : (count : ℕ) (listed : Bool) → Ends (put_listing count listed)
 unfolding put_listing
@@ -107,7 +114,8 @@ triggers_by false p q first second = second
 ends_triggers : (triggers : List TriggerIn) → Ends (put_triggers triggers)
 unfolding put_triggers
 ends_triggers triggers =
-    triggers_by (eqb (length triggers) 0) (put_listing 0 false) (λ (d : Draft). put_listed_triggers triggers (put_listing (length triggers) true d)) (ends_listing 0 false)
+    triggers_by (eqb (length triggers) 0) (put_listing 0 false) (λ (d : Draft). put_listed_triggers triggers
+    (put_listing (length triggers) true d)) (ends_listing 0 false)
     (ends_both _ _ (ends_listing (length triggers) true) (ends_listed triggers))
 
 ends_referent : (asked : Info) → Ends (put_referent_of asked)
@@ -131,12 +139,17 @@ ends_level (info.OnExit on) = ends_both _ _ (ends_pointer true) (ends_referent (
 ends_level (info.Triggers list) = ends_both _ _ (ends_pointer true) (ends_referent (info.Triggers list))
 
 -- what is asked has its own bytes behind the padding
-pub length_info : (asked : Info) (d : Draft) → length (put_info asked d).bytes ≡ aligned (length d.bytes) + length (put_info asked blank).bytes
+pub length_info : (asked : Info) (d : Draft) → length (put_info asked d).bytes ≡ aligned (length d.bytes)
+    + length (put_info asked blank).bytes
 unfolding put_info
 length_info asked d =
     let n = level_of asked in
     let rest = ends_both _ _ (ends_number n) (ends_level asked) in
-    omega (arith, rest.ends (put_number n d) (length d.bytes) 4 (length_put_number n d), rest.ends (put_number n blank) 0 4 (length_put_number n blank))
+    omega (
+      arith,
+      rest.ends (put_number n d) (length d.bytes) 4 (length_put_number n d),
+      rest.ends (put_number n blank) 0 4 (length_put_number n blank),
+    )
 
 -- ## Drafts only grow
 
@@ -173,11 +186,23 @@ grown_referent asked d = grown_by (put_referent_of asked) (ends_referent asked) 
 pub grown_level : (asked : Info) (d : Draft) → length d.bytes ≤ length (put_level asked d).bytes
 grown_level asked d = grown_by (put_level asked) (ends_level asked) d
 
-pub ruleset grown = (grown_number, grown_pointer, grown_text_if, grown_actions, grown_actions_if, grown_heads, grown_subtypes, grown_listed, grown_referent, grown_level)
+pub ruleset grown = (
+  grown_number,
+  grown_pointer,
+  grown_text_if,
+  grown_actions,
+  grown_actions_if,
+  grown_heads,
+  grown_subtypes,
+  grown_listed,
+  grown_referent,
+  grown_level,
+)
 
 -- ## Some one behind the other, as a loop puts them
 
-pub all_more : {A : Type 0} (put : A → Draft → Draft) (xs : List A) (i : ℕ) (x : A) (d : Draft) → i < length xs → put_all put (drop i xs) d ≡ put_all put (drop (i + 1) xs) (put (get_or xs i x) d)
+pub all_more : {A : Type 0} (put : A → Draft → Draft) (xs : List A) (i : ℕ) (x : A) (d : Draft) → i < length xs
+    → put_all put (drop i xs) d ≡ put_all put (drop (i + 1) xs) (put (get_or xs i x) d)
 unfolding put_all
 all_more put xs i x d lt = rw (add-one, drop-cons xs i x lt) refl
 
@@ -186,7 +211,8 @@ unfolding put_all
 all_done put xs i d le = rw (drop_all i xs le) refl
 
 -- where all that is left has room, the next one has
-pub each_fits : {A : Type 0} (put : A → Draft → Draft) (laws : (v : A) → Ends (put v)) (xs : List A) (i : ℕ) (x : A) (d : Draft) (space : ℕ) (P : Type 0)
+pub each_fits : {A : Type 0} (put : A → Draft → Draft) (laws : (v : A) → Ends (put v)) (xs : List A) (i : ℕ) (x : A) (d : Draft) (space : ℕ)
+    (P : Type 0)
     → i < length xs → (length (put (get_or xs i x) d).bytes ≤ space → P) → length (put_all put (drop i xs) d).bytes ≤ space → P
 each_fits put laws xs i x d space P lt enough le =
     let grown = grown_by (put_all put (drop (i + 1) xs)) (ends_all put (drop (i + 1) xs) laws) (put (get_or xs i x) d) in

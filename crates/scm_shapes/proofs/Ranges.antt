@@ -12,7 +12,8 @@ pub guard_true : {A : Type 0} (b : Bool) (d : BodyFault) (x y : A) → cond b (O
 guard_true true d x y e = (refl, ok_is x y e)
 guard_true false d x y e = absurd cc
 
-pub within_found : (most : ℕ) (body : List ℕ) (place : ℕ) (x : ℕ × ℕ) → IsBytes body → within_at most body place ≡ Ok x → WithinStands most body place x.0 x.1
+pub within_found : (most : ℕ) (body : List ℕ) (place : ℕ) (x : ℕ × ℕ) → IsBytes body → within_at most body place ≡ Ok x
+    → WithinStands most body place x.0 x.1
 unfolding within_at
 within_found most body place x fits e =
     let a = bind_ok (number_at body place) (λ number. cond (leb number.0 most) (Ok number) (Err (BadCount (aligned place)))) x e in
@@ -22,6 +23,7 @@ within_found most body place x fits e =
       in_range = leb-true a.0.0 most g.0;
     })
 
-pub within_read : (most : ℕ) (body : List ℕ) (place n after : ℕ) → Stands IsNumber body place n after → n ≤ most → within_at most body place ≡ Ok (n, after)
+pub within_read : (most : ℕ) (body : List ℕ) (place n after : ℕ) → Stands IsNumber body place n after → n ≤ most
+    → within_at most body place ≡ Ok (n, after)
 unfolding within_at
 within_read most body place n after h le = rw (number_read body (aligned place) (aligned place) n after h, le-leb n most le) refl

@@ -12,26 +12,32 @@ use Rattle.ndr_body.proofs.SpelledTexts.{text_spelled, text_read}
 use Rattle.ndr_body.proofs.Written.{number_put}
 use Rattle.ndr_body.proofs.Chains.{Holds, read_there}
 use Rattle.scm_shapes.specs.Each.{each_at, put_each, EachStands}
-use Rattle.scm_shapes.specs.Records.{texts_at, record_at, RecordStands, put_mark, put_marks, put_record, owners, lock_of, lock_marks, lock_texts, shown_told, shown_of, shown_marks, shown_texts}
+use Rattle.scm_shapes.specs.Records.{texts_at, record_at, RecordStands, put_mark, put_marks, put_record, owners, lock_of, lock_marks}
+use Rattle.scm_shapes.specs.Records.{lock_texts, shown_told, shown_of, shown_marks, shown_texts}
 use Rattle.scm_shapes.specs.Laws.{IsShown}
 use Rattle.scm_shapes.proofs.Referents.{no_null, referent_next, referent_read}
-use Rattle.scm_shapes.proofs.Each.{Behind, behind_both, behind_nothing, behind_number, behind_referent, behind_each, each_found, each_read, each_sent, held_back, texts_next, texts_there}
+use Rattle.scm_shapes.proofs.Each.{Behind, behind_both, behind_nothing, behind_number, behind_referent, behind_each, each_found, each_read}
+use Rattle.scm_shapes.proofs.Each.{each_sent, held_back, texts_next, texts_there}
 
 -- ## Reading
 
-texts_found : (told : Result ℕ ℕ) (start : ℕ) (body : List ℕ) (place : ℕ) (x : List (List ℕ) × ℕ) → IsBytes body → texts_at told start body place ≡ Ok x → EachStands (Stands IsText) body place x.0 x.1 × (told ≡ Ok (length x.0))
+texts_found : (told : Result ℕ ℕ) (start : ℕ) (body : List ℕ) (place : ℕ) (x : List (List ℕ) × ℕ) → IsBytes body
+    → texts_at told start body place ≡ Ok x → EachStands (Stands IsText) body place x.0 x.1 × (told ≡ Ok (length x.0))
 texts_found (Ok count) start body place x fits e =
     let t = each_found text_at (Stands IsText) body count place x (λ at y. text_spelled body (aligned at) (aligned at) y fits) e in
     (t.0, rw t.1 refl)
 texts_found (Err far) start body place x fits e = absurd cc
 
 module _ {A : Type 0} (count : ℕ) (told : List ℕ → Result ℕ ℕ) (make : List ℕ → List (List ℕ) → A) (body : List ℕ) where
-  record_found : (place : ℕ) (x : A × ℕ) → IsBytes body → record_at count told make body place ≡ Ok x → RecordStands count told make body place x.0 x.1
+  record_found : (place : ℕ) (x : A × ℕ) → IsBytes body → record_at count told make body place ≡ Ok x
+      → RecordStands count told make body place x.0 x.1
   unfolding record_at
   record_found place x fits e =
-      let a = bind_ok (each_at number_at count body place) (λ numbers. texts_at (told numbers.0) place body numbers.1 >>= λ texts. Ok (make numbers.0 texts.0, texts.1)) x e in
+      let a = bind_ok (each_at number_at count body place) (λ numbers. texts_at (told numbers.0) place body numbers.1 >>= λ texts. Ok
+      (make numbers.0 texts.0, texts.1)) x e in
       let b = bind_ok (texts_at (told a.0.0) place body a.0.1) (λ texts. Ok (make a.0.0 texts.0, texts.1)) x a.2 in
-      let n = each_found number_at (Stands IsNumber) body count place a.0 (λ at y. number_spelled body (aligned at) (aligned at) y fits) a.1 in
+      let n = each_found number_at (Stands IsNumber) body count place a.0
+      (λ at y. number_spelled body (aligned at) (aligned at) y fits) a.1 in
       let t = texts_found (told a.0.0) place body a.0.1 b.0 fits b.1 in
       let pair : A × ℕ = (make a.0.0 b.0.0, b.0.1) in
       let found : RecordStands count told make body place pair.0 pair.1 = record {
@@ -46,15 +52,20 @@ module _ {A : Type 0} (count : ℕ) (told : List ℕ → Result ℕ ℕ) (make :
       } in
       subst (λ (y : A × ℕ). RecordStands count told make body place y.0 y.1) (ok_is pair x b.2) found
 
-  record_read : (place : ℕ) (value : A) (after : ℕ) → RecordStands count told make body place value after → record_at count told make body place ≡ Ok (value, after)
+  record_read : (place : ℕ) (value : A) (after : ℕ) → RecordStands count told make body place value after
+      → record_at count told make body place ≡ Ok (value, after)
   unfolding record_at
   record_read place value after h =
       let numbers : each_at number_at count body place ≡ Ok (h.numbers, h.behind) =
-      subst (λ (n : ℕ). each_at number_at n body place ≡ Ok (h.numbers, h.behind)) h.counted (each_read number_at (Stands IsNumber) body h.numbers place h.behind (λ at y end s. number_read body (aligned at) (aligned at) y end s) h.numbers_stand) in
-      let texts = each_read text_at (Stands IsText) body h.texts h.behind after (λ at y end s. text_read body (aligned at) (aligned at) y end s) h.texts_stand in
+      subst (λ (n : ℕ). each_at number_at n body place ≡ Ok (h.numbers, h.behind)) h.counted
+      (each_read number_at (Stands IsNumber) body h.numbers place h.behind
+      (λ at y end s. number_read body (aligned at) (aligned at) y end s) h.numbers_stand) in
+      let texts = each_read text_at (Stands IsText) body h.texts h.behind after
+      (λ at y end s. text_read body (aligned at) (aligned at) y end s) h.texts_stand in
       rw (numbers, h.told_of, texts, h.is) refl
 
-  pub record_exactly : IsBytes body → (place : ℕ) (value : A) (after : ℕ) → (record_at count told make body place ≡ Ok (value, after)) ↔ RecordStands count told make body place value after
+  pub record_exactly : IsBytes body → (place : ℕ) (value : A) (after : ℕ)
+      → (record_at count told make body place ≡ Ok (value, after)) ↔ RecordStands count told make body place value after
   record_exactly fits place value after = (λ e. record_found place (value, after) fits e, λ h. record_read place value after h)
 
 -- ## Marks that are written are read as numbers
@@ -89,14 +100,23 @@ marks_there : (marks : List (Option ℕ)) (body : List ℕ) (d : Draft) → AreS
 unfolding each_at
 marks_there [] body d small referent held = refl
 marks_there (None ∷ marks) body d small referent held =
-    rw (referent_read body d referent (held_back (put_marks marks) (marks_behind marks) body (put_referent d) held), marks_there marks body (put_referent d) small.1 (referent_next d referent) held) refl
+    rw (
+      referent_read body d referent (held_back (put_marks marks) (marks_behind marks) body (put_referent d) held),
+      marks_there marks body (put_referent d) small.1 (referent_next d referent) held,
+    ) refl
 marks_there (Some n ∷ marks) body d small referent held =
     let law = number_put n small.0 in
-    rw (read_there number_at (put_number n) n body d law referent (held_back (put_marks marks) (marks_behind marks) body (put_number n d) held), marks_there marks body (put_number n d) small.1 (law.next d referent) held) refl
+    rw (
+      read_there number_at (put_number n) n body d law referent (held_back (put_marks marks) (marks_behind marks) body
+          (put_number n d) held),
+      marks_there marks body (put_number n d) small.1 (law.next d referent) held,
+    ) refl
 
 -- what is written is read back where its numbers tell of its texts
-pub record_put : {A : Type 0} (told : List ℕ → Result ℕ ℕ) (make : List ℕ → List (List ℕ) → A) (marks : List (Option ℕ)) (texts : List (List ℕ)) (value : A)
-    → AreSmall marks → AllByRecursion IsSent texts → ((d : Draft) → IsReferent d.next → told (marked marks d) ≡ Ok (length texts)) → ((d : Draft) → IsReferent d.next → make (marked marks d) texts ≡ value)
+pub record_put : {A : Type 0} (told : List ℕ → Result ℕ ℕ) (make : List ℕ → List (List ℕ) → A) (marks : List (Option ℕ))
+    (texts : List (List ℕ)) (value : A)
+    → AreSmall marks → AllByRecursion IsSent texts → ((d : Draft) → IsReferent d.next → told (marked marks d) ≡ Ok (length texts))
+    → ((d : Draft) → IsReferent d.next → make (marked marks d) texts ≡ value)
     → IsPutAs (record_at (length marks) told make) (put_record marks texts) value
 unfolding record_at put_record
 record_put told make marks texts value small sent tells makes = record {
@@ -105,29 +125,42 @@ record_put told make marks texts value small sent tells makes = record {
       let body = (put_each texts d1).bytes ++ rest in
       let held2 : Holds body (put_each texts d1) = (rest, refl) in
       let held1 = held_back (put_each texts) (behind_each texts) body d1 held2 in
-      rw (marks_there marks body d small referent held1, tells d referent, texts_there texts body d1 sent (marks_next marks d small referent) held2, makes d referent) refl;
+      rw (
+        marks_there marks body d small referent held1,
+        tells d referent,
+        texts_there texts body d1 sent (marks_next marks d small referent) held2,
+        makes d referent,
+      ) refl;
   behind = behind_both (put_marks marks) (put_each texts) (marks_behind marks) (behind_each texts);
   next = λ d referent. texts_next texts (put_marks marks d) sent (marks_next marks d small referent);
 }
 
 -- ## What is read can be written
 
-each_small : (bytes : List ℕ) (place : ℕ) (ns : List ℕ) (after : ℕ) → EachStands (Stands IsNumber) bytes place ns after → AllByRecursion (λ n. n < 2 ^ 32) ns
+each_small : (bytes : List ℕ) (place : ℕ) (ns : List ℕ) (after : ℕ) → EachStands (Stands IsNumber) bytes place ns after
+    → AllByRecursion (λ n. n < 2 ^ 32) ns
 each_small bytes place [] after h = tt
 each_small bytes place (n ∷ ns) after h = (h.1.is.small, each_small bytes h.0 ns after h.2)
 
-pub record_small : {A : Type 0} (count : ℕ) (told : List ℕ → Result ℕ ℕ) (make : List ℕ → List (List ℕ) → A) (bytes : List ℕ) (place : ℕ) (value : A) (after : ℕ)
-    → (h : RecordStands count told make bytes place value after) → AllByRecursion (λ n. n < 2 ^ 32) h.numbers × AllByRecursion IsSent h.texts
-record_small count told make bytes place value after h = (each_small bytes place h.numbers h.behind h.numbers_stand, each_sent bytes h.behind h.texts after h.texts_stand)
+pub record_small : {A : Type 0} (count : ℕ) (told : List ℕ → Result ℕ ℕ) (make : List ℕ → List (List ℕ) → A) (bytes : List ℕ) (place : ℕ)
+    (value : A) (after : ℕ)
+    → (h : RecordStands count told make bytes place value after) → AllByRecursion (λ n. n < 2 ^ 32) h.numbers
+    × AllByRecursion IsSent h.texts
+record_small count told make bytes place value after h = (
+  each_small bytes place h.numbers h.behind h.numbers_stand,
+  each_sent bytes h.behind h.texts after h.texts_stand,
+)
 
 -- ## The state of a lock
 
 pub lock_put : (held : ℕ) (owner : Option (List ℕ)) (seconds : ℕ) → held < 2 ^ 32 → IfSome owner IsSent → seconds < 2 ^ 32
     → IsPutAs (record_at 3 owners lock_of) (put_record (lock_marks held owner seconds) (lock_texts owner)) (held, owner, seconds)
 lock_put held None seconds small sent lt =
-    record_put owners lock_of (lock_marks held None seconds) [] (held, None, seconds) (small, (omega arith, (lt, tt))) tt (λ d referent. refl) (λ d referent. refl)
+    record_put owners lock_of (lock_marks held None seconds) [] (held, None, seconds) (small, (omega arith, (lt, tt))) tt
+    (λ d referent. refl) (λ d referent. refl)
 lock_put held (Some owner) seconds small sent lt =
-    record_put owners lock_of (lock_marks held (Some owner) seconds) (owner ∷ []) (held, Some owner, seconds) (small, (tt, (lt, tt))) (sent, tt)
+    record_put owners lock_of (lock_marks held (Some owner) seconds) (owner ∷ []) (held, Some owner, seconds) (small, (tt, (lt, tt)))
+    (sent, tt)
     (λ d referent. rw (no_null (put_number held d).next ((number_put held small).next d referent)) refl) (λ d referent. refl)
 
 pub lock_ranged : (ns : List ℕ) (texts : List (List ℕ)) → AllByRecursion (λ n. n < 2 ^ 32) ns → AllByRecursion IsSent texts
@@ -138,9 +171,11 @@ lock_ranged ns texts small sent = (omega arith, (tt, omega arith))
 
 -- ## A configuration
 
-shown_put_some : (s : Shown) → IsShown s → IsPutAs (record_at 9 shown_told shown_of) (put_record (shown_marks (Some s)) (shown_texts (Some s))) (Some s)
+shown_put_some : (s : Shown) → IsShown s → IsPutAs (record_at 9 shown_told shown_of)
+    (put_record (shown_marks (Some s)) (shown_texts (Some s))) (Some s)
 shown_put_some s h =
-    record_put shown_told shown_of (shown_marks (Some s)) (shown_texts (Some s)) (Some s) (h.kind, (h.start, (h.error, (tt, (tt, (h.tag, (tt, (tt, (tt, tt))))))))) h.texts
+    record_put shown_told shown_of (shown_marks (Some s)) (shown_texts (Some s)) (Some s)
+    (h.kind, (h.start, (h.error, (tt, (tt, (h.tag, (tt, (tt, (tt, tt))))))))) h.texts
     (λ d referent.
     let d1 = put_number s.kind d in
     let d2 = put_number s.start d1 in
@@ -157,10 +192,12 @@ shown_put_some s h =
     rw (no_null d3.next r3, no_null d4.next r4, no_null d6.next r6, no_null d7.next r7, no_null (put_referent d7).next r8) refl)
     (λ d referent. refl)
 
-pub shown_put : (shown : Option Shown) → IfSome shown IsShown → IsPutAs (record_at 9 shown_told shown_of) (put_record (shown_marks shown) (shown_texts shown)) shown
+pub shown_put : (shown : Option Shown) → IfSome shown IsShown → IsPutAs (record_at 9 shown_told shown_of)
+    (put_record (shown_marks shown) (shown_texts shown)) shown
 shown_put None h =
     let lt : 0 < 2 ^ 32 = omega arith in
-    record_put shown_told shown_of (shown_marks None) [] None (lt, (lt, (lt, (lt, (lt, (lt, (lt, (lt, (lt, tt))))))))) tt (λ d referent. refl) (λ d referent. refl)
+    record_put shown_told shown_of (shown_marks None) [] None (lt, (lt, (lt, (lt, (lt, (lt, (lt, (lt, (lt, tt))))))))) tt
+    (λ d referent. refl) (λ d referent. refl)
 shown_put (Some s) h = shown_put_some s h
 
 -- no text of none
@@ -168,7 +205,8 @@ pub decides : (body : List ℕ) (place : ℕ) → each_at text_at 0 body place �
 unfolding each_at
 decides body place = refl
 
-pub shown_ranged : (ns : List ℕ) (texts : List (List ℕ)) → AllByRecursion (λ n. n < 2 ^ 32) ns → AllByRecursion IsSent texts → IfSome (shown_of ns texts) IsShown
+pub shown_ranged : (ns : List ℕ) (texts : List (List ℕ)) → AllByRecursion (λ n. n < 2 ^ 32) ns → AllByRecursion IsSent texts
+    → IfSome (shown_of ns texts) IsShown
 shown_ranged (kind ∷ start ∷ error ∷ to_path ∷ to_group ∷ tag ∷ ns) (path ∷ group ∷ needs ∷ account ∷ display ∷ []) small sent =
     record { kind = small.0; start = small.1.0; error = small.1.1.0; tag = small.1.1.1.1.1.0; texts = sent }
 shown_ranged ns texts small sent = tt

@@ -14,6 +14,7 @@ pub referent_next : (d : Draft) → IsReferent d.next → IsReferent (put_refere
 unfolding put_referent
 referent_next d referent = next_referent d.next referent
 
-pub referent_read : (body : List ℕ) (d : Draft) → IsReferent d.next → Holds body (put_referent d) → number_at body (length d.bytes) ≡ Ok (d.next, length (put_referent d).bytes)
+pub referent_read : (body : List ℕ) (d : Draft) → IsReferent d.next → Holds body (put_referent d)
+    → number_at body (length d.bytes) ≡ Ok (d.next, length (put_referent d).bytes)
 unfolding put_referent put_number
 referent_read body d referent held = read_there number_at (put_number d.next) d.next body d (number_put d.next referent.small) referent held

@@ -73,7 +73,8 @@ ItemStands item.Info = Holds value.Info InfoStands
 -- items of these kinds stand one behind the other
 abbrev pub ValuesStand : List Item → List ℕ → ℕ → List Value → ℕ → Type 0
 ValuesStand [] bytes place [] after = after ≡ place
-ValuesStand (kind ∷ kinds) bytes place (v ∷ vs) after = (behind : ℕ) × ItemStands kind bytes place v behind × ValuesStand kinds bytes behind vs after
+ValuesStand (kind ∷ kinds) bytes place (v ∷ vs) after = (behind : ℕ) × ItemStands kind bytes place v behind
+    × ValuesStand kinds bytes behind vs after
 ValuesStand [] bytes place (v ∷ vs) after = ⊥
 ValuesStand (kind ∷ kinds) bytes place [] after = ⊥
 

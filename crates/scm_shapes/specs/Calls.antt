@@ -12,7 +12,8 @@ abbrev pub read_as : {R : Type 0} → List Item → (List Value → R) → List 
 read_as shape from body = body_values shape body >>= λ vs. Ok (from vs)
 
 -- bytes are a body of this kind, and hold r
-pub record Spells {Kind R : Type 0} (shape_of : Kind → List Item) (kind_of : R → Option Kind) (values_of : R → List Value) (kind : Kind) (bytes : List ℕ) (r : R) : Type 0 where
+pub record Spells {Kind R : Type 0} (shape_of : Kind → List Item) (kind_of : R → Option Kind) (values_of : R → List Value) (kind : Kind)
+    (bytes : List ℕ) (r : R) : Type 0 where
   pub named : kind_of r ≡ Some kind
   pub body : IsBody (shape_of kind) bytes (values_of r)
 
@@ -26,7 +27,8 @@ made_in from None vs r = r
 made_in from (Some kind) vs r = from kind vs
 
 -- Kinds of bodies, what is made of their values, and which values that has: both ways nothing is lost.
-pub record Codec {Kind R : Type 0} (shape_of : Kind → List Item) (from : Kind → List Value → R) (kind_of : R → Option Kind) (values_of : R → List Value) : Type 0 where
+pub record Codec {Kind R : Type 0} (shape_of : Kind → List Item) (from : Kind → List Value → R) (kind_of : R → Option Kind) (values_of : R
+    → List Value) : Type 0 where
   pub again : (r : R) → made_in from (kind_of r) (values_of r) r ≡ r
   pub kept : (kind : Kind) (vs : List Value) → values_of (from kind vs) ≡ fitted (shape_of kind) vs
   pub named : (kind : Kind) (vs : List Value) → kind_of (from kind vs) ≡ Some kind

@@ -7,10 +7,12 @@ use Rattle.ndr_body.specs.Writing.{Draft, put_text}
 -- items stand one behind the other
 abbrev pub EachStands : {A : Type 0} → (List ℕ → ℕ → A → ℕ → Type 0) → List ℕ → ℕ → List A → ℕ → Type 0
 EachStands There bytes place [] after = after ≡ place
-EachStands There bytes place (value ∷ values) after = (behind : ℕ) × There bytes place value behind × EachStands There bytes behind values after
+EachStands There bytes place (value ∷ values) after = (behind : ℕ) × There bytes place value behind
+    × EachStands There bytes behind values after
 
 -- so many do
-pub record CountedStand {A : Type 0} (count : ℕ) (There : List ℕ → ℕ → A → ℕ → Type 0) (bytes : List ℕ) (place : ℕ) (values : List A) (after : ℕ) : Type 0 where
+pub record CountedStand {A : Type 0} (count : ℕ) (There : List ℕ → ℕ → A → ℕ → Type 0) (bytes : List ℕ) (place : ℕ) (values : List A)
+    (after : ℕ) : Type 0 where
   pub counted : length values ≡ count
   pub stand : EachStands There bytes place values after
 

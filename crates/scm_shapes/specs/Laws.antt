@@ -66,17 +66,17 @@ as_read (value.Bytes size held) = value.Bytes size (filled (take size held) size
 as_read v = v
 
 -- a value that can stand in a body, whatever range its item has there
-abbrev pub IsCarried : Value → Type 0
-IsCarried (value.Handle n) = n < 2 ^ 64
-IsCarried (value.Number n) = n < 2 ^ 32
-IsCarried (value.Text text) = IsSent text
-IsCarried (value.SomeText text) = IfSome text IsSent
-IsCarried value.UnkeptText = Unit {0}
-IsCarried (value.SomeNumber n) = IfSome n (λ n. n < 2 ^ 32)
-IsCarried (value.SomeBytes held) = IfSome held (λ held. length held < 2 ^ 32)
-IsCarried value.UnkeptBytes = Unit {0}
-IsCarried (value.Bytes size held) = size < 2 ^ 32
-IsCarried (value.Words words) = IfSome words (λ words. AllByRecursion IsSent words)
-IsCarried (value.Lock held owner seconds) = (held < 2 ^ 32) × (IfSome owner IsSent × (seconds < 2 ^ 32))
-IsCarried (value.Shown shown) = IfSome shown IsShown
-IsCarried (value.Info asked) = IsInfoSent asked
+abbrev pub IsEncodable : Value → Type 0
+IsEncodable (value.Handle n) = n < 2 ^ 64
+IsEncodable (value.Number n) = n < 2 ^ 32
+IsEncodable (value.Text text) = IsSent text
+IsEncodable (value.SomeText text) = IfSome text IsSent
+IsEncodable value.UnkeptText = Unit {0}
+IsEncodable (value.SomeNumber n) = IfSome n (λ n. n < 2 ^ 32)
+IsEncodable (value.SomeBytes held) = IfSome held (λ held. length held < 2 ^ 32)
+IsEncodable value.UnkeptBytes = Unit {0}
+IsEncodable (value.Bytes size held) = size < 2 ^ 32
+IsEncodable (value.Words words) = IfSome words (λ words. AllByRecursion IsSent words)
+IsEncodable (value.Lock held owner seconds) = (held < 2 ^ 32) × (IfSome owner IsSent × (seconds < 2 ^ 32))
+IsEncodable (value.Shown shown) = IfSome shown IsShown
+IsEncodable (value.Info asked) = IsInfoSent asked

@@ -1,12 +1,15 @@
 -- What is asked to be changed at one level of a configuration: how it is read, where it stands, and the one form that is written.
 -- A level, the level again, and at a level that is served a pointer to what is to be.
-use Rattle.std.specs.Prelude.{◌≡◌, ◌||◌, ◌==◌, ◌<◌, ◌^◌, ℕ, Bool, true, false, List, [], length, Option, None, Some, is_some, unwrap_or, IfSome, Ok, if◌then◌else◌}
+use Rattle.std.specs.Prelude.{◌≡◌, ◌||◌, ◌==◌, ◌<◌, ◌^◌, ℕ, Bool, true, false, List, [], length, Option, None, Some, is_some, unwrap_or}
+use Rattle.std.specs.Prelude.{IfSome, Ok, if◌then◌else◌}
 use Rattle.std.specs.List.{AllByRecursion}
 use Rattle.scm_model.specs.declared.flat.Action.{Action}
 use Rattle.scm_model.specs.declared.calls.Info.{Info}
 use Rattle.scm_model.specs.declared.calls.Info.TheVariants as info
 use Rattle.scm_model.specs.declared.calls.TriggerIn.{TriggerIn}
-use Rattle.scm_model.specs.declared.codes.TheConstants.{SC_MAX_ACTIONS, SC_MAX_TRIGGERS, SERVICE_CONFIG_DELAYED_AUTO_START_INFO, SERVICE_CONFIG_DESCRIPTION, SERVICE_CONFIG_FAILURE_ACTIONS, SERVICE_CONFIG_FAILURE_ACTIONS_FLAG, SERVICE_CONFIG_TRIGGER_INFO}
+use Rattle.scm_model.specs.declared.codes.TheConstants.{SC_MAX_ACTIONS, SC_MAX_TRIGGERS, SERVICE_CONFIG_DELAYED_AUTO_START_INFO}
+use Rattle.scm_model.specs.declared.codes.TheConstants.{SERVICE_CONFIG_DESCRIPTION, SERVICE_CONFIG_FAILURE_ACTIONS}
+use Rattle.scm_model.specs.declared.codes.TheConstants.{SERVICE_CONFIG_FAILURE_ACTIONS_FLAG, SERVICE_CONFIG_TRIGGER_INFO}
 use Rattle.scm_model.specs.Ranges.{is_level}
 use Rattle.ndr_body.specs.Reading.{number_at, text_at, some_text_at, uuid_at}
 use Rattle.ndr_body.specs.Writing.{Draft, put_number, put_text, put_some_text, put_uuid}
@@ -16,7 +19,9 @@ use Rattle.scm_shapes.specs.declared.levels.FailureHead.{FailureHead}
 use Rattle.scm_shapes.specs.declared.levels.TriggerHead.{TriggerHead}
 use Rattle.scm_shapes.specs.Each.{each_at, CountedStand}
 use Rattle.scm_shapes.specs.Ranges.{within_at, WithinStands}
-use Rattle.scm_shapes.specs.Parts.{Reads, made_at, then_at, both_at, checked_at, unkept_at, if_at, for_each_at, same_at, nonzero_at, ThenStands, BothStand, Holds, CheckedStands, IfStands, ForEachStands, SameStands, NonzeroStands, put_pointer, put_flag, put_if, put_all}
+use Rattle.scm_shapes.specs.Parts.{Reads, made_at, then_at, both_at, checked_at, unkept_at, if_at, for_each_at, same_at, nonzero_at}
+use Rattle.scm_shapes.specs.Parts.{ThenStands, BothStand, Holds, CheckedStands, IfStands, ForEachStands, SameStands, NonzeroStands}
+use Rattle.scm_shapes.specs.Parts.{put_pointer, put_flag, put_if, put_all}
 
 -- ## Failures: five numbers, the texts of the second and the third, and the actions of the last. The reboot message isn't kept.
 
@@ -24,10 +29,12 @@ abbrev pub failure_head : ℕ × (Bool × (Bool × (ℕ × Bool))) → FailureHe
 failure_head v = record { reset = v.0; reboot = v.1.0; command = v.1.1.0; count = v.1.1.1.0; listed = v.1.1.1.1 }
 
 abbrev pub failure_head_at : Reads FailureHead
-failure_head_at = made_at failure_head (both_at number_at (both_at nonzero_at (both_at nonzero_at (both_at (within_at SC_MAX_ACTIONS) nonzero_at))))
+failure_head_at = made_at failure_head (both_at number_at (both_at nonzero_at
+    (both_at nonzero_at (both_at (within_at SC_MAX_ACTIONS) nonzero_at))))
 
 abbrev pub FailureHeadStands : List ℕ → ℕ → FailureHead → ℕ → Type 0
-FailureHeadStands = Holds failure_head (BothStand (Stands IsNumber) (BothStand NonzeroStands (BothStand NonzeroStands (BothStand (WithinStands SC_MAX_ACTIONS) NonzeroStands))))
+FailureHeadStands = Holds failure_head (BothStand (Stands IsNumber) (BothStand NonzeroStands
+    (BothStand NonzeroStands (BothStand (WithinStands SC_MAX_ACTIONS) NonzeroStands))))
 
 abbrev pub action_of : ℕ × ℕ → Action
 action_of v = record { what = v.0; delay = v.1 }
@@ -46,10 +53,12 @@ abbrev pub ActionsStand : ℕ → List ℕ → ℕ → List Action → ℕ → T
 ActionsStand count = Holds (λ v. v.1) (BothStand (SameStands count) (CountedStand count ActionStands))
 
 abbrev pub failure_tail_at : FailureHead → Reads (Unit {0} × (Option (List ℕ) × Option (List Action)))
-failure_tail_at head = both_at (unkept_at (if_at head.reboot text_at)) (both_at (if_at head.command text_at) (if_at head.listed (actions_at head.count)))
+failure_tail_at head = both_at (unkept_at (if_at head.reboot text_at)) (both_at (if_at head.command text_at)
+    (if_at head.listed (actions_at head.count)))
 
 abbrev pub FailureTailStands : FailureHead → List ℕ → ℕ → Unit {0} × (Option (List ℕ) × Option (List Action)) → ℕ → Type 0
-FailureTailStands head = BothStand (Holds (λ text. tt) (IfStands head.reboot (Stands IsText))) (BothStand (IfStands head.command (Stands IsText)) (IfStands head.listed (ActionsStand head.count)))
+FailureTailStands head = BothStand (Holds (λ text. tt) (IfStands head.reboot (Stands IsText)))
+    (BothStand (IfStands head.command (Stands IsText)) (IfStands head.listed (ActionsStand head.count)))
 
 abbrev pub failure_of : FailureHead × (Unit {0} × (Option (List ℕ) × Option (List Action))) → Info
 failure_of v = info.Failure v.0.reset v.1.1.0 v.1.1.1
@@ -69,7 +78,8 @@ abbrev pub trigger_head_at : Reads TriggerHead
 trigger_head_at = made_at trigger_head (both_at number_at (both_at number_at (both_at nonzero_at (both_at number_at (same_at 0)))))
 
 abbrev pub TriggerHeadStands : List ℕ → ℕ → TriggerHead → ℕ → Type 0
-TriggerHeadStands = Holds trigger_head (BothStand (Stands IsNumber) (BothStand (Stands IsNumber) (BothStand NonzeroStands (BothStand (Stands IsNumber) (SameStands 0)))))
+TriggerHeadStands = Holds trigger_head (BothStand (Stands IsNumber) (BothStand (Stands IsNumber)
+    (BothStand NonzeroStands (BothStand (Stands IsNumber) (SameStands 0)))))
 
 abbrev pub trigger_of : TriggerHead → Option (List ℕ) → TriggerIn
 trigger_of head subtype = record { kind = head.kind; action = head.action; subtype = subtype; items = head.items }
@@ -101,7 +111,8 @@ abbrev pub listing_at : Reads (ℕ × (Bool × ℕ))
 listing_at = then_at (within_at SC_MAX_TRIGGERS) (λ count. both_at (checked_at (is_listed count) nonzero_at) (same_at 0))
 
 abbrev pub ListingStands : List ℕ → ℕ → ℕ × (Bool × ℕ) → ℕ → Type 0
-ListingStands = ThenStands (WithinStands SC_MAX_TRIGGERS) (λ count. BothStand (CheckedStands (is_listed count) NonzeroStands) (SameStands 0))
+ListingStands = ThenStands (WithinStands SC_MAX_TRIGGERS) (λ count. BothStand (CheckedStands (is_listed count) NonzeroStands)
+    (SameStands 0))
 
 abbrev pub triggers_of : (ℕ × (Bool × ℕ)) × Option (List TriggerIn) → List TriggerIn
 triggers_of v = unwrap_or v.1 []
@@ -171,7 +182,8 @@ count_of None = 0
 count_of (Some listed) = length listed
 
 unfoldable pub put_failure_head : ℕ → Option (List ℕ) → Option (List Action) → Draft → Draft
-put_failure_head reset command actions d = put_pointer (is_some actions) (put_number (count_of actions) (put_pointer (is_some command) (put_pointer false (put_number reset d))))
+put_failure_head reset command actions d = put_pointer (is_some actions)
+    (put_number (count_of actions) (put_pointer (is_some command) (put_pointer false (put_number reset d))))
 
 unfoldable pub put_action : Action → Draft → Draft
 put_action action d = put_number action.delay (put_number action.what d)
@@ -183,7 +195,8 @@ unfoldable pub put_failure : ℕ → Option (List ℕ) → Option (List Action) 
 put_failure reset command actions d = put_if put_actions actions (put_if put_text command (put_failure_head reset command actions d))
 
 unfoldable pub put_trigger_head : TriggerIn → Draft → Draft
-put_trigger_head trigger d = put_number 0 (put_number trigger.items (put_pointer (is_some trigger.subtype) (put_number trigger.action (put_number trigger.kind d))))
+put_trigger_head trigger d = put_number 0 (put_number trigger.items (put_pointer (is_some trigger.subtype)
+    (put_number trigger.action (put_number trigger.kind d))))
 
 unfoldable pub put_subtype : TriggerIn → Draft → Draft
 put_subtype trigger d = put_if put_uuid trigger.subtype d
@@ -195,7 +208,8 @@ unfoldable pub put_listing : ℕ → Bool → Draft → Draft
 put_listing count listed d = put_number 0 (put_pointer listed (put_number count d))
 
 unfoldable pub put_triggers : List TriggerIn → Draft → Draft
-put_triggers triggers d = if length triggers == 0 then put_listing 0 false d else put_listed_triggers triggers (put_listing (length triggers) true d)
+put_triggers triggers d = if length triggers == 0 then put_listing 0 false d
+    else put_listed_triggers triggers (put_listing (length triggers) true d)
 
 -- what stands behind a pointer
 unfoldable pub put_referent_of : Info → Draft → Draft
@@ -229,7 +243,8 @@ pub record IsTriggerSent (trigger : TriggerIn) : Type 0 where
 
 abbrev pub IsInfoSent : Info → Type 0
 IsInfoSent (info.Description text) = IfSome text IsSent
-IsInfoSent (info.Failure reset command actions) = (reset < 2 ^ 32) × (IfSome command IsSent × IfSome actions (λ listed. AllByRecursion IsActionSent listed))
+IsInfoSent (info.Failure reset command actions) = (reset < 2 ^ 32) × (IfSome command IsSent
+    × IfSome actions (λ listed. AllByRecursion IsActionSent listed))
 IsInfoSent (info.Delayed on) = Unit {0}
 IsInfoSent (info.OnExit on) = Unit {0}
 IsInfoSent (info.Triggers list) = AllByRecursion IsTriggerSent list

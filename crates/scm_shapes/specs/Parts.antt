@@ -14,7 +14,8 @@ Reads A = List ℕ → ℕ → Result (A × ℕ) BodyFault
 
 -- a part, and behind it one that it tells of
 abbrev pub then_at : {A B : Type 0} → Reads A → (A → Reads B) → Reads (A × B)
-then_at first_at second_at body place = first_at body place >>= λ first. second_at first.0 body first.1 >>= λ second. Ok ((first.0, second.0), second.1)
+then_at first_at second_at body place = first_at body place >>= λ first. second_at first.0 body first.1 >>= λ second. Ok
+    ((first.0, second.0), second.1)
 
 abbrev pub both_at : {A B : Type 0} → Reads A → Reads B → Reads (A × B)
 both_at first_at second_at = then_at first_at (λ first. second_at)
@@ -60,7 +61,8 @@ nonzero_at = made_at nonzero number_at
 
 -- ## Where they stand
 
-pub record ThenStands {A B : Type 0} (First : List ℕ → ℕ → A → ℕ → Type 0) (Second : A → List ℕ → ℕ → B → ℕ → Type 0) (bytes : List ℕ) (place : ℕ) (v : A × B) (after : ℕ) : Type 0 where
+pub record ThenStands {A B : Type 0} (First : List ℕ → ℕ → A → ℕ → Type 0) (Second : A → List ℕ → ℕ → B → ℕ → Type 0) (bytes : List ℕ)
+    (place : ℕ) (v : A × B) (after : ℕ) : Type 0 where
   pub behind : ℕ
   pub first : First bytes place v.0 behind
   pub second : Second v.0 bytes behind v.1 after
@@ -69,12 +71,14 @@ abbrev pub BothStand : {A B : Type 0} → (List ℕ → ℕ → A → ℕ → Ty
 BothStand First Second = ThenStands First (λ first. Second)
 
 -- a value made of what stands there
-pub record Holds {A B : Type 0} (make : A → B) (There : List ℕ → ℕ → A → ℕ → Type 0) (bytes : List ℕ) (place : ℕ) (v : B) (after : ℕ) : Type 0 where
+pub record Holds {A B : Type 0} (make : A → B) (There : List ℕ → ℕ → A → ℕ → Type 0) (bytes : List ℕ) (place : ℕ) (v : B)
+    (after : ℕ) : Type 0 where
   pub content : A
   pub is : v ≡ make content
   pub there : There bytes place content after
 
-pub record CheckedStands {A : Type 0} (test : A → Bool) (There : List ℕ → ℕ → A → ℕ → Type 0) (bytes : List ℕ) (place : ℕ) (v : A) (after : ℕ) : Type 0 where
+pub record CheckedStands {A : Type 0} (test : A → Bool) (There : List ℕ → ℕ → A → ℕ → Type 0) (bytes : List ℕ) (place : ℕ) (v : A)
+    (after : ℕ) : Type 0 where
   pub passes : test v ≡ true
   pub there : There bytes place v after
 
@@ -86,7 +90,8 @@ IfStands false There bytes place None after = after ≡ place
 
 abbrev pub ForEachStands : {A B : Type 0} → (A → List ℕ → ℕ → B → ℕ → Type 0) → List A → List ℕ → ℕ → List B → ℕ → Type 0
 ForEachStands Stand [] bytes place [] after = after ≡ place
-ForEachStands Stand (x ∷ xs) bytes place (v ∷ vs) after = (behind : ℕ) × Stand x bytes place v behind × ForEachStands Stand xs bytes behind vs after
+ForEachStands Stand (x ∷ xs) bytes place (v ∷ vs) after = (behind : ℕ) × Stand x bytes place v behind
+    × ForEachStands Stand xs bytes behind vs after
 ForEachStands Stand [] bytes place (v ∷ vs) after = ⊥
 ForEachStands Stand (x ∷ xs) bytes place [] after = ⊥
 

@@ -1,5 +1,6 @@
 -- Numbers, of which some point to texts, and these texts behind them all: the state of a lock, and a configuration.
-use Rattle.std.specs.Prelude.{◌≡◌, ℕ, ◌+◌, ◌&&◌, ◌||◌, ◌==◌, not, Bool, List, [], ◌∷◌, length, Option, None, Some, Result, Ok, Err, if◌then◌else◌}
+use Rattle.std.specs.Prelude.{◌≡◌, ℕ, ◌+◌, ◌&&◌, ◌||◌, ◌==◌, not, Bool, List, [], ◌∷◌, length, Option, None, Some, Result, Ok, Err}
+use Rattle.std.specs.Prelude.{if◌then◌else◌}
 use Rattle.scm_model.specs.declared.calls.Shown.{Shown}
 use Rattle.ndr_body.specs.declared.fault.BodyFault.{BodyFault}
 use Rattle.ndr_body.specs.declared.fault.BodyFault.TheVariants.{BadCount}
@@ -23,7 +24,8 @@ record_at count told make body place = do
   texts ← texts_at (told numbers.0) place body numbers.1
   Ok (make numbers.0 texts.0, texts.1)
 
-pub record RecordStands {A : Type 0} (count : ℕ) (told : List ℕ → Result ℕ ℕ) (make : List ℕ → List (List ℕ) → A) (bytes : List ℕ) (place : ℕ) (value : A) (after : ℕ) : Type 0 where
+pub record RecordStands {A : Type 0} (count : ℕ) (told : List ℕ → Result ℕ ℕ) (make : List ℕ → List (List ℕ) → A) (bytes : List ℕ)
+    (place : ℕ) (value : A) (after : ℕ) : Type 0 where
   pub numbers : List ℕ
   pub counted : length numbers ≡ count
   pub behind : ℕ
@@ -113,12 +115,32 @@ numbers_in h = h.kind ∷ h.start ∷ h.error ∷ h.path ∷ h.group ∷ h.tag �
 
 abbrev pub shown_told : List ℕ → Result ℕ ℕ
 shown_told (kind ∷ start ∷ error ∷ path ∷ group ∷ tag ∷ needs ∷ account ∷ display ∷ []) =
-    texts_told (record { kind = kind; start = start; error = error; path = path; group = group; tag = tag; needs = needs; account = account; display = display })
+    texts_told (record {
+      kind = kind;
+      start = start;
+      error = error;
+      path = path;
+      group = group;
+      tag = tag;
+      needs = needs;
+      account = account;
+      display = display;
+    })
 shown_told ns = Ok 0
 
 abbrev pub shown_of : List ℕ → List (List ℕ) → Option Shown
 shown_of (kind ∷ start ∷ error ∷ to_path ∷ to_group ∷ tag ∷ ns) (path ∷ group ∷ needs ∷ account ∷ display ∷ []) =
-    Some (record { kind = kind; start = start; error = error; path = path; group = group; tag = tag; needs = needs; account = account; display = display })
+    Some (record {
+      kind = kind;
+      start = start;
+      error = error;
+      path = path;
+      group = group;
+      tag = tag;
+      needs = needs;
+      account = account;
+      display = display;
+    })
 shown_of ns texts = None
 
 -- the five texts of these numbers

@@ -4,7 +4,8 @@ use Rattle.scm_text.specs.Roomed.{Roomed}
 use Rattle.scm_shapes.specs.declared.item.Value.{Value}
 use Rattle.scm_shapes.specs.Shapes.{body_bytes}
 
--- the body of the values stands behind what the buffer held; without memory the buffer is given back as it was, and none is taken where there is room
+-- the body of the values stands behind what the buffer held; without memory the buffer is given back as it was, and none is taken where
+-- there is room
 pub record IsWritten {E : Type 0} (vs : List Value) (out : Roomed ℕ) (result : Result (Roomed ℕ) (E × Roomed ℕ)) : Type 0 where
   pub ok : IfOk result (λ written. written.items ≡ out.items ++ body_bytes vs)
   pub err : IfErr result (λ failed. failed.1.items ≡ out.items)

@@ -1,7 +1,8 @@
 ghost use Rattle.std.specs.Prelude.{◌≡◌, drop, IsTrue};
 ghost use Rattle.ndr_body.specs.Reading.{FindsMemory, Gives};
 ghost use Rattle.scm_shapes.specs.Calls.{read_as};
-ghost use Rattle.scm_shapes.specs.HandleBodies.{handle_body_at, handle_body_of, is_handle_body, is_number, next_number_at};
+ghost use Rattle.scm_shapes.specs.HandleBodies.{handle_body_at, handle_body_of, is_handle_body};
+ghost use Rattle.scm_shapes.specs.HandleBodies.{is_number, next_number_at};
 
 use crate::item::Item;
 use crate::places::read_within;
@@ -49,7 +50,8 @@ fn rest(items: &[Item]) -> &[Item]
 #[inline(always)]
 #[tactic(auto, unfolding(crate::specs::HandleBodies::next_number_at))]
 fn read_next(reader: &mut NdrReader, items: &[Item]) -> Result<u32, BodyFault>
-    ensures value { Gives (λ v. (v, reader.new.place)) result (next_number_at items.now reader.old.body reader.old.place) }
+    ensures value { Gives (λ v. (v, reader.new.place)) result
+        (next_number_at items.now reader.old.body reader.old.place) }
     ensures body { reader.new.body ≡ reader.old.body }
     ensures memory { FindsMemory result }
 {
@@ -78,8 +80,8 @@ fn read(numbers: &[Item], body: &[u8]) -> Result<HandleBody, BodyFault>
     })
 }
 
-/// Reads a body of a handle and at most two numbers, without a queue of values. A fault is the first
-/// one of the body, at its place.
+/// Reads a body of a handle and at most two numbers, without a queue of values. A fault is the
+/// first one of the body, at its place.
 pub fn read_handle_body(shape: &[Item], body: &[u8]) -> Result<HandleBody, BodyFault>
     requires { IsTrue (is_handle_body shape.now) }
     // What is read is what the values of the body are, and which fault it is else.

@@ -29,7 +29,8 @@ pub enum Item {
     Words,
     /// The state of a lock: a number, a pointer, a number, and the text that the pointer points to.
     Lock,
-    /// A configuration: nine numbers, five of which point to texts, and these texts. Nine times 0 for none.
+    /// A configuration: nine numbers, five of which point to texts, and these texts. Nine times 0
+    /// for none.
     Shown,
     /// What is asked to be changed at one level: the level twice, and a pointer to it.
     Info,

@@ -1,8 +1,12 @@
 ghost use Rattle.std.specs.Prelude.{◌≡◌, ℕ, List};
 ghost use Rattle.ndr_body.specs.Reading.{Gives, text_at};
 ghost use Rattle.scm_shapes.specs.Each.{each_at};
-ghost use Rattle.scm_shapes.specs.Parts.{checked_at, for_each_at, if_at, made_at, nonzero_at, same_at, unkept_at};
-ghost use Rattle.scm_shapes.specs.Levels.{action_at, actions_at, failure_at, failure_head_at, info_at, is_listed, level_at, listed_triggers_at, referent_at, served_at, trigger_at, trigger_head_at, trigger_heads_at, triggers_at};
+ghost use Rattle.scm_shapes.specs.Parts.{checked_at, for_each_at, if_at, made_at, nonzero_at};
+ghost use Rattle.scm_shapes.specs.Parts.{same_at, unkept_at};
+ghost use Rattle.scm_shapes.specs.Levels.{action_at, actions_at, failure_at, failure_head_at};
+ghost use Rattle.scm_shapes.specs.Levels.{info_at, is_listed, level_at, listed_triggers_at};
+ghost use Rattle.scm_shapes.specs.Levels.{referent_at, served_at, trigger_at, trigger_head_at};
+ghost use Rattle.scm_shapes.specs.Levels.{trigger_heads_at, triggers_at};
 
 use crate::places::{next_place, read_within};
 use ndr_body::{BodyFault, NdrReader};
@@ -36,7 +40,8 @@ pub struct TriggerHead {
 
 /// A number that has to be this one. Another is `BadCount` where it begins.
 fn read_same(reader: &mut NdrReader, n: u32) -> Result<u32, BodyFault>
-    ensures value { Gives (λ v. (v, reader.new.place)) result (same_at n reader.old.body reader.old.place) }
+    ensures value { Gives (λ v. (v, reader.new.place)) result
+        (same_at n reader.old.body reader.old.place) }
     ensures body { reader.new.body ≡ reader.old.body }
 {
     let start = next_place(reader);
@@ -50,7 +55,8 @@ fn read_same(reader: &mut NdrReader, n: u32) -> Result<u32, BodyFault>
 
 /// Whether a number isn't 0, as a pointer that isn't null or a flag that is on.
 fn read_nonzero(reader: &mut NdrReader) -> Result<bool, BodyFault>
-    ensures value { Gives (λ v. (v, reader.new.place)) result (nonzero_at reader.old.body reader.old.place) }
+    ensures value { Gives (λ v. (v, reader.new.place)) result
+        (nonzero_at reader.old.body reader.old.place) }
     ensures body { reader.new.body ≡ reader.old.body }
 {
     let number = reader.number()?;
@@ -58,7 +64,8 @@ fn read_nonzero(reader: &mut NdrReader) -> Result<bool, BodyFault>
 }
 
 fn read_failure_head(reader: &mut NdrReader) -> Result<FailureHead, BodyFault>
-    ensures value { Gives (λ v. (v, reader.new.place)) result (failure_head_at reader.old.body reader.old.place) }
+    ensures value { Gives (λ v. (v, reader.new.place)) result
+        (failure_head_at reader.old.body reader.old.place) }
     ensures body { reader.new.body ≡ reader.old.body }
 {
     Ok(FailureHead {
@@ -72,7 +79,8 @@ fn read_failure_head(reader: &mut NdrReader) -> Result<FailureHead, BodyFault>
 
 /// The string of a pointer that isn't null.
 fn read_text_if(reader: &mut NdrReader, alloc: Global, is: bool) -> Result<Option<WText>, BodyFault>
-    ensures value { Gives (λ v. (v, reader.new.place)) result (if_at is text_at reader.old.body reader.old.place) }
+    ensures value { Gives (λ v. (v, reader.new.place)) result
+        (if_at is text_at reader.old.body reader.old.place) }
     ensures body { reader.new.body ≡ reader.old.body }
 {
     if is {
@@ -84,7 +92,8 @@ fn read_text_if(reader: &mut NdrReader, alloc: Global, is: bool) -> Result<Optio
 
 /// Goes past the string of a pointer that isn't null.
 fn skip_text_if(reader: &mut NdrReader, alloc: Global, is: bool) -> Result<(), BodyFault>
-    ensures value { Gives (λ done. (done, reader.new.place)) result (unkept_at (if_at is text_at) reader.old.body reader.old.place) }
+    ensures value { Gives (λ done. (done, reader.new.place)) result
+        (unkept_at (if_at is text_at) reader.old.body reader.old.place) }
     ensures body { reader.new.body ≡ reader.old.body }
 {
     let _text = read_text_if(reader, alloc, is)?;
@@ -92,7 +101,8 @@ fn skip_text_if(reader: &mut NdrReader, alloc: Global, is: bool) -> Result<(), B
 }
 
 fn read_action(reader: &mut NdrReader) -> Result<Action, BodyFault>
-    ensures value { Gives (λ v. (v, reader.new.place)) result (action_at reader.old.body reader.old.place) }
+    ensures value { Gives (λ v. (v, reader.new.place)) result
+        (action_at reader.old.body reader.old.place) }
     ensures body { reader.new.body ≡ reader.old.body }
 {
     Ok(Action {
@@ -107,7 +117,8 @@ fn read_each_action(
     alloc: Global,
     count: usize,
 ) -> Result<Items<Action>, BodyFault>
-    ensures value { Gives (λ v. (v, reader.new.place)) result (each_at action_at count reader.old.body reader.old.place) }
+    ensures value { Gives (λ v. (v, reader.new.place)) result
+        (each_at action_at count reader.old.body reader.old.place) }
     ensures body { reader.new.body ≡ reader.old.body }
 {
     let mut actions = Items::new(alloc);
@@ -126,7 +137,8 @@ fn read_actions_if(
     alloc: Global,
     head: FailureHead,
 ) -> Result<Option<Items<Action>>, BodyFault>
-    ensures value { Gives (λ v. (v, reader.new.place)) result (if_at head.listed (actions_at head.count) reader.old.body reader.old.place) }
+    ensures value { Gives (λ v. (v, reader.new.place)) result
+        (if_at head.listed (actions_at head.count) reader.old.body reader.old.place) }
     ensures body { reader.new.body ≡ reader.old.body }
 {
     if !head.listed {
@@ -139,7 +151,8 @@ fn read_actions_if(
 /// What is done after failures. The reboot message isn't kept.
 #[tactic(auto, unfolding(crate::specs::Levels::failure_at))]
 fn read_failure(reader: &mut NdrReader, alloc: Global) -> Result<Info, BodyFault>
-    ensures value { Gives (λ v. (v, reader.new.place)) result (failure_at reader.old.body reader.old.place) }
+    ensures value { Gives (λ v. (v, reader.new.place)) result
+        (failure_at reader.old.body reader.old.place) }
     ensures body { reader.new.body ≡ reader.old.body }
 {
     let head = read_failure_head(reader)?;
@@ -154,7 +167,8 @@ fn read_failure(reader: &mut NdrReader, alloc: Global) -> Result<Info, BodyFault
 }
 
 fn read_trigger_head(reader: &mut NdrReader) -> Result<TriggerHead, BodyFault>
-    ensures value { Gives (λ v. (v, reader.new.place)) result (trigger_head_at reader.old.body reader.old.place) }
+    ensures value { Gives (λ v. (v, reader.new.place)) result
+        (trigger_head_at reader.old.body reader.old.place) }
     ensures body { reader.new.body ≡ reader.old.body }
 {
     let kind = reader.number()?;
@@ -176,7 +190,8 @@ fn read_trigger_heads(
     alloc: Global,
     count: usize,
 ) -> Result<Items<TriggerHead>, BodyFault>
-    ensures value { Gives (λ v. (v, reader.new.place)) result (each_at trigger_head_at count reader.old.body reader.old.place) }
+    ensures value { Gives (λ v. (v, reader.new.place)) result
+        (each_at trigger_head_at count reader.old.body reader.old.place) }
     ensures body { reader.new.body ≡ reader.old.body }
 {
     let mut heads = Items::new(alloc);
@@ -191,7 +206,8 @@ fn read_trigger_heads(
 
 /// A trigger with its subtype, if it points to one.
 fn read_trigger(reader: &mut NdrReader, head: TriggerHead) -> Result<TriggerIn, BodyFault>
-    ensures value { Gives (λ v. (v, reader.new.place)) result (trigger_at head reader.old.body reader.old.place) }
+    ensures value { Gives (λ v. (v, reader.new.place)) result
+        (trigger_at head reader.old.body reader.old.place) }
     ensures body { reader.new.body ≡ reader.old.body }
 {
     let subtype = if head.named {
@@ -213,7 +229,8 @@ fn read_subtypes(
     alloc: Global,
     heads: &[TriggerHead],
 ) -> Result<Items<TriggerIn>, BodyFault>
-    ensures value { Gives (λ v. (v, reader.new.place)) result (for_each_at trigger_at heads.now reader.old.body reader.old.place) }
+    ensures value { Gives (λ v. (v, reader.new.place)) result
+        (for_each_at trigger_at heads.now reader.old.body reader.old.place) }
     ensures body { reader.new.body ≡ reader.old.body }
 {
     let mut triggers = Items::new(alloc);
@@ -232,7 +249,8 @@ fn read_listed_triggers(
     alloc: Global,
     count: u32,
 ) -> Result<Items<TriggerIn>, BodyFault>
-    ensures value { Gives (λ v. (v, reader.new.place)) result (listed_triggers_at count reader.old.body reader.old.place) }
+    ensures value { Gives (λ v. (v, reader.new.place)) result
+        (listed_triggers_at count reader.old.body reader.old.place) }
     ensures body { reader.new.body ≡ reader.old.body }
 {
     read_same(reader, count)?;
@@ -242,7 +260,8 @@ fn read_listed_triggers(
 
 /// A pointer to so many triggers, which is null only where there are none.
 fn read_pointer(reader: &mut NdrReader, count: u32) -> Result<bool, BodyFault>
-    ensures value { Gives (λ v. (v, reader.new.place)) result (checked_at (is_listed count) nonzero_at reader.old.body reader.old.place) }
+    ensures value { Gives (λ v. (v, reader.new.place)) result
+        (checked_at (is_listed count) nonzero_at reader.old.body reader.old.place) }
     ensures body { reader.new.body ≡ reader.old.body }
 {
     let start = next_place(reader);
@@ -256,7 +275,8 @@ fn read_pointer(reader: &mut NdrReader, count: u32) -> Result<bool, BodyFault>
 
 #[tactic(auto, unfolding(crate::specs::Levels::triggers_at))]
 fn read_triggers(reader: &mut NdrReader, alloc: Global) -> Result<Items<TriggerIn>, BodyFault>
-    ensures value { Gives (λ v. (v, reader.new.place)) result (triggers_at reader.old.body reader.old.place) }
+    ensures value { Gives (λ v. (v, reader.new.place)) result
+        (triggers_at reader.old.body reader.old.place) }
     ensures body { reader.new.body ≡ reader.old.body }
 {
     let count = read_within(reader, SC_MAX_TRIGGERS)?;
@@ -272,7 +292,8 @@ fn read_triggers(reader: &mut NdrReader, alloc: Global) -> Result<Items<TriggerI
 /// What a pointer at a level that is served points to.
 #[tactic(auto, unfolding(crate::specs::Levels::referent_at))]
 fn read_referent(reader: &mut NdrReader, alloc: Global, level: u32) -> Result<Info, BodyFault>
-    ensures value { Gives (λ v. (v, reader.new.place)) result (referent_at level reader.old.body reader.old.place) }
+    ensures value { Gives (λ v. (v, reader.new.place)) result
+        (referent_at level reader.old.body reader.old.place) }
     ensures body { reader.new.body ≡ reader.old.body }
 {
     match level {
@@ -287,7 +308,8 @@ fn read_referent(reader: &mut NdrReader, alloc: Global, level: u32) -> Result<In
 /// What is asked at a level that is served. A null pointer asks for nothing.
 #[tactic(auto, unfolding(crate::specs::Levels::served_at))]
 fn read_served(reader: &mut NdrReader, alloc: Global, level: u32) -> Result<Info, BodyFault>
-    ensures value { Gives (λ v. (v, reader.new.place)) result (served_at level reader.old.body reader.old.place) }
+    ensures value { Gives (λ v. (v, reader.new.place)) result
+        (served_at level reader.old.body reader.old.place) }
     ensures body { reader.new.body ≡ reader.old.body }
 {
     if read_nonzero(reader)? {
@@ -301,7 +323,8 @@ fn read_served(reader: &mut NdrReader, alloc: Global, level: u32) -> Result<Info
 /// read behind a level that isn't served.
 #[tactic(auto, unfolding(crate::specs::Levels::info_at, crate::specs::Levels::level_at))]
 pub fn read_info(reader: &mut NdrReader, alloc: Global) -> Result<Info, BodyFault>
-    ensures value { Gives (λ v. (v, reader.new.place)) result (info_at reader.old.body reader.old.place) }
+    ensures value { Gives (λ v. (v, reader.new.place)) result
+        (info_at reader.old.body reader.old.place) }
     ensures body { reader.new.body ≡ reader.old.body }
 {
     let level = reader.number()?;

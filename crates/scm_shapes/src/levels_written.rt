@@ -1,7 +1,10 @@
 ghost use Rattle.std.specs.Prelude.{◌≡◌, ◌≤◌, IsOk, OnOk, is_some, length};
 ghost use Rattle.ndr_body.specs.Writing.{put_text};
 ghost use Rattle.scm_shapes.specs.Parts.{put_all, put_flag, put_if, put_pointer};
-ghost use Rattle.scm_shapes.specs.Levels.{count_of, level_of, put_action, put_actions, put_failure, put_failure_head, put_info, put_level, put_listed_triggers, put_listing, put_referent_of, put_subtype, put_trigger_head, put_triggers};
+ghost use Rattle.scm_shapes.specs.Levels.{count_of, level_of, put_action, put_actions, put_failure};
+ghost use Rattle.scm_shapes.specs.Levels.{put_failure_head, put_info, put_level};
+ghost use Rattle.scm_shapes.specs.Levels.{put_listed_triggers, put_listing, put_referent_of};
+ghost use Rattle.scm_shapes.specs.Levels.{put_subtype, put_trigger_head, put_triggers};
 
 use ndr_body::NdrWriter;
 use scm_model::codes::{
@@ -18,7 +21,8 @@ fn put_pointer(writer: &mut NdrWriter, points: bool) -> Result<(), OutOfMemory>
     ensures front { writer.new.front ≡ writer.old.front }
     ensures ok { OnOk result (writer.new.draft ≡ put_pointer points writer.old.draft) }
     ensures space { writer.old.space ≤ writer.new.space }
-    ensures enough { length (put_pointer points writer.old.draft).bytes ≤ writer.old.space → IsOk result }
+    ensures enough { length (put_pointer points writer.old.draft).bytes ≤ writer.old.space
+        → IsOk result }
 {
     if points {
         writer.referent()
@@ -60,9 +64,11 @@ fn put_failure_head(
     actions: &Option<Items<Action>>,
 ) -> Result<(), OutOfMemory>
     ensures front { writer.new.front ≡ writer.old.front }
-    ensures ok { OnOk result (writer.new.draft ≡ put_failure_head reset command.now actions.now writer.old.draft) }
+    ensures ok { OnOk result (writer.new.draft ≡ put_failure_head reset command.now actions.now
+        writer.old.draft) }
     ensures space { writer.old.space ≤ writer.new.space }
-    ensures enough { length (put_failure_head reset command.now actions.now writer.old.draft).bytes ≤ writer.old.space → IsOk result }
+    ensures enough { length (put_failure_head reset command.now actions.now
+        writer.old.draft).bytes ≤ writer.old.space → IsOk result }
 {
     writer.number(reset)?;
     put_pointer(writer, false)?;
@@ -75,7 +81,8 @@ fn put_text_if(writer: &mut NdrWriter, text: &Option<WText>) -> Result<(), OutOf
     ensures front { writer.new.front ≡ writer.old.front }
     ensures ok { OnOk result (writer.new.draft ≡ put_if put_text text.now writer.old.draft) }
     ensures space { writer.old.space ≤ writer.new.space }
-    ensures enough { length (put_if put_text text.now writer.old.draft).bytes ≤ writer.old.space → IsOk result }
+    ensures enough { length (put_if put_text text.now writer.old.draft).bytes ≤ writer.old.space
+        → IsOk result }
 {
     match text {
         Some(text) => writer.text(text),
@@ -88,7 +95,8 @@ fn put_action(writer: &mut NdrWriter, action: Action) -> Result<(), OutOfMemory>
     ensures front { writer.new.front ≡ writer.old.front }
     ensures ok { OnOk result (writer.new.draft ≡ put_action action writer.old.draft) }
     ensures space { writer.old.space ≤ writer.new.space }
-    ensures enough { length (put_action action writer.old.draft).bytes ≤ writer.old.space → IsOk result }
+    ensures enough { length (put_action action writer.old.draft).bytes ≤ writer.old.space
+        → IsOk result }
 {
     writer.number(action.what)?;
     writer.number(action.delay)
@@ -98,7 +106,8 @@ fn put_each_action(writer: &mut NdrWriter, actions: &[Action]) -> Result<(), Out
     ensures front { writer.new.front ≡ writer.old.front }
     ensures ok { OnOk result (writer.new.draft ≡ put_all put_action actions.now writer.old.draft) }
     ensures space { writer.old.space ≤ writer.new.space }
-    ensures enough { length (put_all put_action actions.now writer.old.draft).bytes ≤ writer.old.space → IsOk result }
+    ensures enough { length (put_all put_action actions.now writer.old.draft).bytes ≤
+        writer.old.space → IsOk result }
 {
     for action in actions {
         put_action(writer, *action)?;
@@ -115,7 +124,8 @@ fn put_actions_if(
     ensures front { writer.new.front ≡ writer.old.front }
     ensures ok { OnOk result (writer.new.draft ≡ put_if put_actions actions.now writer.old.draft) }
     ensures space { writer.old.space ≤ writer.new.space }
-    ensures enough { length (put_if put_actions actions.now writer.old.draft).bytes ≤ writer.old.space → IsOk result }
+    ensures enough { length (put_if put_actions actions.now writer.old.draft).bytes ≤
+        writer.old.space → IsOk result }
 {
     let Some(actions) = actions else {
         return Ok(());
@@ -132,9 +142,11 @@ fn put_failure(
     actions: &Option<Items<Action>>,
 ) -> Result<(), OutOfMemory>
     ensures front { writer.new.front ≡ writer.old.front }
-    ensures ok { OnOk result (writer.new.draft ≡ put_failure reset command.now actions.now writer.old.draft) }
+    ensures ok { OnOk result (writer.new.draft ≡ put_failure reset command.now actions.now
+        writer.old.draft) }
     ensures space { writer.old.space ≤ writer.new.space }
-    ensures enough { length (put_failure reset command.now actions.now writer.old.draft).bytes ≤ writer.old.space → IsOk result }
+    ensures enough { length (put_failure reset command.now actions.now writer.old.draft).bytes ≤
+        writer.old.space → IsOk result }
 {
     put_failure_head(writer, reset, command, actions)?;
     put_text_if(writer, command)?;
@@ -147,7 +159,8 @@ fn put_trigger_head(writer: &mut NdrWriter, trigger: &TriggerIn) -> Result<(), O
     ensures front { writer.new.front ≡ writer.old.front }
     ensures ok { OnOk result (writer.new.draft ≡ put_trigger_head trigger.now writer.old.draft) }
     ensures space { writer.old.space ≤ writer.new.space }
-    ensures enough { length (put_trigger_head trigger.now writer.old.draft).bytes ≤ writer.old.space → IsOk result }
+    ensures enough { length (put_trigger_head trigger.now writer.old.draft).bytes ≤ writer.old.space
+        → IsOk result }
 {
     writer.number(trigger.kind)?;
     writer.number(trigger.action)?;
@@ -158,9 +171,11 @@ fn put_trigger_head(writer: &mut NdrWriter, trigger: &TriggerIn) -> Result<(), O
 
 fn put_trigger_heads(writer: &mut NdrWriter, triggers: &[TriggerIn]) -> Result<(), OutOfMemory>
     ensures front { writer.new.front ≡ writer.old.front }
-    ensures ok { OnOk result (writer.new.draft ≡ put_all put_trigger_head triggers.now writer.old.draft) }
+    ensures ok { OnOk result (writer.new.draft ≡ put_all put_trigger_head triggers.now
+        writer.old.draft) }
     ensures space { writer.old.space ≤ writer.new.space }
-    ensures enough { length (put_all put_trigger_head triggers.now writer.old.draft).bytes ≤ writer.old.space → IsOk result }
+    ensures enough { length (put_all put_trigger_head triggers.now writer.old.draft).bytes ≤
+        writer.old.space → IsOk result }
 {
     for trigger in triggers {
         put_trigger_head(writer, trigger)?;
@@ -173,7 +188,8 @@ fn put_subtype(writer: &mut NdrWriter, trigger: &TriggerIn) -> Result<(), OutOfM
     ensures front { writer.new.front ≡ writer.old.front }
     ensures ok { OnOk result (writer.new.draft ≡ put_subtype trigger.now writer.old.draft) }
     ensures space { writer.old.space ≤ writer.new.space }
-    ensures enough { length (put_subtype trigger.now writer.old.draft).bytes ≤ writer.old.space → IsOk result }
+    ensures enough { length (put_subtype trigger.now writer.old.draft).bytes ≤ writer.old.space
+        → IsOk result }
 {
     match &trigger.subtype {
         Some(subtype) => writer.uuid(subtype),
@@ -185,7 +201,8 @@ fn put_subtypes(writer: &mut NdrWriter, triggers: &[TriggerIn]) -> Result<(), Ou
     ensures front { writer.new.front ≡ writer.old.front }
     ensures ok { OnOk result (writer.new.draft ≡ put_all put_subtype triggers.now writer.old.draft) }
     ensures space { writer.old.space ≤ writer.new.space }
-    ensures enough { length (put_all put_subtype triggers.now writer.old.draft).bytes ≤ writer.old.space → IsOk result }
+    ensures enough { length (put_all put_subtype triggers.now writer.old.draft).bytes ≤
+        writer.old.space → IsOk result }
 {
     for trigger in triggers {
         put_subtype(writer, trigger)?;
@@ -199,7 +216,8 @@ fn put_listing(writer: &mut NdrWriter, count: usize, listed: bool) -> Result<(),
     ensures front { writer.new.front ≡ writer.old.front }
     ensures ok { OnOk result (writer.new.draft ≡ put_listing count listed writer.old.draft) }
     ensures space { writer.old.space ≤ writer.new.space }
-    ensures enough { length (put_listing count listed writer.old.draft).bytes ≤ writer.old.space → IsOk result }
+    ensures enough { length (put_listing count listed writer.old.draft).bytes ≤ writer.old.space
+        → IsOk result }
 {
     writer.count(count)?;
     put_pointer(writer, listed)?;
@@ -212,7 +230,8 @@ fn put_listed_triggers(writer: &mut NdrWriter, triggers: &[TriggerIn]) -> Result
     ensures front { writer.new.front ≡ writer.old.front }
     ensures ok { OnOk result (writer.new.draft ≡ put_listed_triggers triggers.now writer.old.draft) }
     ensures space { writer.old.space ≤ writer.new.space }
-    ensures enough { length (put_listed_triggers triggers.now writer.old.draft).bytes ≤ writer.old.space → IsOk result }
+    ensures enough { length (put_listed_triggers triggers.now writer.old.draft).bytes ≤
+        writer.old.space → IsOk result }
 {
     writer.count(triggers.len())?;
     put_trigger_heads(writer, triggers)?;
@@ -225,7 +244,8 @@ fn put_triggers(writer: &mut NdrWriter, triggers: &[TriggerIn]) -> Result<(), Ou
     ensures front { writer.new.front ≡ writer.old.front }
     ensures ok { OnOk result (writer.new.draft ≡ put_triggers triggers.now writer.old.draft) }
     ensures space { writer.old.space ≤ writer.new.space }
-    ensures enough { length (put_triggers triggers.now writer.old.draft).bytes ≤ writer.old.space → IsOk result }
+    ensures enough { length (put_triggers triggers.now writer.old.draft).bytes ≤ writer.old.space
+        → IsOk result }
 {
     if triggers.len() == 0 {
         return put_listing(writer, 0, false);
@@ -240,7 +260,8 @@ fn put_referent_of(writer: &mut NdrWriter, asked: &Info) -> Result<(), OutOfMemo
     ensures front { writer.new.front ≡ writer.old.front }
     ensures ok { OnOk result (writer.new.draft ≡ put_referent_of asked.now writer.old.draft) }
     ensures space { writer.old.space ≤ writer.new.space }
-    ensures enough { length (put_referent_of asked.now writer.old.draft).bytes ≤ writer.old.space → IsOk result }
+    ensures enough { length (put_referent_of asked.now writer.old.draft).bytes ≤ writer.old.space
+        → IsOk result }
 {
     match asked {
         Info::Description(text) => writer.some_text(text.as_ref()),
@@ -261,7 +282,8 @@ fn put_level(writer: &mut NdrWriter, asked: &Info) -> Result<(), OutOfMemory>
     ensures front { writer.new.front ≡ writer.old.front }
     ensures ok { OnOk result (writer.new.draft ≡ put_level asked.now writer.old.draft) }
     ensures space { writer.old.space ≤ writer.new.space }
-    ensures enough { length (put_level asked.now writer.old.draft).bytes ≤ writer.old.space → IsOk result }
+    ensures enough { length (put_level asked.now writer.old.draft).bytes ≤ writer.old.space
+        → IsOk result }
 {
     match asked {
         Info::Other(_) => Ok(()),
@@ -293,7 +315,8 @@ pub fn put_info(writer: &mut NdrWriter, asked: &Info) -> Result<(), OutOfMemory>
     ensures front { writer.new.front ≡ writer.old.front }
     ensures ok { OnOk result (writer.new.draft ≡ put_info asked.now writer.old.draft) }
     ensures space { writer.old.space ≤ writer.new.space }
-    ensures enough { length (put_info asked.now writer.old.draft).bytes ≤ writer.old.space → IsOk result }
+    ensures enough { length (put_info asked.now writer.old.draft).bytes ≤ writer.old.space
+        → IsOk result }
 {
     let level = level_of(asked);
     writer.number(level)?;

@@ -1,4 +1,5 @@
-//! Bodies by their shapes: a shape is a list of kinds of items, and bodies of every shape are read and written here.
+//! Bodies by their shapes: a shape is a list of kinds of items, and bodies of every shape are read
+//! and written here.
 #![tactic(auto)]
 
 mod apart;

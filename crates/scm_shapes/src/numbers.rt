@@ -48,8 +48,8 @@ pub fn write_numbers(
     }
 }
 
-/// Writes a body of a context handle and numbers of 32 bits after what the buffer holds. When memory
-/// runs out the buffer is given back as it was.
+/// Writes a body of a context handle and numbers of 32 bits after what the buffer holds. When
+/// memory runs out the buffer is given back as it was.
 #[tactic(auto, using(crate::proofs::WrittenAtOnce::handle_at_once, crate::proofs::WrittenAtOnce::length_handle))]
 pub fn write_handle(
     handle: u64,

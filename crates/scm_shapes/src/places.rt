@@ -15,7 +15,8 @@ pub fn next_place(reader: &NdrReader) -> usize
 /// A number of at most so much. A greater one is `BadCount` where it begins.
 #[tactic(auto, unfolding(crate::specs::Ranges::within_at))]
 pub fn read_within(reader: &mut NdrReader, most: u32) -> Result<u32, BodyFault>
-    ensures value { Gives (λ v. (v, reader.new.place)) result (within_at most reader.old.body reader.old.place) }
+    ensures value { Gives (λ v. (v, reader.new.place)) result
+        (within_at most reader.old.body reader.old.place) }
     ensures body { reader.new.body ≡ reader.old.body }
     ensures memory { FindsMemory result }
 {

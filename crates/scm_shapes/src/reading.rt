@@ -31,7 +31,8 @@ fn is_size(held: &Option<Items<u8>>, size: u32) -> bool
 /// Bytes behind a pointer, and their size.
 #[tactic(auto, unfolding(crate::specs::Sized::sized_at))]
 fn read_sized(reader: &mut NdrReader, alloc: Global) -> Result<Option<Items<u8>>, BodyFault>
-    ensures value { Gives (λ v. (v, reader.new.place)) result (sized_at reader.old.body reader.old.place) }
+    ensures value { Gives (λ v. (v, reader.new.place)) result
+        (sized_at reader.old.body reader.old.place) }
     ensures body { reader.new.body ≡ reader.old.body }
 {
     let held = reader.some_bytes(alloc)?;
@@ -46,7 +47,8 @@ fn read_sized(reader: &mut NdrReader, alloc: Global) -> Result<Option<Items<u8>>
 
 #[tactic(auto, unfolding(crate::specs::Shapes::item_at))]
 fn read_item(reader: &mut NdrReader, alloc: Global, item: Item) -> Result<Value, BodyFault>
-    ensures value { Gives (λ v. (v, reader.new.place)) result (item_at item reader.old.body reader.old.place) }
+    ensures value { Gives (λ v. (v, reader.new.place)) result
+        (item_at item reader.old.body reader.old.place) }
     ensures body { reader.new.body ≡ reader.old.body }
     ensures memory { IsPlain item → FindsMemory result }
 {
@@ -91,7 +93,8 @@ fn read_values(
     values: &mut Values,
 ) -> Result<(), BodyFault>
     requires none { values.old ≡ [] }
-    ensures value { Gives (λ _. (values.new, reader.new.place)) result (values_at shape.now reader.old.body reader.old.place) }
+    ensures value { Gives (λ _. (values.new, reader.new.place)) result
+        (values_at shape.now reader.old.body reader.old.place) }
     ensures body { reader.new.body ≡ reader.old.body }
     ensures memory { ArePlain shape.now → FindsMemory result }
 {
@@ -105,7 +108,8 @@ fn read_values(
 /// Ends a body, unless the values leave it open.
 #[tactic(auto, unfolding(crate::specs::Shapes::closed_at))]
 fn close(reader: &NdrReader, values: &Values) -> Result<(), BodyFault>
-    ensures value { Gives (λ done. done) result (closed_at values.now reader.now.body reader.now.place) }
+    ensures value { Gives (λ done. done) result (closed_at values.now reader.now.body
+        reader.now.place) }
     ensures memory { FindsMemory result }
 {
     if values.leave_open() {
@@ -148,7 +152,8 @@ pub fn read_body(alloc: Global, shape: &[Item], body: &[u8]) -> Result<Values, B
     // What is read is held by the body, whatever its padding and its referents are.
     ensures found { IfOk result (λ vs. IsBody shape.now body.now vs) }
     // What the body holds is read, unless memory runs out.
-    ensures only { (vs : List AValue) → IsBody shape.now body.now vs → Gives (λ v. v) result (Ok vs) }
+    ensures only { (vs : List AValue) → IsBody shape.now body.now vs
+        → Gives (λ v. v) result (Ok vs) }
     // No value is beyond the range of its item.
     ensures ranged { IfOk result (λ vs. CanHoldAll shape.now vs) }
     // No memory is taken for a few numbers and handles.

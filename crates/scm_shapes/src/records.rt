@@ -3,7 +3,10 @@ ghost use Rattle.ndr_body.specs.Reading.{Gives, number_at};
 ghost use Rattle.scm_shapes.specs.declared.item.Value.TheVariants as value;
 ghost use Rattle.scm_shapes.specs.Parts.{made};
 ghost use Rattle.scm_shapes.specs.Each.{each_at, put_each};
-ghost use Rattle.scm_shapes.specs.Records.{lock_at, lock_marks, lock_texts, begins_blank, is_blank, is_pointed, left_over, missing, misfit, numbers_in, shown_texts_at, shown_at, shown_marks, shown_texts, put_mark, put_marks, put_record};
+ghost use Rattle.scm_shapes.specs.Records.{lock_at, lock_marks, lock_texts, begins_blank, is_blank};
+ghost use Rattle.scm_shapes.specs.Records.{is_pointed, left_over, missing, misfit, numbers_in};
+ghost use Rattle.scm_shapes.specs.Records.{shown_texts_at, shown_at, shown_marks, shown_texts};
+ghost use Rattle.scm_shapes.specs.Records.{put_mark, put_marks, put_record};
 
 use crate::item::Value;
 use crate::places::next_place;
@@ -104,7 +107,8 @@ impl Heads {
 
 #[tactic(auto, unfolding(crate::specs::Each::each_at))]
 fn read_heads(reader: &mut NdrReader) -> Result<Heads, BodyFault>
-    ensures value { Gives (λ h. (numbers_in h, reader.new.place)) result (each_at number_at 9 reader.old.body reader.old.place) }
+    ensures value { Gives (λ h. (numbers_in h, reader.new.place)) result
+        (each_at number_at 9 reader.old.body reader.old.place) }
     ensures body { reader.new.body ≡ reader.old.body }
 {
     Ok(Heads {
@@ -123,7 +127,8 @@ fn read_heads(reader: &mut NdrReader) -> Result<Heads, BodyFault>
 /// The configuration of these numbers, whose texts come next.
 #[tactic(auto, unfolding(crate::specs::Records::shown_texts_at, crate::specs::Each::each_at))]
 fn read_texts(reader: &mut NdrReader, alloc: Global, heads: &Heads) -> Result<Shown, BodyFault>
-    ensures value { Gives (λ s. (Some s, reader.new.place)) result (shown_texts_at heads.now reader.old.body reader.old.place) }
+    ensures value { Gives (λ s. (Some s, reader.new.place)) result
+        (shown_texts_at heads.now reader.old.body reader.old.place) }
     ensures body { reader.new.body ≡ reader.old.body }
 {
     let path = reader.text(alloc)?;
@@ -144,11 +149,13 @@ fn read_texts(reader: &mut NdrReader, alloc: Global, heads: &Heads) -> Result<Sh
     })
 }
 
-/// A configuration, or none where its numbers are 0. A number that doesn't fit to those before it is
+/// A configuration, or none where its numbers are 0. A number that doesn't fit to those before it
+/// is
 /// `BadCount` where it begins.
 #[tactic(auto, using(crate::proofs::Recorded::decides), unfolding(crate::specs::Records::shown_at, crate::specs::Records::record_at, crate::specs::Records::shown_texts_at))]
 pub fn read_shown(reader: &mut NdrReader, alloc: Global) -> Result<Option<Shown>, BodyFault>
-    ensures value { Gives (λ v. (v, reader.new.place)) result (shown_at reader.old.body reader.old.place) }
+    ensures value { Gives (λ v. (v, reader.new.place)) result
+        (shown_at reader.old.body reader.old.place) }
     ensures body { reader.new.body ≡ reader.old.body }
 {
     let start = next_place(reader);
@@ -165,7 +172,8 @@ pub fn read_shown(reader: &mut NdrReader, alloc: Global) -> Result<Option<Shown>
 /// The state of a lock. Its owner stands behind the three numbers, where there is one.
 #[tactic(auto, unfolding(crate::specs::Records::lock_at, crate::specs::Records::record_at, crate::specs::Each::each_at))]
 pub fn read_lock(reader: &mut NdrReader, alloc: Global) -> Result<Value, BodyFault>
-    ensures value { Gives (λ v. (v, reader.new.place)) result (made (λ l. value.Lock l.0 l.1 l.2) (lock_at reader.old.body reader.old.place)) }
+    ensures value { Gives (λ v. (v, reader.new.place)) result
+        (made (λ l. value.Lock l.0 l.1 l.2) (lock_at reader.old.body reader.old.place)) }
     ensures body { reader.new.body ≡ reader.old.body }
 {
     let held = reader.number()?;
@@ -187,9 +195,11 @@ pub fn put_lock(
     seconds: u32,
 ) -> Result<(), OutOfMemory>
     ensures front { writer.new.front ≡ writer.old.front }
-    ensures ok { OnOk result (writer.new.draft ≡ put_record (lock_marks held owner.now seconds) (lock_texts owner.now) writer.old.draft) }
+    ensures ok { OnOk result (writer.new.draft ≡ put_record (lock_marks held owner.now seconds)
+        (lock_texts owner.now) writer.old.draft) }
     ensures space { writer.old.space ≤ writer.new.space }
-    ensures enough { length (put_record (lock_marks held owner.now seconds) (lock_texts owner.now) writer.old.draft).bytes ≤ writer.old.space → IsOk result }
+    ensures enough { length (put_record (lock_marks held owner.now seconds)
+        (lock_texts owner.now) writer.old.draft).bytes ≤ writer.old.space → IsOk result }
 {
     match owner {
         None => {
@@ -211,7 +221,8 @@ fn put_mark(writer: &mut NdrWriter, mark: Option<u32>) -> Result<(), OutOfMemory
     ensures front { writer.new.front ≡ writer.old.front }
     ensures ok { OnOk result (writer.new.draft ≡ put_mark mark writer.old.draft) }
     ensures space { writer.old.space ≤ writer.new.space }
-    ensures enough { length (put_mark mark writer.old.draft).bytes ≤ writer.old.space → IsOk result }
+    ensures enough { length (put_mark mark writer.old.draft).bytes ≤ writer.old.space
+        → IsOk result }
 {
     match mark {
         Some(number) => writer.number(number),
@@ -223,7 +234,8 @@ fn put_marks(writer: &mut NdrWriter, marks: &[Option<u32>]) -> Result<(), OutOfM
     ensures front { writer.new.front ≡ writer.old.front }
     ensures ok { OnOk result (writer.new.draft ≡ put_marks marks.now writer.old.draft) }
     ensures space { writer.old.space ≤ writer.new.space }
-    ensures enough { length (put_marks marks.now writer.old.draft).bytes ≤ writer.old.space → IsOk result }
+    ensures enough { length (put_marks marks.now writer.old.draft).bytes ≤ writer.old.space
+        → IsOk result }
 {
     for mark in marks {
         put_mark(writer, *mark)?;
@@ -234,9 +246,11 @@ fn put_marks(writer: &mut NdrWriter, marks: &[Option<u32>]) -> Result<(), OutOfM
 #[tactic(auto, using(crate::proofs::Widths::grows))]
 fn put_texts(writer: &mut NdrWriter, shown: &Shown) -> Result<(), OutOfMemory>
     ensures front { writer.new.front ≡ writer.old.front }
-    ensures ok { OnOk result (writer.new.draft ≡ put_each (shown_texts (Some shown.now)) writer.old.draft) }
+    ensures ok { OnOk result (writer.new.draft ≡ put_each
+        (shown_texts (Some shown.now)) writer.old.draft) }
     ensures space { writer.old.space ≤ writer.new.space }
-    ensures enough { length (put_each (shown_texts (Some shown.now)) writer.old.draft).bytes ≤ writer.old.space → IsOk result }
+    ensures enough { length (put_each (shown_texts (Some shown.now)) writer.old.draft).bytes ≤
+        writer.old.space → IsOk result }
 {
     writer.text(&shown.path)?;
     writer.text(&shown.group)?;
@@ -248,9 +262,11 @@ fn put_texts(writer: &mut NdrWriter, shown: &Shown) -> Result<(), OutOfMemory>
 #[tactic(auto, using(crate::proofs::Widths::grows), unfolding(crate::specs::Records::put_record))]
 pub fn put_shown(writer: &mut NdrWriter, shown: &Option<Shown>) -> Result<(), OutOfMemory>
     ensures front { writer.new.front ≡ writer.old.front }
-    ensures ok { OnOk result (writer.new.draft ≡ put_record (shown_marks shown.now) (shown_texts shown.now) writer.old.draft) }
+    ensures ok { OnOk result (writer.new.draft ≡ put_record (shown_marks shown.now)
+        (shown_texts shown.now) writer.old.draft) }
     ensures space { writer.old.space ≤ writer.new.space }
-    ensures enough { length (put_record (shown_marks shown.now) (shown_texts shown.now) writer.old.draft).bytes ≤ writer.old.space → IsOk result }
+    ensures enough { length (put_record (shown_marks shown.now)
+        (shown_texts shown.now) writer.old.draft).bytes ≤ writer.old.space → IsOk result }
 {
     match shown {
         None => put_marks(writer, &[Some(0); 9]),

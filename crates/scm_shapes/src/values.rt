@@ -1,5 +1,9 @@
-ghost use Rattle.std.specs.Prelude.{◌≡◌, ◌++◌, ◌∷◌, ◌<◌, ◌≤◌, [], length, IfOk, IsOk, MatchOption, OnOk, OnErr, option_to_list};
-ghost use Rattle.scm_shapes.specs.Shapes.{rest, first_handle, first_number, first_text, first_some_text, first_some_number, first_some_bytes, first_size, first_bytes, first_words, first_lock, first_shown, first_info, leaves_open, leave_open};
+ghost use Rattle.std.specs.Prelude.{◌≡◌, ◌++◌, ◌∷◌, ◌<◌, ◌≤◌, [], length, IfOk, IsOk, MatchOption};
+ghost use Rattle.std.specs.Prelude.{OnOk, OnErr, option_to_list};
+ghost use Rattle.scm_shapes.specs.Shapes.{rest, first_handle, first_number, first_text};
+ghost use Rattle.scm_shapes.specs.Shapes.{first_some_text, first_some_number, first_some_bytes};
+ghost use Rattle.scm_shapes.specs.Shapes.{first_size, first_bytes, first_words, first_lock};
+ghost use Rattle.scm_shapes.specs.Shapes.{first_shown, first_info, leaves_open, leave_open};
 ghost use Rattle.scm_shapes.specs.HandleBodies.{handle_body_of};
 
 use crate::handle_body::HandleBody;

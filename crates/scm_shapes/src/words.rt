@@ -2,7 +2,8 @@ ghost use Rattle.std.specs.Prelude.{◌≡◌, ◌==◌, not, filter, length, �
 ghost use Rattle.std.specs.List.{list_any};
 ghost use Rattle.ndr_body.specs.Reading.{Gives, number_at, text_at};
 ghost use Rattle.scm_shapes.specs.Each.{each_at, put_each};
-ghost use Rattle.scm_shapes.specs.Words.{pointing, words_of, pointed_at, listed_at, unlisted, argv_at, words_at, put_referents, put_list, put_words};
+ghost use Rattle.scm_shapes.specs.Words.{pointing, words_of, pointed_at, listed_at, unlisted};
+ghost use Rattle.scm_shapes.specs.Words.{argv_at, words_at, put_referents, put_list, put_words};
 
 use crate::places::{next_place, read_within};
 use ndr_body::{BodyFault, NdrReader, NdrWriter};
@@ -16,7 +17,8 @@ fn read_numbers(
     alloc: Global,
     count: usize,
 ) -> Result<Items<u32>, BodyFault>
-    ensures value { Gives (λ v. (v, reader.new.place)) result (each_at number_at count reader.old.body reader.old.place) }
+    ensures value { Gives (λ v. (v, reader.new.place)) result
+        (each_at number_at count reader.old.body reader.old.place) }
     ensures body { reader.new.body ≡ reader.old.body }
 {
     let mut numbers = Items::new(alloc);
@@ -35,7 +37,8 @@ fn read_texts(
     alloc: Global,
     count: usize,
 ) -> Result<Items<WText>, BodyFault>
-    ensures value { Gives (λ v. (v, reader.new.place)) result (each_at text_at count reader.old.body reader.old.place) }
+    ensures value { Gives (λ v. (v, reader.new.place)) result
+        (each_at text_at count reader.old.body reader.old.place) }
     ensures body { reader.new.body ≡ reader.old.body }
 {
     let mut texts = Items::new(alloc);
@@ -62,14 +65,16 @@ fn has_null(pointers: &[u32]) -> bool
     pointers.iter().any(|pointer| *pointer == 0)
 }
 
-/// A pointer per word, and behind them the strings of those that aren't null. The words are absent where one is.
+/// A pointer per word, and behind them the strings of those that aren't null. The words are absent
+/// where one is.
 #[tactic(auto, unfolding(crate::specs::Words::pointed_at, crate::specs::Records::record_at))]
 fn read_pointed(
     reader: &mut NdrReader,
     alloc: Global,
     argc: u32,
 ) -> Result<Option<Items<WText>>, BodyFault>
-    ensures value { Gives (λ v. (v, reader.new.place)) result (pointed_at argc reader.old.body reader.old.place) }
+    ensures value { Gives (λ v. (v, reader.new.place)) result
+        (pointed_at argc reader.old.body reader.old.place) }
     ensures body { reader.new.body ≡ reader.old.body }
 {
     let pointers = read_numbers(reader, alloc, argc as usize)?;
@@ -88,7 +93,8 @@ fn read_list(
     alloc: Global,
     argc: u32,
 ) -> Result<Option<Items<WText>>, BodyFault>
-    ensures value { Gives (λ v. (v, reader.new.place)) result (listed_at argc reader.old.body reader.old.place) }
+    ensures value { Gives (λ v. (v, reader.new.place)) result
+        (listed_at argc reader.old.body reader.old.place) }
     ensures body { reader.new.body ≡ reader.old.body }
 {
     let start = next_place(reader);
@@ -118,7 +124,8 @@ fn read_argv(
     alloc: Global,
     argc: u32,
 ) -> Result<Option<Items<WText>>, BodyFault>
-    ensures value { Gives (λ v. (v, reader.new.place)) result (argv_at argc reader.old.body reader.old.place) }
+    ensures value { Gives (λ v. (v, reader.new.place)) result
+        (argv_at argc reader.old.body reader.old.place) }
     ensures body { reader.new.body ≡ reader.old.body }
 {
     let pointer = reader.number()?;
@@ -132,7 +139,8 @@ fn read_argv(
 /// `argc` and `argv` of `RStartServiceW`. The words are absent where one of them is.
 #[tactic(auto, unfolding(crate::specs::Words::words_at))]
 pub fn read_words(reader: &mut NdrReader, alloc: Global) -> Result<Option<Items<WText>>, BodyFault>
-    ensures value { Gives (λ v. (v, reader.new.place)) result (words_at reader.old.body reader.old.place) }
+    ensures value { Gives (λ v. (v, reader.new.place)) result
+        (words_at reader.old.body reader.old.place) }
     ensures body { reader.new.body ≡ reader.old.body }
 {
     let argc = read_within(reader, SC_MAX_ARGUMENTS)?;
@@ -144,7 +152,8 @@ fn put_referents(writer: &mut NdrWriter, count: usize) -> Result<(), OutOfMemory
     ensures front { writer.new.front ≡ writer.old.front }
     ensures ok { OnOk result (writer.new.draft ≡ put_referents count writer.old.draft) }
     ensures space { writer.old.space ≤ writer.new.space }
-    ensures enough { length (put_referents count writer.old.draft).bytes ≤ writer.old.space → IsOk result }
+    ensures enough { length (put_referents count writer.old.draft).bytes ≤ writer.old.space
+        → IsOk result }
 {
     for _ in 0..count {
         writer.referent()?;
@@ -157,7 +166,8 @@ fn put_each(writer: &mut NdrWriter, texts: &[WText]) -> Result<(), OutOfMemory>
     ensures front { writer.new.front ≡ writer.old.front }
     ensures ok { OnOk result (writer.new.draft ≡ put_each texts.now writer.old.draft) }
     ensures space { writer.old.space ≤ writer.new.space }
-    ensures enough { length (put_each texts.now writer.old.draft).bytes ≤ writer.old.space → IsOk result }
+    ensures enough { length (put_each texts.now writer.old.draft).bytes ≤ writer.old.space
+        → IsOk result }
 {
     for text in texts {
         writer.text(text)?;
@@ -171,7 +181,8 @@ fn put_list(writer: &mut NdrWriter, words: &[WText]) -> Result<(), OutOfMemory>
     ensures front { writer.new.front ≡ writer.old.front }
     ensures ok { OnOk result (writer.new.draft ≡ put_list words.now writer.old.draft) }
     ensures space { writer.old.space ≤ writer.new.space }
-    ensures enough { length (put_list words.now writer.old.draft).bytes ≤ writer.old.space → IsOk result }
+    ensures enough { length (put_list words.now writer.old.draft).bytes ≤ writer.old.space
+        → IsOk result }
 {
     writer.count(words.len())?;
     writer.referent()?;
@@ -186,7 +197,8 @@ pub fn put_words(writer: &mut NdrWriter, words: &Option<Items<WText>>) -> Result
     ensures front { writer.new.front ≡ writer.old.front }
     ensures ok { OnOk result (writer.new.draft ≡ put_words words.now writer.old.draft) }
     ensures space { writer.old.space ≤ writer.new.space }
-    ensures enough { length (put_words words.now writer.old.draft).bytes ≤ writer.old.space → IsOk result }
+    ensures enough { length (put_words words.now writer.old.draft).bytes ≤ writer.old.space
+        → IsOk result }
 {
     let Some(words) = words else {
         writer.number(1)?;

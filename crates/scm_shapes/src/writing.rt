@@ -18,7 +18,8 @@ fn put_sized(writer: &mut NdrWriter, held: &Option<Items<u8>>) -> Result<(), Out
     ensures front { writer.new.front ≡ writer.old.front }
     ensures ok { OnOk result (writer.new.draft ≡ put_sized held.now writer.old.draft) }
     ensures space { writer.old.space ≤ writer.new.space }
-    ensures enough { length (put_sized held.now writer.old.draft).bytes ≤ writer.old.space → IsOk result }
+    ensures enough { length (put_sized held.now writer.old.draft).bytes ≤ writer.old.space
+        → IsOk result }
 {
     match held {
         None => {
@@ -39,7 +40,8 @@ fn put_piece(writer: &mut NdrWriter, piece: Piece) -> Result<(), OutOfMemory>
     ensures front { writer.new.front ≡ writer.old.front }
     ensures ok { OnOk result (writer.new.draft ≡ put_value (value_of piece.entry) writer.old.draft) }
     ensures space { writer.old.space ≤ writer.new.space }
-    ensures enough { length (put_value (value_of piece.entry) writer.old.draft).bytes ≤ writer.old.space → IsOk result }
+    ensures enough { length (put_value (value_of piece.entry) writer.old.draft).bytes ≤
+        writer.old.space → IsOk result }
 {
     match piece {
         Piece::Handle(handle) => writer.handle(handle),
@@ -72,9 +74,11 @@ fn first(bytes: &[u8], size: u32) -> &[u8]
 /// Writes values one behind the other.
 fn put_pieces(writer: &mut NdrWriter, pieces: &[Piece]) -> Result<(), OutOfMemory>
     ensures front { writer.new.front ≡ writer.old.front }
-    ensures ok { OnOk result (writer.new.draft ≡ put_values (map value_of pieces.now) writer.old.draft) }
+    ensures ok { OnOk result (writer.new.draft ≡ put_values
+        (map value_of pieces.now) writer.old.draft) }
     ensures space { writer.old.space ≤ writer.new.space }
-    ensures enough { length (put_values (map value_of pieces.now) writer.old.draft).bytes ≤ writer.old.space → IsOk result }
+    ensures enough { length (put_values (map value_of pieces.now) writer.old.draft).bytes ≤
+        writer.old.space → IsOk result }
 {
     for piece in pieces {
         put_piece(writer, *piece)?;
@@ -100,7 +104,9 @@ pub fn write_pieces(
 ) -> Result<Buffer<u8>, (OutOfMemory, Buffer<u8>)>
     ensures written { IsWritten (map value_of pieces.now) out result }
     // Values that a shape can hold are read back from their body.
-    ensures back { (shape : List AnItem) → CanHoldAll shape (map value_of pieces.now) → body_values shape (body_bytes (map value_of pieces.now)) ≡ Ok (map as_read (map value_of pieces.now)) }
+    ensures back { (shape : List AnItem) → CanHoldAll shape (map value_of pieces.now)
+        → body_values shape (body_bytes (map value_of pieces.now)) ≡ Ok
+        (map as_read (map value_of pieces.now)) }
 {
     written(pieces, out)
 }

@@ -1,5 +1,6 @@
 -- Counts of calls, entry by entry.
-use Rattle.std.proofs.Common.{ℕ, ◌≡◌, ◌∙◌, ◌+◌, ◌<◌, ◌≤◌, ◌^◌, List, [], ◌∷◌, ◌++◌, Option, None, Some, length, drop, get_or, refl, sym, ap, suc, zero, arith, add-one, drop-cons, length-append, append_assoc}
+use Rattle.std.proofs.Common.{ℕ, ◌≡◌, ◌∙◌, ◌+◌, ◌<◌, ◌≤◌, ◌^◌, List, [], ◌∷◌, ◌++◌, Option, None, Some, length, drop, get_or, refl, sym, ap}
+use Rattle.std.proofs.Common.{suc, zero, arith, add-one, drop-cons, length-append, append_assoc}
 use Rattle.std.specs.List.{slice_get}
 use Rattle.std.proofs.Math.Seq.{drop-length}
 use Rattle.std.proofs.lemmas.Option.{get_or_from_slice_get, slice_get_within}
@@ -24,11 +25,13 @@ one_at_most : (step : Step) → one_joined step ≤ 1
 one_at_most (Joined principal) = omega arith
 one_at_most step = omega arith
 
-pub counted_at : (h : List Entry) (i joined : ℕ) (of : Option ℕ) (e : Entry) → slice_get h i ≡ Some e → joined ≡ one_joined e.1 → of ≡ calling e.1 → IsCounted h i joined of
+pub counted_at : (h : List Entry) (i joined : ℕ) (of : Option ℕ) (e : Entry) → slice_get h i ≡ Some e → joined ≡ one_joined e.1
+    → of ≡ calling e.1 → IsCounted h i joined of
 counted_at h i joined of e at one his = record {
   joins = ap (λ m. m + joined_in (drop (i + 1) h)) one ∙ sym (ap joined_in (cut_at h i e at));
   small = rw one (one_at_most e.1);
-  calls = λ caller. ap (λ (o : Option ℕ). one_if caller o + calls_of caller (drop (i + 1) h)) his ∙ sym (ap (calls_of caller) (cut_at h i e at));
+  calls = λ caller. ap (λ (o : Option ℕ). one_if caller o + calls_of caller (drop (i + 1) h)) his
+      ∙ sym (ap (calls_of caller) (cut_at h i e at));
 }
 
 -- ## Calls
@@ -41,14 +44,16 @@ few : (caller : ℕ) (h : List Entry) → calls_of caller h ≤ length h
 few caller [] = omega arith
 few caller (e ∷ es) = let one = one_small caller (calling e.1) in let rest = few caller es in omega arith
 
-pub has_room : (h : List Entry) (n i joined : ℕ) (counts : List ℕ) (of : Option ℕ) → length h < 2 ^ 64 → IsCounted h i joined of → CountsTo h n i counts → HasRoomFor counts of
+pub has_room : (h : List Entry) (n i joined : ℕ) (counts : List ℕ) (of : Option ℕ) → length h < 2 ^ 64 → IsCounted h i joined of
+    → CountsTo h n i counts → HasRoomFor counts of
 has_room h n i joined counts of short at so k within =
     let whole : get_or counts k 0 + calls_of (k + 1) (drop i h) ≡ calls_of (k + 1) h = so.each k (rw (sym so.long) within) in
     let one = at.calls (k + 1) in
     let most = few (k + 1) h in
     omega arith
 
-pub counts_one : (h : List Entry) (n i joined : ℕ) (counts now : List ℕ) (of : Option ℕ) → IsCounted h i joined of → CountsTo h n i counts → Raises counts of now → CountsTo h n (i + 1) now
+pub counts_one : (h : List Entry) (n i joined : ℕ) (counts now : List ℕ) (of : Option ℕ) → IsCounted h i joined of → CountsTo h n i counts
+    → Raises counts of now → CountsTo h n (i + 1) now
 counts_one h n i joined counts now of at so raised = record {
   long = raised.long ∙ so.long;
   each = λ k within.
@@ -65,7 +70,11 @@ nought_more (c ∷ cs) each zero = each 0
 nought_more (c ∷ cs) each (suc k) = nought_more cs (λ j. each (suc j)) k
 
 pub zeros_more : (n : ℕ) (counts now : List ℕ) → now ≡ counts ++ 0 ∷ [] → IsZeros n counts → IsZeros (n + 1) now
-zeros_more n counts now e zeros = rw e (record { long = length-append counts (0 ∷ []) ∙ ap (λ m. m + 1) zeros.long; nought = nought_more counts zeros.nought })
+zeros_more n counts now e zeros = rw e (record {
+  long = length-append counts (0 ∷ [])
+      ∙ ap (λ m. m + 1) zeros.long;
+  nought = nought_more counts zeros.nought;
+})
 
 pub no_zeros : (counts : List ℕ) → counts ≡ [] → IsZeros 0 counts
 no_zeros counts e = rw e (record { long = refl; nought = λ k. get_or_past [] k 0 (omega arith) })
@@ -76,7 +85,8 @@ counts_none h n counts zeros = record {
   each = λ k within. let none = zeros.nought k in omega arith;
 }
 
-listed : (h : List Entry) (n first : ℕ) (counts : List ℕ) → length counts ≡ n → ((k : ℕ) → k < n → get_or counts k 0 ≡ calls_of (first + k) h) → counts ≡ calls_from h first n
+listed : (h : List Entry) (n first : ℕ) (counts : List ℕ) → length counts ≡ n
+    → ((k : ℕ) → k < n → get_or counts k 0 ≡ calls_of (first + k) h) → counts ≡ calls_from h first n
 listed h zero first [] long each = refl
 listed h zero first (c ∷ cs) long each = absurd (omega arith)
 listed h (suc n) first [] long each = absurd (omega arith)
@@ -95,7 +105,8 @@ all_listed h n counts so = listed h n 1 counts so.long (λ k within.
 
 -- ## Lines
 
-pub lines_on : (text : List ℕ) (counts : List ℕ) (i n : ℕ) (now : List ℕ) → i < length counts → get_or counts i 0 ≡ n → now ≡ text ++ caller_line (i + 1) n
+pub lines_on : (text : List ℕ) (counts : List ℕ) (i n : ℕ) (now : List ℕ) → i < length counts → get_or counts i 0 ≡ n → now ≡ text
+    ++ caller_line (i + 1) n
     → now ++ callers_from (i + 1 + 1) (drop (i + 1) counts) ≡ text ++ callers_from (i + 1) (drop i counts)
 lines_on text counts i n now within at e =
     let cut : drop i counts ≡ n ∷ drop (i + 1) counts = rw add-one (drop-cons counts i 0 within ∙ ap (λ x. x ∷ drop (suc i) counts) at) in

@@ -1,5 +1,6 @@
 -- Rows in order of number: where the one with a number stands, and what is changed where it alone is.
-use Rattle.std.proofs.Common.{ℕ, ◌≡◌, ◌≢◌, ◌<◌, ◌≤◌, ◌∙◌, ◌==◌, inl, inr, zero, suc, not, List, [], ◌∷◌, Option, None, Some, Result, Ok, Err, cond, filter, find, map, refl, ap, sym, subst, length, get_or, arith, eq-eqb}
+use Rattle.std.proofs.Common.{ℕ, ◌≡◌, ◌≢◌, ◌<◌, ◌≤◌, ◌∙◌, ◌==◌, inl, inr, zero, suc, not, List, [], ◌∷◌, Option, None, Some, Result, Ok}
+use Rattle.std.proofs.Common.{Err, cond, filter, find, map, refl, ap, sym, subst, length, get_or, arith, eq-eqb}
 use Rattle.std.specs.Prelude.{All, AllPairs, IfSome, IfNone, remove, set, slice_get}
 use Rattle.std.specs.List.Sorted.{IsSearchInRange, IsBinarySearchResult, IsNonDecreasingBy}
 use Rattle.std.specs.Ordering.{nat_cmp, ordering_index}
@@ -19,7 +20,8 @@ module _ {R : Type 0} (number_of : R → ℕ) where
 
   -- no row behind the first has its number
   none_later : (row : R) (rows : List R) (n : ℕ) → Rise (row ∷ rows) → number_of row ≡ n → All (λ (r : R). number_of r ≢ n) rows
-  none_later row rows n ordered is k d lt same = let less = ordered 0 (suc k) d (omega arith) (omega (arith, lt)) in omega (arith, less, is, same)
+  none_later row rows n ordered is k d lt same = let less = ordered 0 (suc k) d (omega arith) (omega (arith, lt)) in
+      omega (arith, less, is, same)
 
   -- ## Where a search ends
 
@@ -29,13 +31,17 @@ module _ {R : Type 0} (number_of : R → ℕ) where
     pub within : IfSome place (λ (i : ℕ). i < length rows)
     pub none : IfNone place (All (λ (row : R). number_of row ≢ n) rows)
 
-  number_here : (rows : List R) (i n : ℕ) → i < length rows → ((d : R) → number_of (get_or rows i d) ≡ n) → IfSome (slice_get rows i) (λ (row : R). number_of row ≡ n)
+  number_here : (rows : List R) (i n : ℕ) → i < length rows → ((d : R) → number_of (get_or rows i d) ≡ n)
+      → IfSome (slice_get rows i) (λ (row : R). number_of row ≡ n)
   number_here [] i n within is = absurd (omega arith)
-  number_here (row ∷ rows) i n within is = subst (λ (o : Option R). IfSome o (λ (r : R). number_of r ≡ n)) (sym (slice_get-get_or (row ∷ rows) i row within)) (is row)
+  number_here (row ∷ rows) i n within is = subst (λ (o : Option R). IfSome o (λ (r : R). number_of r ≡ n))
+      (sym (slice_get-get_or (row ∷ rows) i row within)) (is row)
 
   -- what stands at a place has the number
-  pub number_at : (n : ℕ) (rows : List R) (i : ℕ) (d : R) → i < length rows → IfSome (slice_get rows i) (λ (row : R). number_of row ≡ n) → number_of (get_or rows i d) ≡ n
-  number_at n rows i d within found = subst (λ (o : Option R). IfSome o (λ (row : R). number_of row ≡ n)) (slice_get-get_or rows i d within) found
+  pub number_at : (n : ℕ) (rows : List R) (i : ℕ) (d : R) → i < length rows → IfSome (slice_get rows i) (λ (row : R). number_of row ≡ n)
+      → number_of (get_or rows i d) ≡ n
+  number_at n rows i d within found = subst (λ (o : Option R). IfSome o (λ (row : R). number_of row ≡ n))
+      (slice_get-get_or rows i d within) found
 
   module _ (rows : List R) (n : ℕ) (rising : Rise rows) where
     -- the comparisons with the number rise along the list, as a binary search asks
@@ -49,7 +55,8 @@ module _ {R : Type 0} (number_of : R → ℕ) where
         ] in
         grind (arith, nat_tests)
 
-    pub placed : (r : Result ℕ ℕ) → IsSearchInRange r (length rows) → IsBinarySearchResult (λ (row : R). nat_cmp (number_of row) n) rows r → IsPlace rows n (result_ok r)
+    pub placed : (r : Result ℕ ℕ) → IsSearchInRange r (length rows) → IsBinarySearchResult (λ (row : R). nat_cmp (number_of row) n) rows r
+        → IsPlace rows n (result_ok r)
     placed (Ok i) within equal = record {
       found = number_here rows i n within (λ (d : R). ranked _ n _ (sym (equal d)));
       within = within;
@@ -68,15 +75,18 @@ module _ {R : Type 0} (number_of : R → ℕ) where
   -- ## What it finds
 
   -- the one at a place is found by its number
-  pub found_here : (rows : List R) (i n : ℕ) (d : R) → Rise rows → i < length rows → number_of (get_or rows i d) ≡ n → find (λ (row : R). number_of row == n) rows ≡ Some (get_or rows i d)
+  pub found_here : (rows : List R) (i n : ℕ) (d : R) → Rise rows → i < length rows → number_of (get_or rows i d) ≡ n
+      → find (λ (row : R). number_of row == n) rows ≡ Some (get_or rows i d)
   found_here [] i n d ordered lt is = absurd (omega arith)
-  found_here (row ∷ rows) zero n d ordered lt is = ap (λ b. cond b (Some row) (find (λ (r : R). number_of r == n) rows)) (eq-eqb (number_of row) n is)
+  found_here (row ∷ rows) zero n d ordered lt is = ap (λ b. cond b (Some row) (find (λ (r : R). number_of r == n) rows))
+      (eq-eqb (number_of row) n is)
   found_here (row ∷ rows) (suc i) n d ordered lt is =
       let less = ordered 0 (suc i) d (omega arith) lt in
       ap (λ b. cond b (Some row) (find (λ (r : R). number_of r == n) rows)) (ne_eqb (number_of row) n (omega (arith, less, is)))
       ∙ found_here rows i n d (later row rows ordered) (omega arith) is
 
-  pub found_nowhere : (rows : List R) (n : ℕ) → All (λ (row : R). number_of row ≢ n) rows → find (λ (row : R). number_of row == n) rows ≡ None
+  pub found_nowhere : (rows : List R) (n : ℕ) → All (λ (row : R). number_of row ≢ n) rows
+      → find (λ (row : R). number_of row == n) rows ≡ None
   found_nowhere [] n others = refl
   found_nowhere (row ∷ rows) n others =
       ap (λ b. cond b (Some row) (find (λ (r : R). number_of r == n) rows)) (ne_eqb (number_of row) n (others 0 row (omega arith)))
@@ -93,7 +103,8 @@ module _ {R : Type 0} (number_of : R → ℕ) where
         ∙ ap (λ rs. row ∷ rs) (none_changed rows (λ k d lt. others (suc k) d (omega (arith, lt))))
 
     -- the one row that has it is changed
-    pub one_changed : (rows : List R) (i : ℕ) (d : R) → Rise rows → i < length rows → number_of (get_or rows i d) ≡ n → map change rows ≡ set rows i (change (get_or rows i d))
+    pub one_changed : (rows : List R) (i : ℕ) (d : R) → Rise rows → i < length rows → number_of (get_or rows i d) ≡ n
+        → map change rows ≡ set rows i (change (get_or rows i d))
     one_changed [] i d ordered within is = absurd (omega arith)
     one_changed (row ∷ rows) zero d ordered within is = ap (λ rs. change row ∷ rs) (none_changed rows (none_later row rows n ordered is))
     one_changed (row ∷ rows) (suc i) d ordered within is =
@@ -103,14 +114,17 @@ module _ {R : Type 0} (number_of : R → ℕ) where
 
     -- so where a search found none among the same rows
     pub unchanged : {seen rows : List R} → seen ≡ rows → All (λ (row : R). number_of row ≢ n) seen → rows ≡ map change rows
-    unchanged {seen} {rows} same others = sym (none_changed rows (subst (λ (rs : List R). All (λ (row : R). number_of row ≢ n) rs) same others))
+    unchanged {seen} {rows} same others = sym (none_changed rows (subst
+        (λ (rs : List R). All (λ (row : R). number_of row ≢ n) rs) same others))
 
     -- and where it found one, which becomes another
-    pub changed_at : (new : R → R) → ((row : R) → number_of row ≡ n → change row ≡ new row) → {seen rows : List R} {i : ℕ} → seen ≡ rows → i < length seen → IfSome (slice_get seen i) (λ (row : R). number_of row ≡ n) → Rise rows → (d : R)
+    pub changed_at : (new : R → R) → ((row : R) → number_of row ≡ n → change row ≡ new row) → {seen rows : List R} {i : ℕ} → seen ≡ rows
+        → i < length seen → IfSome (slice_get seen i) (λ (row : R). number_of row ≡ n) → Rise rows → (d : R)
         → set rows i (new (get_or rows i d)) ≡ map change rows
     changed_at new here {seen} {rows} {i} same within found ordered d =
         let short = subst (λ (rs : List R). i < length rs) same within in
-        let is = number_at n rows i d short (subst (λ (rs : List R). IfSome (slice_get rs i) (λ (row : R). number_of row ≡ n)) same found) in
+        let is = number_at n rows i d short (subst (λ (rs : List R). IfSome (slice_get rs i) (λ (row : R). number_of row ≡ n)) same found)
+        in
         ap (λ (row : R). set rows i row) (sym (here (get_or rows i d) is)) ∙ sym (one_changed rows i d ordered short is)
 
   -- ## The row with a number goes
@@ -121,19 +135,24 @@ module _ {R : Type 0} (number_of : R → ℕ) where
   pub none_gone : (n : ℕ) (rows : List R) → All (λ (row : R). number_of row ≢ n) rows → rows ≡ others_of n rows
   none_gone n [] others = refl
   none_gone n (row ∷ rows) others =
-      rw (ne_eqb (number_of row) n (others 0 row (omega arith))) (ap (λ rest. row ∷ rest) (none_gone n rows (λ k d lt. others (suc k) d (omega (arith, lt)))))
+      rw (ne_eqb (number_of row) n (others 0 row (omega arith))) (ap (λ rest. row ∷ rest)
+      (none_gone n rows (λ k d lt. others (suc k) d (omega (arith, lt)))))
 
-  pub one_gone : (n : ℕ) (rows : List R) (i : ℕ) (d : R) → Rise rows → i < length rows → number_of (get_or rows i d) ≡ n → remove rows i ≡ others_of n rows
+  pub one_gone : (n : ℕ) (rows : List R) (i : ℕ) (d : R) → Rise rows → i < length rows → number_of (get_or rows i d) ≡ n
+      → remove rows i ≡ others_of n rows
   one_gone n [] i d ordered within is = absurd (omega arith)
   one_gone n (row ∷ rows) zero d ordered within is = rw (eq-eqb (number_of row) n is) (none_gone n rows (none_later row rows n ordered is))
   one_gone n (row ∷ rows) (suc i) d ordered within is =
       let less = ordered 0 (suc i) d (omega arith) within in
-      rw (ne_eqb (number_of row) n (omega (arith, less, is))) (ap (λ rest. row ∷ rest) (one_gone n rows i d (later row rows ordered) (omega arith) is))
+      rw (ne_eqb (number_of row) n (omega (arith, less, is))) (ap (λ rest. row ∷ rest)
+      (one_gone n rows i d (later row rows ordered) (omega arith) is))
 
-  pub gone_at : (n : ℕ) {seen rows : List R} {i : ℕ} → seen ≡ rows → i < length seen → IfSome (slice_get seen i) (λ (row : R). number_of row ≡ n) → Rise rows → (d : R) → remove rows i ≡ others_of n rows
+  pub gone_at : (n : ℕ) {seen rows : List R} {i : ℕ} → seen ≡ rows → i < length seen
+      → IfSome (slice_get seen i) (λ (row : R). number_of row ≡ n) → Rise rows → (d : R) → remove rows i ≡ others_of n rows
   gone_at n {seen} {rows} {i} same within found ordered d =
       let short = subst (λ (rs : List R). i < length rs) same within in
-      one_gone n rows i d ordered short (number_at n rows i d short (subst (λ (rs : List R). IfSome (slice_get rs i) (λ (row : R). number_of row ≡ n)) same found))
+      one_gone n rows i d ordered short (number_at n rows i d short (subst
+      (λ (rs : List R). IfSome (slice_get rs i) (λ (row : R). number_of row ≡ n)) same found))
 
   pub nothing_gone : (n : ℕ) {seen rows : List R} → seen ≡ rows → All (λ (row : R). number_of row ≢ n) seen → rows ≡ others_of n rows
   nothing_gone n {seen} {rows} same others = none_gone n rows (subst (λ (rs : List R). All (λ (row : R). number_of row ≢ n) rs) same others)

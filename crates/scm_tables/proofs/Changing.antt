@@ -1,11 +1,12 @@
 -- What changes of processes do to a row, by its number.
-use Rattle.std.proofs.Common.{ℕ, ◌≡◌, ◌≢◌, ◌∙◌, ◌<◌, ◌==◌, ◌&&◌, ◌++◌, nat_lt, cond, true, false, List, [], ◌∷◌, Some, ap, arith, drop, filter, find, get_or, length, map, refl, sym, eq-eqb}
+use Rattle.std.proofs.Common.{ℕ, ◌≡◌, ◌≢◌, ◌∙◌, ◌<◌, ◌==◌, ◌&&◌, ◌++◌, nat_lt, cond, true, false, List, [], ◌∷◌, Some, ap, arith, drop}
+use Rattle.std.proofs.Common.{filter, find, get_or, length, map, refl, sym, eq-eqb}
 use Rattle.std.specs.Prelude.{option_map, slice_get}
 use Rattle.std.proofs.lemmas.Bool.{ne_eqb}
 use Rattle.std.proofs.lemmas.List.{get_or-map, length-map}
 use Rattle.scm_model.specs.declared.flat.Phase.TheVariants as phases
 use Rattle.scm_model.specs.declared.flat.Process.{Process}
-use Rattle.scm_rules.specs.Controls.{controlled_if, relieved_if}
+use Rattle.scm_rules.specs.Controls.{controlled_if, dequeued_if}
 use Rattle.scm_rules.specs.Launches.{launched_if, taken_if}
 use Rattle.scm_tables.specs.Listed.{is_wanted_row, listed_as, process_shown, processes_in, wanted_in, wanted_of}
 use Rattle.scm_tables.specs.Tabled.{AreInOrder}
@@ -35,9 +36,12 @@ launched_elsewhere n pid row other = rw (ne_eqb row.number n other) refl
 abbrev pub controlled : ℕ → ℕ → ProcessRow → ProcessRow
 controlled limit code row = cond (nat_lt (length row.controls) limit) (record row { controls = row.controls ++ code ∷ [] }) row
 
-pub controlled_here : (limit n code : ℕ) (row : ProcessRow) → row.number ≡ n → listed_as (controlled_if limit n code) row ≡ controlled limit code row
+pub controlled_here : (limit n code : ℕ) (row : ProcessRow) → row.number ≡ n
+    → listed_as (controlled_if limit n code) row ≡ controlled limit code row
 controlled_here limit n code row is =
-    rw (eq-eqb row.number n is) (elim (nat_lt (length row.controls) limit) as (λ b. listed_as (λ p. cond b (record p { controls = p.controls ++ code ∷ [] }) p) row ≡ cond b (record row { controls = row.controls ++ code ∷ [] }) row) [ true ↦ refl | false ↦ refl ])
+    rw (eq-eqb row.number n is) (elim (nat_lt (length row.controls) limit) as (λ b. listed_as
+    (λ p. cond b (record p { controls = p.controls ++ code ∷ [] }) p) row ≡ cond b
+    (record row { controls = row.controls ++ code ∷ [] }) row) [ true ↦ refl | false ↦ refl ])
 
 pub controlled_elsewhere : (limit n code : ℕ) (row : ProcessRow) → row.number ≢ n → listed_as (controlled_if limit n code) row ≡ row
 controlled_elsewhere limit n code row other = rw (ne_eqb row.number n other) refl
@@ -45,33 +49,42 @@ controlled_elsewhere limit n code row other = rw (ne_eqb row.number n other) ref
 abbrev pub relieved : ProcessRow → ProcessRow
 relieved row = record row { controls = drop 1 row.controls }
 
-pub relieved_here : (n : ℕ) (row : ProcessRow) → row.number ≡ n → listed_as (relieved_if n) row ≡ relieved row
+pub relieved_here : (n : ℕ) (row : ProcessRow) → row.number ≡ n → listed_as (dequeued_if n) row ≡ relieved row
 relieved_here n row is = rw (eq-eqb row.number n is) refl
 
-pub relieved_elsewhere : (n : ℕ) (row : ProcessRow) → row.number ≢ n → listed_as (relieved_if n) row ≡ row
+pub relieved_elsewhere : (n : ℕ) (row : ProcessRow) → row.number ≢ n → listed_as (dequeued_if n) row ≡ row
 relieved_elsewhere n row other = rw (ne_eqb row.number n other) refl
 
 -- ## What the changes keep
 
 pub taken_number : (n : ℕ) (row : ProcessRow) → (listed_as (taken_if n) row).number ≡ row.number
-taken_number n row = elim (row.number == n) as (λ b. (listed_as (λ p. cond b (record p { phase = phases.Taken }) p) row).number ≡ row.number) [ true ↦ refl | false ↦ refl ]
+taken_number n row = elim (row.number == n) as (λ b. (listed_as (λ p. cond b (record p { phase = phases.Taken }) p) row).number ≡
+    row.number) [ true ↦ refl | false ↦ refl ]
 
 pub launched_number : (n pid : ℕ) (row : ProcessRow) → (listed_as (launched_if n pid) row).number ≡ row.number
-launched_number n pid row = elim (row.number == n) as (λ b. (listed_as (λ p. cond b (record p { phase = phases.Launched; pid = pid }) p) row).number ≡ row.number) [ true ↦ refl | false ↦ refl ]
+launched_number n pid row = elim (row.number == n) as (λ b. (listed_as (λ p. cond b (record p { phase = phases.Launched; pid = pid }) p)
+    row).number ≡ row.number) [ true ↦ refl | false ↦ refl ]
 
 pub controlled_number : (limit n code : ℕ) (row : ProcessRow) → (listed_as (controlled_if limit n code) row).number ≡ row.number
 controlled_number limit n code row =
-    elim (row.number == n && nat_lt (length row.controls) limit) as (λ b. (listed_as (λ p. cond b (record p { controls = p.controls ++ code ∷ [] }) p) row).number ≡ row.number) [ true ↦ refl | false ↦ refl ]
+    elim (row.number == n && nat_lt (length row.controls) limit) as (λ b.
+    (listed_as (λ p. cond b (record p { controls = p.controls ++ code ∷ [] }) p) row).number ≡ row.number) [
+      | true ↦ refl
+      | false ↦ refl
+    ]
 
 pub controlled_phase : (limit n code : ℕ) (row : ProcessRow) → (listed_as (controlled_if limit n code) row).phase ≡ row.phase
 controlled_phase limit n code row =
-    elim (row.number == n && nat_lt (length row.controls) limit) as (λ b. (listed_as (λ p. cond b (record p { controls = p.controls ++ code ∷ [] }) p) row).phase ≡ row.phase) [ true ↦ refl | false ↦ refl ]
+    elim (row.number == n && nat_lt (length row.controls) limit) as (λ b.
+    (listed_as (λ p. cond b (record p { controls = p.controls ++ code ∷ [] }) p) row).phase ≡ row.phase) [ true ↦ refl | false ↦ refl ]
 
-pub relieved_number : (n : ℕ) (row : ProcessRow) → (listed_as (relieved_if n) row).number ≡ row.number
-relieved_number n row = elim (row.number == n) as (λ b. (listed_as (λ p. cond b (record p { controls = drop 1 p.controls }) p) row).number ≡ row.number) [ true ↦ refl | false ↦ refl ]
+pub relieved_number : (n : ℕ) (row : ProcessRow) → (listed_as (dequeued_if n) row).number ≡ row.number
+relieved_number n row = elim (row.number == n) as (λ b. (listed_as (λ p. cond b (record p { controls = drop 1 p.controls }) p) row).number ≡
+    row.number) [ true ↦ refl | false ↦ refl ]
 
-pub relieved_phase : (n : ℕ) (row : ProcessRow) → (listed_as (relieved_if n) row).phase ≡ row.phase
-relieved_phase n row = elim (row.number == n) as (λ b. (listed_as (λ p. cond b (record p { controls = drop 1 p.controls }) p) row).phase ≡ row.phase) [ true ↦ refl | false ↦ refl ]
+pub relieved_phase : (n : ℕ) (row : ProcessRow) → (listed_as (dequeued_if n) row).phase ≡ row.phase
+relieved_phase n row = elim (row.number == n) as (λ b. (listed_as (λ p. cond b (record p { controls = drop 1 p.controls }) p) row).phase ≡
+    row.phase) [ true ↦ refl | false ↦ refl ]
 
 -- ## Rows that show the same processes
 
@@ -81,23 +94,36 @@ module _ (xs ys : List ProcessRow) (same : processes_in ys ≡ processes_in xs) 
 
   same_number : (k : ℕ) (d : ProcessRow) → k < length ys → (get_or ys k d).number ≡ (get_or xs k d).number
   same_number k d lt =
-      ap (λ (p : Process). p.number) (sym (get_or-map process_shown ys k d (process_shown d) lt) ∙ ap (λ (ps : List Process). get_or ps k (process_shown d)) same ∙ get_or-map process_shown xs k d (process_shown d) (omega (arith, lt, same_length)))
+      ap (λ (p : Process). p.number) (sym (get_or-map process_shown ys k d (process_shown d) lt)
+      ∙ ap (λ (ps : List Process). get_or ps k (process_shown d)) same
+      ∙ get_or-map process_shown xs k d (process_shown d) (omega (arith, lt, same_length)))
 
   -- stand in the same order
   pub same_order : (next : ℕ) → AreInOrder number_of next xs → AreInOrder number_of next ys
   same_order next old = record {
     below = λ k d lt. omega (arith, same_number k d lt, old.below k d (omega (arith, lt, same_length)));
-    rising = λ i j d lt within. omega (arith, same_number i d (omega (arith, lt, within)), same_number j d within, old.rising i j d lt (omega (arith, within, same_length)));
+    rising = λ i j d lt within. omega (
+      arith,
+      same_number i d (omega (arith, lt, within)),
+      same_number j d within,
+      old.rising i j d lt (omega (arith, within, same_length)),
+    );
   }
 
 -- ## What is found
 
-pub found_shown : (n : ℕ) (rows : List ProcessRow) → option_map process_shown (find (λ (row : ProcessRow). row.number == n) rows) ≡ find (λ (row : Process). row.number == n) (processes_in rows)
+pub found_shown : (n : ℕ) (rows : List ProcessRow) → option_map process_shown (find (λ (row : ProcessRow). row.number == n) rows) ≡ find
+    (λ (row : Process). row.number == n) (processes_in rows)
 found_shown n [] = refl
 found_shown n (row ∷ rows) =
-    elim (row.number == n) as (λ b. option_map process_shown (cond b (Some row) (find (λ (r : ProcessRow). r.number == n) rows)) ≡ cond b (Some (process_shown row)) (find (λ (r : Process). r.number == n) (processes_in rows))) [ true ↦ refl | false ↦ found_shown n rows ]
+    elim (row.number == n) as (λ b. option_map process_shown (cond b (Some row) (find (λ (r : ProcessRow). r.number == n) rows)) ≡ cond b
+    (Some (process_shown row)) (find (λ (r : Process). r.number == n) (processes_in rows))) [ true ↦ refl | false ↦ found_shown n rows ]
 
 pub wanted_shown : (rows : List ProcessRow) → option_map wanted_of (find is_wanted_row rows) ≡ slice_get (wanted_in rows) 0
 wanted_shown [] = refl
 wanted_shown (row ∷ rows) =
-    elim (is_wanted_row row) as (λ b. option_map wanted_of (cond b (Some row) (find is_wanted_row rows)) ≡ slice_get (map wanted_of (cond b (row ∷ filter is_wanted_row rows) (filter is_wanted_row rows))) 0) [ true ↦ refl | false ↦ wanted_shown rows ]
+    elim (is_wanted_row row) as (λ b. option_map wanted_of (cond b (Some row) (find is_wanted_row rows)) ≡ slice_get
+    (map wanted_of (cond b (row ∷ filter is_wanted_row rows) (filter is_wanted_row rows))) 0) [
+      | true ↦ refl
+      | false ↦ wanted_shown rows
+    ]

@@ -23,19 +23,22 @@ owed_push [] row = omega arith
 owed_push (first ∷ rows) row = omega (arith, owed_push rows row)
 
 -- the one at a place is another
-pub owed_set : (rows : List ProcessRow) (i : ℕ) (d new : ProcessRow) → i < length rows → owed_in (set rows i new) + owed_in_phase (get_or rows i d).phase ≡ owed_in rows + owed_in_phase new.phase
+pub owed_set : (rows : List ProcessRow) (i : ℕ) (d new : ProcessRow) → i < length rows → owed_in (set rows i new)
+    + owed_in_phase (get_or rows i d).phase ≡ owed_in rows + owed_in_phase new.phase
 owed_set [] i d new within = absurd (omega arith)
 owed_set (row ∷ rows) zero d new within = omega arith
 owed_set (row ∷ rows) (suc i) d new within = omega (arith, owed_set rows i d new (omega arith))
 
 -- the one at a place goes
-pub owed_gone : (rows : List ProcessRow) (i : ℕ) (d : ProcessRow) → i < length rows → owed_in (remove rows i) + owed_in_phase (get_or rows i d).phase ≡ owed_in rows
+pub owed_gone : (rows : List ProcessRow) (i : ℕ) (d : ProcessRow) → i < length rows → owed_in (remove rows i)
+    + owed_in_phase (get_or rows i d).phase ≡ owed_in rows
 owed_gone [] i d within = absurd (omega arith)
 owed_gone (row ∷ rows) zero d within = omega arith
 owed_gone (row ∷ rows) (suc i) d within = omega (arith, owed_gone rows i d (omega arith))
 
 -- where so much was owed, and the one at a place owed its part
-module _ (rows : List ProcessRow) (i : ℕ) (d : ProcessRow) {owed before : ℕ} (within : i < length rows) (all : owed ≡ owed_in rows) (part : before ≡ owed_in_phase (get_or rows i d).phase) where
+module _ (rows : List ProcessRow) (i : ℕ) (d : ProcessRow) {owed before : ℕ} (within : i < length rows) (all : owed ≡ owed_in rows)
+    (part : before ≡ owed_in_phase (get_or rows i d).phase) where
   pub owed_enough : before ≤ owed
   owed_enough = omega (arith, owed_gone rows i d within, all, part)
 
@@ -45,10 +48,12 @@ module _ (rows : List ProcessRow) (i : ℕ) (d : ProcessRow) {owed before : ℕ}
   pub owed_without : owed - before ≡ owed_in (remove rows i)
   owed_without = omega (arith, owed_gone rows i d within, all, part)
 
-pub owed_fits : (rows : List ProcessRow) (owed before after : ℕ) → length rows < 2 ^ 64 → owed ≡ owed_in rows → after ≤ 3 → owed - before + after < 2 ^ 128
+pub owed_fits : (rows : List ProcessRow) (owed before after : ℕ) → length rows < 2 ^ 64 → owed ≡ owed_in rows → after ≤ 3 → owed - before
+    + after < 2 ^ 128
 owed_fits rows owed before after short all small = omega (arith, owed_most rows, short, all, small)
 
 -- a change that leaves the phases alone
-pub owed_alone : (change : Process → Process) → ((row : ProcessRow) → (listed_as change row).phase ≡ row.phase) → (rows : List ProcessRow) → owed_in (map (listed_as change) rows) ≡ owed_in rows
+pub owed_alone : (change : Process → Process) → ((row : ProcessRow) → (listed_as change row).phase ≡ row.phase) → (rows : List ProcessRow)
+    → owed_in (map (listed_as change) rows) ≡ owed_in rows
 owed_alone change same [] = refl
 owed_alone change same (row ∷ rows) = omega (arith, ap owed_in_phase (same row), owed_alone change same rows)

@@ -1,5 +1,6 @@
 -- What the changes keep of texts and of the numbers of plans.
-use Rattle.std.proofs.Common.{ℕ, ◌≡◌, ◌+◌, ◌==◌, ◌&&◌, Bool, true, false, cond, List, [], ◌∷◌, ◌++◌, filter, map, get_or, sym, refl, subst, arith, ◌∙◌}
+use Rattle.std.proofs.Common.{ℕ, ◌≡◌, ◌+◌, ◌==◌, ◌&&◌, Bool, true, false, cond, List, [], ◌∷◌, ◌++◌, filter, map, get_or, sym, refl, subst}
+use Rattle.std.proofs.Common.{arith, ◌∙◌}
 use Rattle.std.specs.Prelude.{All}
 use Rattle.std.specs.List.{AllByRecursion}
 use Rattle.std.proofs.lemmas.List.Elements.{All-map}
@@ -33,27 +34,62 @@ use Rattle.scm_tables.specs.declared.tables.Tables.TheInside.{Inside}
 -- ## Texts
 
 -- a change that keeps each configuration
-pub texts_map : (change : Service → Service) → ((row : Service) → (change row).config ≡ row.config) → (rows : List Service) → All HasShort rows → All HasShort (map change rows)
+pub texts_map : (change : Service → Service) → ((row : Service) → (change row).config ≡ row.config) → (rows : List Service)
+    → All HasShort rows → All HasShort (map change rows)
 texts_map change same rows old = All-map HasShort change rows (λ k d lt. subst HasShortTexts (sym (same (get_or rows k d))) (old k d lt))
 
 pub started_config : (number process : ℕ) (row : Service) → (started_if number process row).config ≡ row.config
 started_config number process row =
-    elim (row.number == number && row.status.state == 1) as (λ b. (cond b (record row { status = record { kind = row.status.kind; state = 2; accepted = 0; win32 = 0; specific = 0; checkpoint = 0; hint = 0 }; process = process }) row).config ≡ row.config)
+    elim (row.number == number && row.status.state == 1) as (λ b. (cond b
+    (record row {
+      status = record {
+        kind = row.status.kind;
+        state = 2;
+        accepted = 0;
+        win32 = 0;
+        specific = 0;
+        checkpoint = 0;
+        hint = 0;
+      };
+      process = process;
+    }) row).config ≡ row.config)
     [ true ↦ refl | false ↦ refl ]
 
 pub fallen_config : (process code : ℕ) (row : Service) → (fallen_if process code row).config ≡ row.config
 fallen_config process code row =
-    elim (row.process == process) as (λ b. (cond b (record row { status = record { kind = row.status.kind; state = 1; accepted = 0; win32 = code; specific = 0; checkpoint = 0; hint = 0 }; process = 0 }) row).config ≡ row.config)
+    elim (row.process == process) as (λ b. (cond b (record row {
+      status =
+          record { kind = row.status.kind; state = 1; accepted = 0; win32 = code; specific = 0; checkpoint = 0; hint = 0 };
+      process = 0;
+    })
+    row).config ≡ row.config)
     [ true ↦ refl | false ↦ refl ]
 
 pub started_number : (number process : ℕ) (row : Service) → (started_if number process row).number ≡ row.number
 started_number number process row =
-    elim (row.number == number && row.status.state == 1) as (λ b. (cond b (record row { status = record { kind = row.status.kind; state = 2; accepted = 0; win32 = 0; specific = 0; checkpoint = 0; hint = 0 }; process = process }) row).number ≡ row.number)
+    elim (row.number == number && row.status.state == 1) as (λ b. (cond b
+    (record row {
+      status = record {
+        kind = row.status.kind;
+        state = 2;
+        accepted = 0;
+        win32 = 0;
+        specific = 0;
+        checkpoint = 0;
+        hint = 0;
+      };
+      process = process;
+    }) row).number ≡ row.number)
     [ true ↦ refl | false ↦ refl ]
 
 pub fallen_number : (process code : ℕ) (row : Service) → (fallen_if process code row).number ≡ row.number
 fallen_number process code row =
-    elim (row.process == process) as (λ b. (cond b (record row { status = record { kind = row.status.kind; state = 1; accepted = 0; win32 = code; specific = 0; checkpoint = 0; hint = 0 }; process = 0 }) row).number ≡ row.number)
+    elim (row.process == process) as (λ b. (cond b (record row {
+      status =
+          record { kind = row.status.kind; state = 1; accepted = 0; win32 = code; specific = 0; checkpoint = 0; hint = 0 };
+      process = 0;
+    })
+    row).number ≡ row.number)
     [ true ↦ refl | false ↦ refl ]
 
 moved_config : (row : Service) (told : Result Status ℕ) → (moved_by row told).config ≡ row.config
@@ -78,12 +114,29 @@ reported_number process report row =
 
 pub started_needs : (number process : ℕ) (row : Service) → need_row (started_if number process row) ≡ need_row row
 started_needs number process row =
-    elim (row.number == number && row.status.state == 1) as (λ b. need_row (cond b (record row { status = record { kind = row.status.kind; state = 2; accepted = 0; win32 = 0; specific = 0; checkpoint = 0; hint = 0 }; process = process }) row) ≡ need_row row)
+    elim (row.number == number && row.status.state == 1) as (λ b. need_row
+    (cond b (record row {
+      status = record {
+        kind = row.status.kind;
+        state = 2;
+        accepted = 0;
+        win32 = 0;
+        specific = 0;
+        checkpoint = 0;
+        hint = 0;
+      };
+      process = process;
+    }) row) ≡ need_row row)
     [ true ↦ refl | false ↦ refl ]
 
 pub fallen_needs : (process code : ℕ) (row : Service) → need_row (fallen_if process code row) ≡ need_row row
 fallen_needs process code row =
-    elim (row.process == process) as (λ b. need_row (cond b (record row { status = record { kind = row.status.kind; state = 1; accepted = 0; win32 = code; specific = 0; checkpoint = 0; hint = 0 }; process = 0 }) row) ≡ need_row row)
+    elim (row.process == process) as (λ b. need_row (cond b (record row {
+      status =
+          record { kind = row.status.kind; state = 1; accepted = 0; win32 = code; specific = 0; checkpoint = 0; hint = 0 };
+      process = 0;
+    })
+    row) ≡ need_row row)
     [ true ↦ refl | false ↦ refl ]
 
 moved_needs : (row : Service) (told : Result Status ℕ) → need_row (moved_by row told) ≡ need_row row
@@ -98,45 +151,62 @@ reported_needs process report row =
 -- ## Another configuration
 
 -- another configuration has short texts too
-pub texts_configured : (number : ℕ) (config : Config) (rows : List Service) → HasShortTexts config → All HasShort rows → All HasShort (map (configured_if number config) rows)
+pub texts_configured : (number : ℕ) (config : Config) (rows : List Service) → HasShortTexts config → All HasShort rows
+    → All HasShort (map (configured_if number config) rows)
 texts_configured number config rows short old =
     All-map HasShort (configured_if number config) rows (λ k d lt.
-    elim ((get_or rows k d).number == number) as (λ b. HasShort (cond b (record (get_or rows k d) { config = config; status = record (get_or rows k d).status { kind = config.kind } }) (get_or rows k d)))
+    elim ((get_or rows k d).number == number) as (λ b. HasShort (cond b
+    (record (get_or rows k d) { config = config; status = record (get_or rows k d).status { kind = config.kind } }) (get_or rows k d)))
     [ true ↦ short | false ↦ old k d lt ])
 
 -- ## Plans
 
-pub below_decided : (n : ℕ) (test : Plan → Bool) (code : ℕ) (plans : List Plan) → AllByRecursion (IsBelow n) plans → AllByRecursion (IsBelow n) (decided_in test code plans)
+pub below_decided : (n : ℕ) (test : Plan → Bool) (code : ℕ) (plans : List Plan) → AllByRecursion (IsBelow n) plans
+    → AllByRecursion (IsBelow n) (decided_in test code plans)
 below_decided n test code plans all = all_filter (IsBelow n) stays (map (decided_if test code) plans) (changed plans all)
   where
     changed : (ps : List Plan) → AllByRecursion (IsBelow n) ps → AllByRecursion (IsBelow n) (map (decided_if test code) ps)
     changed [] a = tt
     changed (p ∷ ps) a = (a.0, changed ps a.1)
 
-pub below_settled : (l : Limits) (f : Flat) (n : ℕ) (plans : List Plan) → AllByRecursion (IsBelow n) plans → AllByRecursion (IsBelow n) (filter stays (settle_all l f plans).1)
+pub below_settled : (l : Limits) (f : Flat) (n : ℕ) (plans : List Plan) → AllByRecursion (IsBelow n) plans
+    → AllByRecursion (IsBelow n) (filter stays (settle_all l f plans).1)
 below_settled l f n plans all =
     all_filter (IsBelow n) stays (settle_all l f plans).1
-    (keeps_all l (λ g. Unit {0}) (IsBelow n) (record { enters = λ g plan s words entry p. tt; tries = λ g plan s entry q. q; drops = λ plan s rest code q. q }) f plans tt all).plans
+    (keeps_all l (λ g. Unit {0}) (IsBelow n) (record {
+      enters = λ g plan s words entry p. tt;
+      tries = λ g plan s entry q. q;
+      drops = λ plan s rest code q. q;
+    }) f plans tt all).plans
 
 pub next_settled : (l : Limits) (f : Flat) (plans : List Plan) → (settle_all l f plans).0.next.plan ≡ f.next.plan
 next_settled l f plans =
-    (keeps_all l (λ g. g.next.plan ≡ f.next.plan) (λ plan. Unit {0}) (record { enters = λ g plan s words entry p. p; tries = λ g plan s entry q. tt; drops = λ plan s rest code q. tt }) f plans refl (all_units plans)).flat
+    (keeps_all l (λ g. g.next.plan ≡ f.next.plan) (λ plan. Unit {0}) (record {
+      enters = λ g plan s words entry p. p;
+      tries = λ g plan s entry q. tt;
+      drops = λ plan s rest code q. tt;
+    }) f plans refl (all_units plans)).flat
 
-pub below_more : (n : ℕ) (plans : List Plan) (plan : Plan) → AllByRecursion (IsBelow n) plans → plan.number ≡ n → AllByRecursion (IsBelow (n + 1)) (plans ++ plan ∷ [])
+pub below_more : (n : ℕ) (plans : List Plan) (plan : Plan) → AllByRecursion (IsBelow n) plans → plan.number ≡ n
+    → AllByRecursion (IsBelow (n + 1)) (plans ++ plan ∷ [])
 below_more n [] plan all e = (omega (arith, e), tt)
 below_more n (p ∷ ps) plan all e = (let lt = all.0 in omega arith, below_more n ps plan all.1 e)
 
 -- plans that are settled beside the rest of the state, and the deadlines that are left
-pub settles : (l : Limits) (f g : Flat) (plans ended : List Plan) (rows : List Due) → ended ≡ filter stays (settle_all l f plans).1 → g ≡ (settle_all l f plans).0
-    → rows ≡ filter (λ (due : Due). is_due_still ended due.kind) g.dues → record g { plans = ended; dues = rows } ≡ settled l (with_plans f plans)
+pub settles : (l : Limits) (f g : Flat) (plans ended : List Plan) (rows : List Due) → ended ≡ filter stays (settle_all l f plans).1
+    → g ≡ (settle_all l f plans).0
+    → rows ≡ filter (λ (due : Due). is_due_still ended due.kind) g.dues
+    → record g { plans = ended; dues = rows } ≡ settled l (with_plans f plans)
 settles l f g plans ended rows plans_are flat_is rows_are =
     rw (rows_are, flat_is, plans_are) (sym (settles_beside l f plans))
 
 -- lists that differ in plans, due rows and what no list tells are kept where their plans and due rows are
-pub other_plans : {t u : Inside} → IsKept t → u.next.service ≡ t.next.service → u.services.services ≡ t.services.services → u.index.rows ≡ t.index.rows → u.acyclic ≡ t.acyclic → u.leaving ≡ t.leaving
+pub other_plans : {t u : Inside} → IsKept t → u.next.service ≡ t.next.service → u.services.services ≡ t.services.services
+    → u.index.rows ≡ t.index.rows → u.acyclic ≡ t.acyclic → u.leaving ≡ t.leaving
     → u.limits.processes ≡ t.limits.processes → u.processes ≡ t.processes → u.tried.items ≡ t.tried.items
     → u.start_room ≡ t.start_room → u.starts.items ≡ t.starts.items → u.commands.items ≡ t.commands.items
-    → AllByRecursion (IsBelow u.next.plan) u.plans.plans → ArePending t.services.services u.plans.awaited → HasPlaces t.services.services u.dues.rows u.dues.capacity → IsKept u
+    → AllByRecursion (IsBelow u.next.plan) u.plans.plans → ArePending t.services.services u.plans.awaited
+    → HasPlaces t.services.services u.dues.rows u.dues.capacity → IsKept u
 other_plans kept next rows index acyclic marked limit processes tried wide starts commands plans pending dues = record {
   rising = rw next (rw rows kept.rising);
   owns = rw processes (rw rows kept.owns);
@@ -154,8 +224,10 @@ other_plans kept next rows index acyclic marked limit processes tried wide start
   rooms = rw (wide, starts, commands) kept.rooms;
 }
 
--- lists that differ in processes are kept where there is room for as many, the next one has the same number, and those that are listed are of their services
-pub other_processes : {t : Inside} → IsKept t → (all : Processed) → {new : Processed} → all ≡ new → new.next ≡ t.processes.next → new.capacity ≡ t.processes.capacity → AreOwners new.processes t.services.services → IsKept (record t { processes = all })
+-- lists that differ in processes are kept where there is room for as many, the next one has the same number, and those that are listed are
+-- of their services
+pub other_processes : {t : Inside} → IsKept t → (all : Processed) → {new : Processed} → all ≡ new → new.next ≡ t.processes.next
+    → new.capacity ≡ t.processes.capacity → AreOwners new.processes t.services.services → IsKept (record t { processes = all })
 other_processes kept all is next capacity listed = record {
   rising = kept.rising;
   owns = rw (is, next) kept.owns;

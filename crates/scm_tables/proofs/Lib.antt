@@ -17,3 +17,4 @@ pub mod Permuted
 pub mod Placed
 pub mod Fired
 pub mod Failures
+pub mod Promising

@@ -1,5 +1,6 @@
 -- The services whose numbers are kept.
-use Rattle.std.proofs.Common.{ℕ, ◌≡◌, ◌∙◌, ◌<◌, ◌==◌, ◌&&◌, suc, Bool, true, false, cond, List, [], ◌∷◌, Option, Some, filter, find, get_or, length, map, max, not, refl, ap, subst}
+use Rattle.std.proofs.Common.{ℕ, ◌≡◌, ◌∙◌, ◌<◌, ◌==◌, ◌&&◌, suc, Bool, true, false, cond, List, [], ◌∷◌, Option, Some, filter, find, get_or}
+use Rattle.std.proofs.Common.{length, map, max, not, refl, ap, subst}
 use Rattle.std.specs.Prelude.{All, AllPairs, fold}
 use Rattle.std.specs.List.{list_any}
 use Rattle.std.proofs.lemmas.List.Elements.{All-filter, All-head, All-tail}
@@ -35,7 +36,8 @@ each_found : (rows : List Service) → AllPairs (λ (a b : Service). a.number < 
 each_found rows rising k d within = found_here number_of rows k (get_or rows k d).number d rising within refl
 
 -- the numbers that the index has are those of the services whose rows pass
-kept_numbers : (p : NeedRow → Bool) (rows : List Service) → numbers_of (filter p (need_rows rows)) ≡ map number_of (filter (λ (row : Service). p (need_row row)) rows)
+kept_numbers : (p : NeedRow → Bool) (rows : List Service) → numbers_of (filter p (need_rows rows)) ≡ map number_of
+    (filter (λ (row : Service). p (need_row row)) rows)
 kept_numbers p [] = refl
 kept_numbers p (row ∷ rows) =
     elim (p (need_row row)) as (λ b. numbers_of (cond b (need_row row ∷ filter p (need_rows rows)) (filter p (need_rows rows)))
@@ -44,33 +46,40 @@ kept_numbers p (row ∷ rows) =
 
 -- ## What is seen of services by their numbers
 
-any_of : (q : Option Service → Bool) (all some : List Service) → All (IsFound all) some → list_any (λ n. q (with_number all n)) (map number_of some) ≡ list_any (λ (row : Service). q (Some row)) some
+any_of : (q : Option Service → Bool) (all some : List Service) → All (IsFound all) some
+    → list_any (λ n. q (with_number all n)) (map number_of some) ≡ list_any (λ (row : Service). q (Some row)) some
 any_of q all [] found = refl
 any_of q all (row ∷ some) found =
     rw (All-head (IsFound all) row some found, any_of q all some (All-tail (IsFound all) row some found)) refl
 
-count_of : (q : Option Service → Bool) (all some : List Service) → All (IsFound all) some → length (filter (λ n. q (with_number all n)) (map number_of some)) ≡ length (filter (λ (row : Service). q (Some row)) some)
+count_of : (q : Option Service → Bool) (all some : List Service) → All (IsFound all) some
+    → length (filter (λ n. q (with_number all n)) (map number_of some)) ≡ length (filter (λ (row : Service). q (Some row)) some)
 count_of q all [] found = refl
 count_of q all (row ∷ some) found =
     let rest = count_of q all some (All-tail (IsFound all) row some found) in
     rw (All-head (IsFound all) row some found)
-    (elim (q (Some row)) as (λ b. length (cond b (row.number ∷ filter (λ n. q (with_number all n)) (map number_of some)) (filter (λ n. q (with_number all n)) (map number_of some)))
+    (elim (q (Some row)) as (λ b. length (cond b (row.number ∷ filter (λ n. q (with_number all n)) (map number_of some))
+    (filter (λ n. q (with_number all n)) (map number_of some)))
     ≡ length (cond b (row ∷ filter (λ (r : Service). q (Some r)) some) (filter (λ (r : Service). q (Some r)) some)))
     [ true ↦ ap suc rest | false ↦ rest ])
 
 greatest_of : (before : ℕ) (all some : List Service) → All (IsFound all) some
-    → fold (λ greatest number. max greatest (tag_of (with_number all number))) before (map number_of some) ≡ fold (λ greatest (row : Service). max greatest row.config.tag) before some
+    → fold (λ greatest number. max greatest (tag_of (with_number all number))) before (map number_of some) ≡ fold
+    (λ greatest (row : Service). max greatest row.config.tag) before some
 greatest_of before all [] found = refl
 greatest_of before all (row ∷ some) found =
-    ap (λ o. fold (λ greatest number. max greatest (tag_of (with_number all number))) (max before (tag_of o)) (map number_of some)) (All-head (IsFound all) row some found)
+    ap (λ o. fold (λ greatest number. max greatest (tag_of (with_number all number))) (max before (tag_of o)) (map number_of some))
+    (All-head (IsFound all) row some found)
     ∙ greatest_of (max before row.config.tag) all some (All-tail (IsFound all) row some found)
 
 -- those that are active among those that name one
 active_rows : (p q : Service → Bool) (rows : List Service) → filter q (filter p rows) ≡ filter (λ (row : Service). p row && q row) rows
 active_rows p q [] = refl
 active_rows p q (row ∷ rows) =
-    elim (p row) as (λ b. filter q (cond b (row ∷ filter p rows) (filter p rows)) ≡ cond (b && q row) (row ∷ filter (λ (r : Service). p r && q r) rows) (filter (λ (r : Service). p r && q r) rows)) [
-      | true ↦ elim (q row) as (λ b. cond b (row ∷ filter q (filter p rows)) (filter q (filter p rows)) ≡ cond b (row ∷ filter (λ (r : Service). p r && q r) rows) (filter (λ (r : Service). p r && q r) rows))
+    elim (p row) as (λ b. filter q (cond b (row ∷ filter p rows) (filter p rows)) ≡ cond (b && q row)
+    (row ∷ filter (λ (r : Service). p r && q r) rows) (filter (λ (r : Service). p r && q r) rows)) [
+      | true ↦ elim (q row) as (λ b. cond b (row ∷ filter q (filter p rows)) (filter q (filter p rows)) ≡ cond b
+          (row ∷ filter (λ (r : Service). p r && q r) rows) (filter (λ (r : Service). p r && q r) rows))
           [ true ↦ ap (λ (rs : List Service). row ∷ rs) (active_rows p q rows) | false ↦ active_rows p q rows ]
       | false ↦ active_rows p q rows
     ]
@@ -82,15 +91,20 @@ module _ (rows : List Service) (rising : AllPairs (λ (a b : Service). a.number 
   passing_found p = All-filter p (IsFound rows) rows (each_found rows rising)
 
   -- whether a group has a RUNNING member
-  pub group_running : (group : List ℕ) → list_any (λ n. state_in (with_number rows n) == SERVICE_RUNNING) (numbers_with (is_member group) rows) ≡ list_any is_running (filter (is_member group) rows)
-  group_running group = any_of (λ found. state_in found == SERVICE_RUNNING) rows (filter (is_member group) rows) (passing_found (is_member group))
+  pub group_running : (group : List ℕ) → list_any (λ n. state_in (with_number rows n) == SERVICE_RUNNING)
+      (numbers_with (is_member group) rows) ≡ list_any is_running (filter (is_member group) rows)
+  group_running group = any_of (λ found. state_in found == SERVICE_RUNNING) rows (filter (is_member group) rows)
+      (passing_found (is_member group))
 
   -- the greatest tag of a group
-  pub group_tag : (group : List ℕ) → fold (λ greatest number. max greatest (tag_of (with_number rows number))) 0 (numbers_with (is_member group) rows) ≡ greatest_tag (filter (is_member group) rows)
+  pub group_tag : (group : List ℕ) → fold (λ greatest number. max greatest (tag_of (with_number rows number))) 0
+      (numbers_with (is_member group) rows) ≡ greatest_tag (filter (is_member group) rows)
   group_tag group = greatest_of 0 rows (filter (is_member group) rows) (passing_found (is_member group))
 
   -- how many name one and aren't STOPPED
-  pub naming_active : (graph : List NeedRow) → graph ≡ need_rows rows → (name : List ℕ) → length (filter (λ n. not (state_in (with_number rows n) == SERVICE_STOPPED)) (naming_of graph name)) ≡ length (filter (is_active_by name) rows)
+  pub naming_active : (graph : List NeedRow) → graph ≡ need_rows rows → (name : List ℕ)
+      → length (filter (λ n. not (state_in (with_number rows n) == SERVICE_STOPPED)) (naming_of graph name)) ≡ length
+      (filter (is_active_by name) rows)
   naming_active graph is name =
       let p = λ (row : Service). names name (need_row row) in
       let active = λ (found : Option Service). not (state_in found == SERVICE_STOPPED) in
@@ -101,7 +115,8 @@ module _ (rows : List Service) (rising : AllPairs (λ (a b : Service). a.number 
 
 -- ## What the lists keep of both
 
-pub in_order : {t : Inside} {value : Tabled} → IsKept t → tabled t ≡ value → AllPairs (λ (a b : Service). a.number < b.number) value.flat.services
+pub in_order : {t : Inside} {value : Tabled} → IsKept t → tabled t ≡ value
+    → AllPairs (λ (a b : Service). a.number < b.number) value.flat.services
 in_order kept view = subst (λ (v : Tabled). AllPairs (λ (a b : Service). a.number < b.number) v.flat.services) view kept.rising.rising
 
 pub indexed : {t : Inside} {value : Tabled} → IsKept t → tabled t ≡ value → t.index.rows ≡ need_rows value.flat.services

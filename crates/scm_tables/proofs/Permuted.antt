@@ -18,7 +18,8 @@ same_count p xs ys same =
     ∙ sym (is_sum_by (λ zs. length (filter p zs)) (λ x. one_if (p x)) refl (count_cons p) xs)
 
 -- all rows are counted once none is left
-pub counted_all : {X : Type 0} (f : X → ℕ) (counted place most : ℕ) (xs ys : List X) → IsPermutation xs ys → length ys ≤ place → counted ≤ most
+pub counted_all : {X : Type 0} (f : X → ℕ) (counted place most : ℕ) (xs ys : List X) → IsPermutation xs ys → length ys ≤ place
+    → counted ≤ most
     → min (counted + total f (drop place ys)) most ≡ min (total f ys) most → counted ≡ min (total f xs) most
 counted_all f counted place most xs ys same end few is =
     let none : total f (drop place ys) ≡ 0 = at_drop_all (total f) ys place end in

@@ -1,5 +1,6 @@
 -- Rows in order of number: what each change keeps.
-use Rattle.std.proofs.Common.{ℕ, ◌≡◌, ◌≢◌, ◌<◌, ◌+◌, ◌++◌, ◌==◌, ◌||◌, Bool, true, false, cond, List, [], ◌∷◌, filter, map, get_or, length, ap, sym, refl, subst, arith, eq-eqb}
+use Rattle.std.proofs.Common.{ℕ, ◌≡◌, ◌≢◌, ◌<◌, ◌+◌, ◌++◌, ◌==◌, ◌||◌, Bool, true, false, cond, List, [], ◌∷◌, filter, map, get_or, length}
+use Rattle.std.proofs.Common.{ap, sym, refl, subst, arith, eq-eqb}
 use Rattle.std.proofs.lemmas.Bool.{ne_eqb}
 use Rattle.std.proofs.lemmas.List.{get_or-map, length-map}
 use Rattle.std.proofs.lemmas.List.Elements.{All-filter, All-push, All-map}
@@ -14,22 +15,27 @@ use Rattle.scm_tables.specs.Tabled.{AreInOrder, AreRising}
 use Rattle.scm_tables.specs.Turned.{counted, marked, started}
 
 module _ {R : Type 0} (number_of : R → ℕ) where
-  pub ordered_push : (next : ℕ) (rows : List R) (row : R) → AreInOrder number_of next rows → number_of row ≡ next → AreInOrder number_of (next + 1) (rows ++ row ∷ [])
+  pub ordered_push : (next : ℕ) (rows : List R) (row : R) → AreInOrder number_of next rows → number_of row ≡ next
+      → AreInOrder number_of (next + 1) (rows ++ row ∷ [])
   ordered_push next rows row old new = record {
     below = All-push (λ (r : R). number_of r < next + 1) rows row (λ k d lt. let b = old.below k d lt in omega arith) (omega arith);
-    rising = all_pairs_push (λ (a b : R). number_of a < number_of b) rows row old.rising (λ k d lt. let b = old.below k d lt in omega arith);
+    rising = all_pairs_push (λ (a b : R). number_of a < number_of b) rows row old.rising
+        (λ k d lt. let b = old.below k d lt in omega arith);
   }
 
-  pub ordered_filter : (next : ℕ) (p : R → Bool) (rows : List R) → AreInOrder number_of next rows → AreInOrder number_of next (filter p rows)
+  pub ordered_filter : (next : ℕ) (p : R → Bool) (rows : List R) → AreInOrder number_of next rows
+      → AreInOrder number_of next (filter p rows)
   ordered_filter next p rows old = record {
     below = All-filter p (λ (r : R). number_of r < next) rows old.below;
     rising = AllPairs-filter (λ (a b : R). number_of a < number_of b) p rows old.rising;
   }
 
   -- a change that keeps each number
-  pub ordered_map : (next : ℕ) (change : R → R) → ((row : R) → number_of (change row) ≡ number_of row) → (rows : List R) → AreInOrder number_of next rows → AreInOrder number_of next (map change rows)
+  pub ordered_map : (next : ℕ) (change : R → R) → ((row : R) → number_of (change row) ≡ number_of row) → (rows : List R)
+      → AreInOrder number_of next rows → AreInOrder number_of next (map change rows)
   ordered_map next change same rows old = record {
-    below = All-map (λ (r : R). number_of r < next) change rows (λ k d lt. let b = old.below k d lt in let e = same (get_or rows k d) in omega arith);
+    below = All-map (λ (r : R). number_of r < next) change rows (λ k d lt. let b = old.below k d lt in let e = same (get_or rows k d) in
+        omega arith);
     rising = λ i j d lt within.
         let short : j < length rows = simp length-map at within in
         let shorter : i < length rows = omega arith in
@@ -40,13 +46,15 @@ module _ {R : Type 0} (number_of : R → ℕ) where
 
 -- ## Services
 
-pub rising_push : (next : ℕ) (rows : List Service) (row : Service) → AreRising next rows → row.number ≡ next → AreRising (next + 1) (rows ++ row ∷ [])
+pub rising_push : (next : ℕ) (rows : List Service) (row : Service) → AreRising next rows → row.number ≡ next
+    → AreRising (next + 1) (rows ++ row ∷ [])
 rising_push next rows row old new = ordered_push (λ (r : Service). r.number) next rows row old new
 
 pub rising_filter : (next : ℕ) (p : Service → Bool) (rows : List Service) → AreRising next rows → AreRising next (filter p rows)
 rising_filter next p rows old = ordered_filter (λ (r : Service). r.number) next p rows old
 
-pub rising_map : (next : ℕ) (change : Service → Service) → ((row : Service) → (change row).number ≡ row.number) → (rows : List Service) → AreRising next rows → AreRising next (map change rows)
+pub rising_map : (next : ℕ) (change : Service → Service) → ((row : Service) → (change row).number ≡ row.number) → (rows : List Service)
+    → AreRising next rows → AreRising next (map change rows)
 rising_map next change same rows old = ordered_map (λ (r : Service). r.number) next change same rows old
 
 abbrev pub configured : Config → Service → Service
@@ -61,7 +69,8 @@ configured_elsewhere n config row other = rw (ne_eqb row.number n other) refl
 -- a change of a configuration keeps each number
 pub configured_number : (number : ℕ) (config : Config) (row : Service) → (configured_if number config row).number ≡ row.number
 configured_number number config row =
-    elim (row.number == number) as (λ b. (cond b (record row { config = config; status = record row.status { kind = config.kind } }) row).number ≡ row.number)
+    elim (row.number == number) as (λ b. (cond b (record row { config = config; status = record row.status { kind = config.kind } })
+    row).number ≡ row.number)
     [ true ↦ refl | false ↦ refl ]
 
 -- ## A change of one service, by its number

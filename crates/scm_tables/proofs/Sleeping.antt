@@ -1,5 +1,6 @@
 -- Plans go on sleeping for services whose state is about to change.
-use Rattle.std.proofs.Common.{ℕ, ◌≡◌, ◌≢◌, ◌∙◌, ◌==◌, ◌&&◌, zero, suc, Bool, true, false, cond, not, List, [], ◌∷◌, ◌++◌, Option, None, Some, find, map, refl, sym, ap, subst, arith, eq-eqb, eqb-true}
+use Rattle.std.proofs.Common.{ℕ, ◌≡◌, ◌≢◌, ◌∙◌, ◌==◌, ◌&&◌, zero, suc, Bool, true, false, cond, not, List, [], ◌∷◌, ◌++◌, Option, None}
+use Rattle.std.proofs.Common.{Some, find, map, refl, sym, ap, subst, arith, eq-eqb, eqb-true}
 use Rattle.std.specs.Prelude.{All}
 use Rattle.std.specs.List.{list_any}
 use Rattle.std.proofs.lemmas.Bool.{ne_eqb}
@@ -31,27 +32,36 @@ same_pending rows others n same pending = ap is_pending same ∙ pending
 
 -- ## Changes that keep each state
 
-same_state : (change : Service → Service) → ((row : Service) → (change row).number ≡ row.number) → ((row : Service) → (change row).status.state ≡ row.status.state) → (rows : List Service) (n : ℕ)
+same_state : (change : Service → Service) → ((row : Service) → (change row).number ≡ row.number)
+    → ((row : Service) → (change row).status.state ≡ row.status.state) → (rows : List Service) (n : ℕ)
     → state_at (map change rows) n ≡ state_at rows n
 same_state change numbers states [] n = refl
 same_state change numbers states (row ∷ rows) n =
     ap (λ m. state_in (cond (m == n) (Some (change row)) (find (λ (r : Service). r.number == n) (map change rows)))) (numbers row)
-    ∙ elim (row.number == n) as (λ b. state_in (cond b (Some (change row)) (find (λ (r : Service). r.number == n) (map change rows))) ≡ state_in (cond b (Some row) (find (λ (r : Service). r.number == n) rows)))
+    ∙ elim (row.number == n) as (λ b. state_in (cond b (Some (change row)) (find (λ (r : Service). r.number == n) (map change rows))) ≡
+    state_in (cond b (Some row) (find (λ (r : Service). r.number == n) rows)))
     [ true ↦ states row | false ↦ same_state change numbers states rows n ]
 
-pub pending_map : (change : Service → Service) → ((row : Service) → (change row).number ≡ row.number) → ((row : Service) → (change row).status.state ≡ row.status.state) → (rows : List Service) (ns : List ℕ)
+pub pending_map : (change : Service → Service) → ((row : Service) → (change row).number ≡ row.number)
+    → ((row : Service) → (change row).status.state ≡ row.status.state) → (rows : List Service) (ns : List ℕ)
     → ArePending rows ns → ArePending (map change rows) ns
 pending_map change numbers states rows ns pending =
     pending_by rows (map change rows) (λ n. same_pending rows (map change rows) n (same_state change numbers states rows n)) ns pending
 
 pub counted_state : (number moment : ℕ) (row : Service) → (counted_if number moment row).status.state ≡ row.status.state
 counted_state number moment row =
-    elim (row.number == number) as (λ b. (cond b (record row { failures = (on_failure row.config row.failures row.last_failure moment).failures; last_failure = moment }) row).status.state ≡ row.status.state)
+    elim (row.number == number) as (λ b. (cond b (record row {
+      failures =
+          (on_failure row.config row.failures row.last_failure moment).failures;
+      last_failure = moment;
+    }) row).status.state ≡
+    row.status.state)
     [ true ↦ refl | false ↦ refl ]
 
 pub configured_state : (number : ℕ) (config : Config) (row : Service) → (configured_if number config row).status.state ≡ row.status.state
 configured_state number config row =
-    elim (row.number == number) as (λ b. (cond b (record row { config = config; status = record row.status { kind = config.kind } }) row).status.state ≡ row.status.state)
+    elim (row.number == number) as (λ b. (cond b (record row { config = config; status = record row.status { kind = config.kind } })
+    row).status.state ≡ row.status.state)
     [ true ↦ refl | false ↦ refl ]
 
 -- ## A service more
@@ -59,7 +69,8 @@ configured_state number config row =
 pushed : (rows : List Service) (new : Service) (n : ℕ) → IsPending rows n → IsPending (rows ++ new ∷ []) n
 pushed [] new n pending = absurd (cc pending)
 pushed (row ∷ rows) new n pending =
-    elim (row.number == n) as (λ b. is_pending (state_in (cond b (Some row) (find (λ (r : Service). r.number == n) rows))) ≡ true → is_pending (state_in (cond b (Some row) (find (λ (r : Service). r.number == n) (rows ++ new ∷ [])))) ≡ true)
+    elim (row.number == n) as (λ b. is_pending (state_in (cond b (Some row) (find (λ (r : Service). r.number == n) rows))) ≡ true
+    → is_pending (state_in (cond b (Some row) (find (λ (r : Service). r.number == n) (rows ++ new ∷ [])))) ≡ true)
     [ true ↦ λ h. h | false ↦ λ h. pushed rows new n h ] pending
 
 pub pending_push : (rows : List Service) (new : Service) (ns : List ℕ) → ArePending rows ns → ArePending (rows ++ new ∷ []) ns
@@ -79,26 +90,32 @@ stopped_at : (handles : List HandleRow) (o : Option Service) → may_leave handl
 stopped_at handles None h = absurd (cc h)
 stopped_at handles (Some row) h = marked_by row.marked h
   where
-    marked_by : (marked : Bool) → (marked && row.status.state == 1 && not (list_any (λ (handle : HandleRow). is_of_service row.number handle.kind) handles)) ≡ true → row.status.state ≡ 1
+    marked_by : (marked : Bool) → (marked && row.status.state == 1 && not
+        (list_any (λ (handle : HandleRow). is_of_service row.number handle.kind) handles)) ≡ true → row.status.state ≡ 1
     marked_by false h = absurd (cc h)
     marked_by true h =
-        elim (row.status.state == 1) as (λ b. (row.status.state == 1) ≡ b → (b && not (list_any (λ (handle : HandleRow). is_of_service row.number handle.kind) handles)) ≡ true → row.status.state ≡ 1) [
+        elim (row.status.state == 1) as (λ b. (row.status.state == 1) ≡ b
+        → (b && not (list_any (λ (handle : HandleRow). is_of_service row.number handle.kind) handles)) ≡ true → row.status.state ≡ 1) [
           | true ↦ λ e h. eqb-true row.status.state 1 e
           | false ↦ λ e h. absurd (cc h)
         ] refl h
 
-found_without : (n m : ℕ) → (m == n) ≡ false → (rows : List Service) → find (λ (row : Service). row.number == m) (without n rows) ≡ find (λ (row : Service). row.number == m) rows
+found_without : (n m : ℕ) → (m == n) ≡ false → (rows : List Service) → find (λ (row : Service). row.number == m) (without n rows) ≡ find
+    (λ (row : Service). row.number == m) rows
 found_without n m other [] = refl
 found_without n m other (row ∷ rows) =
     elim (row.number == n) as (λ b. (row.number == n) ≡ b
-    → find (λ (r : Service). r.number == m) (cond (not b) (row ∷ without n rows) (without n rows)) ≡ cond (row.number == m) (Some row) (find (λ (r : Service). r.number == m) rows)) [
+    → find (λ (r : Service). r.number == m) (cond (not b) (row ∷ without n rows) (without n rows)) ≡ cond (row.number == m) (Some row)
+    (find (λ (r : Service). r.number == m) rows)) [
       | true ↦ λ e.
-          let elsewhere : (row.number == m) ≡ false = ne_eqb row.number m (λ same. absurd (cc (sym (eq-eqb m n (sym same ∙ eqb-true row.number n e)) ∙ other))) in
+          let elsewhere : (row.number == m) ≡ false = ne_eqb row.number m
+          (λ same. absurd (cc (sym (eq-eqb m n (sym same ∙ eqb-true row.number n e)) ∙ other))) in
           rw elsewhere (found_without n m other rows)
       | false ↦ λ e. ap (λ (o : Option Service). cond (row.number == m) (Some row) o) (found_without n m other rows)
     ] refl
 
-pub pending_left : (handles : List HandleRow) (rows : List Service) (marks : List ℕ) (n : ℕ) (ns : List ℕ) → Some n ≡ find (number_leaves handles rows) marks → ArePending rows ns → ArePending (without n rows) ns
+pub pending_left : (handles : List HandleRow) (rows : List Service) (marks : List ℕ) (n : ℕ) (ns : List ℕ)
+    → Some n ≡ find (number_leaves handles rows) marks → ArePending rows ns → ArePending (without n rows) ns
 pending_left handles rows marks n ns first pending = pending_by rows (without n rows) left ns pending
   where
     stopped : state_at rows n ≡ 1
@@ -117,28 +134,38 @@ pending_left handles rows marks n ns first pending = pending_by rows (without n 
 abbrev OnlyHas : ℕ → List Service → ℕ → Type 0
 OnlyHas process rows service = All (λ (row : Service). row.process ≡ process → row.number ≡ service) rows
 
-changed_elsewhere : (process service : ℕ) (change : Service → Service) → IsChangeOf process change → (n : ℕ) → (n == service) ≡ false → (rows : List Service) → OnlyHas process rows service
+changed_elsewhere : (process service : ℕ) (change : Service → Service) → IsChangeOf process change → (n : ℕ) → (n == service) ≡ false
+    → (rows : List Service) → OnlyHas process rows service
     → find (λ (row : Service). row.number == n) (map change rows) ≡ find (λ (row : Service). row.number == n) rows
 changed_elsewhere process service change is n other [] only = refl
 changed_elsewhere process service change is n other (row ∷ rows) only =
     ap (λ m. cond (m == n) (Some (change row)) (find (λ (r : Service). r.number == n) (map change rows))) (is.number row)
-    ∙ elim (row.number == n) as (λ b. (row.number == n) ≡ b → cond b (Some (change row)) (find (λ (r : Service). r.number == n) (map change rows)) ≡ cond b (Some row) (find (λ (r : Service). r.number == n) rows)) [
-      | true ↦ λ e. ap (λ (r : Service). Some r) (is.others row (λ same. absurd (cc (sym (eq-eqb n service (sym (eqb-true row.number n e) ∙ only zero row (omega arith) same)) ∙ other))))
+    ∙ elim (row.number == n) as (λ b. (row.number == n) ≡ b → cond b (Some (change row))
+    (find (λ (r : Service). r.number == n) (map change rows)) ≡ cond b (Some row) (find (λ (r : Service). r.number == n) rows)) [
+      | true ↦ λ e. ap (λ (r : Service). Some r) (is.others row (λ same. absurd
+          (cc (sym (eq-eqb n service (sym (eqb-true row.number n e) ∙ only zero row (omega arith) same)) ∙ other))))
       | false ↦ λ e. changed_elsewhere process service change is n other rows (λ k d lt. only (suc k) d (omega (arith, lt)))
     ] refl
 
 -- those that wait for the one service that has a process are woken
-woken_one : (process service : ℕ) (rows : List Service) (ns : List ℕ) → OnlyHas process rows service → AreWokenFor process rows ns (all_but service ns)
+woken_one : (process service : ℕ) (rows : List Service) (ns : List ℕ) → OnlyHas process rows service
+    → AreWokenFor process rows ns (all_but service ns)
 woken_one process service rows [] only pending change is = tt
 woken_one process service rows (n ∷ ns) only pending change is =
     let rest = woken_one process service rows ns only pending.1 change is in
-    elim (n == service) as (λ b. (n == service) ≡ b → ArePending (map change rows) (cond (not b) (n ∷ all_but service ns) (all_but service ns))) [
+    elim (n == service) as (λ b. (n == service) ≡ b → ArePending (map change rows)
+    (cond (not b) (n ∷ all_but service ns) (all_but service ns))) [
       | true ↦ λ e. rest
-      | false ↦ λ e. (same_pending rows (map change rows) n (ap state_in (changed_elsewhere process service change is n e rows only)) pending.0, rest)
+      | false ↦ λ e. (
+        same_pending rows (map change rows) n (ap state_in (changed_elsewhere process service change is n e rows only))
+            pending.0,
+        rest,
+      )
     ] refl
 
 -- those that wait for the service that a process is said to be of are woken
-pub woken_said : (process service : ℕ) (rows : List Service) (ns : List ℕ) → process ≢ 0 → NoOtherHas process rows service → AreWokenFor process rows ns (all_but service ns)
+pub woken_said : (process service : ℕ) (rows : List Service) (ns : List ℕ) → process ≢ 0 → NoOtherHas process rows service
+    → AreWokenFor process rows ns (all_but service ns)
 woken_said process service rows ns some told =
     woken_one process service rows ns (λ k d lt has. told k d lt (λ none. some (sym has ∙ none)) has)
 

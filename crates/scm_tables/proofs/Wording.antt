@@ -1,5 +1,6 @@
 -- The words of the launch that is wanted first.
-use Rattle.std.proofs.Common.{ℕ, ◌≡◌, ◌∙◌, ◌<◌, ◌≤◌, suc, zero, Bool, true, false, cond, List, [], ◌∷◌, None, Some, filter, map, get_or, length, ap, sym, refl, arith, Option, ◌==◌}
+use Rattle.std.proofs.Common.{ℕ, ◌≡◌, ◌∙◌, ◌<◌, ◌≤◌, suc, zero, Bool, true, false, cond, List, [], ◌∷◌, None, Some, filter, map, get_or}
+use Rattle.std.proofs.Common.{length, ap, sym, refl, arith, Option, ◌==◌}
 use Rattle.std.specs.Prelude.{set, position, slice_get, IfSome, All, find, option_and_then}
 use Rattle.std.specs.Prelude.{nat_lt}
 use Rattle.std.specs.List.{position_or_len}
@@ -32,27 +33,36 @@ pub first_of : (rows : List ProcessRow) (i : ℕ) (d : ProcessRow) → position 
 first_of rows i d e = let p = position-Some is_wanted_row rows i d e in record { within = p.0; wanted = p.1; none = p.2 }
 
 next_first : (row : ProcessRow) (rows : List ProcessRow) (i : ℕ) (d : ProcessRow) → IsFirst (row ∷ rows) (suc i) d → IsFirst rows i d
-next_first row rows i d f = record { within = (let lt = f.within in omega arith); wanted = f.wanted; none = λ k lt. f.none (suc k) (omega (arith, lt)) }
+next_first row rows i d f = record {
+  within = (let lt = f.within in omega arith);
+  wanted = f.wanted;
+  none = λ k lt. f.none (suc k) (omega (arith, lt));
+}
 
-pub words_at : (rows : List ProcessRow) (i : ℕ) (d : ProcessRow) → IsFirst rows i d → words_in (wanted_in rows) ≡ words_told (get_or rows i d).line
+pub words_at : (rows : List ProcessRow) (i : ℕ) (d : ProcessRow) → IsFirst rows i d
+    → words_in (wanted_in rows) ≡ words_told (get_or rows i d).line
 words_at [] i d f = absurd (let lt = f.within in omega arith)
-words_at (row ∷ rows) zero d f = ap (λ b. words_in (map wanted_of (cond b (row ∷ filter is_wanted_row rows) (filter is_wanted_row rows)))) f.wanted
+words_at (row ∷ rows) zero d f = ap (λ b. words_in (map wanted_of (cond b (row ∷ filter is_wanted_row rows) (filter is_wanted_row rows))))
+    f.wanted
 words_at (row ∷ rows) (suc i) d f =
     ap (λ b. words_in (map wanted_of (cond b (row ∷ filter is_wanted_row rows) (filter is_wanted_row rows)))) (f.none zero (omega arith))
     ∙ words_at rows i d (next_first row rows i d f)
 
-pub without_at : (rows : List ProcessRow) (i : ℕ) (d : ProcessRow) → IsFirst rows i d → wanted_in (set rows i (emptied (get_or rows i d))) ≡ without_words (wanted_in rows)
+pub without_at : (rows : List ProcessRow) (i : ℕ) (d : ProcessRow) → IsFirst rows i d
+    → wanted_in (set rows i (emptied (get_or rows i d))) ≡ without_words (wanted_in rows)
 without_at [] i d f = absurd (let lt = f.within in omega arith)
 without_at (row ∷ rows) zero d f =
     ap (λ b. map wanted_of (cond b (emptied row ∷ filter is_wanted_row rows) (filter is_wanted_row rows))) f.wanted
     ∙ sym (ap (λ b. without_words (map wanted_of (cond b (row ∷ filter is_wanted_row rows) (filter is_wanted_row rows)))) f.wanted)
 without_at (row ∷ rows) (suc i) d f =
     let none = f.none zero (omega arith) in
-    ap (λ b. map wanted_of (cond b (row ∷ filter is_wanted_row (set rows i (emptied (get_or rows i d)))) (filter is_wanted_row (set rows i (emptied (get_or rows i d)))))) none
+    ap (λ b. map wanted_of (cond b (row ∷ filter is_wanted_row (set rows i (emptied (get_or rows i d))))
+    (filter is_wanted_row (set rows i (emptied (get_or rows i d)))))) none
     ∙ without_at rows i d (next_first row rows i d f)
     ∙ sym (ap (λ b. without_words (map wanted_of (cond b (row ∷ filter is_wanted_row rows) (filter is_wanted_row rows)))) none)
 
-pub processes_at : (rows : List ProcessRow) (i : ℕ) (d : ProcessRow) → processes_in (set rows i (emptied (get_or rows i d))) ≡ processes_in rows
+pub processes_at : (rows : List ProcessRow) (i : ℕ) (d : ProcessRow) → processes_in
+    (set rows i (emptied (get_or rows i d))) ≡ processes_in rows
 processes_at [] i d = refl
 processes_at (row ∷ rows) zero d = refl
 processes_at (row ∷ rows) (suc i) d = ap (λ x. process_shown row ∷ x) (processes_at rows i d)
@@ -65,7 +75,8 @@ none_of (r ∷ rs) all =
 
 past : (rows : List ProcessRow) → position is_wanted_row rows ≡ None → length rows ≤ position_or_len is_wanted_row rows
 past rows e =
-    elim (nat_lt (position_or_len is_wanted_row rows) (length rows)) as (λ b. nat_lt (position_or_len is_wanted_row rows) (length rows) ≡ b → cond b (Some (position_or_len is_wanted_row rows)) None ≡ None → length rows ≤ position_or_len is_wanted_row rows) [
+    elim (nat_lt (position_or_len is_wanted_row rows) (length rows)) as (λ b. nat_lt (position_or_len is_wanted_row rows) (length rows) ≡ b
+    → cond b (Some (position_or_len is_wanted_row rows)) None ≡ None → length rows ≤ position_or_len is_wanted_row rows) [
       | true ↦ λ t s. absurd cc
       | false ↦ λ t s. grind (arith, nat_tests)
     ] refl e
@@ -96,13 +107,15 @@ none_lined f (one ∷ rows) e = absurd cc
 
 line_words : (f : Flat) (row : Wanted) → cond row.command [] row.words ≡ (line_of f row).1
 line_words f row =
-    elim row.command as (λ b. cond b [] row.words ≡ (cond {A = List ℕ × List (List ℕ)} b (head_word row.words, []) (path_in (option_and_then (service_of f) (service_of_process f row.process)), row.words)).1) [ true ↦ refl | false ↦ refl ]
+    elim row.command as (λ b. cond b [] row.words ≡ (cond {A = List ℕ × List (List ℕ)} b (head_word row.words, [])
+    (path_in (option_and_then (service_of f) (service_of_process f row.process)), row.words)).1) [ true ↦ refl | false ↦ refl ]
 
 pub first_words : (f : Flat) (rows : List Wanted) → words_in rows ≡ (first_line f rows).1
 first_words f [] = refl
 first_words f (row ∷ rows) = line_words f row
 
 -- and the service that a handle is of
-pub held_has : (P : Service → Type 0) (rows : List Service) (handle : Option Opened) → All P rows → IfSome (option_and_then (λ (of : Opened). find (λ (row : Service). row.number == of.service) rows) handle) P
+pub held_has : (P : Service → Type 0) (rows : List Service) (handle : Option Opened) → All P rows
+    → IfSome (option_and_then (λ (of : Opened). find (λ (row : Service). row.number == of.service) rows) handle) P
 held_has P rows None all = tt
 held_has P rows (Some of) all = found_has P (λ (row : Service). row.number == of.service) rows all

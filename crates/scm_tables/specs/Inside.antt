@@ -66,7 +66,9 @@ tabled t = record {
 abbrev pub IsBelow : ℕ → Plan → Type 0
 IsBelow next plan = plan.number < next
 
--- services stand in order of number, and each that has a listed process is the one that it is of; their paths and names are short; their needs are kept, and where it is said so, have no cycle; the numbers of those that are marked are kept, with room for each; as many processes as may be listed find room; plans have numbers below
+-- services stand in order of number, and each that has a listed process is the one that it is of; their paths and names are short; their
+-- needs are kept, and where it is said so, have no cycle; the numbers of those that are marked are kept, with room for each; as many
+-- processes as may be listed find room; plans have numbers below
 -- the next one, and sleep only for services whose state is about to change; what becomes due of a service finds a place
 pub record IsKept (t : Inside) : Type 0 where
   pub rising : AreRising t.next.service t.services.services

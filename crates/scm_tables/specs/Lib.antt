@@ -16,3 +16,4 @@ pub mod Lined
 pub mod Marked
 pub mod Needing
 pub mod Woken
+pub mod Promised

@@ -1,10 +1,12 @@
-ghost use Rattle.std.specs.Prelude.{◌≡◌, ◌<◌, ◌^◌, ◌==◌, IfSome, IsTrue, map, option_copied, option_map};
+ghost use Rattle.std.specs.Prelude.{◌≡◌, ◌<◌, ◌^◌, ◌==◌, IfSome, IsTrue, map, option_copied};
+ghost use Rattle.std.specs.Prelude.{option_map};
 ghost use Rattle.std.specs.List.{list_any};
 ghost use Rattle.scm_model.specs.Found.{if_found};
 ghost use Rattle.scm_model.specs.Rows.{service_of};
 ghost use Rattle.scm_rules.specs.Due.{is_due_of};
 ghost use Rattle.scm_rules.specs.Ends.{with_end};
-ghost use Rattle.scm_rules.specs.Failures.{counted_if, failed_by, is_failure, with_action, with_due_after};
+ghost use Rattle.scm_rules.specs.Failures.{counted_if, failed_by, is_failure, with_action};
+ghost use Rattle.scm_rules.specs.Failures.{with_due_after};
 ghost use Rattle.scm_rules.specs.Reports.{with_report, with_report_of};
 ghost use Rattle.scm_rules.specs.Launches.{with_fallen};
 ghost use Rattle.scm_tables.specs.Failed.{failure_of, taken_by, taken_by_service, with_failed};
@@ -64,9 +66,11 @@ fn failed_by<'a>(service: Option<&'a Service>, report: &Status) -> Option<&'a Se
 }
 
 impl Tables {
-    /// A row of a service becomes due so many milliseconds from now. An earlier one of the service leaves.
+    /// A row of a service becomes due so many milliseconds from now. An earlier one of the service
+    /// leaves.
     fn put_due(&mut self, millis: u32, kind: DueKind)
-        requires service { IsTrue (list_any (λ row. is_due_of row.number kind) self.old.flat.services) }
+        requires service { IsTrue (list_any (λ row. is_due_of row.number kind)
+            self.old.flat.services) }
         requires next { self.old.flat.next.due < 2 ^ 63 }
         ensures flat { self.new.flat ≡ with_due_after millis kind self.old.flat }
         ensures limits { self.new.limits ≡ self.old.limits }
@@ -91,7 +95,10 @@ impl Tables {
 
     /// A failure is counted with its service.
     fn count_failure(&mut self, number: u64)
-        ensures flat { self.new.flat ≡ record self.old.flat { services = map (counted_if number self.old.flat.moment) self.old.flat.services } }
+        ensures flat { self.new.flat ≡ record self.old.flat {
+          services =
+              map (counted_if number self.old.flat.moment) self.old.flat.services;
+        } }
         ensures limits { self.new.limits ≡ self.old.limits }
     {
         count_in(&mut self.services, number, self.moment);
@@ -99,7 +106,8 @@ impl Tables {
 
     /// A failure of a service is counted, and what is to be done becomes due. It takes no memory.
     fn fail(&mut self, failed: Option<Failed>)
-        requires service { IfSome failed (λ failed. IsTrue (list_any (λ row. failed.number == row.number) self.old.flat.services)) }
+        requires service { IfSome failed (λ failed. IsTrue
+            (list_any (λ row. failed.number == row.number) self.old.flat.services)) }
         requires next { self.old.flat.next.due < 2 ^ 63 }
         ensures flat { self.new.flat ≡ if_found with_failed failed self.old.flat }
         ensures limits { self.new.limits ≡ self.old.limits }
@@ -130,9 +138,9 @@ impl Tables {
         fall_in(&mut self.services, of, process, code);
     }
 
-    /// The service falls whose current process this is, with `ERROR_PROCESS_ABORTED` (1067), which is a failure of it. It takes no
-    /// memory.
-    pub fn abort(&mut self, process: u64)
+    /// The service falls whose current process this is, with `ERROR_PROCESS_ABORTED` (1067), which
+    /// is a failure of it. It takes no memory.
+    pub fn process_exited(&mut self, process: u64)
         requires { self.old.flat.next.due < 2 ^ 63 }
         ensures flat { self.new.flat ≡ with_end self.old.flat process }
         ensures limits { self.new.limits ≡ self.old.limits }
@@ -142,7 +150,8 @@ impl Tables {
         self.fail(failed);
     }
 
-    /// A service takes a report whose current process this is; its registrations are told of another state.
+    /// A service takes a report whose current process this is; its registrations are told of
+    /// another state.
     fn take_report(&mut self, process: u64, report: &Status)
         ensures flat { self.new.flat ≡ taken_by self.old.flat process report.now }
         ensures limits { self.new.limits ≡ self.old.limits }
@@ -158,8 +167,8 @@ impl Tables {
         report_in(&mut self.services, of, process, report);
     }
 
-    /// The service takes a report whose current process this is, which may be a failure of it; its registrations are told of another
-    /// state. It takes no memory.
+    /// The service takes a report whose current process this is, which may be a failure of it; its
+    /// registrations are told of another state. It takes no memory.
     pub fn report(&mut self, process: u64, report: &Status)
         requires { self.old.flat.next.due < 2 ^ 63 }
         ensures flat { self.new.flat ≡ with_report self.old.flat process report.now }
@@ -170,9 +179,11 @@ impl Tables {
         self.fail(failed);
     }
 
-    /// A service takes a report as if its current process had made it, if it is there; its registrations are told of another state.
+    /// A service takes a report as if its current process had made it, if it is there; its
+    /// registrations are told of another state.
     fn take_report_of(&mut self, service: u64, report: &Status)
-        ensures flat { self.new.flat ≡ taken_by_service self.old.flat (service_of self.old.flat service) report.now }
+        ensures flat { self.new.flat ≡ taken_by_service self.old.flat
+            (service_of self.old.flat service) report.now }
         ensures limits { self.new.limits ≡ self.old.limits }
     {
         let Some(row) = self.services.get(service) else {
@@ -185,11 +196,12 @@ impl Tables {
         report_in(&mut self.services, of, process, report);
     }
 
-    /// A service takes a report as if its current process had made it, if it is there, which may be a failure of it; its registrations are
-    /// told of another state. It takes no memory.
+    /// A service takes a report as if its current process had made it, if it is there, which may be
+    /// a failure of it; its registrations are told of another state. It takes no memory.
     pub fn report_of(&mut self, service: u64, report: &Status)
         requires { self.old.flat.next.due < 2 ^ 63 }
-        ensures flat { self.new.flat ≡ with_report_of self.old.flat (service_of self.old.flat service) report.now }
+        ensures flat { self.new.flat ≡ with_report_of self.old.flat
+            (service_of self.old.flat service) report.now }
         ensures limits { self.new.limits ≡ self.old.limits }
     {
         let failed = failure_of(failed_by(self.service(service), report), self.moment);

@@ -1,9 +1,14 @@
-ghost use Rattle.std.specs.Prelude.{ℕ, ◌≡◌, ◌≤◌, ◌+◌, All, IfSome, IsSome, OnOk, is_some, length, option_and_then, option_copied, slice_get};
+ghost use Rattle.std.specs.Prelude.{ℕ, ◌≡◌, ◌≤◌, ◌+◌, All, IfSome, IsSome, OnOk, is_some, length};
+ghost use Rattle.std.specs.Prelude.{option_and_then, option_copied, slice_get};
 ghost use Rattle.scm_model.specs.Found.{if_found};
 ghost use Rattle.scm_model.specs.Rows.{service_of};
 ghost use Rattle.scm_rules.specs.Due.{next_due};
-ghost use Rattle.scm_rules.specs.Ticks.{can_start, fire, first_fired, ticked, with_command, with_restart};
-ghost use Rattle.scm_tables.specs.Firing.{CanFire, CanFireOne, HasFires, HasPlanNumbers, HasStarts, commands_in, runs, startable, starts_in, with_begun, without_row};
+ghost use Rattle.scm_rules.specs.Ticks.{can_start, fire, first_run, ticked, with_command};
+ghost use Rattle.scm_rules.specs.Ticks.{with_restart};
+ghost use Rattle.scm_tables.specs.Firing.{CanFire, CanFireOne, HasFires, HasPlanNumbers, HasStarts};
+ghost use Rattle.scm_tables.specs.Firing.{commands_in, runs, startable, starts_in, with_begun};
+ghost use Rattle.scm_tables.specs.Firing.{without_row};
+ghost use Rattle.scm_tables.specs.Promised.{KeepsRooms};
 ghost use Rattle.start_plan.specs.Entered.{HasNumbers};
 ghost use Rattle.scm_tables.specs.Rooms.{IsCommandRoom, IsStartRoom};
 
@@ -58,6 +63,8 @@ impl Tables {
         ensures limits { self.new.limits ≡ self.old.limits }
         ensures entries { length self.new.flat.services ≤ self.new.spare.entries }
         ensures commands { self.new.spare.commands ≡ self.old.spare.commands }
+        ensures keeps { KeepsRooms self.old self.new }
+        ensures needs { self.new.spare.needs ≡ self.old.spare.needs }
     {
         if self.start_room < self.services.len() {
             self.starts.clear();
@@ -65,23 +72,29 @@ impl Tables {
         }
     }
 
-    /// Makes the rooms of so many plans without a caller. What is there stays, as long as it is large enough.
+    /// Makes the rooms of so many plans without a caller. What is there stays, as long as it is
+    /// large enough.
     fn fill_starts(&mut self, count: usize) -> Result<(), OutOfMemory>
         ensures flat { self.new.flat ≡ self.old.flat }
         ensures limits { self.new.limits ≡ self.old.limits }
         ensures count { OnOk result (count ≤ self.new.spare.starts) }
         ensures entries { self.new.spare.entries ≡ self.old.spare.entries }
         ensures commands { self.new.spare.commands ≡ self.old.spare.commands }
+        ensures keeps { KeepsRooms self.old self.new }
+        ensures needs { self.new.spare.needs ≡ self.old.spare.needs }
     {
         fill_starts(&mut self.starts, count, self.start_room, self.alloc)
     }
 
-    /// Makes room for so many plans without a caller. What a step leaves unused stays for the next one.
+    /// Makes room for so many plans without a caller. What a step leaves unused stays for the next
+    /// one.
     pub fn reserve_starts(&mut self, count: usize) -> Result<(), OutOfMemory>
         ensures flat { self.new.flat ≡ self.old.flat }
         ensures limits { self.new.limits ≡ self.old.limits }
         ensures room { OnOk result (HasStarts count self.new) }
         ensures commands { self.new.spare.commands ≡ self.old.spare.commands }
+        ensures keeps { KeepsRooms self.old self.new }
+        ensures needs { self.new.spare.needs ≡ self.old.spare.needs }
     {
         let Ok(plans) = u32::try_from(count) else {
             return Err(OutOfMemory);
@@ -97,6 +110,8 @@ impl Tables {
         ensures flat { self.new.flat ≡ self.old.flat }
         ensures limits { self.new.limits ≡ self.old.limits }
         ensures room { OnOk result (count ≤ self.new.spare.commands) }
+        ensures keeps { KeepsRooms self.old self.new }
+        ensures needs { self.new.spare.needs ≡ self.old.spare.needs }
     {
         fill_commands(&mut self.commands, count, self.alloc)
     }
@@ -106,13 +121,15 @@ impl Tables {
         ensures flat { self.new.flat ≡ self.old.flat }
         ensures limits { self.new.limits ≡ self.old.limits }
         ensures room { OnOk result (HasFires self.new) }
+        ensures keeps { KeepsRooms self.old self.new }
+        ensures needs { self.new.spare.needs ≡ self.old.spare.needs }
     {
         self.reserve_commands(self.commands_due())?;
         self.reserve_starts(self.starts_due())
     }
 
-    /// Whether a service can be started without being asked for: it is unmarked, STOPPED and not disabled, and no undecided plan has it as
-    /// its target.
+    /// Whether a service can be started without being asked for: it is unmarked, STOPPED and not
+    /// disabled, and no undecided plan has it as its target.
     fn can_start(&self, row: &Service) -> bool
         ensures { result ≡ can_start self.now.flat row.now }
     {
@@ -190,11 +207,13 @@ impl Tables {
         }
     }
 
-    /// A plan without a caller begins, where the service at a place can be started. It takes no memory.
+    /// A plan without a caller begins, where the service at a place can be started. It takes no
+    /// memory.
     pub fn restart_at(&mut self, place: usize)
         requires room { HasStarts 1 self.old }
         requires numbers { HasPlanNumbers 1 self.old.flat }
-        ensures flat { self.new.flat ≡ if_found with_restart (slice_get self.old.flat.services place) self.old.flat }
+        ensures flat { self.new.flat ≡ if_found with_restart
+            (slice_get self.old.flat.services place) self.old.flat }
         ensures limits { self.new.limits ≡ self.old.limits }
         ensures left { (count : ℕ) → HasStarts (count + 1) self.old → HasStarts count self.new }
     {
@@ -206,7 +225,8 @@ impl Tables {
     fn restart(&mut self, service: u64)
         requires room { HasStarts 1 self.old }
         requires numbers { HasPlanNumbers 1 self.old.flat }
-        ensures flat { self.new.flat ≡ if_found with_restart (service_of self.old.flat service) self.old.flat }
+        ensures flat { self.new.flat ≡ if_found with_restart
+            (service_of self.old.flat service) self.old.flat }
         ensures limits { self.new.limits ≡ self.old.limits }
         ensures left { (count : ℕ) → HasStarts (count + 1) self.old → HasStarts count self.new }
         ensures commands { self.new.spare.commands ≡ self.old.spare.commands }
@@ -228,13 +248,18 @@ impl Tables {
         }
     }
 
-    /// The command of a service is to be launched, if the service is there and has one, and a process more may be listed.
+    /// The command of a service is to be launched, if the service is there and has one, and a
+    /// process more may be listed.
     fn run_command(&mut self, service: u64)
         requires room { 1 ≤ self.old.spare.commands }
         requires numbers { HasNumbers self.old.limits self.old.flat }
-        ensures flat { self.new.flat ≡ if_found (with_command self.old.limits) (service_of self.old.flat service) self.old.flat }
+        ensures flat { self.new.flat ≡ if_found (with_command self.old.limits)
+            (service_of self.old.flat service) self.old.flat }
         ensures limits { self.new.limits ≡ self.old.limits }
-        ensures spare { self.new.spare ≡ record self.old.spare { commands = self.new.spare.commands } }
+        ensures spare { self.new.spare ≡ record self.old.spare {
+          commands =
+              self.new.spare.commands;
+        } }
         ensures commands { self.old.spare.commands ≤ self.new.spare.commands + 1 }
     {
         if !self.can_run(self.service(service)) {
@@ -252,7 +277,10 @@ impl Tables {
         ensures row { result ≡ next_due self.old.flat }
         ensures flat { self.new.flat ≡ if_found without_row result self.old.flat }
         ensures limits { self.new.limits ≡ self.old.limits }
-        ensures spare { self.new.spare ≡ record self.old.spare { services = self.new.spare.services; dues = self.new.spare.dues } }
+        ensures spare { self.new.spare ≡ record self.old.spare {
+          services = self.new.spare.services;
+          dues = self.new.spare.dues;
+        } }
         ensures dues { self.old.spare.dues ≤ self.new.spare.dues }
     {
         self.dues.take_due(self.moment)
@@ -277,7 +305,7 @@ impl Tables {
     fn fire_first(&mut self) -> bool
         requires { CanFire self.old }
         ensures any { result ≡ is_some (next_due self.old.flat) }
-        ensures flat { self.new.flat ≡ first_fired self.old.limits self.old.flat }
+        ensures flat { self.new.flat ≡ first_run self.old.limits self.old.flat }
         ensures limits { self.new.limits ≡ self.old.limits }
         ensures left { CanFire self.new }
     {
@@ -288,7 +316,8 @@ impl Tables {
         true
     }
 
-    /// The rows that are due take place, in the order in which they became due, and leave. It takes no memory.
+    /// The rows that are due take place, in the order in which they became due, and leave. It takes
+    /// no memory.
     pub fn tick(&mut self)
         requires { CanFire self.old }
         ensures flat { self.new.flat ≡ ticked self.old.limits self.old.flat }

@@ -42,7 +42,8 @@ impl Tables {
         }
     }
 
-    /// Writes the services to start for a service, by number: each after what it needs, and none that is RUNNING. It takes no memory.
+    /// Writes the services to start for a service, by number: each after what it needs, and none
+    /// that is RUNNING. It takes no memory.
     pub(crate) fn write_start_order(&self, target: u64, room: &mut Buffer<u64>)
         requires listed { IsSome (service_of self.now.flat target) }
         requires empty { room.old.items ≡ [] }
@@ -53,7 +54,8 @@ impl Tables {
         order_of(&self.index, target, self, room);
     }
 
-    /// The services to start for a service, by number: each after what it needs, and none that is RUNNING.
+    /// The services to start for a service, by number: each after what it needs, and none that is
+    /// RUNNING.
     pub fn start_order(&self, target: u64, alloc: Global) -> Result<Items<u64>, OutOfMemory>
         requires { IsSome (service_of self.now.flat target) }
         ensures order { IfOk result (λ order. order ≡ start_order self.now.flat target) }

@@ -1,4 +1,5 @@
-//! The lists of the service manager: the one set of reads and writes through which its calls reach them.
+//! The lists of the service manager: the one set of reads and writes through which its calls reach
+//! them.
 #![tactic(auto)]
 
 mod caller_rows;

@@ -9,8 +9,8 @@ use std::alloc::Global;
 use std::marker::Model;
 use std::mem::replace;
 
-/// What the launch of a process is to have: the words of a service's, or the text of a command as its one word, which isn't too long for a
-/// path.
+/// What the launch of a process is to have: the words of a service's, or the text of a command as
+/// its one word, which isn't too long for a path.
 #[derive(Drop)]
 pub struct Line {
     command: bool,

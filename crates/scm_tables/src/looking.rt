@@ -22,7 +22,8 @@ fn tag_of(service: Option<&Service>) -> u32
 impl Tables {
     /// Whether one of some services is RUNNING.
     pub(crate) fn is_any_running(&self, numbers: &[u64]) -> bool
-        ensures { result ≡ list_any (λ number. state_of self.now.flat number == SERVICE_RUNNING) numbers.now }
+        ensures { result ≡ list_any (λ number. state_of self.now.flat number == SERVICE_RUNNING)
+            numbers.now }
     {
         numbers
             .iter()
@@ -31,7 +32,8 @@ impl Tables {
 
     /// How many of some services aren't STOPPED.
     pub(crate) fn active_among(&self, numbers: &[u64]) -> usize
-        ensures { result ≡ length (filter (λ number. not (state_of self.now.flat number == SERVICE_STOPPED)) numbers.now) }
+        ensures { result ≡ length (filter (λ number. not
+            (state_of self.now.flat number == SERVICE_STOPPED)) numbers.now) }
     {
         numbers
             .iter()
@@ -41,7 +43,8 @@ impl Tables {
 
     /// The greatest tag of some services, or 0.
     pub(crate) fn greatest_tag(&self, numbers: &[u64]) -> u32
-        ensures { result ≡ fold (λ greatest number. max greatest (tag_of (service_of self.now.flat number))) 0 numbers.now }
+        ensures { result ≡ fold (λ greatest number. max greatest
+            (tag_of (service_of self.now.flat number))) 0 numbers.now }
     {
         numbers.iter().fold(0, |greatest, number| {
             greatest.max(tag_of(self.service(*number)))

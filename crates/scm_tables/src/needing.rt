@@ -1,12 +1,14 @@
-ghost use Rattle.std.specs.Prelude.{◌≡◌, ◌+◌, ◌<◌, ◌^◌, AllPairs, IfOk, IsTrue, OnOk, Some};
+ghost use Rattle.std.specs.Prelude.{◌≡◌, ◌+◌, ◌<◌, ◌^◌, AllPairs, IfOk, IsTrue, OnErr, OnOk, Some};
 ghost use Rattle.dependency_index.specs.Indexed.{spare_of};
 ghost use Rattle.dependency_index.specs.Needs.{new_need_row};
+ghost use Rattle.record_table.specs.Recorded.{spare_of as texts_of};
 ghost use Rattle.scm_model.specs.Needs.{needs_of, with_row};
 ghost use Rattle.scm_model.specs.Walks.{IsAcyclic};
 ghost use Rattle.scm_rules.specs.Needs.{need_row_of, need_rows};
 ghost use Rattle.scm_tables.specs.Needing.{changed_needs};
 
 use dependency_index::{DependencyIndex, Graph, NewRow, closes_cycle, has_cycle};
+use record_table::RecordTable;
 use scm_model::{Config, Service};
 use scm_text::{Buffer, OutOfMemory};
 use std::alloc::Global;
@@ -40,10 +42,36 @@ pub fn index_of(alloc: Global, services: &[Service]) -> Result<DependencyIndex, 
     let mut index = DependencyIndex::new(alloc)?;
     for row in services {
         let config = &row.config;
-        index.reserve(alloc, &config.name, &config.group, &config.needs)?;
+        index.prepare(alloc, &config.name, &config.group, &config.needs)?;
+        index.commit();
         index.set_needs(row.number, &config.name, &config.group, &config.needs);
     }
     Ok(index)
+}
+
+/// Makes room for the texts and needs of a service that gets this configuration, in place of what
+/// was made for another: in both lists, or in none.
+pub fn reserve_both(
+    index: &mut DependencyIndex,
+    services: &mut RecordTable,
+    alloc: Global,
+    config: &Config,
+) -> Result<(), OutOfMemory>
+    ensures needs { index.new.rows ≡ index.old.rows }
+    ensures services { services.new.services ≡ services.old.services }
+    ensures index { OnOk result (index.new.spare
+        ≡ Some (spare_of config.now.name config.now.group config.now.needs)) }
+    ensures texts { OnOk result (services.new.spare ≡ Some (texts_of config.now)) }
+    ensures err { OnErr result ((index.new.spare ≡ index.old.spare)
+        × (services.new.spare ≡ services.old.spare)) }
+{
+    index.prepare(alloc, &config.name, &config.group, &config.needs)?;
+    if services.reserve(config).is_err() {
+        index.discard();
+        return Err(OutOfMemory);
+    }
+    index.commit();
+    Ok(())
 }
 
 /// A service that is there gets the needs of this configuration.
@@ -56,7 +84,8 @@ pub fn change_needs(index: &mut DependencyIndex, number: u64, config: &Config)
     }
 }
 
-/// Whether the needs are seen to have no cycle. They aren't looked through where the list has no room.
+/// Whether the needs are seen to have no cycle. They aren't looked through where the list has no
+/// room.
 pub fn is_acyclic(index: &DependencyIndex, searched: &mut Buffer<u64>) -> bool
     ensures { IsTrue result → IsAcyclic (needs_of index.now.rows) }
 {
@@ -67,8 +96,8 @@ pub fn is_acyclic(index: &DependencyIndex, searched: &mut Buffer<u64>) -> bool
     !has_cycle(&Graph::of(index), searched)
 }
 
-/// Whether needs that are known to have no cycle are seen to have none with this configuration. They aren't looked through where the list
-/// has no room.
+/// Whether needs that are known to have no cycle are seen to have none with this configuration.
+/// They aren't looked through where the list has no room.
 pub fn stays_acyclic(
     index: &DependencyIndex,
     acyclic: bool,
@@ -78,7 +107,8 @@ pub fn stays_acyclic(
 ) -> bool
     requires { IsTrue acyclic → IsAcyclic (needs_of index.now.rows) }
     ensures before { IsTrue result → IsTrue acyclic }
-    ensures after { IsTrue result → IsAcyclic (needs_of (with_row index.now.rows (need_row_of number config.now))) }
+    ensures after { IsTrue result → IsAcyclic (needs_of
+        (with_row index.now.rows (need_row_of number config.now))) }
 {
     searched.clear();
     if !acyclic || searched.room() <= index.len() {

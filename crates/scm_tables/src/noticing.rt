@@ -1,10 +1,11 @@
 ghost use Rattle.std.specs.Prelude.{ℕ, ◌≡◌, ◌==◌, ◌≤◌, find, if◌then◌else◌, IfSome, option_copied};
 ghost use Rattle.scm_model.specs.Found.{if_found};
-ghost use Rattle.scm_model.specs.Notices.{event_of_leaving, event_of_state, new_registration, noted, notified, pid_in, pid_of, put_in, state_mask, with_pid};
+ghost use Rattle.scm_model.specs.Notices.{event_of_leaving, event_of_state, new_registration, noted};
+ghost use Rattle.scm_model.specs.Notices.{notified, pid_in, pid_of, put_in, state_mask, with_pid};
 ghost use Rattle.scm_rules.specs.Delete.{told_of_mark};
-ghost use Rattle.scm_rules.specs.Launches.{told_of_fall};
-ghost use Rattle.scm_rules.specs.Reports.{process_in_state, told_of_report};
-ghost use Rattle.start_plan.specs.Entered.{told_of_start};
+ghost use Rattle.scm_rules.specs.Launches.{notified_of_fall};
+ghost use Rattle.scm_rules.specs.Reports.{process_in_state, notified_of_report};
+ghost use Rattle.start_plan.specs.Entered.{notified_of_start};
 ghost use Rattle.scm_tables.specs.Tabled.{HasShort};
 
 use super::processes::Processes;
@@ -49,7 +50,8 @@ pub fn with_pid(status: Status, pid: u32) -> ProcessStatus
 
 /// The system's number of a process, or 0.
 pub fn pid_with(processes: &Processes, number: u64) -> u32
-    ensures { result ≡ if number == 0 then 0 else pid_in (find (λ process. process.number == number) processes.now.processes) }
+    ensures { result ≡ if number == 0 then 0 else pid_in
+        (find (λ process. process.number == number) processes.now.processes) }
 {
     if number == 0 {
         0
@@ -61,7 +63,13 @@ pub fn pid_with(processes: &Processes, number: u64) -> u32
 /// Tells of a service's change to another state.
 fn note_move(queue: &mut NotifyQueue, row: &Service, status: Status, pid: u32)
     requires { HasShort row.now }
-    ensures rows { queue.new.rows ≡ if row.now.status.state == status.state then queue.old.rows else noted (record { service = row.now.number; bit = state_mask status.state; status = with_pid status pid; name = row.now.config.name }) queue.old.rows }
+    ensures rows { queue.new.rows ≡ if row.now.status.state == status.state then queue.old.rows
+        else noted (record {
+          service = row.now.number;
+          bit = state_mask status.state;
+          status = with_pid status pid;
+          name = row.now.config.name;
+        }) queue.old.rows }
     ensures spare { queue.new.spare ≡ queue.old.spare }
 {
     if row.status.state != status.state {
@@ -77,7 +85,8 @@ fn note_move(queue: &mut NotifyQueue, row: &Service, status: Status, pid: u32)
 /// Tells that a service is being started, if it is the one with this number and was STOPPED.
 pub fn note_start(queue: &mut NotifyQueue, service: Option<&Service>, number: u64)
     requires { IfSome (option_copied service) HasShort }
-    ensures rows { (process : ℕ) → queue.new.rows ≡ told_of_start number process (option_copied service.entry) queue.old.rows }
+    ensures rows { (process : ℕ) → queue.new.rows ≡ notified_of_start number process
+        (option_copied service.entry) queue.old.rows }
     ensures spare { queue.new.spare ≡ queue.old.spare }
 {
     if let Some(row) = service {
@@ -91,7 +100,8 @@ pub fn note_start(queue: &mut NotifyQueue, service: Option<&Service>, number: u6
 /// Tells that a service fell, if its current process is this one.
 pub fn note_fall(queue: &mut NotifyQueue, service: Option<&Service>, process: u64, code: u32)
     requires { IfSome (option_copied service) HasShort }
-    ensures rows { queue.new.rows ≡ told_of_fall process code (option_copied service.entry) queue.old.rows }
+    ensures rows { queue.new.rows ≡ notified_of_fall process code
+        (option_copied service.entry) queue.old.rows }
     ensures spare { queue.new.spare ≡ queue.old.spare }
 {
     if let Some(row) = service {
@@ -116,7 +126,8 @@ pub fn note_report(
     processes: &Processes,
 )
     requires { IfSome (option_copied service) HasShort }
-    ensures rows { queue.new.rows ≡ told_of_report processes.now.processes report.now (option_copied service.entry) queue.old.rows }
+    ensures rows { queue.new.rows ≡ notified_of_report processes.now.processes report.now
+        (option_copied service.entry) queue.old.rows }
     ensures spare { queue.new.spare ≡ queue.old.spare }
 {
     if let Some(row) = service {
@@ -130,7 +141,8 @@ pub fn note_report(
 /// Tells that a service is marked.
 pub fn note_mark(queue: &mut NotifyQueue, service: Option<&Service>, processes: &Processes)
     requires { IfSome (option_copied service) HasShort }
-    ensures rows { queue.new.rows ≡ told_of_mark processes.now.processes (option_copied service.entry) queue.old.rows }
+    ensures rows { queue.new.rows ≡ told_of_mark processes.now.processes
+        (option_copied service.entry) queue.old.rows }
     ensures spare { queue.new.spare ≡ queue.old.spare }
 {
     if let Some(row) = service {
@@ -146,7 +158,8 @@ pub fn note_mark(queue: &mut NotifyQueue, service: Option<&Service>, processes: 
 /// Tells the manager's registrations that a service leaves.
 pub fn note_leaving(queue: &mut NotifyQueue, service: Option<&Service>)
     requires { IfSome (option_copied service) HasShort }
-    ensures rows { queue.new.rows ≡ if_found (λ row. noted (event_of_leaving row)) (option_copied service.entry) queue.old.rows }
+    ensures rows { queue.new.rows ≡ if_found (λ row. noted (event_of_leaving row))
+        (option_copied service.entry) queue.old.rows }
     ensures spare { queue.new.spare ≡ queue.old.spare }
 {
     if let Some(row) = service {
@@ -171,7 +184,9 @@ pub fn register_in(
 )
     requires room { 1 ≤ queue.old.spare }
     requires short { IfSome (option_copied present) HasShort }
-    ensures { queue.new.rows ≡ put_in (if_found (λ row. notified (event_of_state (pid_of processes.now.processes row) row)) (option_copied present.entry) (new_registration number caller service mask)) queue.old.rows }
+    ensures { queue.new.rows ≡ put_in (if_found (λ row. notified
+        (event_of_state (pid_of processes.now.processes row) row)) (option_copied present.entry)
+        (new_registration number caller service mask)) queue.old.rows }
 {
     match present {
         Some(row) => queue.register_told(

@@ -1,4 +1,5 @@
-ghost use Rattle.std.specs.Prelude.{◌≡◌, ◌≤◌, ◌<◌, ◌+◌, ◌^◌, ◌++◌, ◌∷◌, [], AllPairs, IfOk, OnOk, length};
+ghost use Rattle.std.specs.Prelude.{◌≡◌, ◌≤◌, ◌<◌, ◌+◌, ◌^◌, ◌++◌, ◌∷◌, [], AllPairs, IfOk, OnOk};
+ghost use Rattle.std.specs.Prelude.{length};
 ghost use Rattle.std.specs.List.{AllByRecursion};
 ghost use Rattle.scm_model.specs.Changes.{new_service};
 ghost use Rattle.scm_rules.specs.Create.{new_status};
@@ -102,7 +103,8 @@ fn moment_of(start: &AutoStart, moment: u64) -> u64
     }
 }
 
-/// The starts that become due by themselves, in order, with numbers from 1 on, and with room for so many rows more.
+/// The starts that become due by themselves, in order, with numbers from 1 on, and with room for so
+/// many rows more.
 fn dues_of(
     alloc: Global,
     starts: &[AutoStart],
@@ -122,8 +124,8 @@ fn dues_of(
     Ok(dues)
 }
 
-/// The starts that become due when a manager begins: of the services that start automatically, those of the listed groups first. There is
-/// room for a row of each service besides.
+/// The starts that become due when a manager begins: of the services that start automatically,
+/// those of the listed groups first. There is room for a row of each service besides.
 pub fn automatic_starts(
     alloc: Global,
     services: &[Service],
@@ -131,7 +133,8 @@ pub fn automatic_starts(
     moment: u64,
 ) -> Result<DueList, OutOfMemory>
     requires { length services.now < 2 ^ 63 }
-    ensures rows { IfOk result (λ dues. dues.rows ≡ starts_from 1 moment (auto_rows services.now groups.now)) }
+    ensures rows { IfOk result (λ dues. dues.rows ≡ starts_from 1 moment
+        (auto_rows services.now groups.now)) }
     ensures next { IfOk result (λ dues. dues.next ≡ length dues.rows + 1) }
     ensures room { IfOk result (λ dues. length dues.rows + length services.now ≤ dues.capacity) }
 {

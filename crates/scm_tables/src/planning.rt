@@ -1,6 +1,9 @@
-ghost use Rattle.std.specs.Prelude.{◌≡◌, ◌≤◌, ◌<◌, ◌+◌, ◌-◌, ◌^◌, None, [], length, min, option_and_then, option_copied, vec_capacity, vec_len, OnOk};
+ghost use Rattle.std.specs.Prelude.{◌≡◌, ◌≤◌, ◌<◌, ◌+◌, ◌-◌, ◌^◌, None, [], length, min};
+ghost use Rattle.std.specs.Prelude.{option_and_then, option_copied, vec_capacity, vec_len, OnOk};
 ghost use Rattle.std.specs.List.{list_any};
-ghost use Rattle.scm_rules.specs.Launches.{first_wanted, is_taken, line_of, path_in, process_of, service_of_process, with_decided, with_launched, with_taken, without_process};
+ghost use Rattle.scm_rules.specs.Launches.{first_wanted, is_taken, line_of, path_in, process_of};
+ghost use Rattle.scm_rules.specs.Launches.{service_of_process, with_decided, with_launched};
+ghost use Rattle.scm_rules.specs.Launches.{with_taken, without_process};
 ghost use Rattle.scm_rules.specs.Owed.{owed};
 ghost use Rattle.scm_rules.specs.Room.{owed_by_due, owed_by_kind};
 ghost use Rattle.start_plan.specs.Owed.{total};
@@ -11,6 +14,7 @@ ghost use Rattle.scm_model.specs.Rows.{service_of};
 ghost use Rattle.start_plan.specs.Decided.{plan_caller, code_of, is_target};
 ghost use Rattle.scm_tables.specs.Lines.{first_line};
 ghost use Rattle.scm_tables.specs.Listed.{wanted_of, without_words};
+ghost use Rattle.scm_tables.specs.Promised.{KeepsRooms};
 
 use super::process_rows::ProcessRow;
 use super::tables::Tables;
@@ -61,17 +65,24 @@ impl Tables {
     /// Takes the words of the launch that is wanted first.
     pub fn take_words(&mut self) -> Items<WText>
         ensures words { result ≡ (first_line self.old.flat self.old.flat.wanted).1 }
-        ensures flat { self.new.flat ≡ record self.old.flat { wanted = without_words self.old.flat.wanted } }
+        ensures flat { self.new.flat ≡ record self.old.flat {
+          wanted =
+              without_words self.old.flat.wanted;
+        } }
         ensures limits { self.new.limits ≡ self.old.limits }
         ensures spare { self.new.spare ≡ self.old.spare }
     {
         self.processes.take_words(self.alloc)
     }
 
-    /// Writes the path of the launch that is wanted first, or the empty one where none is. It takes no memory.
+    /// Writes the path of the launch that is wanted first, or the empty one where none is. It takes
+    /// no memory.
     pub fn write_first_path(&self, path: &mut TextRoom)
         requires { 2048 ≤ path.old.room }
-        ensures { path.new ≡ record { units = (first_line self.now.flat self.now.flat.wanted).0; room = path.old.room } }
+        ensures { path.new ≡ record {
+          units = (first_line self.now.flat self.now.flat.wanted).0;
+          room = path.old.room;
+        } }
     {
         match self.processes.wanted_first() {
             Some(row) => self.write_line(row, path),
@@ -82,7 +93,10 @@ impl Tables {
     /// Writes the path of a launch: the text of a command, or the path of a service.
     fn write_line(&self, row: &ProcessRow, path: &mut TextRoom)
         requires { 2048 ≤ path.old.room }
-        ensures { path.new ≡ record { units = (line_of self.now.flat (wanted_of row.now)).0; room = path.old.room } }
+        ensures { path.new ≡ record {
+          units = (line_of self.now.flat (wanted_of row.now)).0;
+          room = path.old.room;
+        } }
     {
         if row.line.is_command() {
             row.line.write_command(self.alloc, path);
@@ -94,7 +108,11 @@ impl Tables {
     /// Writes the path of a service, or the empty one where there is none. It takes no memory.
     fn write_path(&self, service: Option<u64>, path: &mut TextRoom)
         requires { 2048 ≤ path.old.room }
-        ensures { path.new ≡ record { units = path_in (option_and_then (service_of self.now.flat) service); room = path.old.room } }
+        ensures { path.new ≡ record {
+          units = path_in
+              (option_and_then (service_of self.now.flat) service);
+          room = path.old.room;
+        } }
     {
         match self.service_with(service) {
             Some(row) => path.set(&row.config.path),
@@ -187,8 +205,12 @@ impl Tables {
         ensures flat { self.new.flat ≡ self.old.flat }
         ensures limits { self.new.limits ≡ self.old.limits }
         ensures room { OnOk result (more ≤ self.new.spare.dues) }
-        ensures spare { self.new.spare ≡ record self.old.spare { services = self.new.spare.services; dues = self.new.spare.dues } }
+        ensures spare { self.new.spare ≡ record self.old.spare {
+          services = self.new.spare.services;
+          dues = self.new.spare.dues;
+        } }
         ensures more { self.old.spare.dues ≤ self.new.spare.dues }
+        ensures keeps { KeepsRooms self.old self.new }
     {
         self.dues.reserve(self.services.len() + more as usize)
     }
@@ -200,6 +222,8 @@ impl Tables {
         ensures plans { OnOk result (1 ≤ self.new.spare.plans) }
         ensures dues { OnOk result (1 ≤ self.new.spare.dues) }
         ensures tried { OnOk result (entries ≤ self.new.spare.tried) }
+        ensures keeps { KeepsRooms self.old self.new }
+        ensures needs { self.new.spare.needs ≡ self.old.spare.needs }
     {
         self.plans.reserve(1)?;
         self.reserve_dues(1)?;
@@ -233,7 +257,8 @@ impl Tables {
         self.put_plan(plan, tried);
     }
 
-    /// Begins a plan that has the next number, and its deadline. The list is the room for what the plan will have tried.
+    /// Begins a plan that has the next number, and its deadline. The list is the room for what the
+    /// plan will have tried.
     pub(crate) fn put_plan(&mut self, plan: Plan, tried: Vec<u64>)
         requires plans { 1 ≤ self.old.spare.plans }
         requires dues { 1 ≤ self.old.spare.dues }

@@ -1,10 +1,14 @@
-ghost use Rattle.std.specs.Prelude.{◌≡◌, ◌≢◌, ◌<◌, ◌==◌, ◌≤◌, ◌++◌, ◌∷◌, ◌^◌, [], length, nat_lt, not, position, map, drop, filter, find, if◌then◌else◌, option_copied, slice_get, vec_capacity, All, AllPairs, IfNone, IfSome};
+ghost use Rattle.std.specs.Prelude.{◌≡◌, ◌≢◌, ◌<◌, ◌==◌, ◌≤◌, ◌++◌, ◌∷◌, ◌^◌, [], length, nat_lt};
+ghost use Rattle.std.specs.Prelude.{not, position, map, drop, filter, find, if◌then◌else◌};
+ghost use Rattle.std.specs.Prelude.{option_copied, slice_get, vec_capacity, All, AllPairs, IfNone};
+ghost use Rattle.std.specs.Prelude.{IfSome};
 ghost use Rattle.scm_model.specs.declared.flat.Phase.TheVariants as phases;
-ghost use Rattle.scm_rules.specs.Controls.{controlled_if, relieved_if};
+ghost use Rattle.scm_rules.specs.Controls.{controlled_if, dequeued_if};
 ghost use Rattle.scm_rules.specs.Launches.{first_wanted, launched_if, taken_if};
 ghost use Rattle.scm_rules.specs.Owed.{owed_in_phase};
 ghost use Rattle.scm_rules.specs.Steps.{wants_launch as is_any_wanted};
-ghost use Rattle.scm_tables.specs.Listed.{is_wanted_row, listed_as, processes_in, wanted_in, without_words, words_in};
+ghost use Rattle.scm_tables.specs.Listed.{is_wanted_row, listed_as, processes_in, wanted_in};
+ghost use Rattle.scm_tables.specs.Listed.{without_words, words_in};
 ghost use Rattle.scm_tables.specs.Processed.{owed_in};
 
 use super::lines::Line;
@@ -30,7 +34,8 @@ pub struct ProcessRow {
 /// Where the process with a number stands.
 fn place_of(rows: &[ProcessRow], number: u64) -> Option<usize>
     requires { AllPairs (λ a b. a.number < b.number) rows.now }
-    ensures found { IfSome result (λ place. IfSome (slice_get rows.now place) (λ row. row.number ≡ number)) }
+    ensures found { IfSome result (λ place. IfSome (slice_get rows.now place)
+        (λ row. row.number ≡ number)) }
     ensures within { IfSome result (λ place. place < length rows.now) }
     ensures none { IfNone result (All (λ row. row.number ≢ number) rows.now) }
     ensures few { length rows.now < 2 ^ 64 }
@@ -129,7 +134,8 @@ pub fn drop_process(rows: &mut Vec<ProcessRow>, number: u64, owed: u128) -> u128
 /// A control more waits for a process, as long as fewer do than may.
 fn control_row(row: &mut ProcessRow, limit: u32, code: u32)
     requires { limit ≤ 16 }
-    ensures { row.new ≡ (if nat_lt (length row.old.controls) limit then record row.old { controls = row.old.controls ++ code ∷ [] } else row.old) }
+    ensures { row.new ≡ (if nat_lt (length row.old.controls) limit
+        then record row.old { controls = row.old.controls ++ code ∷ [] } else row.old) }
 {
     if row.controls.len() < limit {
         row.controls.enqueue(code);
@@ -158,7 +164,7 @@ fn relieve_row(row: &mut ProcessRow)
 /// The control that waits first for a process waits no longer.
 pub fn relieve_in(rows: &mut Vec<ProcessRow>, number: u64)
     requires { AllPairs (λ a b. a.number < b.number) rows.old.items }
-    ensures rows { rows.new.items ≡ map (listed_as (relieved_if number)) rows.old.items }
+    ensures rows { rows.new.items ≡ map (listed_as (dequeued_if number)) rows.old.items }
     ensures capacity { vec_capacity rows.new ≡ vec_capacity rows.old }
 {
     if let Some(place) = place_of(rows.as_slice(), number) {

@@ -1,7 +1,9 @@
-ghost use Rattle.std.specs.Prelude.{◌≡◌, ◌≤◌, ◌<◌, ◌-◌, ◌==◌, ◌^◌, [], find, length, min, nat_le, option_copied, option_map, slice_get, All, IfOk};
+ghost use Rattle.std.specs.Prelude.{◌≡◌, ◌≤◌, ◌<◌, ◌-◌, ◌==◌, ◌^◌, [], find, length, min, nat_le};
+ghost use Rattle.std.specs.Prelude.{option_copied, option_map, slice_get, All, IfOk};
 ghost use Rattle.scm_model.specs.Notices.{pid_in};
-ghost use Rattle.scm_rules.specs.Controls.{controlled_if, controls_in, first_control, relieved_if};
-ghost use Rattle.scm_rules.specs.Launches.{first_wanted, is_launched, is_taken, launched_if, taken_if};
+ghost use Rattle.scm_rules.specs.Controls.{controlled_if, controls_in, first_control, dequeued_if};
+ghost use Rattle.scm_rules.specs.Launches.{first_wanted, is_launched, is_taken, launched_if};
+ghost use Rattle.scm_rules.specs.Launches.{taken_if};
 ghost use Rattle.scm_rules.specs.Owed.{owed_by_process};
 ghost use Rattle.scm_rules.specs.Steps.{wants_launch};
 ghost use Rattle.start_plan.specs.Owed.{total};
@@ -19,8 +21,8 @@ use scm_text::{Items, OutOfMemory, WText};
 use std::alloc::Global;
 use std::marker::Model;
 
-/// The processes, each with what its launch is to have. Contracts see them and the launches that are wanted, the number that is given
-/// next, and for how many processes there is room.
+/// The processes, each with what its launch is to have. Contracts see them and the launches that
+/// are wanted, the number that is given next, and for how many processes there is room.
 #[derive(Drop)]
 pub struct Processes {
     rows: Vec<ProcessRow>,
@@ -42,7 +44,12 @@ impl Model for Processes {
 impl Processes {
     /// No processes, with room for so many.
     pub fn with_room(alloc: Global, limit: u32) -> Result<Self, OutOfMemory>
-        ensures none { IfOk result (λ all. all ≡ record { processes = []; wanted = []; next = 1; capacity = all.capacity }) }
+        ensures none { IfOk result (λ all. all ≡ record {
+          processes = [];
+          wanted = [];
+          next = 1;
+          capacity = all.capacity;
+        }) }
         ensures room { IfOk result (λ all. limit ≤ all.capacity) }
     {
         match Vec::with_capacity(alloc, limit as usize) {
@@ -79,14 +86,16 @@ impl Processes {
 
     /// The process with a number.
     fn get(&self, number: u64) -> Option<&ProcessRow>
-        ensures { option_map process_shown (option_copied result) ≡ find (λ row. row.number == number) self.now.processes }
+        ensures { option_map process_shown (option_copied result) ≡ find
+            (λ row. row.number == number) self.now.processes }
     {
         process_with(self.rows.as_slice(), number)
     }
 
     /// The service that a process is of, which is 0 for a command.
     pub fn service_of(&self, number: u64) -> Option<u64>
-        ensures { result ≡ option_map (λ row. row.service) (find (λ row. row.number == number) self.now.processes) }
+        ensures { result ≡ option_map (λ row. row.service)
+            (find (λ row. row.number == number) self.now.processes) }
     {
         self.get(number).map(|row| row.service)
     }
@@ -123,7 +132,8 @@ impl Processes {
 
     /// How many controls wait for a process; none where it isn't listed.
     pub fn waiting(&self, number: u64) -> Option<u32>
-        ensures { result ≡ option_map (λ row. length row.controls) (find (λ row. row.number == number) self.now.processes) }
+        ensures { result ≡ option_map (λ row. length row.controls)
+            (find (λ row. row.number == number) self.now.processes) }
     {
         match self.get(number) {
             Some(row) => Some(row.controls.len()),
@@ -133,7 +143,8 @@ impl Processes {
 
     /// The control that waits first for a process.
     pub fn first_control(&self, number: u64) -> Option<u32>
-        ensures { result ≡ first_control (controls_in (find (λ row. row.number == number) self.now.processes)) }
+        ensures { result ≡ first_control (controls_in
+            (find (λ row. row.number == number) self.now.processes)) }
     {
         match self.get(number) {
             Some(row) => row.controls.first(),
@@ -210,8 +221,8 @@ impl Processes {
     }
 
     /// The control that waits first for a process waits no longer.
-    pub fn relieve(&mut self, number: u64)
-        ensures { self.new ≡ with_changed (relieved_if number) self.old }
+    pub fn dequeue_control(&mut self, number: u64)
+        ensures { self.new ≡ with_changed (dequeued_if number) self.old }
     {
         relieve_in(&mut self.rows, number);
     }

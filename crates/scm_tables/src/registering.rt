@@ -1,8 +1,10 @@
 ghost use Rattle.std.specs.Prelude.{◌≡◌, ◌≤◌, ◌<◌, ◌^◌, OnOk, option_copied};
 ghost use Rattle.notify_queue.specs.Queued.{notice_of};
 ghost use Rattle.scm_model.specs.Changes.{without_registrations_of};
-ghost use Rattle.scm_model.specs.Notices.{pid_of, registered_by, with_taken_result, without_registration};
+ghost use Rattle.scm_model.specs.Notices.{pid_of, registered_by, with_taken_result};
+ghost use Rattle.scm_model.specs.Notices.{without_registration};
 ghost use Rattle.scm_tables.specs.Noticed.{with_registered};
+ghost use Rattle.scm_tables.specs.Promised.{KeepsRooms};
 
 use super::noticing::{pid_with, register_in};
 use super::service_rows::row_in;
@@ -25,12 +27,15 @@ impl Tables {
         ensures room { OnOk result (1 ≤ self.new.spare.registrations) }
         ensures others { self.new.spare.handles ≡ self.old.spare.handles }
         ensures limits { self.new.limits ≡ self.old.limits }
+        ensures keeps { KeepsRooms self.old self.new }
+        ensures needs { self.new.spare.needs ≡ self.old.spare.needs }
     {
         self.registrations.reserve(self.alloc)
     }
 
-    /// Registers a caller for events of a service, or of the manager as 0, and answers the number. The service that the handle is
-    /// of may be in one of the states already, which is told at once. It takes no memory.
+    /// Registers a caller for events of a service, or of the manager as 0, and answers the number.
+    /// The service that the handle is of may be in one of the states already, which is told at
+    /// once. It takes no memory.
     pub fn add_registration(&mut self, caller: u64, handle: u64, service: u64, mask: u32) -> u64
         requires room { 1 ≤ self.old.spare.registrations }
         requires next { self.old.flat.next.registration < 2 ^ 63 }

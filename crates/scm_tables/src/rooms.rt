@@ -51,6 +51,7 @@ pub fn fill_starts(
 ) -> Result<(), OutOfMemory>
     requires { All (IsStartRoom services) rooms.old.items }
     ensures rooms { All (IsStartRoom services) rooms.new.items }
+    ensures more { length rooms.old.items ≤ length rooms.new.items }
     ensures count { OnOk result (count ≤ length rooms.new.items) }
 {
     while rooms.len() < count {
@@ -70,6 +71,7 @@ pub fn fill_commands(
 ) -> Result<(), OutOfMemory>
     requires { All IsCommandRoom rooms.old.items }
     ensures rooms { All IsCommandRoom rooms.new.items }
+    ensures more { length rooms.old.items ≤ length rooms.new.items }
     ensures count { OnOk result (count ≤ length rooms.new.items) }
 {
     while rooms.len() < count {

@@ -1,5 +1,6 @@
 ghost use Rattle.std.specs.Prelude.{◌≡◌, ◌≤◌, option_copied};
-ghost use Rattle.scm_rules.specs.Controls.{active_among, controls_of, first_control, waiting, with_control, with_control_taken};
+ghost use Rattle.scm_rules.specs.Controls.{active_among, controls_of, first_control, waiting};
+ghost use Rattle.scm_rules.specs.Controls.{with_control, with_control_taken};
 ghost use Rattle.scm_rules.specs.Query.{status_in};
 ghost use Rattle.scm_rules.specs.Launches.{current_of, is_launched, process_of};
 
@@ -74,6 +75,6 @@ impl Tables {
         ensures flat { self.new.flat ≡ with_control_taken self.old.flat process }
         ensures limits { self.new.limits ≡ self.old.limits }
     {
-        self.processes.relieve(process);
+        self.processes.dequeue_control(process);
     }
 }

@@ -1,4 +1,6 @@
-ghost use Rattle.std.specs.Prelude.{List, ◌≡◌, ◌≢◌, ◌<◌, ◌==◌, ◌&&◌, ◌||◌, ⊤, not, find, filter, length, map, option_and_then, option_copied, AllPairs, IfSome, Some};
+ghost use Rattle.std.specs.Prelude.{List, ◌≡◌, ◌≢◌, ◌<◌, ◌==◌, ◌&&◌, ◌||◌, ⊤, not, find, filter};
+ghost use Rattle.std.specs.Prelude.{length, map, option_and_then, option_copied, AllPairs, IfSome};
+ghost use Rattle.std.specs.Prelude.{Some};
 ghost use Rattle.std.specs.List.{list_any};
 ghost use Rattle.record_table.specs.Recorded.{is_displayed, is_named, spare_of};
 ghost use Rattle.scm_model.specs.Changes.{configured_if, marked_if};

@@ -55,7 +55,8 @@ impl Tables {
 
     /// What is in the way of a service.
     fn entering(&self, row: &Service) -> Entering
-        ensures { result ≡ entering_at (cause_at self.now.limits self.now.flat false (Some row.now)) (is_some self.now.flat.lock) }
+        ensures { result ≡ entering_at (cause_at self.now.limits self.now.flat false (Some row.now))
+            (is_some self.now.flat.lock) }
     {
         if row.marked {
             return Entering::No(ERROR_SERVICE_MARKED_FOR_DELETE);

@@ -1,7 +1,13 @@
-ghost use Rattle.std.specs.Prelude.{◌≡◌, ◌+◌, ◌^◌, ◌<◌, ◌≤◌, ◌==◌, filter, IfOk, OnOk, length, option_copied, slice_get, All, IsFalse, IsTrue, []};
-ghost use Rattle.scm_model.specs.Changes.{with_handle, without_handle, without_handles_of, with_caller, without_caller, with_config, with_moment, without_lock_of};
+ghost use Rattle.std.specs.Prelude.{◌≡◌, ◌+◌, ◌^◌, ◌<◌, ◌≤◌, ◌==◌, filter, IfOk, OnOk, length};
+ghost use Rattle.std.specs.Prelude.{option_copied, slice_get, All, IsFalse, IsTrue, OnErr, []};
+ghost use Rattle.scm_model.specs.Changes.{with_handle, without_handle, without_handles_of};
+ghost use Rattle.scm_model.specs.Changes.{with_caller, without_caller, with_config, with_moment};
+ghost use Rattle.scm_model.specs.Changes.{without_lock_of};
 ghost use Rattle.scm_model.specs.Purge.{purged};
-ghost use Rattle.scm_model.specs.Rows.{caller_of, displayed, handle_of, held_by, held_service, holds_lock, is_caller, is_shown, is_shown_by_another, manager_mask, named, opened, owner_at, principal_of, service_of};
+ghost use Rattle.scm_model.specs.Rows.{caller_of, displayed, handle_of, held_by, held_service};
+ghost use Rattle.scm_model.specs.Rows.{holds_lock, is_caller, is_shown, is_shown_by_another};
+ghost use Rattle.scm_model.specs.Rows.{manager_mask, named, opened, owner_at, principal_of};
+ghost use Rattle.scm_model.specs.Rows.{service_of};
 ghost use Rattle.scm_rules.specs.Create.{next_tag, with_creation};
 ghost use Rattle.scm_model.specs.Changes.{with_service};
 ghost use Rattle.scm_rules.specs.Locks.{with_lock, without_lock};
@@ -9,10 +15,13 @@ ghost use Rattle.scm_rules.specs.Opening.{empty_at, opening};
 ghost use Rattle.scm_model.specs.declared.codes.TheConstants.{SERVICE_RUNNING};
 ghost use Rattle.scm_tables.specs.Inside.{all_numbers};
 ghost use Rattle.scm_tables.specs.Noticed.{with_marked};
+ghost use Rattle.scm_tables.specs.Promised.{KeepsRooms};
 ghost use Rattle.scm_tables.specs.Tabled.{HasNeedRoom, HasShortTexts};
 
 use super::caller_rows::{caller_in, drop_caller_row};
-use super::needing::{change_needs, index_of, is_acyclic, reserve_search, stays_acyclic};
+use super::needing::{
+    change_needs, index_of, is_acyclic, reserve_both, reserve_search, stays_acyclic,
+};
 use super::noticing::{note_leaving, note_mark, with_pid};
 use super::opening::{automatic_starts, services_of, table_of};
 use super::processes::Processes;
@@ -47,7 +56,8 @@ pub struct Numbers {
     pub caller: u64,
 }
 
-/// The manager's lists. Contracts see the flat state, the limits, and for how many rows more there is room.
+/// The manager's lists. Contracts see the flat state, the limits, and for how many rows more there
+/// is room.
 pub struct Tables {
     pub(crate) services: RecordTable,
     /// Which service needs which.
@@ -156,8 +166,8 @@ fn is_held_by(handles: &HandleTable, caller: u64, lock: Option<LockRow>) -> bool
 }
 
 impl Tables {
-    /// A service that never ran for each configuration, with room for as many processes as may be listed. Those start by themselves that
-    /// are automatic, those of the listed groups first.
+    /// A service that never ran for each configuration, with room for as many processes as may be
+    /// listed. Those start by themselves that are automatic, those of the listed groups first.
     pub fn new(
         alloc: Global,
         limits: Limits,
@@ -166,7 +176,8 @@ impl Tables {
         moment: u64,
     ) -> Result<Self, OutOfMemory>
         requires { All HasShortTexts configs }
-        ensures flat { IfOk result (λ tables. tables.flat ≡ opening limits groups.now configs moment) }
+        ensures flat { IfOk result (λ tables. tables.flat ≡ opening limits groups.now configs
+            moment) }
         ensures limits { IfOk result (λ tables. tables.limits ≡ limits) }
     {
         let processes = Processes::with_room(alloc, limits.processes)?;
@@ -268,8 +279,10 @@ impl Tables {
     pub fn reserve_handle(&mut self) -> Result<(), OutOfMemory>
         ensures flat { self.new.flat ≡ self.old.flat }
         ensures room { OnOk result (1 ≤ self.new.spare.handles) }
-        ensures others { (self.new.spare.services ≡ self.old.spare.services) × (self.new.spare.needs ≡ self.old.spare.needs) }
+        ensures others { (self.new.spare.services ≡ self.old.spare.services)
+            × (self.new.spare.needs ≡ self.old.spare.needs) }
         ensures limits { self.new.limits ≡ self.old.limits }
+        ensures keeps { KeepsRooms self.old self.new }
     {
         self.handles.reserve()
     }
@@ -392,6 +405,8 @@ impl Tables {
         ensures flat { self.new.flat ≡ self.old.flat }
         ensures room { OnOk result (1 ≤ self.new.spare.callers) }
         ensures limits { self.new.limits ≡ self.old.limits }
+        ensures keeps { KeepsRooms self.old self.new }
+        ensures needs { self.new.spare.needs ≡ self.old.spare.needs }
     {
         match self.callers.reserve(1) {
             Ok(()) => Ok(()),
@@ -449,7 +464,8 @@ impl Tables {
 
     /// How many services are RUNNING.
     pub fn running(&self) -> usize
-        ensures { result ≡ length (filter (λ row. row.status.state == SERVICE_RUNNING) self.now.flat.services) }
+        ensures { result ≡ length (filter (λ row. row.status.state == SERVICE_RUNNING)
+            self.now.flat.services) }
     {
         running_in(&self.services)
     }
@@ -511,27 +527,30 @@ impl Tables {
         ensures room { OnOk result (1 ≤ self.new.spare.services) }
         ensures others { self.new.spare.handles ≡ self.old.spare.handles }
         ensures limits { self.new.limits ≡ self.old.limits }
+        ensures keeps { KeepsRooms self.old self.new }
+        ensures needs { self.new.spare.needs ≡ self.old.spare.needs }
     {
         self.reserve_dues(1)?;
         self.leaving.reserve(self.services.len() + 1)?;
         reserve_search(&mut self.searched, self.services.len())
     }
 
-    /// Makes room for the texts and the needs of a service that gets this configuration, and lets
-    /// go what was made for another.
+    /// Makes room for the texts and the needs of a service that gets this configuration, in place
+    /// of what was made for another. Where there is no memory, that stays.
     pub fn reserve_needs(&mut self, config: &Config) -> Result<(), OutOfMemory>
         ensures flat { self.new.flat ≡ self.old.flat }
         ensures room { OnOk result (HasNeedRoom self.new.spare config.now) }
-        ensures others { (self.new.spare.services ≡ self.old.spare.services) × (self.new.spare.handles ≡ self.old.spare.handles) }
+        ensures others { (self.new.spare.services ≡ self.old.spare.services)
+            × (self.new.spare.handles ≡ self.old.spare.handles) }
         ensures limits { self.new.limits ≡ self.old.limits }
+        ensures err { OnErr result (self.new.spare.needs ≡ self.old.spare.needs) }
+        ensures keeps { KeepsRooms self.old self.new }
     {
-        self.index.forget_spare();
-        self.services.reserve(config)?;
-        self.index
-            .reserve(self.alloc, &config.name, &config.group, &config.needs)
+        reserve_both(&mut self.index, &mut self.services, self.alloc, config)
     }
 
-    /// Adds a service, and answers its number; the manager's registrations are told. It takes no memory.
+    /// Adds a service, and answers its number; the manager's registrations are told. It takes no
+    /// memory.
     pub fn add_service(&mut self, config: Config, status: Status) -> u64
         requires room { 1 ≤ self.old.spare.services }
         requires next { self.old.flat.next.service < 2 ^ 63 }
@@ -617,7 +636,8 @@ impl Tables {
     fn let_one_go(&mut self) -> bool
         ensures rest { purged self.new.flat ≡ purged self.old.flat }
         ensures none { IsFalse result → self.new.flat ≡ purged self.old.flat }
-        ensures fewer { IsTrue result → length self.new.flat.services < length self.old.flat.services }
+        ensures fewer { IsTrue result → length self.new.flat.services < length
+            self.old.flat.services }
         ensures limits { self.new.limits ≡ self.old.limits }
     {
         let marked = Marked {

@@ -75,8 +75,9 @@ pub enum Written {
     Whole(Box<Step>),
 }
 
-/// A step as a trail keeps it. It has 24 bytes, where a step has 240; a report, a raise, and a call with
-/// texts or with more than a number, have memory of their own beside them. Contracts see the step.
+/// A step as a trail keeps it. It has 24 bytes, where a step has 240; a report, a raise, and a call
+/// with texts or with more than a number, have memory of their own beside them. Contracts see the
+/// step.
 #[derive(Drop)]
 pub struct Note {
     written: Written,

@@ -1,4 +1,5 @@
-ghost use Rattle.std.specs.Prelude.{◌≡◌, ◌+◌, ◌<◌, ◌≤◌, ◌++◌, ◌∷◌, [], IfOk, IsOk, OnOk, OnErr, Some, length, slice_get};
+ghost use Rattle.std.specs.Prelude.{◌≡◌, ◌+◌, ◌<◌, ◌≤◌, ◌++◌, ◌∷◌, [], IfOk, IsOk, OnOk, OnErr};
+ghost use Rattle.std.specs.Prelude.{Some, length, slice_get};
 ghost use Rattle.scm_model.specs.Entries.{text_in};
 ghost use Rattle.scm_model.specs.Texts.{text_of};
 ghost use Rattle.scm_trail.specs.Chunks.{AddsChunks};

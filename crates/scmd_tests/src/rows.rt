@@ -215,6 +215,23 @@ no such method   | pdu 0 3 9 16 x01000100 xaa^16               | pdu 3 3 9 0 1 #
 = 0 pipe --as user: a user raises no trigger
 triggers
 not even one that nobody has | pdu 0 3 7 16 x01000000 xaa^16 | pdu 2 3 7 4 x01000000 5
+= 0 pipe --as user: the rights of a user at the manager
+bind
+all of them          | manager - - #2000000           | h1 0
+to see services      | services h1 #30 3 0 -          | 0 0 0 - 0
+to watch them        | watch h1 #180                  | h2 0
+to see who locks     | locked h1 14                   | 0 * 0 '' 14 0
+not to create        | create h1 'A' - own '/a' plain | - h0 5
+not to lock          | lock h1                        | h0 5
+all by name          | manager - - #20015             | h3 0
+to connect           | manager - - 1                  | h4 0
+to read rights       | manager - - #20000             | h5 0
+not to create        | manager - - 2                  | h0 5
+not to lock          | manager - - 8                  | h0 5
+not to boot          | manager - - #20                | h0 5
+not to delete        | manager - - #10000             | h0 5
+nor to change rights | manager - - #40000             | h0 5
+nor an owner         | manager - - #80000             | h0 5
 = 0 pipe: faults
 bind
 a call that there is not        | 9                             | fault #1C010002
@@ -528,6 +545,33 @@ pub const REPLAYS: &str = "
 = 0 replay: the manager is opened and closed
 with no right | join admin; call 1 manager - - 0 | caller 1; reply h1 0
               | call 1 close h1; gone 1          | reply h0 0; done
+= 0 replay: the rights of a user at a service
+administrator
+A
+runs
+a user               | join user; call 2 manager - - #2000000 | caller 2; reply h3 0
+with all rights      | call 2 open h3 'A' #2000000  | reply h4 0
+to see its texts     | call 2 config h4 8192        | reply 16 3 1 * * 0 * * * '/bin/a' '' '' 'LocalSystem' 'A' 82 0
+its status           | call 2 status h4             | reply 16 4 1 0 0 0 0 0
+what needs it        | call 2 dependents h4 3 0     | reply 0 0 0 0
+to ask how it is     | call 2 control h4 4          | reply 16 4 1 0 0 0 0 0
+not to change it     | call 2 change h4 keep 4 keep - - - - 0 - - 0 - | reply - 5
+not to start it      | call 2 start h4 0 -          | reply 5
+not to stop it       | call 2 control h4 1          | reply 0 0 0 0 0 0 0 5
+not to pause it      | call 2 control h4 2          | reply 0 0 0 0 0 0 0 5
+no code of its own   | call 2 control h4 128        | reply 0 0 0 0 0 0 0 5
+not to delete it     | call 2 delete h4             | reply 5
+not to report for it | call 2 set h4 16 4 1 0 0 0 0 | reply 5
+all by name          | call 2 open h3 'A' #2008D    | reply h5 0
+not to change it     | call 2 open h3 'A' 2         | reply h0 5
+not to start it      | call 2 open h3 'A' #10       | reply h0 5
+not to stop it       | call 2 open h3 'A' #20       | reply h0 5
+not to pause it      | call 2 open h3 'A' #40       | reply h0 5
+no code of its own   | call 2 open h3 'A' #100      | reply h0 5
+not to report for it | call 2 open h3 'A' #8000     | reply h0 5
+not to delete it     | call 2 open h3 'A' #10000    | reply h0 5
+nor to change rights | call 2 open h3 'A' #40000    | reply h0 5
+nor an owner         | call 2 open h3 'A' #80000    | reply h0 5
 = 0 replay: a control that there is not
 administrator
 A

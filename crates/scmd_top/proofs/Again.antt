@@ -46,7 +46,8 @@ reads_on : (path : Bool) (told : Option (List ℕ)) (replay : Replay) (groups : 
     → IsOpening program_limits (program_opening groups replay.configs moment)
     → Legal program_limits (program_opening groups replay.configs moment) history → AllFit history
     → IfSome told AreBytes
-    → ReadsAs (and_changes (kept_front replay.kept told) (kept_changes program_limits (program_opening groups replay.configs moment) history))
+    → ReadsAs (and_changes (kept_front replay.kept told) (kept_changes program_limits
+    (program_opening groups replay.configs moment) history))
     (replayed replay.configs (map held_change (kept_changes program_limits (program_opening groups replay.configs moment) history)))
 reads_on path None replay groups moment history stood begins legal fits bytes =
     let changes = kept_changes program_limits (program_opening groups replay.configs moment) history in
@@ -70,7 +71,8 @@ and_left None configs j now is bears = tt
 and_left (Some bytes) configs j None is bears = absurd bears
 and_left (Some bytes) configs j (Some now) is bears = (is, borne_left bytes configs j now is bears)
 
-pub opens_again : (path : Bool) (groups : List (List ℕ)) (keeper : Side) (moment : ℕ) (o : Opened) (h : HasOpened path groups keeper moment o) (history : List Entry) (failed : ℕ) (now : Side)
+pub opens_again : (path : Bool) (groups : List (List ℕ)) (keeper : Side) (moment : ℕ) (o : Opened)
+    (h : HasOpened path groups keeper moment o) (history : List Entry) (failed : ℕ) (now : Side)
     → keeper.told ≡ now.told → Legal program_limits (program_opening groups h.replay.configs moment) history
     → KeepsJournal h.replay.kept (kept_changes program_limits (program_opening groups h.replay.configs moment) history) failed now
     → AllFit history

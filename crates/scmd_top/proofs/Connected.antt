@@ -1,5 +1,6 @@
 -- A connection over a book of its own, behind the opening of its journal.
-use Rattle.std.proofs.Common.{ℕ, ◌≡◌, ◌≤◌, ◌∙◌, ◌⊎◌, Bool, inl, inr, refl, sym, ap, subst, List, [], length, take, Option, None, Some, arith}
+use Rattle.std.proofs.Common.{ℕ, ◌≡◌, ◌≢◌, ◌≤◌, ◌∙◌, ◌⊎◌, Bool, inl, inr, refl, sym, ap, subst, List, [], length, take, Option, None, Some}
+use Rattle.std.proofs.Common.{arith}
 use Rattle.std.specs.Prelude.{IfSome}
 use Rattle.outside.specs.Causes.{Rose}
 use Rattle.scm_model.specs.declared.flat.Flat.{Flat}
@@ -18,16 +19,17 @@ use Rattle.rpc_session.specs.Items.{StreamEnd, AtRest, Unfinished, BadPdu, TooLo
 use Rattle.conn_desk.specs.Connection.{IsServedFor}
 use Rattle.conn_desk.specs.declared.served.Served.{Served}
 use Rattle.conn_desk.specs.declared.served.Served.TheVariants as served
-use Rattle.conn_worker.specs.Complete.{IsComplete as EndsAsItsInput, EndsAs as EndsSo, IsOrLacks as IsDue, end_of}
+use Rattle.conn_worker.specs.Complete.{IsComplete as EndsAsItsInput, EndsAs as EndsSo, FindsRoom, IsOrLacks as IsDue, end_of}
 use Rattle.scm_pipe.specs.declared.alone.Piped.{Piped}
 use Rattle.scm_pipe.specs.Piping.{HasRoomForAll, IsEnd, IsKept, IsUnjoined, begun_with}
 use Rattle.scm_restored.specs.declared.Opened.{Opened}
 use Rattle.scmd_top.specs.Opening.{FailsToOpen, HasOpened, IsCut, IsUnopened, kept_front, program_opening, status_of_fault}
-use Rattle.scmd_top.specs.Pipe.{EndsAs, HasCome, HasNotJoined, HasPiped, HasRoomAlways, IsComplete, IsOrFails, KeepsJournal, pipe_status, status_of}
+use Rattle.scmd_top.specs.Pipe.{EndsAs, HasCome, HasNotJoined, HasPiped, HasRoomAlways, IsComplete, IsOrFails, KeepsJournal, pipe_status}
+use Rattle.scmd_top.specs.Pipe.{status_of}
 use Rattle.scmd_top.specs.Sides.{IsUntouched, Side, Sides, side}
 use Rattle.scmd_top.specs.Statuses.{program_limits}
 use Rattle.scmd_top.proofs.Again.{no_more, opens_again}
-use Rattle.scmd_top.proofs.Openings.{fails}
+use Rattle.scmd_top.proofs.Openings.{fails, not_9, openable}
 
 -- ## What is kept
 
@@ -39,7 +41,8 @@ behind kept (Some bytes) mid now changes j cut h = subst (λ (good : Option (Lis
 
 module _ {K : Type 0} (told : K → Option (List ℕ)) (faulted : K → ℕ) where
   -- a keeper that was opened has the kept changes of a history
-  pub keeps : (kept : ℕ) (l : Limits) (f : Flat) (history : List Entry) (keeper mid now : K) → IsCut kept (told keeper) (told mid) → faulted mid ≡ faulted keeper
+  pub keeps : (kept : ℕ) (l : Limits) (f : Flat) (history : List Entry) (keeper mid now : K) → IsCut kept (told keeper) (told mid)
+      → faulted mid ≡ faulted keeper
       → IsKept told faulted (begun_with told faulted l f mid) history now
       → KeepsJournal kept (kept_changes l f history) (failures_in history) (side told faulted keeper now)
   keeps kept l f history keeper mid now cut same k = record {
@@ -48,7 +51,8 @@ module _ {K : Type 0} (told : K → Option (List ℕ)) (faulted : K → ℕ) whe
     faults = subst (λ (n : ℕ). RoseBy (failures_in history) n (faulted now)) same k.faults;
   }
 
-  rests_as : (kept : ℕ) (j : Journal) (keeper mid : K) → IsCut kept (told keeper) (told mid) → faulted mid ≡ faulted keeper → Bears (told mid) j (told mid)
+  rests_as : (kept : ℕ) (j : Journal) (keeper mid : K) → IsCut kept (told keeper) (told mid) → faulted mid ≡ faulted keeper
+      → Bears (told mid) j (told mid)
       → KeepsJournal kept [] 0 (side told faulted keeper mid)
   rests_as kept j keeper mid cut same b = record {
     journal = j;
@@ -57,30 +61,36 @@ module _ {K : Type 0} (told : K → Option (List ℕ)) (faulted : K → ℕ) whe
   }
 
   -- nothing was asked of it since
-  pub rests : (kept : ℕ) (j : Journal) (keeper mid now : K) → IsCut kept (told keeper) (told mid) → faulted mid ≡ faulted keeper → Bears (told mid) j (told mid)
+  pub rests : (kept : ℕ) (j : Journal) (keeper mid now : K) → IsCut kept (told keeper) (told mid) → faulted mid ≡ faulted keeper
+      → Bears (told mid) j (told mid)
       → now ≡ mid → KeepsJournal kept [] 0 (side told faulted keeper now)
-  rests kept j keeper mid now cut same b e = subst (λ (k : K). KeepsJournal kept [] 0 (side told faulted keeper k)) (sym e) (rests_as kept j keeper mid cut same b)
+  rests kept j keeper mid now cut same b e = subst (λ (k : K). KeepsJournal kept [] 0 (side told faulted keeper k)) (sym e)
+      (rests_as kept j keeper mid cut same b)
 
   -- ## The connection
 
   came : (tells : ℕ → Type 0) (path : Bool) (principal : Principal) (moment : ℕ) (o : Opened) (a b : Side) (keeper mid : K) (end : Piped K)
       → tells moment → (h : HasOpened path [] (side told faulted keeper mid) moment o)
-      → IsEnd told faulted tells principal program_limits (program_opening [] h.replay.configs moment) a.told a.told_now b.told b.told_now mid end
+      → IsEnd told faulted tells principal program_limits (program_opening [] h.replay.configs moment) a.told a.told_now b.told b.told_now
+      mid end
       → HasCome tells path principal end.how (record { input = a; output = b; keeper = side told faulted keeper end.keeper })
   came tells path principal moment o a b keeper mid end at h (inl (inl j)) = inl (record {
     replay = h.replay;
-    stood = h.read;
+    stood = openable path [] (side told faulted keeper mid) moment o h;
     opened = moment;
     opened_at = at;
     history = j.history;
     piped = j.piped;
-    kept = keeps h.replay.kept program_limits (program_opening [] h.replay.configs moment) j.history keeper mid end.keeper h.cut h.faults j.kept;
-    again = opens_again path [] (side told faulted keeper mid) moment o h j.history (failures_in j.history) (side told faulted keeper end.keeper) refl j.piped.legal
-        (keeps h.replay.kept program_limits (program_opening [] h.replay.configs moment) j.history keeper mid end.keeper h.cut h.faults j.kept);
+    kept = keeps h.replay.kept program_limits (program_opening [] h.replay.configs moment) j.history keeper mid end.keeper h.cut h.faults
+        j.kept;
+    again = opens_again path [] (side told faulted keeper mid) moment o h j.history (failures_in j.history)
+        (side told faulted keeper end.keeper) refl j.piped.legal
+        (keeps h.replay.kept program_limits (program_opening [] h.replay.configs moment) j.history keeper mid end.keeper h.cut h.faults
+        j.kept);
   })
   came tells path principal moment o a b keeper mid end at h (inl (inr u)) = inr (record {
     replay = h.replay;
-    stood = h.read;
+    stood = openable path [] (side told faulted keeper mid) moment o h;
     how_is = u.0.lacks;
     unread = u.0.unread;
     unwritten = u.0.unwritten;
@@ -90,33 +100,37 @@ module _ {K : Type 0} (told : K → Option (List ℕ)) (faulted : K → ℕ) whe
   })
   came tells path principal moment o a b keeper mid end at h (inr u) = inr (record {
     replay = h.replay;
-    stood = h.read;
+    stood = openable path [] (side told faulted keeper mid) moment o h;
     how_is = u.0.lacks;
     unread = u.0.unread;
     unwritten = u.0.unwritten;
     kept = rests h.replay.kept o.journal keeper mid end.keeper h.cut h.faults h.bears u.1;
   })
 
-  pub come : (tells : ℕ → Type 0) (path : Bool) (principal : Principal) (moment : ℕ) (o : Opened) (a b : Side) (keeper mid : K) (end : Piped K)
+  pub come : (tells : ℕ → Type 0) (path : Bool) (principal : Principal) (moment : ℕ) (o : Opened) (a b : Side) (keeper mid : K)
+      (end : Piped K)
       → tells moment → HasOpened path [] (side told faulted keeper mid) moment o
       → IsEnd told faulted tells principal o.manager.limits o.manager.flat a.told a.told_now b.told b.told_now mid end
       → HasCome tells path principal end.how (record { input = a; output = b; keeper = side told faulted keeper end.keeper })
   come tells path principal moment o a b keeper mid end at h e =
       came tells path principal moment o a b keeper mid end at h
-      (subst (λ (l : Limits). IsEnd told faulted tells principal l (program_opening [] h.replay.configs moment) a.told a.told_now b.told b.told_now mid end) h.new.limits
-      (subst (λ (f : Flat). IsEnd told faulted tells principal o.manager.limits f a.told a.told_now b.told b.told_now mid end) h.new.flat e))
+      (subst (λ (l : Limits). IsEnd told faulted tells principal l (program_opening [] h.replay.configs moment) a.told a.told_now b.told
+      b.told_now mid end) h.new.limits
+      (subst (λ (f : Flat). IsEnd told faulted tells principal o.manager.limits f a.told a.told_now b.told b.told_now mid end) h.new.flat
+      e))
 
 -- ## Completeness
 
 -- room whenever the history begins is room where it began
-pub complete_always : (path : Bool) (principal : Principal) (moment : ℕ) (o : Opened) (keeper : Side) (left : Option (List ℕ)) (source source_now sink sink_now : ℕ) (how : Served)
-    → HasOpened path [] keeper moment o → EndsAsItsInput (HasRoomForAll principal o.manager.limits o.manager.flat) left source source_now sink sink_now how
-    → EndsAsItsInput (HasRoomAlways path keeper.told principal) left source source_now sink sink_now how
-complete_always path principal moment o keeper None source source_now sink sink_now how h e = tt
-complete_always path principal moment o keeper (Some bytes) source source_now sink sink_now how h e =
-    λ no_read no_write room. e no_read no_write
+pub room_always : (path : Bool) (principal : Principal) (moment : ℕ) (o : Opened) (keeper : Side) (left : Option (List ℕ)) (how : Served)
+    → HasOpened path [] keeper moment o → FindsRoom (HasRoomForAll principal o.manager.limits o.manager.flat) left how
+    → FindsRoom (HasRoomAlways path keeper.told principal) left how
+room_always path principal moment o keeper None how h finds = tt
+room_always path principal moment o keeper (Some bytes) how h finds =
+    λ always. finds
     (subst (λ (l : Limits). HasRoomForAll principal l o.manager.flat bytes) (sym h.new.limits)
-    (subst (λ (f : Flat). HasRoomForAll principal program_limits f bytes) (sym h.new.flat) (room moment h.replay h.read)))
+    (subst (λ (f : Flat). HasRoomForAll principal program_limits f bytes) (sym h.new.flat)
+    (always moment h.replay (openable path [] keeper moment o h))))
 
 status_end : (ending : StreamEnd) → status_of (end_of ending) ≡ pipe_status ending
 status_end AtRest = refl
@@ -124,50 +138,87 @@ status_end Unfinished = refl
 status_end (BadPdu place _) = refl
 status_end (TooLong length) = refl
 
-due : (path : Bool) (keeper : Side) (by how : Served) (status : ℕ) → status_of by ≡ status → IsDue by how → IsOrFails path keeper status (status_of how)
+due : (path : Bool) (keeper : Side) (by how : Served) (status : ℕ) → status_of by ≡ status → IsDue by how
+    → IsOrFails path keeper status (status_of how)
 due path keeper by how status e (inl is) = inl (inl (ap status_of is ∙ e))
 due path keeper by how status e (inr is) = inl (inr (ap status_of is))
 
 ends_so : (path : Bool) (keeper : Side) (bytes : List ℕ) (how : Served) → EndsSo bytes how → EndsAs path keeper bytes (status_of how)
 ends_so path keeper bytes how h = record {
-  whole = λ small. due path keeper (end_of (items bytes).ending) how (pipe_status (items bytes).ending) (status_end (items bytes).ending) (h.whole small);
+  whole = λ small. due path keeper (end_of (items bytes).ending) how (pipe_status (items bytes).ending) (status_end (items bytes).ending)
+      (h.whole small);
   worn = λ front begins long goes_on. due path keeper served.Worn how 12 refl (h.worn front begins long goes_on);
 }
 
-complete_where : (path : Bool) (principal : Principal) (told : Option (List ℕ)) (source source_now sink sink_now : ℕ) (keeper : Side) (how : Served)
-    → EndsAsItsInput (HasRoomAlways path keeper.told principal) told source source_now sink sink_now how
-    → IfSome told (λ bytes. (Rose source source_now → ⊥) → (Rose sink sink_now → ⊥) → HasRoomAlways path keeper.told principal bytes → EndsAs path keeper bytes (status_of how))
-complete_where path principal None source source_now sink sink_now keeper how h = tt
-complete_where path principal (Some bytes) source source_now sink sink_now keeper how h =
-    λ no_read no_write room. ends_so path keeper bytes how (h no_read no_write room)
+-- 9 is the status of a connection that is full, and of no other
+full_at_9 : (how : Served) → status_of how ≡ 9 → how ≡ served.Full
+full_at_9 served.Full e = refl
+full_at_9 served.Ended e = absurd cc
+full_at_9 served.ReadFault e = absurd cc
+full_at_9 served.WriteFault e = absurd cc
+full_at_9 served.Truncated e = absurd cc
+full_at_9 (served.BadPdu place _) e = absurd cc
+full_at_9 (served.TooLong length) e = absurd cc
+full_at_9 served.OutOfMemory e = absurd cc
+full_at_9 served.Worn e = absurd cc
+
+ends_where : (path : Bool) (keeper : Side) (told : Option (List ℕ)) (source source_now sink sink_now : ℕ) (how : Served)
+    → EndsAsItsInput told source source_now sink sink_now how
+    → IfSome told (λ bytes. (Rose source source_now → ⊥) → (Rose sink sink_now → ⊥) → status_of how ≢ 9
+    → EndsAs path keeper bytes (status_of how))
+ends_where path keeper None source source_now sink sink_now how h = tt
+ends_where path keeper (Some bytes) source source_now sink sink_now how h =
+    λ no_read no_write other. ends_so path keeper bytes how (h no_read no_write (λ is. other (ap status_of is)))
+
+room_where : (path : Bool) (principal : Principal) (stood told : Option (List ℕ)) (how : Served)
+    → FindsRoom (HasRoomAlways path stood principal) told how
+    → IfSome told (λ bytes. HasRoomAlways path stood principal bytes → status_of how ≢ 9)
+room_where path principal stood None how finds = tt
+room_where path principal stood (Some bytes) how finds = λ always is. finds always (full_at_9 how is)
 
 pub complete_pipe : (path : Bool) (principal : Principal) (s : Sides) (how : Served)
-    → EndsAsItsInput (HasRoomAlways path s.keeper.told principal) s.input.told s.input.faults s.input.faults_now s.output.faults s.output.faults_now how
-    → IsComplete path principal s (status_of how)
-complete_pipe path principal s how h =
-    complete_where path principal s.input.told s.input.faults s.input.faults_now s.output.faults s.output.faults_now s.keeper how h
+    → EndsAsItsInput s.input.told s.input.faults s.input.faults_now s.output.faults s.output.faults_now how
+    → FindsRoom (HasRoomAlways path s.keeper.told principal) s.input.told how → IsComplete path principal s (status_of how)
+complete_pipe path principal s how ends finds = record {
+  ends = ends_where path s.keeper s.input.told s.input.faults s.input.faults_now s.output.faults s.output.faults_now how ends;
+  room = room_where path principal s.keeper.told s.input.told how finds;
+}
 
 or_fails : (path : Bool) (keeper : Side) (due status : ℕ) → (status ≡ 8) ⊎ FailsToOpen path keeper status → IsOrFails path keeper due status
 or_fails path keeper due status (inl is) = inl (inr is)
 or_fails path keeper due status (inr h) = inr h
 
-unopened_where : (path : Bool) (principal : Principal) (told : Option (List ℕ)) (source source_now sink sink_now : ℕ) (keeper : Side) (status : ℕ)
+unopened_where : (path : Bool) (keeper : Side) (told : Option (List ℕ)) (source source_now sink sink_now : ℕ) (status : ℕ)
     → (status ≡ 8) ⊎ FailsToOpen path keeper status
-    → IfSome told (λ bytes. (Rose source source_now → ⊥) → (Rose sink sink_now → ⊥) → HasRoomAlways path keeper.told principal bytes → EndsAs path keeper bytes status)
-unopened_where path principal None source source_now sink sink_now keeper status h = tt
-unopened_where path principal (Some bytes) source source_now sink sink_now keeper status h =
-    λ no_read no_write room. record {
+    → IfSome told (λ bytes. (Rose source source_now → ⊥) → (Rose sink sink_now → ⊥) → status ≢ 9 → EndsAs path keeper bytes status)
+unopened_where path keeper None source source_now sink sink_now status h = tt
+unopened_where path keeper (Some bytes) source source_now sink sink_now status h =
+    λ no_read no_write other. record {
       whole = λ small. or_fails path keeper (pipe_status (items bytes).ending) status h;
       worn = λ front begins long goes_on. or_fails path keeper 12 status h;
     }
 
+unopened_room : (path : Bool) (principal : Principal) (stood told : Option (List ℕ)) (fault : JournalFault)
+    → IfSome told (λ bytes. HasRoomAlways path stood principal bytes → status_of_fault fault ≢ 9)
+unopened_room path principal stood None fault = tt
+unopened_room path principal stood (Some bytes) fault = λ always. not_9 fault
+
 -- there is no manager
 pub complete_unopened : (path : Bool) (principal : Principal) (s : Sides) (fault : JournalFault) → IsUnopened path s.keeper fault
     → IsComplete path principal s (status_of_fault fault)
-complete_unopened path principal s fault h =
-    unopened_where path principal s.input.told s.input.faults s.input.faults_now s.output.faults s.output.faults_now s.keeper (status_of_fault fault)
-    (fails path s.keeper fault h)
+complete_unopened path principal s fault h = record {
+  ends = unopened_where path s.keeper s.input.told s.input.faults s.input.faults_now s.output.faults s.output.faults_now
+      (status_of_fault fault) (fails path s.keeper fault h);
+  room = unopened_room path principal s.keeper.told s.input.told fault;
+}
 
-pub not_opened : (tells : ℕ → Type 0) (path : Bool) (principal : Principal) (s : Sides) (fault : JournalFault) → IsUnopened path s.keeper fault
+pub not_opened : (tells : ℕ → Type 0) (path : Bool) (principal : Principal) (s : Sides) (fault : JournalFault)
+    → IsUnopened path s.keeper fault
     → IsUntouched s.input → IsUntouched s.output → HasPiped tells path principal s (status_of_fault fault)
-not_opened tells path principal s fault h input output = inr (record { fault = fault; status_is = refl; unopened = h; input = input; output = output })
+not_opened tells path principal s fault h input output = inr (record {
+  fault = fault;
+  status_is = refl;
+  unopened = h;
+  input = input;
+  output = output;
+})

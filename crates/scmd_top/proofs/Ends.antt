@@ -62,7 +62,8 @@ not_replayed false s status h = not_answered false s status h
 not_replayed true s status (inl h) = not_answered true s status h
 not_replayed true s status (inr h) = not_opened true s status h
 
-pub not_5 : (tells : ℕ → Type 0) (path : Bool) (groups : List (List ℕ)) (job : Job) (s : Sides) (p : Ports) (status : ℕ) → HasRun tells path groups job s p status → status ≢ 5
+pub not_5 : (tells : ℕ → Type 0) (path : Bool) (groups : List (List ℕ)) (job : Job) (s : Sides) (p : Ports) (status : ℕ)
+    → HasRun tells path groups job s p status → status ≢ 5
 not_5 tells path groups (Pipe principal) s p status (inl h) = λ e. not_of_pipe h.how (sym h.status_is ∙ e)
 not_5 tells path groups (Pipe principal) s p status (inr h) = not_opened path s status h
 not_5 tells path groups Replay s p status h = not_replayed path s status h

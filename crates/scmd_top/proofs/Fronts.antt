@@ -1,5 +1,6 @@
 -- Fronts of what may be read.
-use Rattle.std.proofs.Common.{[], ◌∷◌, ◌≤◌, ℕ, ◌≡◌, ◌<◌, ◌^◌, List, ◌++◌, length, Option, None, Some, refl, sym, ap, ◌∙◌, append-nil, length-append, arith}
+use Rattle.std.proofs.Common.{[], ◌∷◌, ◌≤◌, ℕ, ◌≡◌, ◌<◌, ◌^◌, List, ◌++◌, length, Option, None, Some, refl, sym, ap, ◌∙◌, append-nil}
+use Rattle.std.proofs.Common.{length-append, arith}
 use Rattle.std.specs.Io.KnownBytes.{Consumes, IsAtEnd}
 use Rattle.outside.specs.Written.{Begins}
 

@@ -14,12 +14,15 @@ same_path : (words : List (List ℕ)) (path : Option (Bor (List ℕ))) → IsTex
 same_path words None is = ap has_path (sym is)
 same_path words (Some x) is = ap has_path (sym is)
 
-same_groups : (words : List (List ℕ)) (names : Option (Bor (List ℕ))) → IsText (list_of words) names → groups_in (lent names) ≡ groups_listed words
+same_groups : (words : List (List ℕ)) (names : Option (Bor (List ℕ))) → IsText (list_of words) names
+    → groups_in (lent names) ≡ groups_listed words
 same_groups words None is = ap groups_in (sym is)
 same_groups words (Some x) is = ap groups_in (sym is)
 
-pub run_named : (tells : ℕ → Type 0) (words : List (List ℕ)) (job : Job) (found : Option Job) (path names : Option (Bor (List ℕ))) (s : Sides) (p : Ports) (status : ℕ)
-    → found ≡ job_of words → found ≡ Some job → IsText (path_of words) path → IsText (list_of words) names → HasRun tells (has_path path) (groups_in (lent names)) job s p status
+pub run_named : (tells : ℕ → Type 0) (words : List (List ℕ)) (job : Job) (found : Option Job) (path names : Option (Bor (List ℕ)))
+    (s : Sides) (p : Ports) (status : ℕ)
+    → found ≡ job_of words → found ≡ Some job → IsText (path_of words) path → IsText (list_of words) names
+    → HasRun tells (has_path path) (groups_in (lent names)) job s p status
     → IfSome (job_of words) (λ j. HasRun tells (names_file words) (groups_listed words) j s p status)
 run_named tells words job found path names s p status of is a_path a_list run =
     subst (λ (j : Option Job). IfSome j (λ k. HasRun tells (names_file words) (groups_listed words) k s p status)) (sym is ∙ of)

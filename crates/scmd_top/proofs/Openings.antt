@@ -1,13 +1,17 @@
 -- The opening of a run, and what is said where there is none.
-use Rattle.std.proofs.Common.{ℕ, ◌≡◌, ◌≢◌, ◌≤◌, ◌∙◌, ◌⊎◌, Bool, true, false, inl, inr, refl, sym, ap, subst, List, [], ◌∷◌, append-nil, length, take, Option, None, Some, Result, Ok, Err, arith}
+use Rattle.std.proofs.Common.{ℕ, ◌≡◌, ◌≢◌, ◌≤◌, ◌∙◌, ◌⊎◌, Bool, true, false, inl, inr, refl, sym, ap, subst, List, [], ◌∷◌, append-nil}
+use Rattle.std.proofs.Common.{length, take, Option, None, Some, Result, Ok, Err, arith}
 use Rattle.std.specs.Prelude.{IfOk, IfSome, IsErrOf, OnOk}
 use Rattle.std.specs.Io.KnownBytes.{Keeps}
 use Rattle.outside.specs.Causes.{Rose}
+use Rattle.scm_model.specs.declared.flat.Config.{Config}
 use Rattle.scm_model.specs.declared.flat.Flat.{Flat}
 use Rattle.scm_model.specs.declared.flat.Limits.{Limits}
 use Rattle.scm_core.specs.Managed.{AreSmall, Managed}
 use Rattle.scm_core.proofs.Opened.{opens_with_nothing}
-use Rattle.scm_rules.specs.Opening.{IsOpening}
+use Rattle.scm_rules.specs.Opening.{CanOpen, IsOpening, opening}
+use Rattle.scm_kept.specs.Replayed.{unmarked}
+use Rattle.scm_kept.proofs.Opened.{of_opening}
 use Rattle.record_journal.specs.Bearing.{Bears}
 use Rattle.record_journal.specs.Keepers.{IsEmptied}
 use Rattle.record_journal.specs.Opening.{Answers, Leaves, LeavesAll}
@@ -17,7 +21,8 @@ use Rattle.record_journal.specs.declared.opening.JournalFault.TheVariants as fau
 use Rattle.record_journal.specs.declared.opening.Restored.{Restored}
 use Rattle.scm_restored.specs.Restored.{Comes, IsUnmoved, Manages}
 use Rattle.scm_restored.specs.declared.Opened.{Opened}
-use Rattle.scmd_top.specs.Opening.{FailsToOpen, HasOpened, IsCut, IsDamaged, IsLeft, IsNew, IsUnopened, Opens, program_opening, status_of_fault}
+use Rattle.scmd_top.specs.Opening.{FailsToOpen, HasOpened, IsCut, IsDamaged, IsLeft, IsNew, IsOpenable, IsUnopened, Opens}
+use Rattle.scmd_top.specs.Opening.{program_opening, status_of_fault}
 use Rattle.scmd_top.specs.Sides.{Side}
 use Rattle.scmd_top.specs.Statuses.{program_limits}
 
@@ -58,7 +63,8 @@ begins_empty m groups moment new =
     subst (λ (l : Limits). IsOpening l m.flat) (sym new.limits)
     (record { groups = groups; configs = []; moment = moment; can = opens_with_nothing program_limits; is = new.flat })
 
-pub opens_empty_at : (keeper : Side) (groups : List (List ℕ)) (moment : ℕ) (m : Managed) (j : Journal) → j ≡ empty_journal → IsEmptied keeper.told keeper.told_now → keeper.faults_now ≡ keeper.faults → IsNew groups [] moment m
+pub opens_empty_at : (keeper : Side) (groups : List (List ℕ)) (moment : ℕ) (m : Managed) (j : Journal) → j ≡ empty_journal
+    → IsEmptied keeper.told keeper.told_now → keeper.faults_now ≡ keeper.faults → IsNew groups [] moment m
     → Opens false groups keeper moment (Ok (record { manager = m; journal = j }))
 opens_empty_at keeper groups moment m j is e same new = record {
   replay = record { configs = []; kept = 0 };
@@ -77,7 +83,8 @@ cut_so None now r h = tt
 cut_so (Some bytes) None r h = absurd h
 cut_so (Some bytes) (Some now) r h = ap Some h
 
-left_cut : (old now : Option (List ℕ)) (r : Restored) → IfSome old (λ bytes. Answers bytes (Ok r)) → LeavesAll old now (Ok r) → LeavesAll old now (Err faults.Failed)
+left_cut : (old now : Option (List ℕ)) (r : Restored) → IfSome old (λ bytes. Answers bytes (Ok r)) → LeavesAll old now (Ok r)
+    → LeavesAll old now (Err faults.Failed)
 left_cut None now r a h = tt
 left_cut (Some bytes) None r a h = absurd h
 left_cut (Some bytes) (Some now) r a h = inr (record { configs = r.configs; kept = r.journal.good }, a, h)
@@ -92,9 +99,12 @@ keeps_so None now place h = tt
 keeps_so (Some bytes) None place h = absurd h
 keeps_so (Some bytes) (Some now) place h = h
 
-opened_so : (keeper : Side) (groups : List (List ℕ)) (moment : ℕ) (o : Opened) (restored : Result Restored JournalFault) → IfSome keeper.told (λ bytes. Answers bytes restored)
-    → Leaves true keeper.told keeper.told_now restored → Manages program_limits groups moment restored (Ok o) → IsOpening program_limits o.manager.flat
-    → IsUnmoved program_limits o.manager → Bears keeper.told_now o.journal keeper.told_now → keeper.faults_now ≡ keeper.faults → HasOpened true groups keeper moment o
+opened_so : (keeper : Side) (groups : List (List ℕ)) (moment : ℕ) (o : Opened) (restored : Result Restored JournalFault)
+    → IfSome keeper.told (λ bytes. Answers bytes restored)
+    → Leaves true keeper.told keeper.told_now restored → Manages program_limits groups moment restored (Ok o)
+    → IsOpening program_limits o.manager.flat
+    → IsUnmoved program_limits o.manager → Bears keeper.told_now o.journal keeper.told_now → keeper.faults_now ≡ keeper.faults
+    → HasOpened true groups keeper moment o
 opened_so keeper groups moment o (Err fault) a l m begins u b same = absurd m
 opened_so keeper groups moment o (Ok r) a l m begins u b same = record {
   replay = record { configs = r.configs; kept = r.journal.good };
@@ -106,13 +116,15 @@ opened_so keeper groups moment o (Ok r) a l m begins u b same = record {
   faults = same;
 }
 
-unopened_as : (keeper : Side) (fault : JournalFault) → IfSome keeper.told (λ bytes. Answers bytes (Err fault)) → LeavesAll keeper.told keeper.told_now (Err fault)
+unopened_as : (keeper : Side) (fault : JournalFault) → IfSome keeper.told (λ bytes. Answers bytes (Err fault))
+    → LeavesAll keeper.told keeper.told_now (Err fault)
     → (fault ≡ faults.Failed → Rose keeper.faults keeper.faults_now) → IsUnopened true keeper fault
 unopened_as keeper faults.Failed a l c = (l, c refl)
 unopened_as keeper faults.OutOfMemory a l c = left_so keeper.told keeper.told_now l
 unopened_as keeper (faults.Damaged place) a l c = (a, keeps_so keeper.told keeper.told_now place l)
 
-unopened_so : (keeper : Side) (groups : List (List ℕ)) (moment : ℕ) (fault : JournalFault) (restored : Result Restored JournalFault) → IfSome keeper.told (λ bytes. Answers bytes restored)
+unopened_so : (keeper : Side) (groups : List (List ℕ)) (moment : ℕ) (fault : JournalFault) (restored : Result Restored JournalFault)
+    → IfSome keeper.told (λ bytes. Answers bytes restored)
     → Leaves true keeper.told keeper.told_now restored → Manages program_limits groups moment restored (Err fault)
     → (fault ≡ faults.Failed → Rose keeper.faults keeper.faults_now) → IsUnopened true keeper fault
 unopened_so keeper groups moment fault (Err told) a l m c =
@@ -121,20 +133,50 @@ unopened_so keeper groups moment faults.OutOfMemory (Ok r) a l m c = left_cut ke
 unopened_so keeper groups moment faults.Failed (Ok r) a l m c = absurd m
 unopened_so keeper groups moment (faults.Damaged place) (Ok r) a l m c = absurd m
 
-pub opens_so : (keeper : Side) (groups : List (List ℕ)) (moment : ℕ) (result : Result Opened JournalFault) → Comes program_limits groups moment true keeper.told keeper.told_now result
+pub opens_so : (keeper : Side) (groups : List (List ℕ)) (moment : ℕ) (result : Result Opened JournalFault)
+    → Comes program_limits groups moment true keeper.told keeper.told_now result
     → IfOk result (λ o. IsOpening program_limits o.manager.flat) → IfOk result (λ o. IsUnmoved program_limits o.manager)
-    → IfOk result (λ o. Bears keeper.told_now o.journal keeper.told_now) → (IsErrOf result faults.Failed → Rose keeper.faults keeper.faults_now)
+    → IfOk result (λ o. Bears keeper.told_now o.journal keeper.told_now)
+    → (IsErrOf result faults.Failed → Rose keeper.faults keeper.faults_now)
     → OnOk result (keeper.faults_now ≡ keeper.faults) → Opens true groups keeper moment result
-opens_so keeper groups moment (Ok o) h begins u b c same = opened_so keeper groups moment o h.restored h.answer h.leaves h.manages begins u b same
-opens_so keeper groups moment (Err fault) h begins u b c same = unopened_so keeper groups moment fault h.restored h.answer h.leaves h.manages (λ e. c (ap Err e))
+opens_so keeper groups moment (Ok o) h begins u b c same = opened_so keeper groups moment o h.restored h.answer h.leaves h.manages begins u
+    b same
+opens_so keeper groups moment (Err fault) h begins u b c same = unopened_so keeper groups moment fault h.restored h.answer h.leaves
+    h.manages (λ e. c (ap Err e))
+
+-- ## What can be opened
+
+-- the configurations of an opening state are some that a manager can begin with
+can_open : (l : Limits) (groups : List (List ℕ)) (configs : List Config) (moment : ℕ) → IsOpening l (opening l groups configs moment)
+    → CanOpen l configs
+can_open l groups configs moment begins =
+    let there : unmarked (opening l begins.groups begins.configs begins.moment).services ≡ begins.configs =
+    of_opening l begins.groups begins.configs begins.moment in
+    let here : unmarked (opening l groups configs moment).services ≡ configs = of_opening l groups configs moment in
+    let both : unmarked (opening l groups configs moment).services
+    ≡ unmarked (opening l begins.groups begins.configs begins.moment).services =
+    ap (λ (f : Flat). unmarked f.services) begins.is in
+    subst (CanOpen l) (sym there ∙ (sym both ∙ here)) begins.can
+
+-- a manager began with what stood under the path
+pub openable : (path : Bool) (groups : List (List ℕ)) (keeper : Side) (moment : ℕ) (o : Opened)
+    (h : HasOpened path groups keeper moment o) → IsOpenable path keeper.told h.replay
+openable path groups keeper moment o h = record {
+  read = h.read;
+  can = can_open program_limits groups h.replay.configs moment
+      (subst (λ (l : Limits). IsOpening l (program_opening groups h.replay.configs moment)) h.new.limits
+      (subst (λ (f : Flat). IsOpening o.manager.limits f) h.new.flat h.begins));
+}
 
 -- there was no memory for the groups: all is left as it was
 left_untouched : (told : Option (List ℕ)) → LeavesAll told told (Err faults.Failed)
 left_untouched None = tt
 left_untouched (Some bytes) = inl refl
 
-pub untouched_so : (keeper : Side) (groups : List (List ℕ)) (moment : ℕ) → keeper.told_now ≡ keeper.told → Opens true groups keeper moment (Err faults.OutOfMemory)
-untouched_so keeper groups moment same = subst (λ (now : Option (List ℕ)). LeavesAll keeper.told now (Err faults.Failed)) (sym same) (left_untouched keeper.told)
+pub untouched_so : (keeper : Side) (groups : List (List ℕ)) (moment : ℕ) → keeper.told_now ≡ keeper.told
+    → Opens true groups keeper moment (Err faults.OutOfMemory)
+untouched_so keeper groups moment same = subst (λ (now : Option (List ℕ)). LeavesAll keeper.told now (Err faults.Failed)) (sym same)
+    (left_untouched keeper.told)
 
 -- ## A run without one
 
@@ -155,3 +197,8 @@ pub not_of_fault : (fault : JournalFault) → status_of_fault fault ≢ 5
 not_of_fault faults.Failed = λ e. cc
 not_of_fault (faults.Damaged place) = λ e. cc
 not_of_fault faults.OutOfMemory = λ e. cc
+
+pub not_9 : (fault : JournalFault) → status_of_fault fault ≢ 9
+not_9 faults.Failed = λ e. cc
+not_9 (faults.Damaged place) = λ e. cc
+not_9 faults.OutOfMemory = λ e. cc

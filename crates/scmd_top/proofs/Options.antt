@@ -1,5 +1,6 @@
 -- Options, word by word.
-use Rattle.std.proofs.Common.{ℕ, ◌≡◌, ◌∙◌, ◌<◌, Bool, true, false, cond, List, [], ◌∷◌, Option, None, Some, length, drop, get_or, refl, sym, ap, suc, arith, add-one, drop-cons}
+use Rattle.std.proofs.Common.{ℕ, ◌≡◌, ◌∙◌, ◌<◌, Bool, true, false, cond, List, [], ◌∷◌, Option, None, Some, length, drop, get_or, refl, sym}
+use Rattle.std.proofs.Common.{ap, suc, arith, add-one, drop-cons}
 use Rattle.std.specs.Prelude.{nat_lt}
 use Rattle.std.specs.Borrow.{Bor}
 use Rattle.std.specs.List.{after_first, before_first, position_or_len}
@@ -18,8 +19,10 @@ is_below m n lt = grind (arith, lt)
 none_where : (word : List ℕ) → position_or_len is_equals word ≡ length word → named_value word ≡ None
 none_where word at = rw at (rw (not_below (length word)) refl)
 
-some_where : (word name value : List ℕ) → position_or_len is_equals word < length word → name ≡ before_first is_equals word → value ≡ after_first is_equals word → named_value word ≡ Some (name, value)
-some_where word name value within before after = rw (is_below (position_or_len is_equals word) (length word) within) (rw before (rw after refl))
+some_where : (word name value : List ℕ) → position_or_len is_equals word < length word → name ≡ before_first is_equals word
+    → value ≡ after_first is_equals word → named_value word ≡ Some (name, value)
+some_where word name value within before after = rw (is_below (position_or_len is_equals word) (length word) within)
+    (rw before (rw after refl))
 
 parts_where : (word : List ℕ) (r : Option (Bor (List ℕ) × Bor (List ℕ)))
     → MatchOption r (position_or_len is_equals word ≡ length word)

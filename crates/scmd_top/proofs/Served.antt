@@ -20,102 +20,125 @@ use Rattle.scmd_top.specs.Sides.{IsUntouched, Ports, Side, Sides, side}
 use Rattle.scmd_top.specs.Statuses.{IsOrLacks, program_limits}
 use Rattle.scmd_top.proofs.Again.{opens_again}
 use Rattle.scmd_top.proofs.Connected.{keeps, rests}
-use Rattle.scmd_top.proofs.Openings.{fails}
+use Rattle.scmd_top.proofs.Openings.{fails, openable}
 
 -- ## The book
 
 module _ {K : Type 0} (told : K → Option (List ℕ)) (faulted : K → ℕ) where
-  served : (tells : ℕ → Type 0) (path : Bool) (groups : List (List ℕ)) (moment : ℕ) (o : Opened) (keeper mid now : K) (a a' u u' : Told) (end : BookEnd) → tells moment
-      → (h : HasOpened path groups (side told faulted keeper mid) moment o) → ServesBook told faulted tells program_limits (program_opening groups h.replay.configs moment) a a' u u' mid now end
+  served : (tells : ℕ → Type 0) (path : Bool) (groups : List (List ℕ)) (moment : ℕ) (o : Opened) (keeper mid now : K) (a a' u u' : Told)
+      (end : BookEnd) → tells moment
+      → (h : HasOpened path groups (side told faulted keeper mid) moment o)
+      → ServesBook told faulted tells program_limits (program_opening groups h.replay.configs moment) a a' u u' mid now end
       → HasServedOver tells path groups (side told faulted keeper now) a a' u u' end
   served tells path groups moment o keeper mid now a a' u u' end at h (inl s) = inl (record {
     replay = h.replay;
-    stood = h.read;
+    stood = openable path groups (side told faulted keeper mid) moment o h;
     opened = moment;
     opened_at = at;
     opening = begun_with told faulted program_limits (program_opening groups h.replay.configs moment) mid;
     opens = record { limits = refl; first = refl };
     history = s.history;
     legal = s.legal;
-    kept = keeps told faulted h.replay.kept program_limits (program_opening groups h.replay.configs moment) s.history keeper mid now h.cut h.faults s.kept;
-    again = opens_again path groups (side told faulted keeper mid) moment o h s.history (failures_in s.history) (side told faulted keeper now) refl s.legal
-        (keeps told faulted h.replay.kept program_limits (program_opening groups h.replay.configs moment) s.history keeper mid now h.cut h.faults s.kept);
+    kept = keeps told faulted h.replay.kept program_limits (program_opening groups h.replay.configs moment) s.history keeper mid now h.cut
+        h.faults s.kept;
+    again = opens_again path groups (side told faulted keeper mid) moment o h s.history (failures_in s.history)
+        (side told faulted keeper now) refl s.legal
+        (keeps told faulted h.replay.kept program_limits (program_opening groups h.replay.configs moment) s.history keeper mid now h.cut
+        h.faults s.kept);
     served = s.served;
     ends = s.ends;
   })
   served tells path groups moment o keeper mid now a a' u u' end at h (inr s) = inr (record {
     replay = h.replay;
-    stood = h.read;
+    stood = openable path groups (side told faulted keeper mid) moment o h;
     lacks = s.lacks;
     admin = s.admin;
     user = s.user;
     kept = rests told faulted h.replay.kept o.journal keeper mid now h.cut h.faults h.bears s.same;
   })
 
-  served_over : (tells : ℕ → Type 0) (path : Bool) (groups : List (List ℕ)) (moment : ℕ) (o : Opened) (keeper mid now : K) (a a' u u' : Told) (end : BookEnd) → tells moment
-      → HasOpened path groups (side told faulted keeper mid) moment o → ServesBook told faulted tells o.manager.limits o.manager.flat a a' u u' mid now end
+  served_over : (tells : ℕ → Type 0) (path : Bool) (groups : List (List ℕ)) (moment : ℕ) (o : Opened) (keeper mid now : K)
+      (a a' u u' : Told) (end : BookEnd) → tells moment
+      → HasOpened path groups (side told faulted keeper mid) moment o →
+      ServesBook told faulted tells o.manager.limits o.manager.flat a a' u u' mid now end
       → HasServedOver tells path groups (side told faulted keeper now) a a' u u' end
   served_over tells path groups moment o keeper mid now a a' u u' end at h s =
       served tells path groups moment o keeper mid now a a' u u' end at h
-      (subst (λ (l : Limits). ServesBook told faulted tells l (program_opening groups h.replay.configs moment) a a' u u' mid now end) h.new.limits
+      (subst (λ (l : Limits). ServesBook told faulted tells l (program_opening groups h.replay.configs moment) a a' u u' mid now end)
+      h.new.limits
       (subst (λ (f : Flat). ServesBook told faulted tells o.manager.limits f a a' u u' mid now end) h.new.flat s))
 
   -- both listened, and were served
-  pub has_listened : (tells : ℕ → Type 0) (path : Bool) (groups : List (List ℕ)) (admin user : Listening) (input output : Side) (p : Ports) (status moment : ℕ) (o : Opened) (keeper mid now : K) (a u : Told)
-      (end : BookEnd) → tells moment → HasOpened path groups (side told faulted keeper mid) moment o → a ≡ listening_at p.admin admin → u ≡ listening_at p.user user
+  pub has_listened : (tells : ℕ → Type 0) (path : Bool) (groups : List (List ℕ)) (admin user : Listening) (input output : Side) (p : Ports)
+      (status moment : ℕ) (o : Opened) (keeper mid now : K) (a u : Told)
+      (end : BookEnd) → tells moment → HasOpened path groups (side told faulted keeper mid) moment o → a ≡ listening_at p.admin admin
+      → u ≡ listening_at p.user user
       → ServesBook told faulted tells o.manager.limits o.manager.flat a p.admin_now u p.user_now mid now end → HasWritten end output status
       → HasServed tells path groups admin user (record { input = input; output = output; keeper = side told faulted keeper now }) p status
-  has_listened tells path groups admin user input output p status moment o keeper mid now a u end at h at_admin at_user s wrote = inl (record {
-    end = end;
-    served = served_over tells path groups moment o keeper mid now (listening_at p.admin admin) p.admin_now (listening_at p.user user) p.user_now end at h
-        (subst (λ (l : Told). ServesBook told faulted tells o.manager.limits o.manager.flat l p.admin_now (listening_at p.user user) p.user_now mid now end) at_admin
-        (subst (λ (l : Told). ServesBook told faulted tells o.manager.limits o.manager.flat a p.admin_now l p.user_now mid now end) at_user s));
-    written = wrote;
-  })
+  has_listened tells path groups admin user input output p status moment o keeper mid now a u end at h at_admin at_user s wrote =
+      inl (record {
+        end = end;
+        served = served_over tells path groups moment o keeper mid now (listening_at p.admin admin) p.admin_now
+            (listening_at p.user user) p.user_now end at h
+            (subst (λ (l : Told). ServesBook told faulted tells o.manager.limits o.manager.flat l p.admin_now
+            (listening_at p.user user) p.user_now mid now end) at_admin
+            (subst (λ (l : Told). ServesBook told faulted tells o.manager.limits o.manager.flat a p.admin_now l p.user_now mid now end) at_user
+            s));
+        written = wrote;
+      })
 
   -- one failed to listen
-  pub has_not_listened : (tells : ℕ → Type 0) (path : Bool) (groups : List (List ℕ)) (admin user : Listening) (input output : Side) (p : Ports) (moment : ℕ) (o : Opened) (keeper mid : K)
+  pub has_not_listened : (tells : ℕ → Type 0) (path : Bool) (groups : List (List ℕ)) (admin user : Listening) (input output : Side)
+      (p : Ports) (moment : ℕ) (o : Opened) (keeper mid : K)
       → HasOpened path groups (side told faulted keeper mid) moment o → IsUntouched output
-      → HandsNothing p.admin p.admin_now → HandsNothing p.user p.user_now → Rose p.admin.faults p.admin_now.faults ⊎ Rose p.user.faults p.user_now.faults
+      → HandsNothing p.admin p.admin_now → HandsNothing p.user p.user_now → Rose p.admin.faults p.admin_now.faults
+      ⊎ Rose p.user.faults p.user_now.faults
       → HasServed tells path groups admin user (record { input = input; output = output; keeper = side told faulted keeper mid }) p 10
   has_not_listened tells path groups admin user input output p moment o keeper mid h untouched a u cause = inr (inl (record {
     status_is = refl;
     admin = a;
     user = u;
     replay = h.replay;
-    stood = h.read;
+    stood = openable path groups (side told faulted keeper mid) moment o h;
     cause = cause;
     kept = rests told faulted h.replay.kept o.journal keeper mid mid h.cut h.faults h.bears refl;
     output = untouched;
   }))
 
 -- there is no manager
-pub not_opened : (tells : ℕ → Type 0) (path : Bool) (groups : List (List ℕ)) (admin user : Listening) (s : Sides) (p : Ports) (fault : JournalFault) → IsUnopened path s.keeper fault
-    → IsUntouched s.input → IsUntouched s.output → p.admin_now ≡ p.admin → p.user_now ≡ p.user → HasServed tells path groups admin user s p (status_of_fault fault)
+pub not_opened : (tells : ℕ → Type 0) (path : Bool) (groups : List (List ℕ)) (admin user : Listening) (s : Sides) (p : Ports)
+    (fault : JournalFault) → IsUnopened path s.keeper fault
+    → IsUntouched s.input → IsUntouched s.output → p.admin_now ≡ p.admin → p.user_now ≡ p.user
+    → HasServed tells path groups admin user s p (status_of_fault fault)
 not_opened tells path groups admin user s p fault h input output a u =
     inr (inr (record { fault = fault; status_is = refl; unopened = h; input = input; output = output }, a, u))
 
 -- ## Completeness
 
-written_complete : (tells : ℕ → Type 0) (path : Bool) (groups : List (List ℕ)) (admin user : Listening) (s : Sides) (p : Ports) (status : ℕ) (end : BookEnd)
-    → HasServedOver tells path groups s.keeper (listening_at p.admin admin) p.admin_now (listening_at p.user user) p.user_now end → HasWritten end s.output status → IsComplete path s p status
-written_complete tells path groups admin user s p status (Ended text) over (inl w) = λ keeper damage output a u. inl w.0
-written_complete tells path groups admin user s p status (Ended text) over (inr w) = λ keeper damage output a u. absurd (output w.2)
-written_complete tells path groups admin user s p status OutOfMemory over w = λ keeper damage output a u. inr w.0
-written_complete tells path groups admin user s p status ListenFault (inl h) w = λ keeper damage output a u. ⊎_elim (λ r. absurd (a r)) (λ r. absurd (u r)) h.ends.1
+written_complete : (tells : ℕ → Type 0) (path : Bool) (groups : List (List ℕ)) (admin user : Listening) (s : Sides) (p : Ports) (status : ℕ)
+    (end : BookEnd)
+    → HasServedOver tells path groups s.keeper (listening_at p.admin admin) p.admin_now (listening_at p.user user) p.user_now end
+    → HasWritten end s.output status → IsComplete path s p status
+written_complete tells path groups admin user s p status (Ended text) over (inl w) = λ output a u. inl (inl w.0)
+written_complete tells path groups admin user s p status (Ended text) over (inr w) = λ output a u. absurd (output w.2)
+written_complete tells path groups admin user s p status OutOfMemory over w = λ output a u. inl (inr w.0)
+written_complete tells path groups admin user s p status ListenFault (inl h) w =
+    λ output a u. ⊎_elim (λ r. absurd (a r)) (λ r. absurd (u r)) h.ends.1
 written_complete tells path groups admin user s p status ListenFault (inr h) w = absurd cc
 
-unopened_complete : (path : Bool) (s : Sides) (p : Ports) (status : ℕ) → (status ≡ 8) ⊎ FailsToOpen path s.keeper status → IsComplete path s p status
-unopened_complete path s p status (inl is) = λ keeper damage output a u. inr is
-unopened_complete path s p status (inr (inl h)) = λ keeper damage output a u. absurd (keeper h.1)
-unopened_complete path s p status (inr (inr h)) = λ keeper damage output a u. absurd (damage h.1)
+unopened_complete : (path : Bool) (s : Sides) (p : Ports) (status : ℕ) → (status ≡ 8) ⊎ FailsToOpen path s.keeper status
+    → IsComplete path s p status
+unopened_complete path s p status (inl is) = λ output a u. inl (inr is)
+unopened_complete path s p status (inr h) = λ output a u. inr h
 
 not_opened_complete : (path : Bool) (s : Sides) (p : Ports) (status : ℕ) → HasNotOpened path s status → IsComplete path s p status
 not_opened_complete path s p status h =
     unopened_complete path s p status
     (subst (λ (n : ℕ). (n ≡ 8) ⊎ FailsToOpen path s.keeper n) (sym h.status_is) (fails path s.keeper h.fault h.unopened))
 
-pub complete : (tells : ℕ → Type 0) (path : Bool) (groups : List (List ℕ)) (admin user : Listening) (s : Sides) (p : Ports) (status : ℕ) → HasServed tells path groups admin user s p status → IsComplete path s p status
+pub complete : (tells : ℕ → Type 0) (path : Bool) (groups : List (List ℕ)) (admin user : Listening) (s : Sides) (p : Ports) (status : ℕ)
+    → HasServed tells path groups admin user s p status → IsComplete path s p status
 complete tells path groups admin user s p status (inl h) = written_complete tells path groups admin user s p status h.end h.served h.written
-complete tells path groups admin user s p status (inr (inl h)) = λ keeper damage output a u. ⊎_elim (λ r. absurd (a r)) (λ r. absurd (u r)) h.cause
+complete tells path groups admin user s p status (inr (inl h)) = λ output a u. ⊎_elim (λ r. absurd (a r))
+    (λ r. absurd (u r)) h.cause
 complete tells path groups admin user s p status (inr (inr h)) = not_opened_complete path s p status h.0

@@ -16,7 +16,7 @@ use Rattle.scm_model.specs.declared.flat.Config.{Config}
 use Rattle.record_journal.specs.declared.replaying.Replay.{Replay as Restoring}
 use Rattle.record_journal.specs.Keepers.{has_path}
 use Rattle.scmd_top.specs.Groups.{groups_in}
-use Rattle.scmd_top.specs.Opening.{FailsToOpen, HasNotOpened, IsCut, IsRead, program_opening}
+use Rattle.scmd_top.specs.Opening.{FailsToOpen, HasNotOpened, IsCut, IsOpenable, program_opening}
 use Rattle.scmd_top.specs.declared.words.Job.{Job}
 use Rattle.scmd_top.specs.declared.words.Job.TheVariants.{Pipe, Replay, Generate, Serve}
 use Rattle.scmd_top.specs.Pipe.{HasPiped, IsComplete}
@@ -61,7 +61,7 @@ IsLeftBy true kept keeper = IsCut kept keeper.told keeper.told_now × (keeper.fa
 -- over what stood under the path
 pub record HasAnswered (path : Bool) (s : Sides) (status : ℕ) : Type 0 where
   pub replay : Restoring
-  pub stood : IsRead path s.keeper.told replay
+  pub stood : IsOpenable path s.keeper.told replay
   pub how : Replayed
   pub status_is : status ≡ status_of_replay how
   pub replayed : LeavesReplayed replay.configs s.input.told s.input.told_now s.output.told s.output.told_now how
@@ -111,13 +111,15 @@ status_behind BadLine = 11
 -- Each end of the lines has its status; where more comes than an input may have and no bad line before that, it is 12.
 pub record EndsAsLines (configs : List Config) (bytes : List ℕ) (status : ℕ) : Type 0 where
   pub whole : length bytes < 2 ^ 40 → IsOrLacks (status_behind (replayed program_limits (program_start configs) bytes).ending) status
-  pub worn : (front : List ℕ) → Begins front bytes → length front ≡ 2 ^ 40 → IsOpenText (replayed program_limits (program_start configs) front).ending → IsOrLacks 12 status
+  pub worn : (front : List ℕ) → Begins front bytes → length front ≡ 2 ^ 40
+      → IsOpenText (replayed program_limits (program_start configs) front).ending → IsOrLacks 12 status
 
 -- over what stood under the path, unless memory ran out or the journal was not opened
 abbrev pub EndsOver : (path : Bool) → (keeper : Side) → List ℕ → (status : ℕ) → Type 0
 EndsOver false keeper bytes status = EndsAsLines [] bytes status
 EndsOver true keeper bytes status =
-    (status ≡ 8) ⊎ FailsToOpen true keeper status ⊎ ((replay : Restoring) × IsRead true keeper.told replay × EndsAsLines replay.configs bytes status)
+    (status ≡ 8) ⊎ FailsToOpen true keeper status ⊎ ((replay : Restoring) × IsOpenable true keeper.told replay
+    × EndsAsLines replay.configs bytes status)
 
 -- where no count of the input's and the output's rose and the input is told, the status is that of the lines' end
 abbrev pub HasAllReplayed : (path : Bool) → Sides → (status : ℕ) → Type 0

@@ -5,7 +5,7 @@ use Rattle.outside.specs.Causes.{Rose}
 use Rattle.scm_model.specs.declared.flat.Config.{Config}
 use Rattle.scm_model.specs.declared.flat.Flat.{Flat}
 use Rattle.scm_core.specs.Managed.{Managed}
-use Rattle.scm_rules.specs.Opening.{IsOpening, opening}
+use Rattle.scm_rules.specs.Opening.{CanOpen, IsOpening, opening}
 use Rattle.record_journal.specs.Bearing.{Bears}
 use Rattle.record_journal.specs.Entries.{read_journal}
 use Rattle.record_journal.specs.Keepers.{IsEmptied}
@@ -23,6 +23,11 @@ use Rattle.scmd_top.specs.Statuses.{program_limits}
 abbrev pub IsRead : (path : Bool) → (told : Option (List ℕ)) → Replay → Type 0
 IsRead false told replay = replay ≡ record { configs = []; kept = 0 }
 IsRead true told replay = IfSome told (λ bytes. read_journal bytes ≡ Ok replay)
+
+-- it comes to configurations that a manager can begin with
+pub record IsOpenable (path : Bool) (told : Option (List ℕ)) (replay : Replay) : Type 0 where
+  pub read : IsRead path told replay
+  pub can : CanOpen program_limits replay.configs
 
 -- what stood under the path is damaged
 abbrev pub IsDamaged : (path : Bool) → (told : Option (List ℕ)) → Type 0

@@ -1,5 +1,5 @@
 -- `pipe`: one connection from the input to the output, over a book that only its caller calls.
-use Rattle.std.specs.Prelude.{ℕ, ◌≡◌, ◌<◌, ◌^◌, ◌⊎◌, Bool, List, [], length, map, Option, IfSome}
+use Rattle.std.specs.Prelude.{ℕ, ◌≡◌, ◌≢◌, ◌<◌, ◌^◌, ◌⊎◌, Bool, List, [], length, map, Option, IfSome}
 use Rattle.outside.specs.Causes.{Rose}
 use Rattle.outside.specs.Written.{Begins}
 use Rattle.scm_model.specs.declared.flat.Principal.{Principal}
@@ -19,7 +19,7 @@ use Rattle.conn_desk.specs.declared.served.Served.{Served}
 use Rattle.conn_desk.specs.declared.served.Served.TheVariants as served
 use Rattle.conn_desk.specs.Connection.{IsOpenEnd, IsServedFor}
 use Rattle.scm_pipe.specs.Piping.{HasRoomForAll, IsPiped}
-use Rattle.scmd_top.specs.Opening.{FailsToOpen, HasNotOpened, IsRead, kept_front, program_opening}
+use Rattle.scmd_top.specs.Opening.{FailsToOpen, HasNotOpened, IsOpenable, kept_front, program_opening}
 use Rattle.scmd_top.specs.Sides.{Side, Sides}
 use Rattle.scmd_top.specs.Statuses.{IsOrLacks, program_limits}
 
@@ -57,18 +57,20 @@ OpensAgain replay changes keeper =
 -- of the input, and its kept changes stand in the journal behind that.
 pub record HasServed (tells : ℕ → Type 0) (path : Bool) (principal : Principal) (how : Served) (s : Sides) : Type 0 where
   pub replay : Replay
-  pub stood : IsRead path s.keeper.told replay
+  pub stood : IsOpenable path s.keeper.told replay
   pub opened : ℕ
   pub opened_at : tells opened
   pub history : List Entry
-  pub piped : IsPiped tells principal program_limits (program_opening [] replay.configs opened) s.input.told s.input.told_now s.output.told s.output.told_now how history
-  pub kept : KeepsJournal replay.kept (kept_changes program_limits (program_opening [] replay.configs opened) history) (failures_in history) s.keeper
+  pub piped : IsPiped tells principal program_limits (program_opening [] replay.configs opened) s.input.told s.input.told_now s.output.told
+      s.output.told_now how history
+  pub kept : KeepsJournal replay.kept (kept_changes program_limits (program_opening [] replay.configs opened) history)
+      (failures_in history) s.keeper
   pub again : AllFit history → OpensAgain replay (kept_changes program_limits (program_opening [] replay.configs opened) history) s.keeper
 
 -- there was no memory for a book and its caller: nothing is read or written, and no change is kept
 pub record HasNotJoined (path : Bool) (how : Served) (s : Sides) : Type 0 where
   pub replay : Replay
-  pub stood : IsRead path s.keeper.told replay
+  pub stood : IsOpenable path s.keeper.told replay
   pub how_is : how ≡ served.OutOfMemory
   pub unread : s.input.told_now ≡ s.input.told
   pub unwritten : s.output.told_now ≡ s.output.told
@@ -102,16 +104,19 @@ IsOrFails path keeper due status = IsOrLacks due status ⊎ FailsToOpen path kee
 -- Each end of the input has its status; where more comes than a connection may have and no end before that, it is 12.
 pub record EndsAs (path : Bool) (keeper : Side) (bytes : List ℕ) (status : ℕ) : Type 0 where
   pub whole : length bytes < 2 ^ 40 → IsOrFails path keeper (pipe_status (items bytes).ending) status
-  pub worn : (front : List ℕ) → Begins front bytes → length front ≡ 2 ^ 40 → IsOpenEnd (items front).ending → IsOrFails path keeper 12 status
+  pub worn : (front : List ℕ) → Begins front bytes → length front ≡ 2 ^ 40 → IsOpenEnd (items front).ending
+      → IsOrFails path keeper 12 status
 
--- whenever the history begins over what stood under the path, the limits have room for each request of these bytes behind whatever serves
--- those before it
+-- whenever the history begins over what stood under the path, where a manager can begin with it, the limits have room for each request of
+-- these bytes behind whatever serves those before it
 abbrev pub HasRoomAlways : (path : Bool) → (held : Option (List ℕ)) → Principal → List ℕ → Type 0
 HasRoomAlways path held principal bytes =
-    (opened : ℕ) (replay : Replay) → IsRead path held replay → HasRoomForAll principal program_limits (program_opening [] replay.configs opened) bytes
+    (opened : ℕ) (replay : Replay) → IsOpenable path held replay → HasRoomForAll principal program_limits
+    (program_opening [] replay.configs opened) bytes
 
--- where the input is told, neither its count nor the output's rose, and there is room for each request, the status is that of its end
-abbrev pub IsComplete : (path : Bool) → Principal → Sides → (status : ℕ) → Type 0
-IsComplete path principal s status =
-    IfSome s.input.told (λ bytes. (Rose s.input.faults s.input.faults_now → ⊥) → (Rose s.output.faults s.output.faults_now → ⊥)
-    → HasRoomAlways path s.keeper.told principal bytes → EndsAs path s.keeper bytes status)
+-- Where the input is told and neither its count nor the output's rose, the status is that of its end, unless a request found no room; where
+-- there is room for each request, none found none.
+pub record IsComplete (path : Bool) (principal : Principal) (s : Sides) (status : ℕ) : Type 0 where
+  pub ends : IfSome s.input.told (λ bytes. (Rose s.input.faults s.input.faults_now → ⊥) → (Rose s.output.faults s.output.faults_now → ⊥)
+      → status ≢ 9 → EndsAs path s.keeper bytes status)
+  pub room : IfSome s.input.told (λ bytes. HasRoomAlways path s.keeper.told principal bytes → status ≢ 9)

@@ -18,10 +18,10 @@ use Rattle.scm_serving.specs.Listening.{HandsNothing, listening_at}
 use Rattle.scm_serving.specs.Serving.{EndsAs, lacked_memory}
 use Rattle.scm_serving.specs.declared.serving.BookEnd.{BookEnd}
 use Rattle.scm_serving.specs.declared.serving.BookEnd.TheVariants.{Ended, ListenFault, OutOfMemory}
-use Rattle.scmd_top.specs.Opening.{HasNotOpened, IsDamaged, IsRead, program_opening}
-use Rattle.scmd_top.specs.Pipe.{KeepsJournal, OpensAgain}
+use Rattle.scmd_top.specs.Opening.{HasNotOpened, IsOpenable, program_opening}
+use Rattle.scmd_top.specs.Pipe.{IsOrFails, KeepsJournal, OpensAgain}
 use Rattle.scmd_top.specs.Sides.{IsUntouched, Ports, Side, Sides}
-use Rattle.scmd_top.specs.Statuses.{IsOrLacks, program_limits}
+use Rattle.scmd_top.specs.Statuses.{program_limits}
 
 -- ## What is written
 
@@ -40,18 +40,21 @@ pub record IsProgramOpening (groups : List (List ℕ)) (configs : List Config) (
   pub limits : o.limits ≡ program_limits
   pub first : o.first ≡ program_opening groups configs opened
 
--- One history from a moment of the clock on, over what stood under the path: the connections of both listeners stand in it, its kept changes
+-- One history from a moment of the clock on, over what stood under the path: the connections of both listeners stand in it, its kept
+-- changes
 -- stand in the journal behind that, and it is what is summed up.
-pub record HasHistory (tells : ℕ → Type 0) (path : Bool) (groups : List (List ℕ)) (keeper : Side) (a a' u u' : Told) (end : BookEnd) : Type 0 where
+pub record HasHistory (tells : ℕ → Type 0) (path : Bool) (groups : List (List ℕ)) (keeper : Side) (a a' u u' : Told)
+    (end : BookEnd) : Type 0 where
   pub replay : Replay
-  pub stood : IsRead path keeper.told replay
+  pub stood : IsOpenable path keeper.told replay
   pub opened : ℕ
   pub opened_at : tells opened
   pub opening : Opening
   pub opens : IsProgramOpening groups replay.configs opened opening
   pub history : List Entry
   pub legal : Legal program_limits (program_opening groups replay.configs opened) history
-  pub kept : KeepsJournal replay.kept (kept_changes program_limits (program_opening groups replay.configs opened) history) (failures_in history) keeper
+  pub kept : KeepsJournal replay.kept (kept_changes program_limits (program_opening groups replay.configs opened) history)
+      (failures_in history) keeper
   pub again : AllFit history → OpensAgain replay (kept_changes program_limits (program_opening groups replay.configs opened) history) keeper
   pub served : ServedIn tells opening history a a' u u' (lacked_memory end)
   pub ends : EndsAs opening history a a' u u' end
@@ -59,19 +62,22 @@ pub record HasHistory (tells : ℕ → Type 0) (path : Bool) (groups : List (Lis
 -- there was no memory for a book: nothing was handed out, and no change is kept
 pub record HasNoBook (path : Bool) (keeper : Side) (a a' u u' : Told) (end : BookEnd) : Type 0 where
   pub replay : Replay
-  pub stood : IsRead path keeper.told replay
+  pub stood : IsOpenable path keeper.told replay
   pub lacks : end ≡ OutOfMemory
   pub admin : a' ≡ a
   pub user : u' ≡ u
   pub kept : KeepsJournal replay.kept [] 0 keeper
 
-abbrev pub HasServedOver : (tells : ℕ → Type 0) → (path : Bool) → (groups : List (List ℕ)) → (keeper : Side) → (a a' u u' : Told) → BookEnd → Type 0
-HasServedOver tells path groups keeper a a' u u' end = HasHistory tells path groups keeper a a' u u' end ⊎ HasNoBook path keeper a a' u u' end
+abbrev pub HasServedOver : (tells : ℕ → Type 0) → (path : Bool) → (groups : List (List ℕ)) → (keeper : Side) → (a a' u u' : Told) → BookEnd
+    → Type 0
+HasServedOver tells path groups keeper a a' u u' end = HasHistory tells path groups keeper a a' u u' end
+    ⊎ HasNoBook path keeper a a' u u' end
 
 -- ## The program
 
 -- both listened, each once and where it was to, and were served
-pub record HasListened (tells : ℕ → Type 0) (path : Bool) (groups : List (List ℕ)) (admin user : Listening) (s : Sides) (p : Ports) (status : ℕ) : Type 0 where
+pub record HasListened (tells : ℕ → Type 0) (path : Bool) (groups : List (List ℕ)) (admin user : Listening) (s : Sides) (p : Ports)
+    (status : ℕ) : Type 0 where
   pub end : BookEnd
   pub served : HasServedOver tells path groups s.keeper (listening_at p.admin admin) p.admin_now (listening_at p.user user) p.user_now end
   pub written : HasWritten end s.output status
@@ -82,19 +88,20 @@ pub record HasNotListened (path : Bool) (s : Sides) (p : Ports) (status : ℕ) :
   pub admin : HandsNothing p.admin p.admin_now
   pub user : HandsNothing p.user p.user_now
   pub replay : Replay
-  pub stood : IsRead path s.keeper.told replay
+  pub stood : IsOpenable path s.keeper.told replay
   pub cause : Rose p.admin.faults p.admin_now.faults ⊎ Rose p.user.faults p.user_now.faults
   pub kept : KeepsJournal replay.kept [] 0 s.keeper
   pub output : IsUntouched s.output
 
-abbrev pub HasServed : (tells : ℕ → Type 0) → (path : Bool) → (groups : List (List ℕ)) → (admin user : Listening) → Sides → Ports → (status : ℕ) → Type 0
+abbrev pub HasServed : (tells : ℕ → Type 0) → (path : Bool) → (groups : List (List ℕ)) → (admin user : Listening) → Sides → Ports
+    → (status : ℕ) → Type 0
 HasServed tells path groups admin user s p status =
     HasListened tells path groups admin user s p status
     ⊎ HasNotListened path s p status
     ⊎ (HasNotOpened path s status × (p.admin_now ≡ p.admin) × (p.user_now ≡ p.user))
 
--- where no count rose and what stood isn't damaged the status is 0, unless memory ran out
+-- where neither the output's count nor a listener's rose the status is 0, unless memory ran out, or the journal was not opened
 abbrev pub IsComplete : (path : Bool) → Sides → Ports → (status : ℕ) → Type 0
 IsComplete path s p status =
-    (Rose s.keeper.faults s.keeper.faults_now → ⊥) → (IsDamaged path s.keeper.told → ⊥) → (Rose s.output.faults s.output.faults_now → ⊥)
-    → (Rose p.admin.faults p.admin_now.faults → ⊥) → (Rose p.user.faults p.user_now.faults → ⊥) → IsOrLacks 0 status
+    (Rose s.output.faults s.output.faults_now → ⊥) → (Rose p.admin.faults p.admin_now.faults → ⊥)
+    → (Rose p.user.faults p.user_now.faults → ⊥) → IsOrFails path s.keeper 0 status

@@ -1,5 +1,6 @@
 -- The options of a job, in any order, each at most once: `--name value` or `--name=value`.
-use Rattle.std.specs.Prelude.{ℕ, ◌&&◌, ◌==◌, Bool, false, true, not, nat_eq, nat_le, nat_lt, codes, List, [], ◌∷◌, length, Option, None, Some, option_and_then, option_map, if◌then◌else◌}
+use Rattle.std.specs.Prelude.{ℕ, ◌&&◌, ◌==◌, Bool, false, true, not, nat_eq, nat_le, nat_lt, codes, List, [], ◌∷◌, length, Option, None}
+use Rattle.std.specs.Prelude.{Some, option_and_then, option_map, if◌then◌else◌}
 use Rattle.std.specs.Cmp.Lexicographic.{pointwise}
 use Rattle.std.specs.List.{after_first, before_first, position_or_len}
 use Rattle.scm_replay.specs.Words.{decimal_at, ◌>>=◌}
@@ -57,18 +58,32 @@ once None value = value
 once (Some before) value = None
 
 abbrev pub with_value : Settings → Setting → List ℕ → Option Settings
-with_value s AdminPort value = option_map (λ (n : ℕ). record s { admin = Some n; waits = None }) (once s.admin (option_and_then port_of (decimal_at value)))
-with_value s UserPort value = option_map (λ (n : ℕ). record s { user = Some n; waits = None }) (once s.user (option_and_then port_of (decimal_at value)))
-with_value s AdminTake value = option_map (λ (n : ℕ). record s { take_admin = Some n; waits = None }) (once s.take_admin (option_and_then count_of (decimal_at value)))
-with_value s UserTake value = option_map (λ (n : ℕ). record s { take_user = Some n; waits = None }) (once s.take_user (option_and_then count_of (decimal_at value)))
-with_value s As value = option_map (λ (p : Principal). record s { principal = Some p; waits = None }) (once s.principal (principal_named value))
+with_value s AdminPort value = option_map (λ (n : ℕ). record s { admin = Some n; waits = None })
+    (once s.admin (option_and_then port_of (decimal_at value)))
+with_value s UserPort value = option_map (λ (n : ℕ). record s { user = Some n; waits = None })
+    (once s.user (option_and_then port_of (decimal_at value)))
+with_value s AdminTake value = option_map (λ (n : ℕ). record s { take_admin = Some n; waits = None })
+    (once s.take_admin (option_and_then count_of (decimal_at value)))
+with_value s UserTake value = option_map (λ (n : ℕ). record s { take_user = Some n; waits = None })
+    (once s.take_user (option_and_then count_of (decimal_at value)))
+with_value s As value = option_map (λ (p : Principal). record s { principal = Some p; waits = None })
+    (once s.principal (principal_named value))
 with_value s File value = if not s.file && is_plain value then Some (record s { file = true; waits = None }) else None
 with_value s Groups value = if not s.groups && is_plain value then Some (record s { groups = true; waits = None }) else None
 
 -- ## Words
 
 abbrev pub no_settings : Settings
-no_settings = record { admin = None; user = None; take_admin = None; take_user = None; principal = None; file = false; groups = false; waits = None }
+no_settings = record {
+  admin = None;
+  user = None;
+  take_admin = None;
+  take_user = None;
+  principal = None;
+  file = false;
+  groups = false;
+  waits = None;
+}
 
 -- a name, with its value or before it
 abbrev pub with_name : Settings → (word : List ℕ) → Option (List ℕ × List ℕ) → Option Settings
@@ -95,7 +110,8 @@ abbrev pub or_else : {A : Type 0} → Option A → Option A → Option A
 or_else None other = other
 or_else (Some a) other = Some a
 
--- Which value the words of a job have for an option, of which one may wait for its value: no value of another option is written as an option
+-- Which value the words of a job have for an option, of which one may wait for its value: no value of another option is written as an
+-- option
 -- is.
 abbrev pub value_from : (option : List ℕ) → (waits : Bool) → List (List ℕ) → Option (List ℕ)
 value_from option waits [] = None

@@ -40,7 +40,8 @@ pub record Ports : Type 0 where
   pub user : Told
   pub user_now : Told
 
-abbrev pub ports_of : {I O K N P C : Type 0} → (left : N → Option (List (List ℕ))) → (accepted : N → ℕ) → (noted : N → Option (List PastConnection))
+abbrev pub ports_of : {I O K N P C : Type 0} → (left : N → Option (List (List ℕ))) → (accepted : N → ℕ)
+    → (noted : N → Option (List PastConnection))
     → (listened : N → Option (List Listening)) → (faults : N → ℕ) → World I O K N P C → World I O K N P C → Ports
 ports_of left accepted noted listened faults w w' = record {
   admin = told_by left accepted noted listened faults w.admin;

@@ -1,5 +1,6 @@
 -- What passes is what the first entries give, bit by bit.
-use Rattle.std.proofs.Common.{ℕ, ◌≡◌, inl, inr, ◌∙◌, ◌<◌, ◌≤◌, ◌-◌, ◌^◌, Bool, true, false, List, [], ◌∷◌, refl, sym, ap, arith, Option, None, Some}
+use Rattle.std.proofs.Common.{ℕ, ◌≡◌, inl, inr, ◌∙◌, ◌<◌, ◌≤◌, ◌-◌, ◌^◌, Bool, true, false, List, [], ◌∷◌, refl, sym, ap, arith, Option}
+use Rattle.std.proofs.Common.{None, Some}
 use Rattle.std.specs.Prelude.{◌==◌, ◌&&◌, bit_and, bit_or, find}
 use Rattle.std.specs.Int.{bit_at, w32}
 use Rattle.std.proofs.lemmas.Bool.{cases_Bool, cases_lt, cases_order, and_from, and_parts, eqb-false, eqb-true, eq-eqb}

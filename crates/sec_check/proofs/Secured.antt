@@ -1,5 +1,6 @@
 -- The list of bytes that are written.
-use Rattle.std.proofs.Common.{ℕ, ◌≡◌, ◌⊎◌, ◌+◌, ◌^◌, ◌<◌, Bool, true, false, cond, Option, Some, None, List, [], drop, Result, Ok, Err, refl, sym, ap, subst, ◌∙◌, inl, inr, length, ◌∷◌, arith, eqb}
+use Rattle.std.proofs.Common.{ℕ, ◌≡◌, ◌⊎◌, ◌+◌, ◌^◌, ◌<◌, Bool, true, false, cond, Option, Some, None, List, [], drop, Result, Ok, Err}
+use Rattle.std.proofs.Common.{refl, sym, ap, subst, ◌∙◌, inl, inr, length, ◌∷◌, arith, eqb}
 use Rattle.std.specs.Prelude.{IfSome, IsOk, filter, if◌then◌else◌, slice_range}
 use Rattle.std.proofs.lemmas.Bool.{eqb-false}
 use Rattle.std.proofs.lemmas.List.Elements.{recursion_from_All}

@@ -2,7 +2,8 @@ ghost use Rattle.std.specs.Prelude.{◌≡◌, true, IsOk};
 ghost use Rattle.sec_desc.specs.Layout.{ace_header_of, ace_of, is_ace};
 ghost use Rattle.sec_desc.specs.Reading.{aces_in};
 ghost use Rattle.sec_desc.specs.Writing.{IsWritten};
-ghost use Rattle.sec_check.specs.Allowed.{aces_of, after, allowed_by, counts as ace_counts, list_of, maximum_by as maximum_of_list, maximum_for, with_ace};
+ghost use Rattle.sec_check.specs.Allowed.{aces_of, after, allowed_by, counts as ace_counts, list_of};
+ghost use Rattle.sec_check.specs.Allowed.{maximum_by as maximum_of_list, maximum_for, with_ace};
 
 use crate::identities::has_sid;
 use scm_model::Principal;

@@ -1,7 +1,8 @@
 ghost use Rattle.std.specs.Prelude.{◌≡◌, true};
 ghost use Rattle.sec_desc.specs.Layout.{is_sid, sid_of};
 ghost use Rattle.sec_desc.specs.Writing.{sid_bytes};
-ghost use Rattle.sec_check.specs.Allowed.{everyone as sid_of_everyone, group_of as sid_of_group, has_sid as principal_has};
+ghost use Rattle.sec_check.specs.Allowed.{everyone as sid_of_everyone, group_of as sid_of_group};
+ghost use Rattle.sec_check.specs.Allowed.{has_sid as principal_has};
 
 use scm_model::Principal;
 

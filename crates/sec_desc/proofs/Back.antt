@@ -1,5 +1,6 @@
 -- What is written is read back.
-use Rattle.std.proofs.Common.{◌≡◌, ℕ, ◌^◌, ◌<◌, ◌≤◌, Bool, true, false, cond, Option, Some, None, List, [], ◌∷◌, ◌++◌, length, drop, Ok, refl, sym, ap, subst, ◌∙◌, append_assoc, length-append, arith, inl}
+use Rattle.std.proofs.Common.{◌≡◌, ℕ, ◌^◌, ◌<◌, ◌≤◌, Bool, true, false, cond, Option, Some, None, List, [], ◌∷◌, ◌++◌, length, drop, Ok}
+use Rattle.std.proofs.Common.{refl, sym, ap, subst, ◌∙◌, append_assoc, length-append, arith, inl}
 use Rattle.std.specs.Prelude.{All, IfSome}
 use Rattle.std.specs.List.{AllByRecursion, flat_map}
 use Rattle.std.proofs.lemmas.List.{append-nil, drop_at, drop-drop}
@@ -9,7 +10,10 @@ use Rattle.sec_desc.specs.declared.value.Sid.{Sid}
 use Rattle.sec_desc.specs.declared.value.Descriptor.{Descriptor}
 use Rattle.sec_desc.specs.Numbers.{bytes_16, bytes_32, has_bits}
 use Rattle.sec_desc.specs.Reading.{described}
-use Rattle.sec_desc.specs.Writing.{IsAceValue, IsShort, IsSidValue, IsValue, IsWritable, IsWritableAcl, ace_bytes, ace_front, acl_bytes, acl_front, asked, control_for, descriptor_bytes, group_place, header_bytes, header_for, list_place, offset_of, part_bytes, part_if, part_size, sid_bytes, size_of_ace, size_of_aces, size_of_acl, size_of_sid, written}
+use Rattle.sec_desc.specs.Writing.{IsAceValue, IsShort, IsSidValue, IsValue, IsWritable, IsWritableAcl, ace_bytes, ace_front, acl_bytes}
+use Rattle.sec_desc.specs.Writing.{acl_front, asked, control_for, descriptor_bytes, group_place, header_bytes, header_for, list_place}
+use Rattle.sec_desc.specs.Writing.{offset_of, part_bytes, part_if, part_size, sid_bytes, size_of_ace, size_of_aces, size_of_acl}
+use Rattle.sec_desc.specs.Writing.{size_of_sid, written}
 use Rattle.sec_desc.specs.Described.{AreAces, BeginsAcl, Describes, IsAce, IsAcl, IsPart, IsSid}
 use Rattle.sec_desc.proofs.Aces.{front_length}
 use Rattle.sec_desc.proofs.Descriptors.{described_again}

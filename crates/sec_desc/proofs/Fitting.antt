@@ -1,5 +1,6 @@
 -- What is described can be written.
-use Rattle.std.proofs.Common.{ℕ, ◌+◌, ◌≤◌, cond, Option, Some, None, List, [], ◌∷◌, ◌++◌, length, drop, Result, Ok, Err, ap, length-append, arith}
+use Rattle.std.proofs.Common.{ℕ, ◌+◌, ◌≤◌, cond, Option, Some, None, List, [], ◌∷◌, ◌++◌, length, drop, Result, Ok, Err, ap, length-append}
+use Rattle.std.proofs.Common.{arith}
 use Rattle.std.specs.Prelude.{All, IfOk, IfSome}
 use Rattle.std.specs.List.{AllByRecursion}
 use Rattle.std.proofs.lemmas.List.Elements.{All-from_recursion}
@@ -8,7 +9,8 @@ use Rattle.sec_desc.specs.declared.value.Descriptor.{Descriptor}
 use Rattle.sec_desc.specs.declared.value.DescFault.{DescFault}
 use Rattle.sec_desc.specs.Numbers.{bytes_16, has_bits}
 use Rattle.sec_desc.specs.Reading.{Tells, described}
-use Rattle.sec_desc.specs.Writing.{IsAceValue, IsShort, IsSidValue, IsValue, IsWritable, IsWritableAcl, ace_front, sid_bytes, size_of_ace, size_of_aces}
+use Rattle.sec_desc.specs.Writing.{IsAceValue, IsShort, IsSidValue, IsValue, IsWritable, IsWritableAcl, ace_front, sid_bytes, size_of_ace}
+use Rattle.sec_desc.specs.Writing.{size_of_aces}
 use Rattle.sec_desc.specs.Described.{AreAces, BeginsAcl, Describes, IsAce, IsAcl, IsPart, IsSid}
 use Rattle.sec_desc.proofs.Aces.{front_length}
 use Rattle.sec_desc.proofs.Bytes.{IsBytes}

@@ -1,6 +1,8 @@
 -- What stands at the front of bytes, as a test on the bytes and what they tell then.
-use Rattle.std.specs.Prelude.{ℕ, Bool, ◌+◌, ◌*◌, ◌==◌, ◌&&◌, ◌||◌, nat_le, List, length, take, drop, slice_index, slice_range, Option, None, Some, if◌then◌else◌}
-use Rattle.sec_desc.specs.declared.codes.TheConstants.{ACCESS_DENIED_ACE_TYPE, ACL_REVISION, ACL_REVISION_DS, SECURITY_DESCRIPTOR_REVISION, SE_DACL_PRESENT, SE_SELF_RELATIVE, SID_MAX_SUB_AUTHORITIES, SID_REVISION}
+use Rattle.std.specs.Prelude.{ℕ, Bool, ◌+◌, ◌*◌, ◌==◌, ◌&&◌, ◌||◌, nat_le, List, length, take, drop, slice_index, slice_range, Option, None}
+use Rattle.std.specs.Prelude.{Some, if◌then◌else◌}
+use Rattle.sec_desc.specs.declared.codes.TheConstants.{ACCESS_DENIED_ACE_TYPE, ACL_REVISION, ACL_REVISION_DS, SECURITY_DESCRIPTOR_REVISION}
+use Rattle.sec_desc.specs.declared.codes.TheConstants.{SE_DACL_PRESENT, SE_SELF_RELATIVE, SID_MAX_SUB_AUTHORITIES, SID_REVISION}
 use Rattle.sec_desc.specs.declared.value.Ace.{Ace}
 use Rattle.sec_desc.specs.declared.value.Sid.{Sid}
 use Rattle.sec_desc.specs.declared.layout.AceHeader.{AceHeader}

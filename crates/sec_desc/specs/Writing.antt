@@ -1,8 +1,12 @@
 -- The written form of a descriptor.
-use Rattle.std.specs.Prelude.{◌≡◌, ◌⊎◌, ℕ, Bool, true, false, ◌+◌, ◌≤◌, ◌<◌, ◌^◌, List, [], ◌∷◌, ◌++◌, length, Option, None, Some, All, IfSome, if◌then◌else◌}
+use Rattle.std.specs.Prelude.{◌≡◌, ◌⊎◌, ℕ, Bool, true, false, ◌+◌, ◌≤◌, ◌<◌, ◌^◌, List, [], ◌∷◌, ◌++◌, length, Option, None, Some, All}
+use Rattle.std.specs.Prelude.{IfSome, if◌then◌else◌}
 use Rattle.std.specs.List.{flat_map}
 use Rattle.std.specs.Option.{option_copied}
-use Rattle.sec_desc.specs.declared.codes.TheConstants.{ACCESS_ALLOWED_ACE_TYPE, ACCESS_DENIED_ACE_TYPE, ACL_REVISION, DACL_SECURITY_INFORMATION, GROUP_SECURITY_INFORMATION, OWNER_SECURITY_INFORMATION, SECURITY_DESCRIPTOR_REVISION, SE_DACL_PRESENT, SE_SELF_RELATIVE, SID_MAX_SUB_AUTHORITIES, SID_REVISION}
+use Rattle.sec_desc.specs.declared.codes.TheConstants.{ACCESS_ALLOWED_ACE_TYPE, ACCESS_DENIED_ACE_TYPE, ACL_REVISION}
+use Rattle.sec_desc.specs.declared.codes.TheConstants.{DACL_SECURITY_INFORMATION, GROUP_SECURITY_INFORMATION, OWNER_SECURITY_INFORMATION}
+use Rattle.sec_desc.specs.declared.codes.TheConstants.{SECURITY_DESCRIPTOR_REVISION, SE_DACL_PRESENT, SE_SELF_RELATIVE}
+use Rattle.sec_desc.specs.declared.codes.TheConstants.{SID_MAX_SUB_AUTHORITIES, SID_REVISION}
 use Rattle.sec_desc.specs.declared.value.Ace.{Ace}
 use Rattle.sec_desc.specs.declared.value.Sid.{Sid}
 use Rattle.sec_desc.specs.declared.value.Descriptor.{Descriptor}

@@ -1,5 +1,6 @@
 ghost use Rattle.std.specs.Prelude.{◌≡◌, None, Some, drop, if◌then◌else◌};
-ghost use Rattle.sec_desc.specs.Layout.{ace_header_of, acl_header_of, header_of, is_ace, is_acl, is_header, is_sid, list_offset, offset, sid_size};
+ghost use Rattle.sec_desc.specs.Layout.{ace_header_of, acl_header_of, header_of, is_ace, is_acl};
+ghost use Rattle.sec_desc.specs.Layout.{is_header, is_sid, list_offset, offset, sid_size};
 
 use crate::codes::{
     ACCESS_DENIED_ACE_TYPE, ACL_REVISION, ACL_REVISION_DS, SE_DACL_PRESENT, SE_SELF_RELATIVE,

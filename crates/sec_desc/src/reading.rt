@@ -1,9 +1,11 @@
-ghost use Rattle.std.specs.Prelude.{◌≡◌, ◌++◌, ◌+◌, ◌<◌, ◌≤◌, ◌^◌, ◌∷◌, [], true, Ok, IfErr, IfOk, OnErr, OnOk, drop, length};
+ghost use Rattle.std.specs.Prelude.{◌≡◌, ◌++◌, ◌+◌, ◌<◌, ◌≤◌, ◌^◌, ◌∷◌, [], true, Ok, IfErr, IfOk};
+ghost use Rattle.std.specs.Prelude.{OnErr, OnOk, drop, length};
 ghost use Rattle.sec_desc.specs.declared.value.DescFault.TheVariants as faults;
 ghost use Rattle.sec_desc.specs.declared.value.Descriptor.{Descriptor};
 ghost use Rattle.sec_desc.specs.Described.{Describes};
 ghost use Rattle.sec_desc.specs.Layout.{is_sid, sid_of};
-ghost use Rattle.sec_desc.specs.Reading.{Fails, Tells, ace_in, aces_in, acl_at, described, part_at, parts_of, sid_at, with_front};
+ghost use Rattle.sec_desc.specs.Reading.{Fails, Tells, ace_in, aces_in, acl_at, described, part_at};
+ghost use Rattle.sec_desc.specs.Reading.{parts_of, sid_at, with_front};
 ghost use Rattle.sec_desc.specs.Writing.{IsValue, IsWritable};
 
 use crate::layout::{Header, from_place, is_sid, read_ace_header, read_acl_header, read_header};

@@ -3,7 +3,12 @@ ghost use Rattle.std.specs.List.{flat_map};
 ghost use Rattle.std.specs.Option.{option_copied};
 ghost use Rattle.sec_desc.specs.declared.value.Ace.{Ace};
 ghost use Rattle.sec_desc.specs.Numbers.{bytes_32};
-ghost use Rattle.sec_desc.specs.Writing.{IsShort, IsWritable, IsWritableAcl, ace_bytes, ace_front as front_of_ace, acl_bytes, acl_front as front_of_acl, control_for, descriptor_bytes, header_for, offset_of, part_bytes, part_if, part_size, seen, sid_bytes, size_of_ace, size_of_aces, size_of_sid, written};
+ghost use Rattle.sec_desc.specs.Writing.{IsShort, IsWritable, IsWritableAcl, ace_bytes};
+ghost use Rattle.sec_desc.specs.Writing.{ace_front as front_of_ace, acl_bytes};
+ghost use Rattle.sec_desc.specs.Writing.{acl_front as front_of_acl, control_for, descriptor_bytes};
+ghost use Rattle.sec_desc.specs.Writing.{header_for, offset_of, part_bytes, part_if, part_size};
+ghost use Rattle.sec_desc.specs.Writing.{seen, sid_bytes, size_of_ace, size_of_aces, size_of_sid};
+ghost use Rattle.sec_desc.specs.Writing.{written};
 
 use crate::codes::{
     ACCESS_ALLOWED_ACE_TYPE, ACCESS_DENIED_ACE_TYPE, ACL_REVISION, DACL_SECURITY_INFORMATION,

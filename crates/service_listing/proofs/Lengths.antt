@@ -1,12 +1,14 @@
 -- How many bytes a listing has, and how long a page is.
-use Rattle.std.proofs.Common.{ℕ, zero, suc, ◌≡◌, ◌<◌, ◌≤◌, ◌+◌, ◌*◌, ◌-◌, ◌++◌, true, false, cond, List, [], ◌∷◌, refl, ap, length, length-append, take, arith}
+use Rattle.std.proofs.Common.{ℕ, zero, suc, ◌≡◌, ◌<◌, ◌≤◌, ◌+◌, ◌*◌, ◌-◌, ◌++◌, true, false, cond, List, [], ◌∷◌, refl, ap, length}
+use Rattle.std.proofs.Common.{length-append, take, arith}
 use Rattle.std.specs.List.{flat_map}
 use Rattle.std.specs.Int.{w16, to_le_bytes}
 use Rattle.std.specs.Prelude.{nat_le}
 use Rattle.scm_model.specs.declared.flat.ProcessStatus.{ProcessStatus}
 use Rattle.scm_model.specs.declared.flat.Service.{Service}
 use Rattle.service_listing.specs.Fitting.{HaveTheirSizes, IsLongestFit}
-use Rattle.service_listing.specs.Layout.{listing_bytes, listing_size, names_bytes, names_size, numbers_bytes, process_status_bytes, record_bytes, records_bytes, size_of, text_bytes, text_size}
+use Rattle.service_listing.specs.Layout.{listing_bytes, listing_size, names_bytes, names_size, numbers_bytes, process_status_bytes}
+use Rattle.service_listing.specs.Layout.{record_bytes, records_bytes, size_of, text_bytes, text_size}
 use Rattle.service_listing.specs.Pages.{left_of, page_in}
 use Rattle.service_listing.specs.Sizes.{names_sizes}
 use Rattle.service_listing.proofs.Measured.{size_is}
@@ -24,7 +26,12 @@ unfolding text_bytes
 length_text text = omega (arith, length-append (flat_map (to_le_bytes w16) text) (to_le_bytes w16 0), length_units text)
 
 length_names : (row : Service) → length (names_bytes row) ≡ names_size row
-length_names row = omega (arith, length-append (text_bytes row.config.name) (text_bytes row.config.display), length_text row.config.name, length_text row.config.display)
+length_names row = omega (
+  arith,
+  length-append (text_bytes row.config.name) (text_bytes row.config.display),
+  length_text row.config.name,
+  length_text row.config.display,
+)
 
 length_all_names : (rows : List Service) → length (flat_map names_bytes rows) ≡ names_sizes rows
 length_all_names [] = refl
@@ -44,7 +51,13 @@ length_records place (row ∷ rows) =
 
 pub length_listing : (rows : List Service) → length (listing_bytes rows) ≡ listing_size rows
 length_listing rows =
-    omega (arith, length-append (records_bytes (36 * length rows) rows) (flat_map names_bytes rows), length_records (36 * length rows) rows, length_all_names rows, size_is rows)
+    omega (
+      arith,
+      length-append (records_bytes (36 * length rows) rows) (flat_map names_bytes rows),
+      length_records (36 * length rows) rows,
+      length_all_names rows,
+      size_is rows,
+    )
 
 pub length_status : (s : ProcessStatus) → length (process_status_bytes s) ≡ 36
 unfolding numbers_bytes
@@ -64,7 +77,8 @@ gt_of a b is = search arith
 front_is : (size : ℕ) (rows : List Service) → page_in size rows ++ left_of size rows ≡ rows
 front_is size [] = refl
 front_is size (row ∷ rows) =
-    elim (nat_le (size_of row) size) as (λ b. cond b (row ∷ page_in (size - size_of row) rows) [] ++ cond b (left_of (size - size_of row) rows) (row ∷ rows) ≡ row ∷ rows) [
+    elim (nat_le (size_of row) size) as (λ b. cond b (row ∷ page_in (size - size_of row) rows) []
+    ++ cond b (left_of (size - size_of row) rows) (row ∷ rows) ≡ row ∷ rows) [
       | true ↦ ap (λ (rs : List Service). row ∷ rs) (front_is (size - size_of row) rows)
       | false ↦ refl
     ]
@@ -72,17 +86,20 @@ front_is size (row ∷ rows) =
 pub page_fits : (size : ℕ) (rows : List Service) → listing_size (page_in size rows) ≤ size
 page_fits size [] = omega arith
 page_fits size (row ∷ rows) =
-    elim (nat_le (size_of row) size) as (λ b. nat_le (size_of row) size ≡ b → listing_size (cond b (row ∷ page_in (size - size_of row) rows) []) ≤ size) [
+    elim (nat_le (size_of row) size) as (λ b. nat_le (size_of row) size ≡ b
+    → listing_size (cond b (row ∷ page_in (size - size_of row) rows) []) ≤ size) [
       | true ↦ λ is. omega (arith, le_of (size_of row) size is, page_fits (size - size_of row) rows)
       | false ↦ λ is. omega arith
     ] refl
 
-longest_is : (size : ℕ) (rows : List Service) (n : ℕ) → listing_size (take n rows) ≤ size → length (take n rows) ≤ length (page_in size rows)
+longest_is : (size : ℕ) (rows : List Service) (n : ℕ) → listing_size (take n rows) ≤ size
+    → length (take n rows) ≤ length (page_in size rows)
 longest_is size [] zero le = omega arith
 longest_is size [] (suc n) le = omega arith
 longest_is size (row ∷ rows) zero le = omega arith
 longest_is size (row ∷ rows) (suc n) le =
-    elim (nat_le (size_of row) size) as (λ b. nat_le (size_of row) size ≡ b → suc (length (take n rows)) ≤ length (cond b (row ∷ page_in (size - size_of row) rows) [])) [
+    elim (nat_le (size_of row) size) as (λ b. nat_le (size_of row) size ≡ b
+    → suc (length (take n rows)) ≤ length (cond b (row ∷ page_in (size - size_of row) rows) [])) [
       | true ↦ λ is.
           let rest : listing_size (take n rows) ≤ size - size_of row = omega (arith, le) in
           omega (arith, longest_is (size - size_of row) rows n rest)

@@ -1,7 +1,9 @@
 -- The levels of a configuration as bytes, which begin with the offsets of what has no fixed size.
 use Rattle.std.specs.Prelude.{ℕ, Bool, ◌+◌, ◌*◌, ◌++◌, ◌==◌, List, [], ◌∷◌, Option, None, Some, length, if◌then◌else◌}
 use Rattle.std.specs.List.{flat_map}
-use Rattle.scm_model.specs.declared.codes.TheConstants.{SERVICE_CONFIG_DELAYED_AUTO_START_INFO, SERVICE_CONFIG_DESCRIPTION, SERVICE_CONFIG_FAILURE_ACTIONS, SERVICE_CONFIG_FAILURE_ACTIONS_FLAG, SERVICE_CONFIG_TRIGGER_INFO, SERVICE_TRIGGER_TYPE_CUSTOM}
+use Rattle.scm_model.specs.declared.codes.TheConstants.{SERVICE_CONFIG_DELAYED_AUTO_START_INFO, SERVICE_CONFIG_DESCRIPTION}
+use Rattle.scm_model.specs.declared.codes.TheConstants.{SERVICE_CONFIG_FAILURE_ACTIONS, SERVICE_CONFIG_FAILURE_ACTIONS_FLAG}
+use Rattle.scm_model.specs.declared.codes.TheConstants.{SERVICE_CONFIG_TRIGGER_INFO, SERVICE_TRIGGER_TYPE_CUSTOM}
 use Rattle.scm_model.specs.declared.flat.Action.{Action}
 use Rattle.scm_model.specs.declared.flat.Config.{Config}
 use Rattle.scm_model.specs.declared.flat.Trigger.{Trigger}
@@ -24,7 +26,8 @@ action_bytes action = numbers_bytes (action.what ∷ action.delay ∷ [])
 
 -- the reset period, no reboot message, where the command stands, and how many actions stand where
 abbrev pub failure_numbers : Config → List ℕ
-failure_numbers config = config.reset ∷ 0 ∷ offset_of (20 + 8 * length config.actions) config.command ∷ length config.actions ∷ offset_of 20 config.actions ∷ []
+failure_numbers config = config.reset ∷ 0 ∷ offset_of (20 + 8 * length config.actions) config.command ∷ length config.actions ∷ offset_of 20
+    config.actions ∷ []
 
 -- five numbers, the actions and the command
 abbrev pub failure_bytes : Config → List ℕ

@@ -2,7 +2,9 @@ ghost use Rattle.std.specs.Prelude.{◌≡◌, ◌++◌, ◌==◌, IfOk, OnOk, i
 ghost use Rattle.std.specs.Int.{to_le_bytes, w32};
 ghost use Rattle.std.specs.List.{flat_map};
 ghost use Rattle.service_listing.specs.Layout.{numbers_bytes};
-ghost use Rattle.service_listing.specs.Levels.{action_bytes, description_bytes, failure_bytes, failure_numbers, flag_bytes, level_bytes, some_text_bytes, trigger_bytes, triggers_bytes};
+ghost use Rattle.service_listing.specs.Levels.{action_bytes, description_bytes, failure_bytes};
+ghost use Rattle.service_listing.specs.Levels.{failure_numbers, flag_bytes, level_bytes};
+ghost use Rattle.service_listing.specs.Levels.{some_text_bytes, trigger_bytes, triggers_bytes};
 
 use super::writing::{put_numbers, put_text};
 use scm_model::codes::{
@@ -136,7 +138,8 @@ fn triggers(list: &[Trigger], alloc: Global) -> Result<Items<u8>, OutOfMemory>
     Ok(out)
 }
 
-/// A level of a configuration as bytes, or none where there is no such level. Offsets and counts are told as far as four bytes go.
+/// A level of a configuration as bytes, or none where there is no such level. Offsets and counts
+/// are told as far as four bytes go.
 pub fn level(level: u32, config: &Config, alloc: Global) -> Result<Option<Items<u8>>, OutOfMemory>
     ensures { IfOk result (λ bytes. bytes ≡ level_bytes level config.now) }
 {

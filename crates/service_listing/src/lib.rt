@@ -1,4 +1,5 @@
-//! Services as the bytes of a listing, with the sizes of these, and levels of configurations as bytes.
+//! Services as the bytes of a listing, with the sizes of these, and levels of configurations as
+//! bytes.
 #![tactic(auto)]
 
 mod laws;

@@ -21,7 +21,8 @@ fn size_of(service: &Service) -> u128
     36 + text_size(&service.config.name) + text_size(&service.config.display)
 }
 
-/// How many bytes a listing of services takes, at most 2^32, so that no size of 32 bits is enough there.
+/// How many bytes a listing of services takes, at most 2^32, so that no size of 32 bits is enough
+/// there.
 pub fn listing_size(services: &[&Service]) -> u64
     ensures { result ≡ min (2 ^ 32) (listing_size (map (λ s. s.now) services.now)) }
 {
@@ -34,8 +35,10 @@ pub fn listing_size(services: &[&Service]) -> u64
 
 /// How many services fit in a listing of some size, from the first one on.
 fn fitting_of(services: &[&Service], size: u32) -> usize
-    ensures page { take result (map (λ s. s.now) services.now) ≡ page_in size (map (λ s. s.now) services.now) }
-    ensures left { drop result (map (λ s. s.now) services.now) ≡ left_of size (map (λ s. s.now) services.now) }
+    ensures page { take result (map (λ s. s.now) services.now) ≡ page_in size
+        (map (λ s. s.now) services.now) }
+    ensures left { drop result (map (λ s. s.now) services.now) ≡ left_of size
+        (map (λ s. s.now) services.now) }
     ensures few { result ≤ length services.now }
 {
     let mut room = size as u128;
@@ -51,8 +54,10 @@ fn fitting_of(services: &[&Service], size: u32) -> usize
 
 /// How many services fit in a listing of some size, from the first one on.
 pub fn fitting(services: &[&Service], size: u32) -> usize
-    ensures page { map (λ s. s.now) (take result services.now) ≡ page_in size (map (λ s. s.now) services.now) }
-    ensures left { map (λ s. s.now) (drop result services.now) ≡ left_of size (map (λ s. s.now) services.now) }
+    ensures page { map (λ s. s.now) (take result services.now) ≡ page_in size
+        (map (λ s. s.now) services.now) }
+    ensures left { map (λ s. s.now) (drop result services.now) ≡ left_of size
+        (map (λ s. s.now) services.now) }
     ensures few { result ≤ length services.now }
 {
     fitting_of(services, size)

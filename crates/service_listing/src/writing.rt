@@ -1,7 +1,9 @@
 ghost use Rattle.std.specs.Prelude.{◌≡◌, ◌+◌, ◌*◌, ◌^◌, ◌<◌, ◌++◌, IfOk, OnOk, length, map};
 ghost use Rattle.std.specs.List.{flat_map};
 ghost use Rattle.std.specs.Int.{w16, w32, to_le_bytes};
-ghost use Rattle.service_listing.specs.Layout.{listing_bytes, listing_size, names_bytes, names_size, numbers_bytes, process_status_bytes, record_bytes, records_bytes, text_bytes, text_size};
+ghost use Rattle.service_listing.specs.Layout.{listing_bytes, listing_size, names_bytes, names_size};
+ghost use Rattle.service_listing.specs.Layout.{numbers_bytes, process_status_bytes, record_bytes};
+ghost use Rattle.service_listing.specs.Layout.{records_bytes, text_bytes, text_size};
 ghost use Rattle.service_listing.specs.Sizes.{names_sizes};
 
 use scm_model::{ProcessStatus, Service};
@@ -114,7 +116,8 @@ fn put_records(out: &mut Items<u8>, first: u32, services: &[&Service]) -> Result
 
 /// Appends the names of services.
 fn put_names(out: &mut Items<u8>, services: &[&Service]) -> Result<(), OutOfMemory>
-    ensures { OnOk result (out.new ≡ out.old ++ flat_map names_bytes (map (λ s. s.now) services.now)) }
+    ensures { OnOk result (out.new ≡ out.old ++ flat_map names_bytes
+        (map (λ s. s.now) services.now)) }
 {
     for service in services {
         put_text(out, &service.config.name)?;

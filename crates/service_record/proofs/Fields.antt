@@ -1,5 +1,6 @@
 -- A field that is read is the field that was written, and what was written is read again.
-use Rattle.std.proofs.Common.{◌≡◌, ℕ, zero, suc, ◌+◌, ◌^◌, ◌<◌, ◌≤◌, Bool, true, false, cond, ltb, List, [], ◌∷◌, ◌++◌, length, get_or, take, drop, Result, Ok, Err, refl, sym, ap, subst, ◌∙◌, append_assoc, arith, inl, inr}
+use Rattle.std.proofs.Common.{◌≡◌, ℕ, zero, suc, ◌+◌, ◌^◌, ◌<◌, ◌≤◌, Bool, true, false, cond, ltb, List, [], ◌∷◌, ◌++◌, length, get_or}
+use Rattle.std.proofs.Common.{take, drop, Result, Ok, Err, refl, sym, ap, subst, ◌∙◌, append_assoc, arith, inl, inr}
 use Rattle.std.specs.Int.{w32, from_le_bytes}
 use Rattle.std.proofs.lemmas.Bool.{cases_lt, ltb-false, le-ltb}
 use Rattle.std.proofs.lemmas.List.{take-append-drop, length-take, get_or-drop, get_or-take, get_or_past}
@@ -42,15 +43,20 @@ pub record Takes (bytes text rest : List ℕ) : Type 0 where
   pub rest_fits : IsBytes rest
 
 pub Takes-then : (a x b y c : List ℕ) → Takes a x b → Takes b y c → Takes a (x ++ y) c
-Takes-then a x b y c p q = record { parts = p.parts ∙ ap (λ (t : List ℕ). x ++ t) q.parts ∙ sym (append_assoc x y c); rest_fits = q.rest_fits }
+Takes-then a x b y c p q = record {
+  parts = p.parts ∙ ap (λ (t : List ℕ). x ++ t) q.parts
+      ∙ sym (append_assoc x y c);
+  rest_fits = q.rest_fits;
+}
 
--- a reader reads what its spelling spells, and nothing else
+-- a reader reads what its encoding spells, and nothing else
 pub record IsField (A : Type 0) (read : List ℕ → Item A) (spell : A → List ℕ) (Fits : A → Type 0) : Type 0 where
   pub takes : (bytes : List ℕ) (x : A × List ℕ) → IsBytes bytes → read bytes ≡ Ok x → Takes bytes (spell x.0) x.1 × Fits x.0
   pub again : (a : A) (rest : List ℕ) → Fits a → read (spell a ++ rest) ≡ Ok (a, rest)
 
 -- one field of several was read, and reading went on
-pub step : {A B : Type 0} {read : List ℕ → Item A} {spell : A → List ℕ} {Fits : A → Type 0} (field : IsField A read spell Fits) (next : A × List ℕ → Result B ℕ) (bytes : List ℕ) (y : B)
+pub step : {A B : Type 0} {read : List ℕ → Item A} {spell : A → List ℕ} {Fits : A → Type 0} (field : IsField A read spell Fits) (next : A
+    × List ℕ → Result B ℕ) (bytes : List ℕ) (y : B)
     → IsBytes bytes → (read bytes >>= next) ≡ Ok y
     → {P : Type 0} → ((a : A) (rest : List ℕ) → Takes bytes (spell a) rest → Fits a → next (a, rest) ≡ Ok y → P) → P
 step {A} {B} {read} field next bytes y fits e {P} goes_on =
@@ -67,15 +73,22 @@ number_takes : (bytes : List ℕ) (x : ℕ × List ℕ) → IsBytes bytes → ta
 number_takes bytes x fits e =
     let g = guard_ok (ltb (length bytes) 4) (length bytes) (from_le_bytes w32 (take 4 bytes), drop 4 bytes) x e in
     let long : 4 ≤ length bytes = ltb-false _ _ g.0 in
-    let front : number (from_le_bytes w32 (take 4 bytes)) ≡ take 4 bytes = le_bytes_4 (take 4 bytes) _ (omega (arith, length-take 4 bytes)) (IsBytes-take 4 bytes fits) refl in
-    let parts : bytes ≡ number (from_le_bytes w32 (take 4 bytes)) ++ drop 4 bytes = sym (ap (λ (t : List ℕ). t ++ drop 4 bytes) front ∙ take-append-drop 4 bytes) in
-    let taken : Takes bytes (number (from_le_bytes w32 (take 4 bytes))) (drop 4 bytes) = record { parts = parts; rest_fits = IsBytes-drop 4 bytes fits } in
-    subst (λ (p : ℕ × List ℕ). Takes bytes (number p.0) p.1 × FitsNumber p.0) g.1 (taken, number_below (take 4 bytes) (IsBytes-take 4 bytes fits))
+    let front : number (from_le_bytes w32 (take 4 bytes)) ≡ take 4 bytes =
+    le_bytes_4 (take 4 bytes) _ (omega (arith, length-take 4 bytes)) (IsBytes-take 4 bytes fits) refl in
+    let parts : bytes ≡ number (from_le_bytes w32 (take 4 bytes)) ++ drop 4 bytes =
+    sym (ap (λ (t : List ℕ). t ++ drop 4 bytes) front ∙ take-append-drop 4 bytes) in
+    let taken : Takes bytes (number (from_le_bytes w32 (take 4 bytes))) (drop 4 bytes) =
+    record { parts = parts; rest_fits = IsBytes-drop 4 bytes fits } in
+    subst (λ (p : ℕ × List ℕ). Takes bytes (number p.0) p.1 × FitsNumber p.0) g.1
+    (taken, number_below (take 4 bytes) (IsBytes-take 4 bytes fits))
 
 number_again : (n : ℕ) (rest : List ℕ) → FitsNumber n → take_number (number n ++ rest) ≡ Ok (n, rest)
 number_again n rest lt =
     let long : ltb (length (number n ++ rest)) 4 ≡ false = le-ltb _ _ (omega arith) in
-    ap (λ (b : Bool). cond b (Err (length (number n ++ rest))) (Ok (from_le_bytes w32 (take 4 (number n ++ rest)), drop 4 (number n ++ rest)))) long
+    ap (λ (b : Bool). cond b (Err (length (number n ++ rest))) (Ok (
+      from_le_bytes w32 (take 4 (number n ++ rest)),
+      drop 4 (number n ++ rest),
+    ))) long
     ∙ ap (λ (m : ℕ). Ok (m, rest)) (from_le_bytes-to_le_bytes_4 n lt)
 
 pub a_number : IsField ℕ take_number number FitsNumber
@@ -93,9 +106,11 @@ flag_takes : (bytes : List ℕ) (x : Bool × List ℕ) → IsBytes bytes → tak
 unfolding take_flag
 flag_takes [] x fits e = absurd cc
 flag_takes (zero ∷ bytes) x fits e =
-    subst (λ (y : Bool × List ℕ). Takes (0 ∷ bytes) (flag y.0) y.1 × IsFlag y.0) (ok_is (false, bytes) x e) (record { parts = refl; rest_fits = IsBytes-rest 0 bytes fits }, tt)
+    subst (λ (y : Bool × List ℕ). Takes (0 ∷ bytes) (flag y.0) y.1 × IsFlag y.0) (ok_is (false, bytes) x e)
+    (record { parts = refl; rest_fits = IsBytes-rest 0 bytes fits }, tt)
 flag_takes (suc zero ∷ bytes) x fits e =
-    subst (λ (y : Bool × List ℕ). Takes (1 ∷ bytes) (flag y.0) y.1 × IsFlag y.0) (ok_is (true, bytes) x e) (record { parts = refl; rest_fits = IsBytes-rest 1 bytes fits }, tt)
+    subst (λ (y : Bool × List ℕ). Takes (1 ∷ bytes) (flag y.0) y.1 × IsFlag y.0) (ok_is (true, bytes) x e)
+    (record { parts = refl; rest_fits = IsBytes-rest 1 bytes fits }, tt)
 flag_takes (suc (suc b) ∷ bytes) x fits e = absurd cc
 
 flag_again : (b : Bool) (rest : List ℕ) → IsFlag b → take_flag (flag b ++ rest) ≡ Ok (b, rest)

@@ -69,7 +69,8 @@ front_of u us rest = elim (cases_Bool (is_high_surrogate u)) [
   | inr high ↦ elim (cases_Bool (is_low_surrogate u)) [ inl low ↦ low_front u us low | inr low ↦ other_front u us high low rest ]
 ]
 
-behind_of : (u : ℕ) (us : List ℕ) → AreSo us → (h : ℕ) → is_high_surrogate h ≡ true → has_unpaired_surrogate (h ∷ u ∷ us) ≡ is_unpaired true (u ∷ us)
+behind_of : (u : ℕ) (us : List ℕ) → AreSo us → (h : ℕ) → is_high_surrogate h ≡ true
+    → has_unpaired_surrogate (h ∷ u ∷ us) ≡ is_unpaired true (u ∷ us)
 behind_of u us rest h high = elim (cases_Bool (is_low_surrogate u)) [
   | inl low ↦ low_behind h u us high low rest
   | inr low ↦ other_behind h u us high low

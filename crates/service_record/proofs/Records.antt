@@ -1,5 +1,6 @@
 -- The two laws: what is read is spelled so, and what is spelled so is read.
-use Rattle.std.proofs.Common.{◌≡◌, ℕ, zero, suc, Bool, true, false, cond, ◌==◌, List, [], ◌∷◌, ◌++◌, length, Result, Ok, Err, refl, sym, ap, subst, ◌∙◌, append_assoc, arith}
+use Rattle.std.proofs.Common.{◌≡◌, ℕ, zero, suc, Bool, true, false, cond, ◌==◌, List, [], ◌∷◌, ◌++◌, length, Result, Ok, Err, refl, sym, ap}
+use Rattle.std.proofs.Common.{subst, ◌∙◌, append_assoc, arith}
 use Rattle.std.specs.Prelude.{IfOk}
 use Rattle.std.specs.List.{flat_map, AllByRecursion}
 use Rattle.std.proofs.lemmas.Bool.{eqb-true}
@@ -14,14 +15,17 @@ use Rattle.service_record.specs.declared.reading.Front.{Front}
 use Rattle.service_record.specs.declared.reading.Middle.{Middle}
 use Rattle.service_record.specs.declared.reading.Back.{Back}
 use Rattle.service_record.specs.declared.reading.RecordFault.{RecordFault}
-use Rattle.service_record.specs.Spelling.{number, flag, text, need_bytes, action, counted_items, front, middle, back, spelling, held, FitsNumber, FitsText, IsNeed, IsAction, AreItems, IsConfig}
-use Rattle.service_record.specs.Reading.{◌>>=◌, Item, Tells, take_number, need_of, take_need, take_action, take_items, take_counted, take_front, take_middle, take_back, config_of, take_config, whole_of, placed, record_of}
+use Rattle.service_record.specs.Spelling.{number, flag, text, need_bytes, action, counted_items, front, middle, back, encoding, held}
+use Rattle.service_record.specs.Spelling.{FitsNumber, FitsText, IsNeed, IsAction, AreItems, IsConfig}
+use Rattle.service_record.specs.Reading.{◌>>=◌, Item, Tells, take_number, need_of, take_need, take_action, take_items, take_counted}
+use Rattle.service_record.specs.Reading.{take_front, take_middle, take_back, config_of, take_config, whole_of, placed, record_of}
 use Rattle.service_record.proofs.Fields.{IsBytes, bind_ok, Takes, Takes-then, IsField, step, ok_is, a_number, a_flag}
 use Rattle.service_record.proofs.Texts.{a_text}
 
 -- ## Needs and actions
 
-need_made : (bytes : List ℕ) (group : Bool) (name rest : List ℕ) → Takes bytes (flag group ++ text name) rest → FitsText name → Takes bytes (need_bytes (need_of group name)) rest × IsNeed (need_of group name)
+need_made : (bytes : List ℕ) (group : Bool) (name rest : List ℕ) → Takes bytes (flag group ++ text name) rest → FitsText name
+    → Takes bytes (need_bytes (need_of group name)) rest × IsNeed (need_of group name)
 need_made bytes true name rest taken fits = (taken, fits)
 need_made bytes false name rest taken fits = (taken, fits)
 
@@ -41,7 +45,8 @@ need_again (needs.Group name) rest fits = rw (a_flag.again true (text name ++ re
 a_need : IsField Need take_need need_bytes IsNeed
 a_need = record { takes = need_takes; again = need_again }
 
-action_takes : (bytes : List ℕ) (x : Action × List ℕ) → IsBytes bytes → take_action bytes ≡ Ok x → Takes bytes (action x.0) x.1 × IsAction x.0
+action_takes : (bytes : List ℕ) (x : Action × List ℕ) → IsBytes bytes → take_action bytes ≡ Ok x → Takes bytes (action x.0) x.1
+    × IsAction x.0
 unfolding take_action
 action_takes bytes x fits e =
     step a_number _ bytes x fits e (λ what r1 t1 f1 e1.
@@ -53,7 +58,8 @@ action_takes bytes x fits e =
 action_again : (a : Action) (rest : List ℕ) → IsAction a → take_action (action a ++ rest) ≡ Ok (a, rest)
 unfolding take_action
 action_again a rest fits =
-    ap (λ (r : Item ℕ). r >>= λ what. take_number what.1 >>= λ delay. Ok (record { what = what.0; delay = delay.0 }, delay.1)) (a_number.again a.what (number a.delay ++ rest) fits.0)
+    ap (λ (r : Item ℕ). r >>= λ what. take_number what.1 >>= λ delay. Ok (record { what = what.0; delay = delay.0 }, delay.1))
+    (a_number.again a.what (number a.delay ++ rest) fits.0)
     ∙ ap (λ (r : Item ℕ). r >>= λ delay. Ok (record { what = a.what; delay = delay.0 }, delay.1)) (a_number.again a.delay rest fits.1)
 
 an_action : IsField Action take_action action IsAction
@@ -61,46 +67,58 @@ an_action = record { takes = action_takes; again = action_again }
 
 -- ## Lists
 
-items_take : {A : Type 0} {read : List ℕ → Item A} {spell : A → List ℕ} {Fits : A → Type 0} (field : IsField A read spell Fits) (n : ℕ) (bytes : List ℕ) (x : List A × List ℕ)
+items_take : {A : Type 0} {read : List ℕ → Item A} {spell : A → List ℕ} {Fits : A → Type 0} (field : IsField A read spell Fits) (n : ℕ)
+    (bytes : List ℕ) (x : List A × List ℕ)
     → IsBytes bytes → take_items read n bytes ≡ Ok x → Takes bytes (flat_map spell x.0) x.1 × (length x.0 ≡ n) × AllByRecursion Fits x.0
 unfolding take_items
 items_take {A} {read} {spell} {Fits} field zero bytes x fits e =
-    subst (λ (y : List A × List ℕ). Takes bytes (flat_map spell y.0) y.1 × (length y.0 ≡ 0) × AllByRecursion Fits y.0) (ok_is ([], bytes) x e) (record { parts = refl; rest_fits = fits }, refl, tt)
+    subst (λ (y : List A × List ℕ). Takes bytes (flat_map spell y.0) y.1 × (length y.0 ≡ 0) × AllByRecursion Fits y.0)
+    (ok_is ([], bytes) x e) (record { parts = refl; rest_fits = fits }, refl, tt)
 items_take {A} {read} {spell} {Fits} field (suc n) bytes x fits e =
     step field _ bytes x fits e (λ a r1 t1 f1 e1.
     let b = bind_ok (take_items read n r1) (λ others. Ok (a ∷ others.0, others.1)) x e1 in
     let second = items_take field n r1 b.0 t1.rest_fits b.1 in
     let both = Takes-then bytes (spell a) r1 (flat_map spell b.0.0) b.0.1 t1 second.0 in
     let made : List A × List ℕ = (a ∷ b.0.0, b.0.1) in
-    subst (λ (y : List A × List ℕ). Takes bytes (flat_map spell y.0) y.1 × (length y.0 ≡ suc n) × AllByRecursion Fits y.0) (ok_is made x b.2) (rw flat_map-cons both, ap suc second.1, (f1, second.2)))
+    subst (λ (y : List A × List ℕ). Takes bytes (flat_map spell y.0) y.1 × (length y.0 ≡ suc n) × AllByRecursion Fits y.0)
+    (ok_is made x b.2) (rw flat_map-cons both, ap suc second.1, (f1, second.2)))
 
-items_again : {A : Type 0} {read : List ℕ → Item A} {spell : A → List ℕ} {Fits : A → Type 0} (field : IsField A read spell Fits) (xs : List A) (rest : List ℕ)
+items_again : {A : Type 0} {read : List ℕ → Item A} {spell : A → List ℕ} {Fits : A → Type 0} (field : IsField A read spell Fits)
+    (xs : List A) (rest : List ℕ)
     → AllByRecursion Fits xs → take_items read (length xs) (flat_map spell xs ++ rest) ≡ Ok (xs, rest)
 unfolding take_items
 items_again field [] rest fits = refl
 items_again {A} {read} {spell} {Fits} field (x ∷ xs) rest fits =
-    let regrouped : flat_map spell (x ∷ xs) ++ rest ≡ spell x ++ (flat_map spell xs ++ rest) = ap (λ (t : List ℕ). t ++ rest) (flat_map-cons spell x xs) ∙ append_assoc (spell x) (flat_map spell xs) rest in
-    ap (take_items read (suc (length xs))) regrouped ∙ rw (field.again x (flat_map spell xs ++ rest) fits.0, items_again field xs rest fits.1) refl
+    let regrouped : flat_map spell (x ∷ xs) ++ rest ≡ spell x ++ (flat_map spell xs ++ rest) =
+    ap (λ (t : List ℕ). t ++ rest) (flat_map-cons spell x xs) ∙ append_assoc (spell x) (flat_map spell xs) rest in
+    ap (take_items read (suc (length xs))) regrouped ∙ rw (
+      field.again x (flat_map spell xs ++ rest) fits.0,
+      items_again field xs rest fits.1,
+    ) refl
 
-counted_takes : {A : Type 0} {read : List ℕ → Item A} {spell : A → List ℕ} {Fits : A → Type 0} (field : IsField A read spell Fits) (bytes : List ℕ) (x : List A × List ℕ)
+counted_takes : {A : Type 0} {read : List ℕ → Item A} {spell : A → List ℕ} {Fits : A → Type 0} (field : IsField A read spell Fits)
+    (bytes : List ℕ) (x : List A × List ℕ)
     → IsBytes bytes → take_counted read bytes ≡ Ok x → Takes bytes (counted_items spell x.0) x.1 × AreItems Fits x.0
 unfolding take_counted
 counted_takes {A} {read} {spell} {Fits} field bytes x fits e =
     step a_number _ bytes x fits e (λ n r1 t1 f1 e1.
     let items = items_take field n r1 x t1.rest_fits e1 in
     let both = Takes-then bytes (number n) r1 (flat_map spell x.0) x.1 t1 items.0 in
-    let whole : Takes bytes (counted_items spell x.0) x.1 = subst (λ (k : ℕ). Takes bytes (number k ++ flat_map spell x.0) x.1) (sym items.1) both in
+    let whole : Takes bytes (counted_items spell x.0) x.1 = subst (λ (k : ℕ). Takes bytes (number k ++ flat_map spell x.0) x.1)
+    (sym items.1) both in
     let small : FitsNumber (length x.0) = omega (arith, items.1, f1) in
     (whole, (small, All-from_recursion Fits x.0 items.2)))
 
-counted_again : {A : Type 0} {read : List ℕ → Item A} {spell : A → List ℕ} {Fits : A → Type 0} (field : IsField A read spell Fits) (xs : List A) (rest : List ℕ)
+counted_again : {A : Type 0} {read : List ℕ → Item A} {spell : A → List ℕ} {Fits : A → Type 0} (field : IsField A read spell Fits)
+    (xs : List A) (rest : List ℕ)
     → AreItems Fits xs → take_counted read (counted_items spell xs ++ rest) ≡ Ok (xs, rest)
 unfolding take_counted
 counted_again {A} {read} {spell} {Fits} field xs rest fits =
     ap (λ (r : Item ℕ). r >>= λ n. take_items read n.0 n.1) (a_number.again (length xs) (flat_map spell xs ++ rest) fits.0)
     ∙ items_again field xs rest (recursion_from_All Fits xs fits.1)
 
-pub are_items : {A : Type 0} {read : List ℕ → Item A} {spell : A → List ℕ} {Fits : A → Type 0} → IsField A read spell Fits → IsField (List A) (take_counted read) (counted_items spell) (AreItems Fits)
+pub are_items : {A : Type 0} {read : List ℕ → Item A} {spell : A → List ℕ} {Fits : A → Type 0} → IsField A read spell Fits
+    → IsField (List A) (take_counted read) (counted_items spell) (AreItems Fits)
 are_items field = record { takes = counted_takes field; again = counted_again field }
 
 some_needs : IsField (List Need) (take_counted take_need) (counted_items need_bytes) (AreItems IsNeed)
@@ -122,7 +140,8 @@ pub record IsFront (f : Front) : Type 0 where
   pub error : FitsNumber f.error
   pub path : FitsText f.path
 
-front_made : (bytes r1 r2 r3 r4 r5 r6 : List ℕ) (f : Front) → Takes bytes (text f.name) r1 → Takes r1 (text f.display) r2 → Takes r2 (number f.kind) r3
+front_made : (bytes r1 r2 r3 r4 r5 r6 : List ℕ) (f : Front) → Takes bytes (text f.name) r1 → Takes r1 (text f.display) r2
+    → Takes r2 (number f.kind) r3
     → Takes r3 (number f.start) r4 → Takes r4 (number f.error) r5 → Takes r5 (text f.path) r6 → Takes bytes (front_text f) r6
 front_made bytes r1 r2 r3 r4 r5 r6 f t1 t2 t3 t4 t5 t6 =
     let p2 = Takes-then bytes (text f.name) r1 (text f.display) r2 t1 t2 in
@@ -131,7 +150,8 @@ front_made bytes r1 r2 r3 r4 r5 r6 f t1 t2 t3 t4 t5 t6 =
     let p5 = Takes-then bytes (text f.name ++ text f.display ++ number f.kind ++ number f.start) r4 (number f.error) r5 p4 t5 in
     Takes-then bytes (text f.name ++ text f.display ++ number f.kind ++ number f.start ++ number f.error) r5 (text f.path) r6 p5 t6
 
-front_takes : (bytes : List ℕ) (x : Front × List ℕ) → IsBytes bytes → take_front bytes ≡ Ok x → Takes bytes (front_text x.0) x.1 × IsFront x.0
+front_takes : (bytes : List ℕ) (x : Front × List ℕ) → IsBytes bytes → take_front bytes ≡ Ok x → Takes bytes (front_text x.0) x.1
+    × IsFront x.0
 unfolding take_front
 front_takes bytes x fits e =
     step a_text _ bytes x fits e (λ name r1 t1 f1 e1.
@@ -141,8 +161,17 @@ front_takes bytes x fits e =
     step a_number _ r4 x t4.rest_fits e4 (λ error r5 t5 f5 e5.
     step a_text _ r5 x t5.rest_fits e5 (λ path r6 t6 f6 e6.
     let f : Front = record { name = name; display = display; kind = kind; start = start; error = error; path = path } in
-    subst (λ (y : Front × List ℕ). Takes bytes (front_text y.0) y.1 × IsFront y.0) (ok_is (f, r6) x e6)
-    (front_made bytes r1 r2 r3 r4 r5 r6 f t1 t2 t3 t4 t5 t6, record { name = f1; display = f2; kind = f3; start = f4; error = f5; path = f6 })))))))
+    subst (λ (y : Front × List ℕ). Takes bytes (front_text y.0) y.1 × IsFront y.0) (ok_is (f, r6) x e6) (
+      front_made bytes r1 r2 r3 r4 r5 r6 f t1 t2 t3 t4 t5 t6,
+      record {
+        name = f1;
+        display = f2;
+        kind = f3;
+        start = f4;
+        error = f5;
+        path = f6;
+      },
+    )))))))
 
 front_again : (f : Front) (rest : List ℕ) → IsFront f → take_front (front_text f ++ rest) ≡ Ok (f, rest)
 unfolding take_front
@@ -177,14 +206,16 @@ pub record IsMiddle (m : Middle) : Type 0 where
   pub needs : AreItems IsNeed m.needs
   pub description : FitsText m.description
 
-middle_made : (bytes r1 r2 r3 r4 : List ℕ) (m : Middle) → Takes bytes (text m.group) r1 → Takes r1 (number m.tag) r2 → Takes r2 (counted_items need_bytes m.needs) r3
+middle_made : (bytes r1 r2 r3 r4 : List ℕ) (m : Middle) → Takes bytes (text m.group) r1 → Takes r1 (number m.tag) r2
+    → Takes r2 (counted_items need_bytes m.needs) r3
     → Takes r3 (text m.description) r4 → Takes bytes (middle_text m) r4
 middle_made bytes r1 r2 r3 r4 m t1 t2 t3 t4 =
     let p2 = Takes-then bytes (text m.group) r1 (number m.tag) r2 t1 t2 in
     let p3 = Takes-then bytes (text m.group ++ number m.tag) r2 (counted_items need_bytes m.needs) r3 p2 t3 in
     Takes-then bytes (text m.group ++ number m.tag ++ counted_items need_bytes m.needs) r3 (text m.description) r4 p3 t4
 
-middle_takes : (bytes : List ℕ) (x : Middle × List ℕ) → IsBytes bytes → take_middle bytes ≡ Ok x → Takes bytes (middle_text x.0) x.1 × IsMiddle x.0
+middle_takes : (bytes : List ℕ) (x : Middle × List ℕ) → IsBytes bytes → take_middle bytes ≡ Ok x → Takes bytes (middle_text x.0) x.1
+    × IsMiddle x.0
 unfolding take_middle
 middle_takes bytes x fits e =
     step a_text _ bytes x fits e (λ group r1 t1 f1 e1.
@@ -222,7 +253,8 @@ pub record IsBack (b : Back) : Type 0 where
   pub actions : AreItems IsAction b.actions
   pub command : FitsText b.command
 
-back_made : (bytes r1 r2 r3 r4 : List ℕ) (b : Back) → Takes bytes (number b.reset) r1 → Takes r1 (counted_items action b.actions) r2 → Takes r2 (text b.command) r3
+back_made : (bytes r1 r2 r3 r4 : List ℕ) (b : Back) → Takes bytes (number b.reset) r1 → Takes r1 (counted_items action b.actions) r2
+    → Takes r2 (text b.command) r3
     → Takes r3 (flag b.on_exit) r4 → Takes bytes (back_text b) r4
 back_made bytes r1 r2 r3 r4 b t1 t2 t3 t4 =
     let p2 = Takes-then bytes (number b.reset) r1 (counted_items action b.actions) r2 t1 t2 in
@@ -286,7 +318,8 @@ middle_fits c h = record { group = h.1.group; tag = h.1.tag; needs = h.1.needs; 
 back_fits : (c : Config) → IsConfig c → IsBack (back_in c)
 back_fits c h = record { reset = h.2.reset; actions = h.2.actions; command = h.2.command }
 
-config_takes : (bytes : List ℕ) (x : Config × List ℕ) → IsBytes bytes → take_config bytes ≡ Ok x → Takes bytes (spelling x.0) x.1 × IsConfig x.0
+config_takes : (bytes : List ℕ) (x : Config × List ℕ) → IsBytes bytes → take_config bytes ≡ Ok x → Takes bytes (encoding x.0) x.1
+    × IsConfig x.0
 unfolding take_config
 config_takes bytes x fits e =
     step a_front _ bytes x fits e (λ f r1 t1 f1 e1.
@@ -294,14 +327,16 @@ config_takes bytes x fits e =
     step a_back _ r2 x t2.rest_fits e2 (λ b r3 t3 f3 e3.
     let p2 = Takes-then bytes (front_text f) r1 (middle_text m) r2 t1 t2 in
     let p3 = Takes-then bytes (front_text f ++ middle_text m) r2 (back_text b) r3 p2 t3 in
-    subst (λ (y : Config × List ℕ). Takes bytes (spelling y.0) y.1 × IsConfig y.0) (ok_is (config_of f m b, r3) x e3) (p3, fits_of f m b f1 f2 f3))))
+    subst (λ (y : Config × List ℕ). Takes bytes (encoding y.0) y.1 × IsConfig y.0) (ok_is (config_of f m b, r3) x e3)
+    (p3, fits_of f m b f1 f2 f3))))
 
-config_again : (c : Config) (rest : List ℕ) → IsConfig c → take_config (spelling c ++ rest) ≡ Ok (held c, rest)
+config_again : (c : Config) (rest : List ℕ) → IsConfig c → take_config (encoding c ++ rest) ≡ Ok (held c, rest)
 unfolding take_config
 config_again c rest fits =
     let last = back c ++ rest in
     let r1 = middle c ++ last in
-    let regrouped : spelling c ++ rest ≡ front c ++ r1 = append_assoc (front c ++ middle c) (back c) rest ∙ append_assoc (front c) (middle c) last in
+    let regrouped : encoding c ++ rest ≡ front c ++ r1 = append_assoc (front c ++ middle c) (back c) rest
+    ∙ append_assoc (front c) (middle c) last in
     ap take_config regrouped ∙ rw (
       a_front.again (front_in c) r1 (front_fits c fits),
       a_middle.again (middle_in c) last (middle_fits c fits),
@@ -312,29 +347,30 @@ guard_ended : {A : Type 0} (b : Bool) (d : ℕ) (x y : A) → cond b (Ok x) (Err
 guard_ended true d x y e = (refl, cc)
 guard_ended false d x y e = absurd cc
 
-whole_takes : (bytes : List ℕ) (c : Config) → IsBytes bytes → whole_of bytes ≡ Ok c → IsConfig c × (bytes ≡ spelling c)
+whole_takes : (bytes : List ℕ) (c : Config) → IsBytes bytes → whole_of bytes ≡ Ok c → IsConfig c × (bytes ≡ encoding c)
 unfolding whole_of
 whole_takes bytes c fits e =
     let a = bind_ok (take_config bytes) (λ x. cond (length x.1 == 0) (Ok x.0) (Err (length x.1))) c e in
     let g = guard_ended (length a.0.1 == 0) (length a.0.1) a.0.0 c a.2 in
     let t = config_takes bytes a.0 fits a.1 in
     let nothing : a.0.1 ≡ [] = nil_from_length a.0.1 (eqb-true _ _ g.0) in
-    let whole : bytes ≡ spelling a.0.0 = t.0.parts ∙ ap (λ (r : List ℕ). spelling a.0.0 ++ r) nothing ∙ append-nil (spelling a.0.0) in
-    subst (λ (d : Config). IsConfig d × (bytes ≡ spelling d)) g.1 (t.1, whole)
+    let whole : bytes ≡ encoding a.0.0 = t.0.parts ∙ ap (λ (r : List ℕ). encoding a.0.0 ++ r) nothing ∙ append-nil (encoding a.0.0) in
+    subst (λ (d : Config). IsConfig d × (bytes ≡ encoding d)) g.1 (t.1, whole)
 
-pub record_again : (c : Config) → IsConfig c → record_of (spelling c) ≡ Ok (held c)
+pub record_again : (c : Config) → IsConfig c → record_of (encoding c) ≡ Ok (held c)
 unfolding whole_of
 record_again c fits =
-    let e : take_config (spelling c) ≡ Ok (held c, []) = ap take_config (sym (append-nil (spelling c))) ∙ config_again c [] fits in
-    ap (λ (r : Item Config). placed (length (spelling c)) (r >>= λ x. cond (length x.1 == 0) (Ok x.0) (Err (length x.1)))) e
+    let e : take_config (encoding c) ≡ Ok (held c, []) = ap take_config (sym (append-nil (encoding c))) ∙ config_again c [] fits in
+    ap (λ (r : Item Config). placed (length (encoding c)) (r >>= λ x. cond (length x.1 == 0) (Ok x.0) (Err (length x.1)))) e
 
 placed_ok : {A : Type 0} (size : ℕ) (r : Result A ℕ) (x : A) → placed size r ≡ Ok x → r ≡ Ok x
 placed_ok size (Ok y) x e = cc
 placed_ok size (Err left) x e = absurd cc
 
-pub is_found : (bytes : List ℕ) (r : Result Config RecordFault) → IsBytes bytes → Tells r (record_of bytes) → IfOk r (λ c. IsConfig c × (bytes ≡ spelling c))
+pub is_found : (bytes : List ℕ) (r : Result Config RecordFault) → IsBytes bytes → Tells r (record_of bytes)
+    → IfOk r (λ c. IsConfig c × (bytes ≡ encoding c))
 is_found bytes (Ok c) fits told = whole_takes bytes c fits (placed_ok (length bytes) (whole_of bytes) c told)
 is_found bytes (Err e) fits told = tt
 
-pub read_back : (c : Config) (bytes : List ℕ) → IsConfig c → bytes ≡ spelling c → record_of bytes ≡ Ok (held c)
+pub read_back : (c : Config) (bytes : List ℕ) → IsConfig c → bytes ≡ encoding c → record_of bytes ≡ Ok (held c)
 read_back c bytes fits e = ap record_of e ∙ record_again c fits

@@ -1,5 +1,6 @@
 -- Units of two bytes, and texts.
-use Rattle.std.proofs.Common.{◌≡◌, ◌≢◌, ℕ, zero, suc, ◌*◌, ◌^◌, ◌<◌, ◌≤◌, false, ltb, ◌==◌, ◌||◌, List, [], ◌∷◌, ◌++◌, length, drop, Ok, refl, sym, ap, subst, ◌∙◌, arith}
+use Rattle.std.proofs.Common.{◌≡◌, ◌≢◌, ℕ, zero, suc, ◌*◌, ◌^◌, ◌<◌, ◌≤◌, false, ltb, ◌==◌, ◌||◌, List, [], ◌∷◌, ◌++◌, length, drop, Ok}
+use Rattle.std.proofs.Common.{refl, sym, ap, subst, ◌∙◌, arith}
 use Rattle.std.specs.Int.{w16, to_le_bytes}
 use Rattle.std.specs.List.{flat_map, list_any, AllByRecursion}
 use Rattle.std.proofs.lemmas.Bool.{ltb-false, le-ltb, or_parts, or_from, eqb-false, ne_eqb}
@@ -47,9 +48,12 @@ units_taken (suc n) (a ∷ b ∷ bytes) fits le =
     let u = half (a ∷ b ∷ bytes) in
     let e : 2 * suc n ≡ suc (suc (2 * n)) = omega arith in
     let left : drop (2 * suc n) (a ∷ b ∷ bytes) ≡ drop (2 * n) bytes = ap (λ (k : ℕ). drop k (a ∷ b ∷ bytes)) e in
-    let front : spell_units (u ∷ le_units n bytes) ≡ a ∷ b ∷ spell_units (le_units n bytes) = flat_map-cons (to_le_bytes w16) u (le_units n bytes) ∙ ap (λ (t : List ℕ). t ++ spell_units (le_units n bytes)) (half_spelled a b bytes fits) in
+    let front : spell_units (u ∷ le_units n bytes) ≡ a ∷ b ∷ spell_units (le_units n bytes) =
+    flat_map-cons (to_le_bytes w16) u (le_units n bytes) ∙ ap (λ (t : List ℕ). t ++ spell_units (le_units n bytes))
+    (half_spelled a b bytes fits) in
     record {
-      parts = ap (λ (t : List ℕ). a ∷ b ∷ t) rest.parts ∙ sym (ap (λ (t : List ℕ). t ++ drop (2 * suc n) (a ∷ b ∷ bytes)) front ∙ ap (λ (t : List ℕ). a ∷ b ∷ (spell_units (le_units n bytes) ++ t)) left);
+      parts = ap (λ (t : List ℕ). a ∷ b ∷ t) rest.parts ∙ sym (ap (λ (t : List ℕ). t ++ drop (2 * suc n) (a ∷ b ∷ bytes)) front
+          ∙ ap (λ (t : List ℕ). a ∷ b ∷ (spell_units (le_units n bytes) ++ t)) left);
       len = ap suc rest.len;
       below = (half_low a b bytes fits, rest.below);
     }
@@ -73,8 +77,10 @@ units_again (u ∷ us) rest fits =
     let bytes : spell_units (u ∷ us) ++ rest ≡ to_le_bytes w16 u ++ (spell_units us ++ rest) = ap (λ (t : List ℕ). t ++ rest) spelled in
     let e : 2 * suc (length us) ≡ suc (suc (2 * length us)) = omega arith in
     record {
-      units = ap (λ (t : List ℕ). le_units (suc (length us)) t) bytes ∙ ap (λ (v : ℕ). v ∷ le_units (length us) (spell_units us ++ rest)) (half_again u (spell_units us ++ rest) fits.0.1) ∙ ap (λ (t : List ℕ). u ∷ t) others.units;
-      left = ap (λ (t : List ℕ). drop (2 * suc (length us)) t) bytes ∙ ap (λ (k : ℕ). drop k (to_le_bytes w16 u ++ (spell_units us ++ rest))) e ∙ others.left;
+      units = ap (λ (t : List ℕ). le_units (suc (length us)) t) bytes ∙ ap (λ (v : ℕ). v ∷ le_units (length us) (spell_units us ++ rest))
+          (half_again u (spell_units us ++ rest) fits.0.1) ∙ ap (λ (t : List ℕ). u ∷ t) others.units;
+      left = ap (λ (t : List ℕ). drop (2 * suc (length us)) t) bytes ∙ ap
+          (λ (k : ℕ). drop k (to_le_bytes w16 u ++ (spell_units us ++ rest))) e ∙ others.left;
       len = ap length spelled ∙ omega (arith, others.len);
     }
 
@@ -93,14 +99,19 @@ units_none (u ∷ us) fits =
     or_from (u == 0) (list_any (λ v. v == 0) us) (ne_eqb u 0 (omega arith)) (units_none us fits.1)
 
 -- a text of a count and units
-text_made : (bytes : List ℕ) (n : ℕ) (rest : List ℕ) → Takes bytes (number n) rest → FitsNumber n → 2 * n ≤ length rest → list_any (λ u. u == 0) (le_units n rest) ≡ false
+text_made : (bytes : List ℕ) (n : ℕ) (rest : List ℕ) → Takes bytes (number n) rest → FitsNumber n → 2 * n ≤ length rest
+    → list_any (λ u. u == 0) (le_units n rest) ≡ false
     → Takes bytes (text (le_units n rest)) (drop (2 * n) rest) × FitsText (le_units n rest)
 text_made bytes n rest count small long none =
     let us = le_units n rest in
     let taken = units_taken n rest count.rest_fits long in
-    let second : Takes rest (spell_units us) (drop (2 * n) rest) = record { parts = taken.parts; rest_fits = IsBytes-drop (2 * n) rest count.rest_fits } in
+    let second : Takes rest (spell_units us) (drop (2 * n) rest) = record {
+      parts = taken.parts;
+      rest_fits = IsBytes-drop (2 * n) rest count.rest_fits;
+    } in
     let both = Takes-then bytes (number n) rest (spell_units us) (drop (2 * n) rest) count second in
-    let whole : Takes bytes (text us) (drop (2 * n) rest) = subst (λ (k : ℕ). Takes bytes (number k ++ spell_units us) (drop (2 * n) rest)) (sym taken.len) both in
+    let whole : Takes bytes (text us) (drop (2 * n) rest) = subst (λ (k : ℕ). Takes bytes (number k ++ spell_units us) (drop (2 * n) rest))
+    (sym taken.len) both in
     let len : FitsNumber (length us) = omega (arith, taken.len, small) in
     (whole, (len, All-from_recursion IsUnit us (units_fit us none taken.below)))
 
@@ -110,7 +121,8 @@ text_takes bytes x fits e = step a_number _ bytes x fits e (λ n rest count smal
     let us = le_units n rest in
     let g = guard_ok (ltb (length rest) (2 * n) || list_any (λ u. u == 0) us) (length bytes) (us, drop (2 * n) rest) x next in
     let tests = or_parts (ltb (length rest) (2 * n)) (list_any (λ u. u == 0) us) g.0 in
-    subst (λ (p : List ℕ × List ℕ). Takes bytes (text p.0) p.1 × FitsText p.0) g.1 (text_made bytes n rest count small (ltb-false _ _ tests.0) tests.1))
+    subst (λ (p : List ℕ × List ℕ). Takes bytes (text p.0) p.1 × FitsText p.0) g.1
+    (text_made bytes n rest count small (ltb-false _ _ tests.0) tests.1))
 
 text_again : (us rest : List ℕ) → FitsText us → take_text (text us ++ rest) ≡ Ok (us, rest)
 unfolding take_text

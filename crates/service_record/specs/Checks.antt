@@ -8,7 +8,9 @@ use Rattle.scm_model.specs.declared.flat.Config.{Config}
 use Rattle.scm_model.specs.declared.flat.Action.{Action}
 use Rattle.scm_model.specs.declared.flat.Need.{Need}
 use Rattle.scm_model.specs.declared.flat.Need.TheVariants as needs
-use Rattle.scm_model.specs.declared.codes.TheConstants.{ERROR_INVALID_NAME, ERROR_INVALID_PARAMETER, ERROR_INVALID_SERVICE_ACCOUNT, SERVICE_AUTO_START, SERVICE_DISABLED, SERVICE_ERROR_CRITICAL, SERVICE_WIN32_OWN_PROCESS, SERVICE_WIN32_SHARE_PROCESS}
+use Rattle.scm_model.specs.declared.codes.TheConstants.{ERROR_INVALID_NAME, ERROR_INVALID_PARAMETER, ERROR_INVALID_SERVICE_ACCOUNT}
+use Rattle.scm_model.specs.declared.codes.TheConstants.{SERVICE_AUTO_START, SERVICE_DISABLED, SERVICE_ERROR_CRITICAL}
+use Rattle.scm_model.specs.declared.codes.TheConstants.{SERVICE_WIN32_OWN_PROCESS, SERVICE_WIN32_SHARE_PROCESS}
 use Rattle.service_record.specs.Words.{has_word}
 
 abbrev pub is_longer : ℕ → List ℕ → Bool

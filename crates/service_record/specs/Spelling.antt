@@ -31,7 +31,8 @@ abbrev pub counted_items : {A : Type 0} → (A → List ℕ) → List A → List
 counted_items spell items = number (length items) ++ flat_map spell items
 
 abbrev pub front : Config → List ℕ
-front config = text config.name ++ text config.display ++ number config.kind ++ number config.start ++ number config.error ++ text config.path
+front config = text config.name ++ text config.display ++ number config.kind ++ number config.start ++ number config.error
+    ++ text config.path
 
 abbrev pub middle : Config → List ℕ
 middle config = text config.group ++ number config.tag ++ counted_items need_bytes config.needs ++ text config.description
@@ -40,10 +41,10 @@ abbrev pub back : Config → List ℕ
 back config = number config.reset ++ counted_items action config.actions ++ text config.command ++ flag config.on_exit
 
 -- the bytes of a configuration; a delayed start and triggers aren't held
-abbrev pub spelling : Config → List ℕ
-spelling config = front config ++ middle config ++ back config
+abbrev pub encoding : Config → List ℕ
+encoding config = front config ++ middle config ++ back config
 
--- ## What has a spelling
+-- ## What has a encoding
 
 abbrev pub FitsNumber : ℕ → Type 0
 FitsNumber n = n < 2 ^ 32

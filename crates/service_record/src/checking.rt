@@ -1,6 +1,8 @@
 ghost use Rattle.std.specs.Prelude.{◌≡◌, ◌==◌, ◌||◌, nat_lt, option_copied};
 ghost use Rattle.std.specs.List.{list_any};
-ghost use Rattle.service_record.specs.Checks.{check_change, check_new, has_bad_lists, has_bad_names, has_bad_numbers, has_bad_texts, is_bad_account, is_bad_name, is_longer, name_of_need};
+ghost use Rattle.service_record.specs.Checks.{check_change, check_new, has_bad_lists, has_bad_names};
+ghost use Rattle.service_record.specs.Checks.{has_bad_numbers, has_bad_texts, is_bad_account};
+ghost use Rattle.service_record.specs.Checks.{is_bad_name, is_longer, name_of_need};
 
 use super::lines::is_bad_line;
 use scm_model::codes::{
@@ -89,7 +91,8 @@ fn has_bad_action(actions: &[Action]) -> bool
     false
 }
 
-/// Whether a configuration has needs, actions or triggers that no service may have: that is what `ERROR_INVALID_PARAMETER` (87) is for.
+/// Whether a configuration has needs, actions or triggers that no service may have: that is what
+/// `ERROR_INVALID_PARAMETER` (87) is for.
 pub fn has_bad_lists(config: &Config) -> bool
     ensures { result ≡ has_bad_lists config.now }
 {
@@ -115,8 +118,10 @@ pub fn is_bad_account(account: Option<&WText>) -> bool
     }
 }
 
-/// What a configuration of a new service is refused with, as a code of MS-ERREF, or 0: `ERROR_INVALID_NAME` (123),
-/// `ERROR_INVALID_PARAMETER` (87) or `ERROR_INVALID_SERVICE_ACCOUNT` (1057), in this order. It takes no memory.
+/// What a configuration of a new service is refused with, as a code of MS-ERREF, or 0:
+/// `ERROR_INVALID_NAME` (123),
+/// `ERROR_INVALID_PARAMETER` (87) or `ERROR_INVALID_SERVICE_ACCOUNT` (1057), in this order. It
+/// takes no memory.
 #[tactic(auto, unfolding(crate::specs::Checks::check_new))]
 pub fn check_new(config: &Config, account: Option<&WText>) -> u32
     ensures { result ≡ check_new config.now (option_copied account.entry) }

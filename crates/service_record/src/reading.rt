@@ -1,7 +1,10 @@
 ghost use Rattle.std.specs.Prelude.{◌≡◌, IfOk, Ok};
 ghost use Rattle.scm_model.specs.declared.flat.Config.{Config};
-ghost use Rattle.service_record.specs.Reading.{Gives, Tells, take_action, take_back, config_of, take_counted, take_flag, take_front, take_items, take_middle, take_need, take_number, record_of, take_text, whole_of};
-ghost use Rattle.service_record.specs.Spelling.{IsConfig, held, spelling};
+ghost use Rattle.service_record.specs.Reading.{Gives, Tells, take_action, take_back, config_of};
+ghost use Rattle.service_record.specs.Reading.{take_counted, take_flag, take_front, take_items};
+ghost use Rattle.service_record.specs.Reading.{take_middle, take_need, take_number, record_of};
+ghost use Rattle.service_record.specs.Reading.{take_text, whole_of};
+ghost use Rattle.service_record.specs.Spelling.{IsConfig, held, encoding};
 ghost use Rattle.service_record.specs.declared.reading.Stop.TheVariants as stops;
 
 use ndr_body::{has_zero, units_of};
@@ -13,7 +16,8 @@ use thiserror::Error;
 /// Why bytes are no configuration.
 #[derive(Clone, Copy, Debug, PartialEq, Eq, Error)]
 pub enum RecordFault {
-    /// The first item that is wrong begins here: a number, a flag or a text, or what stands behind the last of them.
+    /// The first item that is wrong begins here: a number, a flag or a text, or what stands behind
+    /// the last of them.
     #[error("no configuration: byte {0} is wrong")]
     Bad(usize),
     #[error("out of memory")]
@@ -280,13 +284,16 @@ fn record_of(alloc: Global, bytes: &[u8]) -> Result<Config, RecordFault>
     }
 }
 
-/// Reads the bytes of a configuration, all of them; the start isn't delayed and there are no triggers, since neither is held.
-/// `Bad` comes exactly where no configuration has these bytes: none of its rules is asked for, but a text has no unit that is 0.
+/// Reads the bytes of a configuration, all of them; the start isn't delayed and there are no
+/// triggers, since neither is held.
+/// `Bad` comes exactly where no configuration has these bytes: none of its rules is asked for, but
+/// a text has no unit that is 0.
 pub fn read_record(alloc: Global, bytes: &[u8]) -> Result<Config, RecordFault>
     // What is read has these bytes.
-    ensures found { IfOk result (λ config. IsConfig config × (bytes.now ≡ spelling config)) }
+    ensures found { IfOk result (λ config. IsConfig config × (bytes.now ≡ encoding config)) }
     // What has these bytes is read, unless memory runs out.
-    ensures only { (config : Config) → IsConfig config → bytes.now ≡ spelling config → Tells result (Ok (held config)) }
+    ensures only { (config : Config) → IsConfig config → bytes.now ≡ encoding config
+        → Tells result (Ok (held config)) }
     // Which place it is.
     ensures place { Tells result (record_of bytes.now) }
 {

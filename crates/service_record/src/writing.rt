@@ -2,7 +2,10 @@ ghost use Rattle.std.specs.Prelude.{◌≡◌, ◌++◌, ◌<◌, ◌^◌, All, 
 ghost use Rattle.std.specs.Int.{w16, to_le_bytes};
 ghost use Rattle.std.specs.List.{flat_map};
 ghost use Rattle.service_record.specs.Reading.{record_of};
-ghost use Rattle.service_record.specs.Spelling.{AreItems, IsAction, FitsBack, FitsFront, FitsMiddle, IsConfig, IsNeed, FitsNumber, FitsText, IsUnit, action, back, counted_items, flag, front, held, middle, need_bytes, number, spelling, text};
+ghost use Rattle.service_record.specs.Spelling.{AreItems, IsAction, FitsBack, FitsFront, FitsMiddle};
+ghost use Rattle.service_record.specs.Spelling.{IsConfig, IsNeed, FitsNumber, FitsText, IsUnit};
+ghost use Rattle.service_record.specs.Spelling.{action, back, counted_items, flag, front, held};
+ghost use Rattle.service_record.specs.Spelling.{middle, need_bytes, number, encoding, text};
 
 use scm_model::{Action, Config, Need};
 use scm_text::{Items, OutOfMemory, WText};
@@ -14,7 +17,8 @@ fn put_number(out: &mut Items<u8>, value: u32) -> Result<(), OutOfMemory>
     out.append(&value.to_le_bytes())
 }
 
-/// Appends a count in four bytes, the lowest first. One that needs more is that of a list for which no memory would do.
+/// Appends a count in four bytes, the lowest first. One that needs more is that of a list for which
+/// no memory would do.
 pub fn put_count(out: &mut Items<u8>, count: usize) -> Result<(), OutOfMemory>
     ensures count { OnOk result (out.new ≡ out.old ++ number count) }
     ensures small { OnOk result (FitsNumber count) }
@@ -146,11 +150,12 @@ fn put_back(out: &mut Items<u8>, config: &Config) -> Result<(), OutOfMemory>
     put_flag(out, config.on_exit)
 }
 
-/// The bytes of a configuration, as the journal keeps them: name, display name, type, start, error control, path, group, tag, needs,
-/// description, reset period, actions, command, and whether a stop with an error is a failure. Numbers are of four bytes, the lowest
-/// first, a text is a count of units and these, a list a count and its items. A delayed start and triggers aren't held.
+/// The bytes of a configuration, as the journal keeps them: name, display name, type, start, error
+/// control, path, group, tag, needs, description, reset period, actions, command, and whether a
+/// stop with an error is a failure. Numbers are of four bytes, the lowest first, a text is a count
+/// of units and these, a list a count and its items. A delayed start and triggers aren't held.
 pub fn record_bytes(alloc: Global, config: &Config) -> Result<Items<u8>, OutOfMemory>
-    ensures bytes { IfOk result (λ bytes. bytes ≡ spelling config.now) }
+    ensures bytes { IfOk result (λ bytes. bytes ≡ encoding config.now) }
     ensures fits { IsOk result → IsConfig config.now }
     // What is written is read back.
     ensures read_back { IfOk result (λ bytes. record_of bytes ≡ Ok (held config.now)) }

@@ -14,13 +14,18 @@ use Rattle.start_plan.proofs.Keeps.{keeps_all}
 use Rattle.start_plan.proofs.Rests.{plan_still, rests_kept}
 
 -- those that rest go on resting when another is settled
-go_on : (picked : Plan → Bool) (l : Limits) (f : Flat) (plan : Plan) (plans : List Plan) → AllByRecursion (λ (other : Plan). picked other ≡ false → Rests l f other) plans
+go_on : (picked : Plan → Bool) (l : Limits) (f : Flat) (plan : Plan) (plans : List Plan)
+    → AllByRecursion (λ (other : Plan). picked other ≡ false → Rests l f other) plans
     → AllByRecursion (λ (other : Plan). picked other ≡ false → Rests l (settle_plan l f plan).0 other) plans
 go_on picked l f plan [] rests = tt
-go_on picked l f plan (other ∷ plans) rests =
-    ((λ (skipped : picked other ≡ false). (keeps_all l (λ g. Rests l g other) (λ p. Unit {0}) (rests_kept l other) f (plan ∷ []) (rests.0 skipped) (tt, tt)).flat), go_on picked l f plan plans rests.1)
+go_on picked l f plan (other ∷ plans) rests = (
+  (λ (skipped : picked other ≡ false). (keeps_all l (λ g. Rests l g other) (λ p. Unit {0}) (rests_kept l other) f (plan ∷ [])
+      (rests.0 skipped) (tt, tt)).flat),
+  go_on picked l f plan plans rests.1,
+)
 
-fewer : (picked : Plan → Bool) (l : Limits) (f : Flat) (plans : List Plan) → AllByRecursion (λ (plan : Plan). picked plan ≡ false → Rests l f plan) plans → settle_picked picked l f plans ≡ settle_all l f plans
+fewer : (picked : Plan → Bool) (l : Limits) (f : Flat) (plans : List Plan)
+    → AllByRecursion (λ (plan : Plan). picked plan ≡ false → Rests l f plan) plans → settle_picked picked l f plans ≡ settle_all l f plans
 fewer picked l f [] rests = refl
 fewer picked l f (plan ∷ plans) rests =
     elim (cases_Bool (picked plan)) [
@@ -39,5 +44,6 @@ waits l f tried front pending =
       | inr other ↦ rw (other, pending) refl
     ]
 
-pub pending_rests : (l : Limits) (f : Flat) (plan : Plan) (front : ℕ) (rest : List ℕ) → plan.entries ≡ front ∷ rest → is_pending (state_of f front) ≡ true → Rests l f plan
+pub pending_rests : (l : Limits) (f : Flat) (plan : Plan) (front : ℕ) (rest : List ℕ) → plan.entries ≡ front ∷ rest
+    → is_pending (state_of f front) ≡ true → Rests l f plan
 pending_rests l f plan front rest is pending = inr (rw is (waits l f plan.tried front pending))

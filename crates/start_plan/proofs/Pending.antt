@@ -16,7 +16,8 @@ use Rattle.start_plan.proofs.Rests.{plan_still, state_after}
 -- ## What keeps it
 
 -- whatever keeps each that is
-pub pending_by : (rows others : List Service) → ((n : ℕ) → IsPending rows n → IsPending others n) → (ns : List ℕ) → ArePending rows ns → ArePending others ns
+pub pending_by : (rows others : List Service) → ((n : ℕ) → IsPending rows n → IsPending others n) → (ns : List ℕ) → ArePending rows ns
+    → ArePending others ns
 pending_by rows others keeps [] all = tt
 pending_by rows others keeps (n ∷ ns) all = (keeps n all.0, pending_by rows others keeps ns all.1)
 
@@ -32,7 +33,8 @@ pub pending_entered : (n p : ℕ) (rows : List Service) (ns : List ℕ) → AreP
 pending_entered n p rows ns all = pending_by rows (map (started_if n p) rows) (one_entered n p rows) ns all
 
 -- settling a plan
-pub pending_settled : (l : Limits) (f : Flat) (plan : Plan) (ns : List ℕ) → ArePending f.services ns → ArePending (settle_plan l f plan).0.services ns
+pub pending_settled : (l : Limits) (f : Flat) (plan : Plan) (ns : List ℕ) → ArePending f.services ns
+    → ArePending (settle_plan l f plan).0.services ns
 pending_settled l f plan ns all =
     (keeps_all l (λ g. ArePending g.services ns) (λ p. Unit {0}) (record {
       enters = λ g p s words entry pending. pending_entered s g.next.process g.services ns pending;
@@ -55,7 +57,8 @@ among_pending rows others (n ∷ ns) all among = (among_one rows others n all am
 
 -- ## What it tells of a plan
 
-rests_for : (l : Limits) (f : Flat) (plan : Plan) (entries : List ℕ) → plan.entries ≡ entries → ArePending f.services (take 1 entries) → Rests l f plan
+rests_for : (l : Limits) (f : Flat) (plan : Plan) (entries : List ℕ) → plan.entries ≡ entries → ArePending f.services (take 1 entries)
+    → Rests l f plan
 rests_for l f plan [] e all = inr (rw e tt)
 rests_for l f plan (front ∷ rest) e all = pending_rests l f plan front rest e all.0
 

@@ -1,5 +1,6 @@
 -- What was settled is settled: settling again changes nothing.
-use Rattle.std.proofs.Common.{ℕ, ◌≡◌, ◌⊎◌, ◌∙◌, ◌==◌, ◌&&◌, Bool, true, false, cond, List, [], ◌∷◌, ◌++◌, Some, refl, ap, find, map, filter, inl, inr, arith}
+use Rattle.std.proofs.Common.{ℕ, ◌≡◌, ◌⊎◌, ◌∙◌, ◌==◌, ◌&&◌, Bool, true, false, cond, List, [], ◌∷◌, ◌++◌, Some, refl, ap, find, map, filter}
+use Rattle.std.proofs.Common.{inl, inr, arith}
 use Rattle.std.specs.Prelude.{is_some}
 use Rattle.std.specs.List.{AllByRecursion}
 use Rattle.std.proofs.lemmas.Bool.{eq-eqb}
@@ -12,7 +13,8 @@ use Rattle.start_plan.specs.Entered.{starting_in, started_if, with_entered}
 use Rattle.start_plan.specs.Moves.{cause_of, entering_at, has, is_pending, move_by, move_of}
 use Rattle.scm_model.specs.Ready.{state_in, state_of}
 use Rattle.start_plan.specs.Resting.{Rests, RestsAt}
-use Rattle.start_plan.specs.Settle.{moved, dropped, words_for, move_code, settle_entries, settle_plan, settle_all, settled, tidied, stays, is_due_still}
+use Rattle.start_plan.specs.Settle.{moved, dropped, words_for, move_code, settle_entries, settle_plan, settle_all, settled, tidied, stays}
+use Rattle.start_plan.specs.Settle.{is_due_still}
 use Rattle.start_plan.specs.declared.field.Entering.{Entering}
 use Rattle.start_plan.specs.declared.field.Entering.TheVariants as entering
 use Rattle.start_plan.specs.declared.settling.Move.TheVariants as moves
@@ -23,20 +25,26 @@ use Rattle.start_plan.proofs.Rows.{same_number, started_or}
 -- ## States after an entering
 
 pub state_after : (n p x : ℕ) (rows : List Service) → (state_in (find (λ (row : Service). row.number == x) rows) ≡ 1)
-    ⊎ (state_in (find (λ (row : Service). row.number == x) (map (started_if n p) rows)) ≡ state_in (find (λ (row : Service). row.number == x) rows))
+    ⊎ (state_in (find (λ (row : Service). row.number == x) (map (started_if n p) rows)) ≡ state_in
+    (find (λ (row : Service). row.number == x) rows))
 state_after n p x [] = inr refl
 state_after n p x (row ∷ rows) =
-    rw (same_number n p row) (elim (row.number == x) as (λ b. (state_in (cond b (Some row) (find (λ (row : Service). row.number == x) rows)) ≡ 1)
-    ⊎ (state_in (cond b (Some (started_if n p row)) (find (λ (row : Service). row.number == x) (map (started_if n p) rows))) ≡ state_in (cond b (Some row) (find (λ (row : Service). row.number == x) rows)))) [
+    rw (same_number n p row) (elim (row.number == x) as (λ b. (state_in
+    (cond b (Some row) (find (λ (row : Service). row.number == x) rows)) ≡ 1)
+    ⊎ (state_in (cond b (Some (started_if n p row)) (find (λ (row : Service). row.number == x) (map (started_if n p) rows))) ≡ state_in
+    (cond b (Some row) (find (λ (row : Service). row.number == x) rows)))) [
       | true ↦ started_or (λ new. (row.status.state ≡ 1) ⊎ (new.status.state ≡ row.status.state)) n p row (λ e. inl e) (inr refl)
       | false ↦ state_after n p x rows
     ])
 
-entered_state : (n p : ℕ) (rows : List Service) → state_in (find (λ (row : Service). row.number == n) rows) ≡ 1 → state_in (find (λ (row : Service). row.number == n) (map (started_if n p) rows)) ≡ 2
+entered_state : (n p : ℕ) (rows : List Service) → state_in (find (λ (row : Service). row.number == n) rows) ≡ 1
+    → state_in (find (λ (row : Service). row.number == n) (map (started_if n p) rows)) ≡ 2
 entered_state n p [] h = absurd (omega (arith, h))
 entered_state n p (row ∷ rows) h =
-    rw (same_number n p row) (elim (row.number == n) as (λ b. state_in (cond b (Some row) (find (λ (row : Service). row.number == n) rows)) ≡ 1
-    → state_in (cond b (Some (cond (b && row.status.state == 1) (starting_in p row) row)) (find (λ (row : Service). row.number == n) (map (started_if n p) rows))) ≡ 2) [
+    rw (same_number n p row) (elim (row.number == n) as (λ b. state_in (cond b (Some row)
+    (find (λ (row : Service). row.number == n) rows)) ≡ 1
+    → state_in (cond b (Some (cond (b && row.status.state == 1) (starting_in p row) row))
+    (find (λ (row : Service). row.number == n) (map (started_if n p) rows))) ≡ 2) [
       | true ↦ λ h. rw (eq-eqb row.status.state 1 h) refl
       | false ↦ λ h. entered_state n p rows h
     ] h)
@@ -44,7 +52,8 @@ entered_state n p (row ∷ rows) h =
 -- ## Waiting
 
 -- the ways to wait
-waits_by : (a b : Bool) (e : Entering) → cond a moves.Passes (cond b moves.Waits (move_by e)) ≡ moves.Waits → ((a ≡ false) × (b ≡ true)) ⊎ (e ≡ entering.Locked)
+waits_by : (a b : Bool) (e : Entering) → cond a moves.Passes (cond b moves.Waits (move_by e)) ≡ moves.Waits → ((a ≡ false) × (b ≡ true))
+    ⊎ (e ≡ entering.Locked)
 waits_by true b e h = absurd cc
 waits_by false true e h = inl (refl, refl)
 waits_by false false entering.Yes h = absurd cc
@@ -56,9 +65,11 @@ held_by true true cause h = refl
 held_by true false cause h = absurd cc
 held_by false k cause h = absurd cc
 
-waits_kept : (l : Limits) (f : Flat) (n : ℕ) (words : List (List ℕ)) (tried tried' : List ℕ) (x : ℕ) → IsEntry l f tried' n → move_of l f tried x ≡ moves.Waits → move_of l (with_entered f n words) tried x ≡ moves.Waits
+waits_kept : (l : Limits) (f : Flat) (n : ℕ) (words : List (List ℕ)) (tried tried' : List ℕ) (x : ℕ) → IsEntry l f tried' n
+    → move_of l f tried x ≡ moves.Waits → move_of l (with_entered f n words) tried x ≡ moves.Waits
 waits_kept l f n words tried tried' x entry waits =
-    elim (waits_by (state_of f x == 4) (is_pending (state_of f x)) (entering_at (cause_of l f (has tried x) x) (is_some f.lock)) waits) as (λ _. move_of l (with_entered f n words) tried x ≡ moves.Waits) [
+    elim (waits_by (state_of f x == 4) (is_pending (state_of f x)) (entering_at (cause_of l f (has tried x) x) (is_some f.lock))
+    waits) as (λ _. move_of l (with_entered f n words) tried x ≡ moves.Waits) [
       | inr locked ↦
           let yes = held_by (cause_of l f (has tried x) x == 0) (is_some f.lock) (cause_of l f (has tried x) x) locked in
           let no = entry.free in
@@ -70,7 +81,8 @@ waits_kept l f n words tried tried' x entry waits =
           ]
     ]
 
-at_kept : (l : Limits) (f : Flat) (n : ℕ) (words : List (List ℕ)) (plan : Plan) (entries tried : List ℕ) → IsEntry l f tried n → RestsAt l f plan entries → RestsAt l (with_entered f n words) plan entries
+at_kept : (l : Limits) (f : Flat) (n : ℕ) (words : List (List ℕ)) (plan : Plan) (entries tried : List ℕ) → IsEntry l f tried n
+    → RestsAt l f plan entries → RestsAt l (with_entered f n words) plan entries
 at_kept l f n words plan [] tried entry rests = tt
 at_kept l f n words plan (x ∷ xs) tried entry rests = waits_kept l f n words plan.tried tried x entry rests
 
@@ -87,21 +99,29 @@ rests_kept l plan = record {
 
 -- ## A plan that was settled rests
 
-now_waits : (l : Limits) (f : Flat) (n : ℕ) (words : List (List ℕ)) (tried : List ℕ) → state_of f n ≡ 1 → move_of l (with_entered f n words) tried n ≡ moves.Waits
+now_waits : (l : Limits) (f : Flat) (n : ℕ) (words : List (List ℕ)) (tried : List ℕ) → state_of f n ≡ 1
+    → move_of l (with_entered f n words) tried n ≡ moves.Waits
 now_waits l f n words tried stopped = rw (entered_state n f.next.process f.services stopped) refl
 
-entries_rest : (l : Limits) (f : Flat) (plan : Plan) (entries : List ℕ) → plan.entries ≡ entries → Rests l (settle_entries l f plan entries).0 (settle_entries l f plan entries).1
+entries_rest : (l : Limits) (f : Flat) (plan : Plan) (entries : List ℕ) → plan.entries ≡ entries
+    → Rests l (settle_entries l f plan entries).0 (settle_entries l f plan entries).1
 entries_rest l f plan [] e = inr (rw e tt)
 entries_rest l f plan (s ∷ rest) e =
-    elim (is_some plan.code) as (λ b. is_some plan.code ≡ b → Rests l (cond b (f, plan) (moved f plan s (settle_entries l f (dropped plan s rest (move_code (move_of l f plan.tried s))) rest) (move_of l f plan.tried s))).0
-    (cond b (f, plan) (moved f plan s (settle_entries l f (dropped plan s rest (move_code (move_of l f plan.tried s))) rest) (move_of l f plan.tried s))).1) [
+    elim (is_some plan.code) as (λ b. is_some plan.code ≡ b → Rests l (cond b (f, plan)
+    (moved f plan s (settle_entries l f (dropped plan s rest (move_code (move_of l f plan.tried s))) rest)
+    (move_of l f plan.tried s))).0
+    (cond b (f, plan) (moved f plan s (settle_entries l f (dropped plan s rest (move_code (move_of l f plan.tried s))) rest)
+    (move_of l f plan.tried s))).1) [
       | true ↦ λ decided. inl decided
-      | false ↦ λ undecided. elim (move_of l f plan.tried s) as (λ m. move_of l f plan.tried s ≡ m → Rests l (moved f plan s (settle_entries l f (dropped plan s rest (move_code m)) rest) m).0 (moved f plan s (settle_entries l f (dropped plan s rest (move_code m)) rest) m).1) [
-        | moves.Passes ↦ λ h. entries_rest l f (dropped plan s rest 0) rest refl
-        | moves.Waits ↦ λ h. inr (rw e h)
-        | moves.Enters ↦ λ h. inr (rw e (now_waits l f s (words_for plan s) (plan.tried ++ s ∷ []) (was_stopped l f plan.tried s (is_entry l f plan.tried s h))))
-        | moves.Fails code ↦ λ h. entries_rest l f (dropped plan s rest code) rest refl
-      ] refl
+      | false ↦ λ undecided. elim (move_of l f plan.tried s) as (λ m. move_of l f plan.tried s ≡ m
+          → Rests l (moved f plan s (settle_entries l f (dropped plan s rest (move_code m)) rest) m).0
+          (moved f plan s (settle_entries l f (dropped plan s rest (move_code m)) rest) m).1) [
+            | moves.Passes ↦ λ h. entries_rest l f (dropped plan s rest 0) rest refl
+            | moves.Waits ↦ λ h. inr (rw e h)
+            | moves.Enters ↦ λ h. inr (rw e (now_waits l f s (words_for plan s) (plan.tried ++ s ∷ [])
+                (was_stopped l f plan.tried s (is_entry l f plan.tried s h))))
+            | moves.Fails code ↦ λ h. entries_rest l f (dropped plan s rest code) rest refl
+          ] refl
     ] refl
 
 plan_rests : (l : Limits) (f : Flat) (plan : Plan) → Rests l (settle_plan l f plan).0 (settle_plan l f plan).1
@@ -110,16 +130,21 @@ plan_rests l f plan = entries_rest l f plan plan.entries refl
 all_rest : (l : Limits) (f : Flat) (plans : List Plan) → AllByRecursion (Rests l (settle_all l f plans).0) (settle_all l f plans).1
 all_rest l f [] = tt
 all_rest l f (plan ∷ plans) =
-    let first = settle_plan l f plan in
-    ((keeps_all l (λ g. Rests l g first.1) (λ plan. Unit {0}) (rests_kept l first.1) first.0 plans (plan_rests l f plan) (all_units plans)).flat, all_rest l first.0 plans)
+    let first = settle_plan l f plan in (
+      (keeps_all l (λ g. Rests l g first.1) (λ plan. Unit {0}) (rests_kept l first.1) first.0 plans (plan_rests l f plan)
+          (all_units plans)).flat,
+      all_rest l first.0 plans,
+    )
 
 -- ## What rests is settled
 
-entries_still : (l : Limits) (f : Flat) (plan : Plan) (entries : List ℕ) → (is_some plan.code ≡ true) ⊎ RestsAt l f plan entries → settle_entries l f plan entries ≡ (f, plan)
+entries_still : (l : Limits) (f : Flat) (plan : Plan) (entries : List ℕ) → (is_some plan.code ≡ true) ⊎ RestsAt l f plan entries
+    → settle_entries l f plan entries ≡ (f, plan)
 entries_still l f plan [] rests = refl
 entries_still l f plan (x ∷ xs) (inl decided) = rw decided refl
 entries_still l f plan (x ∷ xs) (inr waits) =
-    elim (is_some plan.code) as (λ b. cond b (f, plan) (moved f plan x (settle_entries l f (dropped plan x xs (move_code (move_of l f plan.tried x))) xs) (move_of l f plan.tried x)) ≡ (f, plan)) [
+    elim (is_some plan.code) as (λ b. cond b (f, plan) (moved f plan x (settle_entries l f
+    (dropped plan x xs (move_code (move_of l f plan.tried x))) xs) (move_of l f plan.tried x)) ≡ (f, plan)) [
       | true ↦ refl
       | false ↦ rw waits refl
     ]
@@ -140,7 +165,8 @@ filter_twice p (x ∷ xs) =
     ] refl
 
 -- resting doesn't depend on the plans or the due rows of the state
-at_tidied : (l : Limits) (f : Flat) (plans : List Plan) (plan : Plan) (entries : List ℕ) → RestsAt l f plan entries → RestsAt l (tidied f plans) plan entries
+at_tidied : (l : Limits) (f : Flat) (plans : List Plan) (plan : Plan) (entries : List ℕ) → RestsAt l f plan entries
+    → RestsAt l (tidied f plans) plan entries
 at_tidied l f plans plan [] rests = tt
 at_tidied l f plans plan (x ∷ xs) rests = rests
 
@@ -148,7 +174,8 @@ one_tidied : (l : Limits) (f : Flat) (plans : List Plan) (plan : Plan) → Rests
 one_tidied l f plans plan (inl decided) = inl decided
 one_tidied l f plans plan (inr rests) = inr (at_tidied l f plans plan plan.entries rests)
 
-rests_tidied : (l : Limits) (f : Flat) (all plans : List Plan) → AllByRecursion (Rests l f) plans → AllByRecursion (Rests l (tidied f all)) plans
+rests_tidied : (l : Limits) (f : Flat) (all plans : List Plan) → AllByRecursion (Rests l f) plans
+    → AllByRecursion (Rests l (tidied f all)) plans
 rests_tidied l f all [] rests = tt
 rests_tidied l f all (plan ∷ plans) rests = (one_tidied l f all plan rests.0, rests_tidied l f all plans rests.1)
 

@@ -13,7 +13,7 @@ plans_in slots = map (λ (slot : PlanSlot). slot.row) slots
 
 -- the service that a plan sleeps for: its front entry
 abbrev pub awaited_by : PlanSlot → List ℕ
-awaited_by slot = if slot.asleep then take 1 slot.row.entries else []
+awaited_by slot = if slot.is_blocked then take 1 slot.row.entries else []
 
 -- the services that plans sleep for
 abbrev pub awaited_in : List PlanSlot → List ℕ
@@ -42,10 +42,10 @@ is_front service (entry ∷ entries) = entry == service
 
 -- a plan that sleeps for this service is woken
 abbrev pub woken : ℕ → PlanSlot → PlanSlot
-woken service slot = record slot { asleep = slot.asleep && not (is_front service slot.row.entries) }
+woken service slot = record slot { is_blocked = slot.is_blocked && not (is_front service slot.row.entries) }
 
-abbrev pub awake : PlanSlot → PlanSlot
-awake slot = record slot { asleep = false }
+abbrev pub runnable : PlanSlot → PlanSlot
+runnable slot = record slot { is_blocked = false }
 
 abbrev pub decided_slot : (Plan → Bool) → ℕ → PlanSlot → PlanSlot
 decided_slot test code slot = record slot { row = decided_if test code slot.row }

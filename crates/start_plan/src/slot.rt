@@ -7,7 +7,7 @@ use super::row::PlanRow;
 #[derive(Drop)]
 pub struct PlanSlot {
     pub row: PlanRow,
-    pub asleep: bool,
+    pub is_blocked: bool,
 }
 
 impl PlanSlot {
@@ -15,8 +15,8 @@ impl PlanSlot {
     pub fn wake(&mut self, service: u64)
         ensures { self.new ≡ woken service self.old }
     {
-        if self.asleep && self.row.front() == Some(service) {
-            self.asleep = false;
+        if self.is_blocked && self.row.front() == Some(service) {
+            self.is_blocked = false;
         }
     }
 }

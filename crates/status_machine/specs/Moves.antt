@@ -2,7 +2,9 @@
 use Rattle.std.specs.Prelude.{ℕ, Bool, not, ◌&&◌, ◌||◌, ◌==◌, nat_le, List, [], ◌∷◌, Result, Ok, Err, bit_and, if◌then◌else◌}
 use Rattle.std.specs.List.{list_any}
 use Rattle.scm_model.specs.declared.flat.Status.{Status}
-use Rattle.scm_model.specs.declared.codes.TheConstants.{ERROR_INVALID_DATA, SERVICE_ACCEPT_ANY, SERVICE_CONTINUE_PENDING, SERVICE_PAUSED, SERVICE_PAUSE_PENDING, SERVICE_RUNNING, SERVICE_START_PENDING, SERVICE_STOPPED, SERVICE_STOP_PENDING}
+use Rattle.scm_model.specs.declared.codes.TheConstants.{ERROR_INVALID_DATA, SERVICE_ACCEPT_ANY, SERVICE_CONTINUE_PENDING, SERVICE_PAUSED}
+use Rattle.scm_model.specs.declared.codes.TheConstants.{SERVICE_PAUSE_PENDING, SERVICE_RUNNING, SERVICE_START_PENDING, SERVICE_STOPPED}
+use Rattle.scm_model.specs.declared.codes.TheConstants.{SERVICE_STOP_PENDING}
 
 -- from each state, the states that may be reported; from SERVICE_STOPPED none
 abbrev pub moves : List (ℕ × List ℕ)
@@ -24,7 +26,8 @@ is_move from to = list_any (λ (row : ℕ × List ℕ). from == row.0 && is_amon
 -- a report tells the service's type, a state, and controls that there are
 abbrev pub is_well_formed : Status → Status → Bool
 is_well_formed now report =
-    report.kind == now.kind && nat_le SERVICE_STOPPED report.state && nat_le report.state SERVICE_PAUSED && bit_and report.accepted SERVICE_ACCEPT_ANY == report.accepted
+    report.kind == now.kind && nat_le SERVICE_STOPPED report.state && nat_le report.state SERVICE_PAUSED
+    && bit_and report.accepted SERVICE_ACCEPT_ANY == report.accepted
 
 abbrev pub takes : Status → Status → Bool
 takes now report = is_well_formed now report && is_move now.state report.state

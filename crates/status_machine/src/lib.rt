@@ -1,4 +1,5 @@
-//! How the status of a service moves, by what its process reports with `SetServiceStatus` and by the process's end.
+//! How the status of a service moves, by what its process reports with `SetServiceStatus` and by
+//! the process's end.
 #![tactic(auto)]
 
 ghost use Rattle.std.specs.Prelude.{◌≡◌, ◌==◌, ◌&&◌, nat_le, bit_and};
@@ -65,9 +66,9 @@ fn is_well_formed(now: &Status, report: &Status) -> bool
         && report.accepted & SERVICE_ACCEPT_ANY == report.accepted
 }
 
-/// The status after a report, which takes the place of the status. `ERROR_INVALID_DATA` (13) is for a report whose type isn't the
-/// service's, whose state there isn't or whose accepted controls there aren't, and for a move that no service makes. It takes no
-/// memory.
+/// The status after a report, which takes the place of the status. `ERROR_INVALID_DATA` (13) is for
+/// a report whose type isn't the service's, whose state there isn't or whose accepted controls
+/// there aren't, and for a move that no service makes. It takes no memory.
 pub fn take_report(now: &Status, report: &Status) -> Result<Status, u32>
     ensures { result ≡ take_report now.now report.now }
 {
@@ -78,7 +79,8 @@ pub fn take_report(now: &Status, report: &Status) -> Result<Status, u32>
     }
 }
 
-/// The status after the process has ended or wasn't launched: STOPPED, with this Win32 exit code. It takes no memory.
+/// The status after the process has ended or wasn't launched: STOPPED, with this Win32 exit code.
+/// It takes no memory.
 pub fn take_end(now: &Status, code: u32) -> Status
     ensures { result ≡ take_end now.now code }
 {

@@ -13,12 +13,16 @@ loop-digit-preserved c =
     let (all, is, small) = c.loop-digit.invariant in
     let (digit, more, fits) = c.in_ok-number.ensures.some in
     let text = c.args.text.now in
-    let i = c.loop-digit.digit-index in
-    (digits_more 10 text i c.loop-digit-test.true all digit, omega (arith, more, is, digits_value_more 10 text i c.loop-digit-test.true), fits)
+    let i = c.loop-digit.digit-index in (
+      digits_more 10 text i c.loop-digit-test.true all digit,
+      omega (arith, more, is, digits_value_more 10 text i c.loop-digit-test.true),
+      fits,
+    )
 
 pub returns-in_err-number-clause-none : goal.returns-in_err-number-clause-none
 returns-in_err-number-clause-none c =
-    rw c.from_residual.ensures (digit_lost c.args.text.now c.loop-digit.digit-index c.loop-digit.number c.loop-digit-test.true c.loop-digit.invariant.1 c.in_err-number.ensures.none)
+    rw c.from_residual.ensures (digit_lost c.args.text.now c.loop-digit.digit-index c.loop-digit.number c.loop-digit-test.true
+    c.loop-digit.invariant.1 c.in_err-number.ensures.none)
 
 pub returns-clause-some : goal.returns-clause-some
 returns-clause-some c =

@@ -12,7 +12,8 @@ returns-clause-each_entry c =
     let l = c.args.limits.now in
     let f = c.args.opening.now in
     let es = c.args.steps.now in
-    at_entry LawOfAnswering l f es (along Sound LawOfAnswering l (keeps l) (gives l) f es (begun l f c.requires.begins) (legal_made l f es c.requires.legal))
+    at_entry LawOfAnswering l f es (along Sound LawOfAnswering l (keeps l) (gives l) f es (begun l f c.requires.begins)
+    (legal_made l f es c.requires.legal))
 
 pub returns-clause-refused : goal.returns-clause-refused
 returns-clause-refused c = of_refused

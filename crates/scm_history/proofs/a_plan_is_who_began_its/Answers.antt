@@ -11,4 +11,5 @@ returns c =
     let l = c.args.limits.now in
     let f = c.args.opening.now in
     let es = c.args.steps.now in
-    at_entry LawOfBegun l f es (along Sound LawOfBegun l (keeps l) (gives l) f es (begun l f c.requires.begins) (legal_made l f es c.requires.legal))
+    at_entry LawOfBegun l f es (along Sound LawOfBegun l (keeps l) (gives l) f es (begun l f c.requires.begins)
+    (legal_made l f es c.requires.legal))

@@ -12,4 +12,5 @@ returns-clause-each_step c =
 
 pub returns-clause-for_good : goal.returns-clause-for_good
 returns-clause-for_good c =
-    gone_for_good c.args.limits.now c.args.opening.now c.args.steps.now (begun c.args.limits.now c.args.opening.now c.requires.begins) c.requires.legal
+    gone_for_good c.args.limits.now c.args.opening.now c.args.steps.now
+    (begun c.args.limits.now c.args.opening.now c.requires.begins) c.requires.legal

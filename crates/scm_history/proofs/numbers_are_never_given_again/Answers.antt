@@ -11,4 +11,5 @@ returns-clause-each_step c =
     (begun c.args.limits.now c.args.opening.now c.requires.begins) c.requires.legal
 
 pub returns-clause-for_good : goal.returns-clause-for_good
-returns-clause-for_good c = none_again c.args.limits.now c.args.opening.now c.args.steps.now (begun c.args.limits.now c.args.opening.now c.requires.begins) c.requires.legal
+returns-clause-for_good c = none_again c.args.limits.now c.args.opening.now c.args.steps.now
+    (begun c.args.limits.now c.args.opening.now c.requires.begins) c.requires.legal

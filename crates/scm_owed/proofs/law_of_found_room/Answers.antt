@@ -7,4 +7,5 @@ use Rattle.scm_owed.proofs.law_of_found_room.Goals as goal
 pub returns : goal.returns
 returns c =
     let none = opened_owes c.args.limits.now c.args.opening.now c.requires.begins in
-    found_legal c.args.limits.now c.args.opening.now c.args.steps.now (clear_begun c.args.limits.now c.args.opening.now c.requires.begins) (omega (arith, none)) c.requires.made c.requires.room
+    found_legal c.args.limits.now c.args.opening.now c.args.steps.now (clear_begun c.args.limits.now c.args.opening.now c.requires.begins)
+    (omega (arith, none)) c.requires.made c.requires.room

@@ -10,4 +10,5 @@ returns c =
     let l = c.args.limits.now in
     let f = c.args.opening.now in
     let es = c.args.steps.now in
-    at_entry LawOfOwed l f es (along (Clear l) LawOfOwed l (clear_keeps l) (gives l) f es (clear_begun l f c.requires.begins) (legal_made l f es c.requires.legal))
+    at_entry LawOfOwed l f es (along (Clear l) LawOfOwed l (clear_keeps l) (gives l) f es (clear_begun l f c.requires.begins)
+    (legal_made l f es c.requires.legal))

@@ -11,4 +11,5 @@ returns-clause-nothing c =
 
 pub returns-clause-stays : goal.returns-clause-stays
 returns-clause-stays c =
-    stays_legal c.args.limits.now c.args.opening.now c.args.steps.now (clear_begun c.args.limits.now c.args.opening.now c.requires.begins) c.requires.legal
+    stays_legal c.args.limits.now c.args.opening.now c.args.steps.now (clear_begun c.args.limits.now c.args.opening.now c.requires.begins)
+    c.requires.legal

@@ -9,10 +9,12 @@ use Rattle.scm_runs.proofs.law_of_plans.Goals as goal
 
 pub returns-clause-plans : goal.returns-clause-plans
 returns-clause-plans c =
-    along Sound (LawOfPlans c.args.limits.now) c.args.limits.now (keeps c.args.limits.now) (gives_plans c.args.limits.now) c.args.opening.now c.args.steps.now
+    along Sound (LawOfPlans c.args.limits.now) c.args.limits.now (keeps c.args.limits.now)
+    (gives_plans c.args.limits.now) c.args.opening.now c.args.steps.now
     (begun c.args.limits.now c.args.opening.now c.requires.begins) c.requires.legal
 
 pub returns-clause-entered : goal.returns-clause-entered
 returns-clause-entered c =
-    along Sound LawOfEntering c.args.limits.now (keeps c.args.limits.now) (gives_entering c.args.limits.now) c.args.opening.now c.args.steps.now
+    along Sound LawOfEntering c.args.limits.now (keeps c.args.limits.now)
+    (gives_entering c.args.limits.now) c.args.opening.now c.args.steps.now
     (begun c.args.limits.now c.args.opening.now c.requires.begins) c.requires.legal

@@ -14,4 +14,5 @@ returns c =
     let l = c.args.limits.now in
     let f = c.args.opening.now in
     let es = c.args.steps.now in
-    subst (λ (g : Flat). All IsToldWhole g.services) (sym (state_is l f es)) (told_whole _ (at_end Sound l (keeps l) f es (begun l f c.requires.begins) c.requires.legal))
+    subst (λ (g : Flat). All IsToldWhole g.services) (sym (state_is l f es))
+    (told_whole _ (at_end Sound l (keeps l) f es (begun l f c.requires.begins) c.requires.legal))

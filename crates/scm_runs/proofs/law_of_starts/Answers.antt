@@ -7,5 +7,6 @@ use Rattle.scm_runs.proofs.law_of_starts.Goals as goal
 
 pub returns : goal.returns
 returns c =
-    along Sound (LawOfStarts c.args.limits.now) c.args.limits.now (keeps c.args.limits.now) (gives c.args.limits.now) c.args.opening.now c.args.steps.now
+    along Sound (LawOfStarts c.args.limits.now) c.args.limits.now (keeps c.args.limits.now)
+    (gives c.args.limits.now) c.args.opening.now c.args.steps.now
     (begun c.args.limits.now c.args.opening.now c.requires.begins) c.requires.legal

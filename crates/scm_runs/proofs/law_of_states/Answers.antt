@@ -10,4 +10,5 @@ returns c =
     let l = c.args.limits.now in
     let f = c.args.opening.now in
     let es = c.args.steps.now in
-    subst (IsValid l) (sym (state_is l f es)) (is_valid_clear l _ (at_end (Clear l) l (clear_keeps l) f es (clear_begun l f c.requires.begins) c.requires.legal))
+    subst (IsValid l) (sym (state_is l f es)) (is_valid_clear l _ (at_end (Clear l) l (clear_keeps l) f es
+    (clear_begun l f c.requires.begins) c.requires.legal))

@@ -19,4 +19,5 @@ told_found process (Some status) = refl
 pub returns : goal.returns
 returns c =
     c.status_of-status.ensures
-    ∙ (ap (λ (o : Option Step). told_in o) (sym c.in_ok-step.was ∙ c.read_line_step.ensures) ∙ told_found c.args.process (reported c.args.line.now))
+    ∙ (ap (λ (o : Option Step). told_in o) (sym c.in_ok-step.was ∙ c.read_line_step.ensures)
+    ∙ told_found c.args.process (reported c.args.line.now))

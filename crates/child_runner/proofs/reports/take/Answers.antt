@@ -10,17 +10,20 @@ returns-then-not-take-clause-line g c =
 
 pub returns-then-not-take-clause-fed : goal.returns-then-not-take-clause-fed
 returns-then-not-take-clause-fed g c =
-    byte_on (g.C.Clock.tells c.args.clock.now) c.args.book.now.opening c.args.process c.args.line.now c.take.new.self c.args.byte c.args.pass.now
+    byte_on (g.C.Clock.tells c.args.clock.now) c.args.book.now.opening c.args.process c.args.line.now c.take.new.self c.args.byte
+    c.args.pass.now
     (sym c.take.ensures.ends ∙ c.if-not-take.true) c.take.ensures.kept
 
 pub returns-in-Some-clause-fed : goal.returns-in-Some-clause-fed
 returns-in-Some-clause-fed g c =
-    report_fed (g.C.Clock.tells c.args.clock.now) c.args.book.now.opening c.args.process c.args.line.now c.clear.new.self c.args.byte c.args.pass.now c.report.new.pass
+    report_fed (g.C.Clock.tells c.args.clock.now) c.args.book.now.opening c.args.process c.args.line.now c.clear.new.self c.args.byte
+    c.args.pass.now c.report.new.pass
     (sym c.take.ensures.ends ∙ c.if-not-take.false) c.clear.ensures c.status_in-found.result c.in-Some.status c.report.result c.in-Some.is
     (c.status_in-found.ensures ∙ ap reported (c.line.ensures ∙ c.take.ensures.kept)) c.report.ensures.reports
 
 pub returns-in-None-clause-fed : goal.returns-in-None-clause-fed
 returns-in-None-clause-fed g c =
-    no_report (g.C.Clock.tells c.args.clock.now) c.args.book.now.opening c.args.process c.args.line.now c.clear.new.self c.args.byte c.args.pass.now c.args.pass.now
+    no_report (g.C.Clock.tells c.args.clock.now) c.args.book.now.opening c.args.process c.args.line.now c.clear.new.self c.args.byte
+    c.args.pass.now c.args.pass.now
     (sym c.take.ensures.ends ∙ c.if-not-take.false) c.clear.ensures c.status_in-found.result c.in-None.is
     (c.status_in-found.ensures ∙ ap reported (c.line.ensures ∙ c.take.ensures.kept)) refl

@@ -4,7 +4,8 @@ use Rattle.child_runner.proofs.sending.write_controls.Goals as goal
 pub loop-init : goal.loop-init
 loop-init g c = record {
   book = c.requires.book;
-  goes = goes_none (g.C.Clock.tells c.args.clock.now) c.args.book.now.opening c.args.process c.args.pass.now (g.F.Sink.held c.args.feed.now) (g.F.Sink.faults c.args.feed.now);
+  goes = goes_none (g.C.Clock.tells c.args.clock.now) c.args.book.now.opening c.args.process c.args.pass.now (g.F.Sink.held c.args.feed.now)
+      (g.F.Sink.faults c.args.feed.now);
   keeps = keeps_self c.args.book.now.opening c.args.pass.now;
 }
 
@@ -22,9 +23,11 @@ returns-in-Some-send_next-clause-keeps g c =
 pub loop-preserved : goal.loop-preserved
 loop-preserved g c = record {
   book = c.send_next.ensures.book;
-  goes = goes_then (g.C.Clock.tells c.args.clock.now) c.args.book.now.opening c.args.process c.args.pass.now c.loop.pass c.send_next.new.pass
+  goes = goes_then (g.C.Clock.tells c.args.clock.now) c.args.book.now.opening c.args.process c.args.pass.now c.loop.pass
+      c.send_next.new.pass
       (g.F.Sink.held c.args.feed.now) (g.F.Sink.held c.loop.feed) (g.F.Sink.held c.send_next.new.feed)
       (g.F.Sink.faults c.args.feed.now) (g.F.Sink.faults c.loop.feed) (g.F.Sink.faults c.send_next.new.feed)
       c.loop.invariant.goes c.in-None-send_next.ensures.sends;
-  keeps = keeps_then c.args.book.now.opening c.args.pass.now c.loop.pass c.send_next.new.pass c.loop.invariant.keeps c.send_next.ensures.keeps;
+  keeps = keeps_then c.args.book.now.opening c.args.pass.now c.loop.pass c.send_next.new.pass c.loop.invariant.keeps
+      c.send_next.ensures.keeps;
 }

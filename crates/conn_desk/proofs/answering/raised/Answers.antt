@@ -7,7 +7,8 @@ use Rattle.conn_desk.proofs.answering.raised.Goals as goal
 pub returns-clause-ok : goal.returns-clause-ok
 returns-clause-ok g c =
     let code = c.in_ok-code.code in
-    let is : c.written_code.result.items ≡ body_of (Code code) = c.written_code.ensures ∙ ap (λ (held : List ℕ). held ++ body_of (Code code)) c.in_ok-out.ensures.ok.0 in
+    let is : c.written_code.result.items ≡ body_of (Code code) = c.written_code.ensures
+    ∙ ap (λ (held : List ℕ). held ++ body_of (Code code)) c.in_ok-out.ensures.ok.0 in
     let few : length (body_of (Code code)) ≤ 4 = fits (Code code) 0 tt in
     record {
       reply = Code code;

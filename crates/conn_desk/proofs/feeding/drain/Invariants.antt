@@ -5,8 +5,8 @@ use Rattle.conn_desk.proofs.feeding.drain.Given as goal
 -- the items so far are answered
 abbrev pub invariant-loop-item : goal.invariant-loop-item
 invariant-loop-item g l = record {
-  ready : g.D.Desk.ready l.desk;
-  on : Stretch g.D.Desk.called
+  ready : g.D.RequestHandler.ready l.desk;
+  on : Stretch g.D.RequestHandler.called
       (record { session = l.fn.session; desk = l.fn.desk; held = g.O.Sink.held l.fn.output })
       (record { session = l.session; desk = l.desk; held = g.O.Sink.held l.output });
   faults : g.O.Sink.faults l.output ≡ g.O.Sink.faults l.fn.output;

@@ -30,5 +30,6 @@ loop-preserved g c =
       plan = still.has;
       turns = before.turns ++ still.moment ∷ [];
       told = told_more (g.C.Clock.tells c.args.clock.now) before.turns still.moment before.told still.told;
-      waits = waits_more g.W.Waiter.silent c.args.book.now.opening c.args.plan before.turns still.moment c.args.pass.now c.loop.pass c.look.new.pass before.waits still.waits;
+      waits = waits_more g.W.Waiter.silent c.args.book.now.opening c.args.plan before.turns still.moment c.args.pass.now c.loop.pass
+          c.look.new.pass before.waits still.waits;
     }

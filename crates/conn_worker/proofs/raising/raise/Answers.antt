@@ -3,15 +3,18 @@ use Rattle.conn_worker.proofs.raising.raise.Goals as goal
 
 pub code_of-requires : goal.code_of-requires
 code_of-requires g c =
-    a_code c.args.book.now.opening c.args.pass.now c.raise.new.pass c.now-moment.result c.args.subtype c.in-Answered.told c.in-Answered.ensures.raises
+    a_code c.args.book.now.opening c.args.pass.now c.raise.new.pass c.now-moment.result c.args.subtype c.in-Answered.told
+    c.in-Answered.ensures.raises
 
 pub returns-in-Answered-clause-caller : goal.returns-in-Answered-clause-caller
 returns-in-Answered-clause-caller g c =
-    raised_caller c.args.book.now.opening c.args.pass.now c.raise.new.pass c.now-moment.result c.args.subtype c.in-Answered.told c.in-Answered.ensures.raises
+    raised_caller c.args.book.now.opening c.args.pass.now c.raise.new.pass c.now-moment.result c.args.subtype c.in-Answered.told
+    c.in-Answered.ensures.raises
 
 pub returns-in-Answered-clause-answered : goal.returns-in-Answered-clause-answered
 returns-in-Answered-clause-answered g c =
-    raise_answered (g.C.Clock.tells c.args.clock.now) c.args.book.now.opening c.args.pass.now c.raise.new.pass c.now-moment.result c.now-moment.ensures c.args.subtype
+    raise_answered (g.C.Clock.tells c.args.clock.now) c.args.book.now.opening c.args.pass.now c.raise.new.pass c.now-moment.result
+    c.now-moment.ensures c.args.subtype
     c.in-Answered.told c.code_of.result c.code_of.ensures c.in-Answered.ensures.raises
 
 pub returns-in-Full-clause-full : goal.returns-in-Full-clause-full

@@ -14,15 +14,23 @@ read_byte-requires g c = omega (arith, ap length c.loop.invariant.keeps, kept_sh
 pub returns-in-Ok-Feed-clause-read : goal.returns-in-Ok-Feed-clause-read
 returns-in-Ok-Feed-clause-read g c =
     let before = c.loop.invariant in
-    let now = subst (λ (came : Came). ReadsByte (g.I.Source.left c.loop.input) (g.I.Source.left c.read_byte.new.input) c.loop.line c.read_byte.new.line came)
+    let now = subst (λ (came : Came). ReadsByte (g.I.Source.left c.loop.input)
+    (g.I.Source.left c.read_byte.new.input) c.loop.line c.read_byte.new.line came)
     c.in-Ok-Feed.field-0-is c.in-Ok-Feed.ensures.read in
-    let few : length before.front < 2 ^ 40 = omega (arith, before.count, c.loop-test.true) in
-    (before.front, before.one, Consumes-trans _ _ _ before.front (10 ∷ []) before.read now.0, now.1 ∙ ap (λ line. line ++ 10 ∷ []) before.keeps, few)
+    let few : length before.front < 2 ^ 40 = omega (arith, before.count, c.loop-test.true) in (
+      before.front,
+      before.one,
+      Consumes-trans _ _ _ before.front (10 ∷ []) before.read now.0,
+      now.1
+          ∙ ap (λ line. line ++ 10 ∷ []) before.keeps,
+      few,
+    )
 
 pub loop-preserved : goal.loop-preserved
 loop-preserved g c =
     let before = c.loop.invariant in
-    let now = subst (λ (came : Came). ReadsByte (g.I.Source.left c.loop.input) (g.I.Source.left c.read_byte.new.input) c.loop.line c.read_byte.new.line came)
+    let now = subst (λ (came : Came). ReadsByte (g.I.Source.left c.loop.input)
+    (g.I.Source.left c.read_byte.new.input) c.loop.line c.read_byte.new.line came)
     c.in-Ok-Byte.field-0-is c.in-Ok-Byte.ensures.read in
     record {
       front = before.front ++ now.0 ∷ [];

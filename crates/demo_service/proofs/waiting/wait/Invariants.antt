@@ -8,7 +8,8 @@ abbrev pub invariant-loop : goal.invariant-loop
 invariant-loop g l = record {
   fronts : List (List ℕ);
   count : length fronts ≡ l.counter;
-  hears : FoldsTo (Hears true) (point (g.I.Source.left l.fn.input) (g.O.Sink.held l.fn.output)) fronts (point (g.I.Source.left l.input) (g.O.Sink.held l.output));
+  hears : FoldsTo (Hears true) (point (g.I.Source.left l.fn.input) (g.O.Sink.held l.fn.output)) fronts
+      (point (g.I.Source.left l.input) (g.O.Sink.held l.output));
   input : g.I.Source.faults l.fn.input ≤ g.I.Source.faults l.input;
   output : g.O.Sink.faults l.fn.output ≤ g.O.Sink.faults l.output;
 }

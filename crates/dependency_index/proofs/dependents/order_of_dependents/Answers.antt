@@ -13,9 +13,10 @@ returns-clause-order c =
     let none = c.requires.acyclic in
     let e = c.reach_every.new.done.items in
     let all = c.reach_every.ensures.order in
-    let sifted = sift_is rows none c.args.target [] e (all_grow (named_by rows) (length rows) (numbers_of rows) e all) c.reach_every.ensures.room.within.listed in
+    let transitive_dependents = sift_is rows none c.args.target [] e (all_grow (named_by rows) (length rows) (numbers_of rows) e all)
+    c.reach_every.ensures.room.within.listed in
     let order = order_is rows none c.args.target e all in
-    c.reverse.ensures.items ∙ ap reverse (c.sift.ensures.items ∙ sifted ∙ order)
+    c.reverse.ensures.items ∙ ap reverse (c.sift.ensures.items ∙ transitive_dependents ∙ order)
 
 pub returns-clause-few : goal.returns-clause-few
 returns-clause-few c =

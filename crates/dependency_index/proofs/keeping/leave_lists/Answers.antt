@@ -14,11 +14,14 @@ returns-in-Some-clause-lists c =
     let unlisted = rw c.as_slice.ensures at c.unlist.ensures.at in
     record {
       called = λ (name : List ℕ).
-          c.remove.ensures.changes.lists name ∙ ap (λ l. cond (has_name name row) (without_number l n) l) (c.requires.lists.called name) ∙ left (has_name name) rows row n c.requires.rising found;
+          c.remove.ensures.changes.lists name ∙ ap (λ l. cond (has_name name row) (without_number l n) l) (c.requires.lists.called name)
+          ∙ left (has_name name) rows row n c.requires.rising found;
       named = λ (name : List ℕ).
-          unlisted name ∙ ap (λ l. cond (names name row) (without_number l n) l) (c.requires.lists.named name) ∙ left (names name) rows row n c.requires.rising found;
+          unlisted name ∙ ap (λ l. cond (names name row) (without_number l n) l) (c.requires.lists.named name)
+          ∙ left (names name) rows row n c.requires.rising found;
       grouped = λ (group : List ℕ).
-          c.remove-in-Some.ensures.changes.lists group ∙ ap (λ l. cond (is_member group row) (without_number l n) l) (c.requires.lists.grouped group) ∙ left (is_member group) rows row n c.requires.rising found;
+          c.remove-in-Some.ensures.changes.lists group ∙ ap (λ l. cond (is_member group row) (without_number l n) l)
+          (c.requires.lists.grouped group) ∙ left (is_member group) rows row n c.requires.rising found;
     }
 
 pub returns-in_default-clause-lists : goal.returns-in_default-clause-lists

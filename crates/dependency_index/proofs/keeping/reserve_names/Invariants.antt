@@ -1,5 +1,5 @@
 use Rattle.std.proofs.Common.{ℕ, ◌≡◌, ◌≤◌, List, take}
-use Rattle.number_lists.specs.Under.{at, room}
+use Rattle.number_lists.specs.UnderName.{at, room}
 use Rattle.dependency_index.specs.Kept.{IsReady}
 use Rattle.dependency_index.proofs.keeping.reserve_names.Given as goal
 

@@ -11,7 +11,8 @@ visit-requires-clause-listed g c = rw c.with-graph.ensures (put_listed (g.R.Need
 pub visit-requires-clause-room : goal.visit-requires-clause-room
 visit-requires-clause-room g c =
     let rows = g.R.NeedRows.rows c.args.rows.now in
-    rw c.with-graph.ensures (room_at_start _ c.args.room.now c.requires.empty (omega (arith, size_put rows (new_need_row c.args.new), c.requires.room)))
+    rw c.with-graph.ensures (room_at_start _ c.args.room.now c.requires.empty
+    (omega (arith, size_put rows (new_need_row c.args.new), c.requires.room)))
 
 pub returns : goal.returns
 returns g c =

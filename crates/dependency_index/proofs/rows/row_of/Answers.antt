@@ -13,4 +13,5 @@ returns c =
     let place = c.in_ok-place.place in
     let within = c.in_ok-place.ensures.within in
     ap (λ (r : NeedRow). Some r) c.index-rows-place.is
-    ∙ sym (found_here c.args.rows.now place c.args.number row c.requires within (number_at c.args.rows.now c.args.number place row within c.in_ok-place.ensures.found))
+    ∙ sym (found_here c.args.rows.now place c.args.number row c.requires within
+    (number_at c.args.rows.now c.args.number place row within c.in_ok-place.ensures.found))

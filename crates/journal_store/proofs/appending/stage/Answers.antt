@@ -75,6 +75,7 @@ returns-clause-any_moment g c = λ f is.
 pub returns-clause-staged : goal.returns-clause-staged
 returns-clause-staged g c =
     on_ok _ _ c.sync.result
-    (λ synced. staged c.args.end.log c.args.end.place c.args.bytes.now (g.D.Disk.state c.args.disk.now) (g.D.Disk.state c.write_at.new.self) (g.D.Disk.state c.write_at-2.new.self) (g.D.Disk.state c.write_at-3.new.self) (g.D.Disk.state c.sync.new.self)
+    (λ synced. staged c.args.end.log c.args.end.place c.args.bytes.now (g.D.Disk.state c.args.disk.now) (g.D.Disk.state c.write_at.new.self)
+    (g.D.Disk.state c.write_at-2.new.self) (g.D.Disk.state c.write_at-3.new.self) (g.D.Disk.state c.sync.new.self)
     c.requires.ready (rw c.to_le_bytes.ensures at c.in_ok-write_at.ensures.writes.ok) c.in_ok-write_at-2.ensures.writes.ok
     c.in_ok-write_at-3.ensures.writes.ok c.sync.ensures.syncs.looks.seen synced) c.sync.ensures.syncs.ok

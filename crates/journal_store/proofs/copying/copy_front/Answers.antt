@@ -2,7 +2,8 @@ use Rattle.std.proofs.Common.{◌≤◌, ◌∙◌, refl, arith, drop, subst, If
 use Rattle.journal_disk.specs.Files.{file}
 use Rattle.journal_store.specs.Ends.{IsRecord}
 use Rattle.journal_store.proofs.Moments.{alike, alike_more, told}
-use Rattle.journal_store.proofs.OtherLog.{copied_none, front_all, front_count, front_on, only_looked, only_more, only_none, size_on, target_on}
+use Rattle.journal_store.proofs.OtherLog.{copied_none, front_all, front_count, front_on, only_looked, only_more, only_none, size_on}
+use Rattle.journal_store.proofs.OtherLog.{target_on}
 use Rattle.journal_store.proofs.copying.copy_front.Goals as goal
 
 pub loop-found-init : goal.loop-found-init
@@ -61,7 +62,8 @@ returns-clause-put g c = λ f is.
     let b = g.D.Disk.state c.loop-found.disk in
     let inv = c.loop-found.invariant in
     let none =
-    subst (λ o. IfSome b.seen (λ f. IsRecord (drop c.loop-found.place (file f c.args.log)) o)) c.in_default.is c.in_ok-found.ensures.record in
+    subst (λ o. IfSome b.seen (λ f. IsRecord (drop c.loop-found.place (file f c.args.log)) o)) c.in_default.is c.in_ok-found.ensures.record
+    in
     c.record_at.ensures.looks.seen
     ∙ front_all c.args.log c.args.to c.args.most c.loop-found.place c.loop-found.done f b.seen (inv.copied f is) c.requires.logs.0
     c.requires.logs.1 c.requires.logs.2 none
@@ -71,6 +73,7 @@ returns-clause-count g c = λ f is.
     let b = g.D.Disk.state c.loop-found.disk in
     let inv = c.loop-found.invariant in
     let none =
-    subst (λ o. IfSome b.seen (λ f. IsRecord (drop c.loop-found.place (file f c.args.log)) o)) c.in_default.is c.in_ok-found.ensures.record in
+    subst (λ o. IfSome b.seen (λ f. IsRecord (drop c.loop-found.place (file f c.args.log)) o)) c.in_default.is c.in_ok-found.ensures.record
+    in
     front_count c.args.log c.args.to c.args.most c.loop-found.place c.loop-found.done f b.seen (inv.copied f is) c.requires.logs.0
     c.requires.logs.1 c.requires.logs.2 none

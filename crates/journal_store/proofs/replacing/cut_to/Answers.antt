@@ -28,7 +28,8 @@ returns-in_err-count-clause-any_moment g c =
     let d = g.D.Disk.state c.copy_front.new.disk in
     let to = c.other_log-to.result in
     let only =
-    only_more to a s d (only_more to a b s (only_writes to _ _ a b _ c.write_at.ensures.writes) (only_looks to b s c.size.ensures.looks)) c.copy_front.ensures.only in
+    only_more to a s d (only_more to a b s (only_writes to _ _ a b _ c.write_at.ensures.writes) (only_looks to b s c.size.ensures.looks))
+    c.copy_front.ensures.only in
     copied_moments a d c.args.end.log c.args.end.place to (λ f. take c.args.most (content f)) c.requires.ready
     c.other_log-to.ensures.other c.other_log-to.ensures.log only
 
@@ -41,13 +42,16 @@ show-requires-clause-within g c =
     let to = c.other_log-to.result in let log = c.args.end.log in let place = c.args.end.place in
     let is = c.other_log-to.ensures.log in let other = c.other_log-to.ensures.other in
     let only =
-    only_more to a s d (only_more to a b s (only_writes to _ _ a b _ c.write_at.ensures.writes) (only_looks to b s c.size.ensures.looks)) c.copy_front.ensures.only in
+    only_more to a s d (only_more to a b s (only_writes to _ _ a b _ c.write_at.ensures.writes) (only_looks to b s c.size.ensures.looks))
+    c.copy_front.ensures.only in
     let alike_s = alike_more a.seen b.seen s.seen c.write_at.ensures.writes.told (alike b.seen s.seen c.size.ensures.looks.seen) in
     let alike_d = alike_more a.seen s.seen d.seen alike_s c.copy_front.ensures.told in
     let put =
-    cut_put a b s log place to c.args.most c.requires.ready c.requires.log is other c.in_ok-write_at.ensures.writes.ok c.size.ensures.looks.seen d c.in_ok-count.ensures.put in
+    cut_put a b s log place to c.args.most c.requires.ready c.requires.log is other c.in_ok-write_at.ensures.writes.ok
+    c.size.ensures.looks.seen d c.in_ok-count.ensures.put in
     let count =
-    cut_count a b s log place to c.args.most c.requires.ready c.requires.log is other c.in_ok-write_at.ensures.writes.ok c.size.ensures.looks.seen c.in_ok-count.count c.in_ok-count.ensures.count in
+    cut_count a b s log place to c.args.most c.requires.ready c.requires.log is other c.in_ok-write_at.ensures.writes.ok
+    c.size.ensures.looks.seen c.in_ok-count.count c.in_ok-count.ensures.count in
     within_shown a d log place to (λ f. take c.args.most (content f)) c.requires.ready other is only alike_d c.in_ok-count.count put count
 
 pub show-requires-clause-unread : goal.show-requires-clause-unread
@@ -59,7 +63,8 @@ show-requires-clause-unread g c =
     let to = c.other_log-to.result in let log = c.args.end.log in let place = c.args.end.place in
     let is = c.other_log-to.ensures.log in let other = c.other_log-to.ensures.other in
     let only =
-    only_more to a s d (only_more to a b s (only_writes to _ _ a b _ c.write_at.ensures.writes) (only_looks to b s c.size.ensures.looks)) c.copy_front.ensures.only in
+    only_more to a s d (only_more to a b s (only_writes to _ _ a b _ c.write_at.ensures.writes) (only_looks to b s c.size.ensures.looks))
+    c.copy_front.ensures.only in
     let alike_s = alike_more a.seen b.seen s.seen c.write_at.ensures.writes.told (alike b.seen s.seen c.size.ensures.looks.seen) in
     let alike_d = alike_more a.seen s.seen d.seen alike_s c.copy_front.ensures.told in
     unread a d log place to (λ f. take c.args.most (content f)) c.requires.ready other is only alike_d
@@ -73,15 +78,19 @@ returns-clause-made g c =
     let to = c.other_log-to.result in let log = c.args.end.log in let place = c.args.end.place in
     let is = c.other_log-to.ensures.log in let other = c.other_log-to.ensures.other in
     let only =
-    only_more to a s d (only_more to a b s (only_writes to _ _ a b _ c.write_at.ensures.writes) (only_looks to b s c.size.ensures.looks)) c.copy_front.ensures.only in
+    only_more to a s d (only_more to a b s (only_writes to _ _ a b _ c.write_at.ensures.writes) (only_looks to b s c.size.ensures.looks))
+    c.copy_front.ensures.only in
     let alike_s = alike_more a.seen b.seen s.seen c.write_at.ensures.writes.told (alike b.seen s.seen c.size.ensures.looks.seen) in
     let alike_d = alike_more a.seen s.seen d.seen alike_s c.copy_front.ensures.told in
     let put =
-    cut_put a b s log place to c.args.most c.requires.ready c.requires.log is other c.in_ok-write_at.ensures.writes.ok c.size.ensures.looks.seen d c.in_ok-count.ensures.put in
+    cut_put a b s log place to c.args.most c.requires.ready c.requires.log is other c.in_ok-write_at.ensures.writes.ok
+    c.size.ensures.looks.seen d c.in_ok-count.ensures.put in
     let count =
-    cut_count a b s log place to c.args.most c.requires.ready c.requires.log is other c.in_ok-write_at.ensures.writes.ok c.size.ensures.looks.seen c.in_ok-count.count c.in_ok-count.ensures.count in
+    cut_count a b s log place to c.args.most c.requires.ready c.requires.log is other c.in_ok-write_at.ensures.writes.ok
+    c.size.ensures.looks.seen c.in_ok-count.count c.in_ok-count.ensures.count in
     on_ok_any _ _ c.show.result
-    (λ made. replaced_made a d log place to (λ f. take c.args.most (content f)) c.requires.ready other is only alike_d c.in_ok-count.count put count (g.D.Disk.state c.show.new.disk) made)
+    (λ made. replaced_made a d log place to (λ f. take c.args.most (content f)) c.requires.ready other is only alike_d c.in_ok-count.count
+    put count (g.D.Disk.state c.show.new.disk) made)
     c.show.ensures.made
 
 pub returns-clause-any_moment : goal.returns-clause-any_moment
@@ -93,12 +102,15 @@ returns-clause-any_moment g c =
     let to = c.other_log-to.result in let log = c.args.end.log in let place = c.args.end.place in
     let is = c.other_log-to.ensures.log in let other = c.other_log-to.ensures.other in
     let only =
-    only_more to a s d (only_more to a b s (only_writes to _ _ a b _ c.write_at.ensures.writes) (only_looks to b s c.size.ensures.looks)) c.copy_front.ensures.only in
+    only_more to a s d (only_more to a b s (only_writes to _ _ a b _ c.write_at.ensures.writes) (only_looks to b s c.size.ensures.looks))
+    c.copy_front.ensures.only in
     let alike_s = alike_more a.seen b.seen s.seen c.write_at.ensures.writes.told (alike b.seen s.seen c.size.ensures.looks.seen) in
     let alike_d = alike_more a.seen s.seen d.seen alike_s c.copy_front.ensures.told in
     let put =
-    cut_put a b s log place to c.args.most c.requires.ready c.requires.log is other c.in_ok-write_at.ensures.writes.ok c.size.ensures.looks.seen d c.in_ok-count.ensures.put in
+    cut_put a b s log place to c.args.most c.requires.ready c.requires.log is other c.in_ok-write_at.ensures.writes.ok
+    c.size.ensures.looks.seen d c.in_ok-count.ensures.put in
     let count =
-    cut_count a b s log place to c.args.most c.requires.ready c.requires.log is other c.in_ok-write_at.ensures.writes.ok c.size.ensures.looks.seen c.in_ok-count.count c.in_ok-count.ensures.count in
+    cut_count a b s log place to c.args.most c.requires.ready c.requires.log is other c.in_ok-write_at.ensures.writes.ok
+    c.size.ensures.looks.seen c.in_ok-count.count c.in_ok-count.ensures.count in
     replaced_moments a d log place to (λ f. take c.args.most (content f)) c.requires.ready other is only alike_d c.in_ok-count.count put
     count (g.D.Disk.state c.show.new.disk) c.show.ensures.any_moment

@@ -15,10 +15,12 @@ loop-left-preserved c =
     let i = c.loop-left.left - 1 in
     let kept = c.loop-left.invariant in
     let next : i + 1 ≡ c.loop-left.left = omega arith in
-    let now : x ≡ get_or rows i x = c.index_mut.ensures.value ∙ was_back (taken_if n) rows ys i c.loop-left.left x next kept.within kept.rows in
+    let now : x ≡ get_or rows i x = c.index_mut.ensures.value ∙ was_back
+    (taken_if n) rows ys i c.loop-left.left x next kept.within kept.rows in
     record {
       rows = rw c.take-told.ensures.row
-          (ap (λ (row : Registration). set ys i (taken_if n row)) now ∙ map_over_back (taken_if n) rows ys i c.loop-left.left x next kept.within kept.rows);
+          (ap (λ (row : Registration). set ys i (taken_if n row)) now ∙ map_over_back
+          (taken_if n) rows ys i c.loop-left.left x next kept.within kept.rows);
       told = c.take-told.ensures.notice
           ∙ ap (λ (row : Registration). cond (row.number == n) (notice_at row) c.loop-left.told) now
           ∙ ap (λ (told : Option Notice). cond ((get_or rows i x).number == n) (notice_at (get_or rows i x)) told) kept.told

@@ -2,7 +2,9 @@ use Rattle.record_table.proofs.Moving.{still_texts}
 use Rattle.record_table.proofs.texts.reserve_texts.Goals as goal
 
 pub returns-then-is_err-clause-kept : goal.returns-then-is_err-clause-kept
-returns-then-is_err-clause-kept c = λ had. c.tidy_texts_unless_kept.ensures.kept (still_texts c.args.kept.now c.args.texts.now c.reserve_each-made.new.texts c.reserve_each-made.ensures.rooms had)
+returns-then-is_err-clause-kept c = λ had. c.tidy_texts_unless_kept.ensures.kept
+    (still_texts c.args.kept.now c.args.texts.now c.reserve_each-made.new.texts c.reserve_each-made.ensures.rooms had)
 
 pub returns-else-is_err-clause-kept : goal.returns-else-is_err-clause-kept
-returns-else-is_err-clause-kept c = λ had. still_texts c.args.kept.now c.args.texts.now c.reserve_each-made.new.texts c.reserve_each-made.ensures.rooms had
+returns-else-is_err-clause-kept c = λ had. still_texts c.args.kept.now c.args.texts.now c.reserve_each-made.new.texts
+    c.reserve_each-made.ensures.rooms had

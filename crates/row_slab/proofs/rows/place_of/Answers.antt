@@ -9,7 +9,8 @@ loop-low-preserved-then-places-middle c =
     record {
       ordered = omega arith;
       within = c.loop-low.invariant.within;
-      below = below_middle c.args.places.now middle c.args.number c.requires (omega arith) (λ (d : Place). omega (arith, number_there c.args.places.now middle d (omega arith)));
+      below = below_middle c.args.places.now middle c.args.number c.requires (omega arith)
+          (λ (d : Place). omega (arith, number_there c.args.places.now middle d (omega arith)));
       rest = c.loop-low.invariant.rest;
     }
 
@@ -20,5 +21,6 @@ loop-low-preserved c =
       ordered = omega arith;
       within = omega arith;
       below = c.loop-low.invariant.below;
-      rest = from_middle c.args.places.now middle c.args.number c.requires (λ (d : Place). omega (arith, number_there c.args.places.now middle d (omega arith)));
+      rest = from_middle c.args.places.now middle c.args.number c.requires
+          (λ (d : Place). omega (arith, number_there c.args.places.now middle d (omega arith)));
     }

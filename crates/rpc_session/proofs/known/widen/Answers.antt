@@ -5,4 +5,5 @@ use Rattle.rpc_session.proofs.known.widen.Goals as goal
 
 pub returns-clause-same : goal.returns-clause-same
 returns-clause-same c =
-    resized c.args.table.now.items c.resize.new.self.items (is_ok c.resize.result) c.args.room _ (omega (arith, c.if-room-len.false, c.len.ensures)) c.resize.ensures.items
+    resized c.args.table.now.items c.resize.new.self.items (is_ok c.resize.result) c.args.room _
+    (omega (arith, c.if-room-len.false, c.len.ensures)) c.resize.ensures.items

@@ -13,7 +13,8 @@ invariant-loop-item l =
     × (l.fn.ahead ≤ l.ahead)
     × (l.ahead ≤ length l.stream.rest)
     × HasJoined l.fn.state l.state
-    × IfSome (front_fault (ahead_by l.fn.state l.stream l.fn.ahead)) (λ _. ◌≡◌ {A = Seen} (ahead_by l.state l.stream l.ahead) (ahead_by l.fn.state l.stream l.fn.ahead))
+    × IfSome (front_fault (ahead_by l.fn.state l.stream l.fn.ahead)) (λ _. ◌≡◌ {A = Seen} (ahead_by l.state l.stream l.ahead)
+    (ahead_by l.fn.state l.stream l.fn.ahead))
 
 abbrev pub decreases-loop-item : goal.decreases-loop-item
 decreases-loop-item l = length l.stream.rest - l.ahead

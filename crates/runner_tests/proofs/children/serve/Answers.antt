@@ -5,4 +5,5 @@ use Rattle.runner_tests.proofs.children.serve.Goals as goal
 -- a launch leaves a runner's pass nobody's
 pub serve_child-ended-requires-clause-nobody : goal.serve_child-ended-requires-clause-nobody
 serve_child-ended-requires-clause-nobody g c =
-    c.in-Started.ensures.launches.1.told.caller ∙ (c.in-Started.ensures.launches.1.taken.caller ∙ ap (λ (x : Known). x.caller) c.join_runner-runner.ensures.runner)
+    c.in-Started.ensures.launches.1.told.caller ∙ (c.in-Started.ensures.launches.1.taken.caller
+    ∙ ap (λ (x : Known). x.caller) c.join_runner-runner.ensures.runner)

@@ -9,7 +9,8 @@ some_left (b ∷ xs) e = omega arith
 
 pub loop-preserved : goal.loop-preserved
 loop-preserved c = (
-  fragment_more (length c.args.body.now) c.loop.counter c.args.call c.args.opnum c.loop.first c.loop.rest.now c.cut.result.1.now c.loop.text c.append_fragment.new.text
+  fragment_more (length c.args.body.now) c.loop.counter c.args.call c.args.opnum c.loop.first c.loop.rest.now c.cut.result.1.now c.loop.text
+      c.append_fragment.new.text
       c.loop-test.true (some_left c.loop.rest.now c.if-is_empty.ensures) c.cut.ensures.back c.in_ok-append_fragment.ensures
       ∙ c.loop.invariant.0,
   omega (arith, ap length c.cut.ensures.back, length-drop 1408 c.loop.rest.now, c.loop.invariant.1),
@@ -17,8 +18,10 @@ loop-preserved c = (
 
 pub returns-then-is_empty : goal.returns-then-is_empty
 returns-then-is_empty c =
-    sym (fragments_end _ c.args.call c.args.opnum c.loop.first c.loop.rest.now c.loop.text (eqb-true (length c.loop.rest.now) 0 (sym c.if-is_empty.ensures))) ∙ c.loop.invariant.0
+    sym (fragments_end _ c.args.call c.args.opnum c.loop.first c.loop.rest.now c.loop.text
+    (eqb-true (length c.loop.rest.now) 0 (sym c.if-is_empty.ensures))) ∙ c.loop.invariant.0
 
 pub returns : goal.returns
 returns c =
-    sym (fragments_spent (length c.args.body.now) c.loop.counter c.args.call c.args.opnum c.loop.first c.loop.rest.now c.loop.text c.loop-test.false) ∙ c.loop.invariant.0
+    sym (fragments_spent (length c.args.body.now) c.loop.counter c.args.call c.args.opnum c.loop.first c.loop.rest.now c.loop.text
+    c.loop-test.false) ∙ c.loop.invariant.0

@@ -7,5 +7,6 @@ use Rattle.sc_top.proofs.diagnostics.write_help.Given as goal
 -- the lines so far were written
 abbrev pub invariant-loop-verb : goal.invariant-loop-verb
 invariant-loop-verb g l =
-    Sent (g.E.Sink.held l.fn.errors) (g.E.Sink.held l.errors) (flat_map usage_line l.verbs) (flat_map usage_line (drop l.verb-index l.verbs))
+    Sent (g.E.Sink.held l.fn.errors) (g.E.Sink.held l.errors) (flat_map usage_line l.verbs)
+    (flat_map usage_line (drop l.verb-index l.verbs))
     × (g.E.Sink.faults l.errors ≡ g.E.Sink.faults l.fn.errors)

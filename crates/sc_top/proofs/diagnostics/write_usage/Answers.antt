@@ -8,4 +8,5 @@ pub returns-clause-written : goal.returns-clause-written
 unfolding joined
 returns-clause-written g c =
     let e = ap (λ text. codes "sc ADDRESS " ++ (text ++ codes "\n")) (c.as_bytes.ensures.value ∙ c.usage.ensures) in
-    subst (λ text. Writes (g.E.Sink.held c.args.errors.now) (g.E.Sink.held c.write_parts.new.errors) c.write_parts.result text) e c.write_parts.ensures.written
+    subst (λ text. Writes (g.E.Sink.held c.args.errors.now) (g.E.Sink.held c.write_parts.new.errors) c.write_parts.result text) e
+    c.write_parts.ensures.written

@@ -17,7 +17,8 @@ returns-in_default c =
 
 pub loop-place-preserved : goal.loop-place-preserved
 loop-place-preserved c =
-    texts_more c.args.words.now c.loop-place.place _ c.loop-place.texts c.push.new.self c.in-Some.text (read_and _ _ _ c.loop-place-test.true c.index-words-place.is)
+    texts_more c.args.words.now c.loop-place.place _ c.loop-place.texts c.push.new.self c.in-Some.text
+    (read_and _ _ _ c.loop-place-test.true c.index-words-place.is)
     (ap word_text (sym c.as_str.ensures) ∙ sym c.in_ok-text.ensures ∙ c.in-Some.is)
     (on_ok c.push.result c.push.ensures.ok (sym c.if-is_err.ensures.value))
     ∙ c.loop-place.invariant

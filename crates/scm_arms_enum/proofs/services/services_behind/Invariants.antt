@@ -5,4 +5,5 @@ use Rattle.scm_arms_enum.proofs.services.services_behind.Given as goal
 -- with those that are left they are all that are asked for
 abbrev pub invariant-loop-row : goal.invariant-loop-row
 invariant-loop-row l =
-    map (λ s. s.now) l.rows.items ++ filter (is_asked l.kinds l.states l.behind) l.row-iterator ≡ filter (is_asked l.kinds l.states l.behind) l.fn.services
+    map (λ s. s.now) l.rows.items ++ filter (is_asked l.kinds l.states l.behind) l.row-iterator ≡ filter
+    (is_asked l.kinds l.states l.behind) l.fn.services

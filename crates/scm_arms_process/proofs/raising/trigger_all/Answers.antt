@@ -18,4 +18,5 @@ pub loop-place-preserved : goal.loop-place-preserved
 loop-place-preserved c =
     let old = c.args.tables.now in
     let at = c.trigger_at.ensures in
-    goes_on old.limits c.args.subtype.now old.flat.services old.flat c.loop-place.place c.loop-place.tables c.trigger_at.new.tables c.loop-place.invariant at.flat at.limits at.left
+    goes_on old.limits c.args.subtype.now old.flat.services old.flat c.loop-place.place c.loop-place.tables c.trigger_at.new.tables
+    c.loop-place.invariant at.flat at.limits at.left

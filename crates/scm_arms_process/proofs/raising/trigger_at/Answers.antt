@@ -40,4 +40,5 @@ returns-in-None-clause-flat c =
     triggers_none t.limits c.args.subtype.now (slice_get t.flat.services c.args.place) t.flat is
 
 pub returns-in-None-clause-left : goal.returns-in-None-clause-left
-returns-in-None-clause-left c count has = less_room (started_at c.args.subtype.now c.args.tables.now.flat.services c.args.place + count) count c.args.tables.now (omega arith) has
+returns-in-None-clause-left c count has = less_room (started_at c.args.subtype.now c.args.tables.now.flat.services c.args.place
+    + count) count c.args.tables.now (omega arith) has

@@ -2,24 +2,28 @@ use Rattle.std.proofs.Common.{ap, subst, sym, ◌∙◌}
 use Rattle.std.specs.Prelude.{IfSome, Option}
 use Rattle.scm_model.specs.declared.flat.Config.{Config}
 use Rattle.scm_tables.specs.Tabled.{HasNeedRoom}
-use Rattle.scm_model.specs.Outcomes.{Done}
+use Rattle.scm_model.specs.Outcomes.{CallResult}
 use Rattle.scm_arms_service.proofs.Leveling.{level_fits, level_refused}
 use Rattle.scm_arms_service.proofs.changing2.change2.Goals as goal
 
 pub returns-then-code-ne0-clause-reply : goal.returns-then-code-ne0-clause-reply
 returns-then-code-ne0-clause-reply c =
-    ap (λ (told : Done). told.reply)
-    (level_refused c.args.tables.now.flat c.args.caller c.args.handle c.args.info.now c.args.kept c.args.code c.code_once_kept-code.result c.requires.verdict c.code_once_kept-code.ensures c.if-code-ne0.true)
+    ap (λ (told : CallResult). told.reply)
+    (level_refused c.args.tables.now.flat c.args.caller c.args.handle c.args.info.now c.args.kept c.args.code c.code_once_kept-code.result
+    c.requires.verdict c.code_once_kept-code.ensures c.if-code-ne0.true)
 
 pub returns-then-code-ne0-clause-flat : goal.returns-then-code-ne0-clause-flat
 returns-then-code-ne0-clause-flat c =
-    ap (λ (told : Done). told.flat)
-    (level_refused c.args.tables.now.flat c.args.caller c.args.handle c.args.info.now c.args.kept c.args.code c.code_once_kept-code.result c.requires.verdict c.code_once_kept-code.ensures c.if-code-ne0.true)
+    ap (λ (told : CallResult). told.flat)
+    (level_refused c.args.tables.now.flat c.args.caller c.args.handle c.args.info.now c.args.kept c.args.code c.code_once_kept-code.result
+    c.requires.verdict c.code_once_kept-code.ensures c.if-code-ne0.true)
 
 pub configure-requires : goal.configure-requires
 configure-requires c =
     let config = c.in-Some-Some.config in
     record {
-      texts = level_fits c.args.tables.now.flat c.args.caller c.args.handle c.args.info.now c.args.kept c.args.code c.code_once_kept-code.result config c.requires.verdict c.code_once_kept-code.ensures c.if-code-ne0.false (sym c.requires.made ∙ c.in-Some-Some.is-1);
+      texts = level_fits c.args.tables.now.flat c.args.caller c.args.handle c.args.info.now c.args.kept c.args.code
+          c.code_once_kept-code.result config c.requires.verdict c.code_once_kept-code.ensures c.if-code-ne0.false (sym c.requires.made
+          ∙ c.in-Some-Some.is-1);
       needs = subst (λ (asked : Option Config). IfSome asked (HasNeedRoom c.args.tables.now.spare)) c.in-Some-Some.is-1 c.requires.needs;
     }

@@ -7,7 +7,9 @@ use Rattle.scm_bodies.proofs.Codecs.{reply_codec}
 use Rattle.scm_bodies.proofs.replies.read_reply.Goals as goal
 
 pub returns-clause-found : goal.returns-clause-found
-returns-clause-found c = calls_found reply_shape reply_from (λ (r : Reply). Some (kind_of r)) reply_values reply_codec (reply_kind c.args.call) c.args.body.now c.read.result (λ i. omega (arith, c.type_inv.body i)) c.read.ensures.exact
+returns-clause-found c = calls_found reply_shape reply_from (λ (r : Reply). Some (kind_of r)) reply_values reply_codec
+    (reply_kind c.args.call) c.args.body.now c.read.result (λ i. omega (arith, c.type_inv.body i)) c.read.ensures.exact
 
 pub returns-clause-only : goal.returns-clause-only
-returns-clause-only c = calls_only reply_shape reply_from (λ (r : Reply). Some (kind_of r)) reply_values reply_codec (reply_kind c.args.call) c.args.body.now c.read.result (λ i. omega (arith, c.type_inv.body i)) c.read.ensures.exact
+returns-clause-only c = calls_only reply_shape reply_from (λ (r : Reply). Some (kind_of r)) reply_values reply_codec
+    (reply_kind c.args.call) c.args.body.now c.read.result (λ i. omega (arith, c.type_inv.body i)) c.read.ensures.exact

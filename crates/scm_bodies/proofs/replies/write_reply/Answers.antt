@@ -14,9 +14,11 @@ returns-clause-bounded c = λ request answers le.
     c.put_reply.ensures.enough (omega (arith, room, fits c.args.reply.now (asked_size request) answers.1))
 
 pub returns-clause-back : goal.returns-clause-back
-returns-clause-back c = λ call bytes h. spelled_again reply_shape reply_from (λ (r : Reply). Some (kind_of r)) reply_values reply_codec (reply_kind call) bytes c.args.reply.now h
+returns-clause-back c = λ call bytes h. spelled_again reply_shape reply_from (λ (r : Reply). Some (kind_of r)) reply_values reply_codec
+    (reply_kind call) bytes c.args.reply.now h
 
 pub returns-clause-carried : goal.returns-clause-carried
 returns-clause-carried c = λ h.
     let r = c.args.reply.now in
-    held_again reply_shape reply_from (λ (r : Reply). Some (kind_of r)) reply_values reply_codec (kind_of r) r (reply_held r h) ∙ ap (λ (told : Reply). Ok told) (reply_back r)
+    held_again reply_shape reply_from (λ (r : Reply). Some (kind_of r)) reply_values reply_codec (kind_of r) r (reply_held r h)
+    ∙ ap (λ (told : Reply). Ok told) (reply_back r)

@@ -10,17 +10,23 @@ use Rattle.scm_bodies.proofs.Codecs.{request_codec, held_ranged}
 use Rattle.scm_bodies.proofs.requests.read_request.Goals as goal
 
 pub returns-clause-found : goal.returns-clause-found
-returns-clause-found c = calls_found shape_of asked_by call_of values_of request_codec c.args.call c.args.body.now c.read.result (λ i. omega (arith, c.type_inv.body i)) c.read.ensures.exact
+returns-clause-found c = calls_found shape_of asked_by call_of values_of request_codec c.args.call c.args.body.now c.read.result
+    (λ i. omega (arith, c.type_inv.body i)) c.read.ensures.exact
 
 pub returns-clause-only : goal.returns-clause-only
-returns-clause-only c = calls_only shape_of asked_by call_of values_of request_codec c.args.call c.args.body.now c.read.result (λ i. omega (arith, c.type_inv.body i)) c.read.ensures.exact
+returns-clause-only c = calls_only shape_of asked_by call_of values_of request_codec c.args.call c.args.body.now c.read.result
+    (λ i. omega (arith, c.type_inv.body i)) c.read.ensures.exact
 
 pub returns-clause-ranged : goal.returns-clause-ranged
 returns-clause-ranged c =
-    let found = calls_found shape_of asked_by call_of values_of request_codec c.args.call c.args.body.now c.read.result (λ i. omega (arith, c.type_inv.body i)) c.read.ensures.exact in
-    calls_ranged shape_of asked_by call_of values_of request_codec (λ (r : Request). IsTrue (in_range r)) c.args.call c.args.body.now c.read.result (λ r e h. held_ranged r h) found
+    let found = calls_found shape_of asked_by call_of values_of request_codec c.args.call c.args.body.now c.read.result
+    (λ i. omega (arith, c.type_inv.body i)) c.read.ensures.exact in
+    calls_ranged shape_of asked_by call_of values_of request_codec (λ (r : Request). IsTrue (in_range r)) c.args.call c.args.body.now
+    c.read.result (λ r e h. held_ranged r h) found
 
 pub returns-clause-carried : goal.returns-clause-carried
 returns-clause-carried c =
-    let found = calls_found shape_of asked_by call_of values_of request_codec c.args.call c.args.body.now c.read.result (λ i. omega (arith, c.type_inv.body i)) c.read.ensures.exact in
-    calls_ranged shape_of asked_by call_of values_of request_codec AreCarried c.args.call c.args.body.now c.read.result (λ r e h. all_carried (shape_in shape_of (call_of r)) (values_of r) h) found
+    let found = calls_found shape_of asked_by call_of values_of request_codec c.args.call c.args.body.now c.read.result
+    (λ i. omega (arith, c.type_inv.body i)) c.read.ensures.exact in
+    calls_ranged shape_of asked_by call_of values_of request_codec AreCarried c.args.call c.args.body.now c.read.result
+    (λ r e h. all_carried (shape_in shape_of (call_of r)) (values_of r) h) found

@@ -11,8 +11,11 @@ use Rattle.scm_bodies.proofs.requests.write_request.Goals as goal
 pub returns-clause-back : goal.returns-clause-back
 returns-clause-back c = λ call bytes h.
     let r = c.args.request.now in
-    let held = spelled_held shape_of asked_by call_of values_of request_codec call bytes r h in
-    (held_ranged r (subst (λ o. CanHoldAll (shape_in shape_of o) (values_of r)) (sym h.named) held), all_carried (shape_of call) (values_of r) held, spelled_again shape_of asked_by call_of values_of request_codec call bytes r h)
+    let held = spelled_held shape_of asked_by call_of values_of request_codec call bytes r h in (
+      held_ranged r (subst (λ o. CanHoldAll (shape_in shape_of o) (values_of r)) (sym h.named) held),
+      all_carried (shape_of call) (values_of r) held,
+      spelled_again shape_of asked_by call_of values_of request_codec call bytes r h,
+    )
 
 pub returns-clause-ranged : goal.returns-clause-ranged
 returns-clause-ranged c = λ range h.

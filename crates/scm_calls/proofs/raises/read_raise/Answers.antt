@@ -7,4 +7,8 @@ returns-then-body-gt-SUBTYPE_BYTES-clause-exact c = sym (raise_long c.args.body.
 
 pub returns-clause-exact : goal.returns-clause-exact
 returns-clause-exact c =
-    sym (raise_read c.args.body.now c.copy_from_slice.new.self (record { size = omega (arith, ap length c.copy_from_slice.ensures.after, c.if-body-lt-SUBTYPE_BYTES.false, c.if-body-gt-SUBTYPE_BYTES.false); spelled = sym c.copy_from_slice.ensures.after }))
+    sym (raise_read c.args.body.now c.copy_from_slice.new.self (record {
+      size =
+          omega (arith, ap length c.copy_from_slice.ensures.after, c.if-body-lt-SUBTYPE_BYTES.false, c.if-body-gt-SUBTYPE_BYTES.false);
+      spelled = sym c.copy_from_slice.ensures.after;
+    }))

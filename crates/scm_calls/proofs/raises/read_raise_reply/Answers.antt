@@ -6,4 +6,5 @@ pub returns-clause-found : goal.returns-clause-found
 returns-clause-found c = reply_found c.args.body.now c.read_code.result (λ i. omega (arith, c.type_inv.body i)) c.read_code.ensures.exact
 
 pub returns-clause-only : goal.returns-clause-only
-returns-clause-only c = λ code h. reply_only c.args.body.now c.read_code.result (λ i. omega (arith, c.type_inv.body i)) c.read_code.ensures.exact code h
+returns-clause-only c = λ code h. reply_only c.args.body.now c.read_code.result
+    (λ i. omega (arith, c.type_inv.body i)) c.read_code.ensures.exact code h

@@ -5,4 +5,5 @@ use Rattle.scm_calls.specs.Replies.{reply_values}
 use Rattle.scm_calls.proofs.raises.write_raise_reply.Goals as goal
 
 pub returns-clause-enough : goal.returns-clause-enough
-returns-clause-enough c = λ le. c.write_pieces.ensures.written.enough (omega (arith, le, length_body (reply_values (reply.Code c.args.code))))
+returns-clause-enough c = λ le. c.write_pieces.ensures.written.enough (omega
+    (arith, le, length_body (reply_values (reply.Code c.args.code))))

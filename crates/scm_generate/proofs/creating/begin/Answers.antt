@@ -8,11 +8,13 @@ use Rattle.scm_generate.proofs.Along.{makes_both, on_ok, open_left, open_right}
 use Rattle.scm_generate.proofs.creating.begin.Goals as goal
 
 pub make-requires : goal.make-requires
-make-requires c = open_left c.args.run.now (at_once (Joined Admin) ∷ []) (called (request.OpenManager None 0x02000000) appended.NotAsked ∷ []) c.requires
+make-requires c = open_left c.args.run.now (at_once (Joined Admin) ∷ [])
+    (called (request.OpenManager None 0x02000000) appended.NotAsked ∷ []) c.requires
 
 pub make-requires-2 : goal.make-requires-2
 make-requires-2 c =
-    open_right c.args.run.now c.make.new.self (at_once (Joined Admin) ∷ []) (called (request.OpenManager None 0x02000000) appended.NotAsked ∷ []) c.in_ok-make.ensures c.requires
+    open_right c.args.run.now c.make.new.self (at_once (Joined Admin) ∷ [])
+    (called (request.OpenManager None 0x02000000) appended.NotAsked ∷ []) c.in_ok-make.ensures c.requires
 
 pub returns : goal.returns
 returns c =

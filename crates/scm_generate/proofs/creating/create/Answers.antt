@@ -6,4 +6,5 @@ use Rattle.scm_generate.specs.Progress.{IsOpenTo}
 use Rattle.scm_generate.proofs.creating.create.Goals as goal
 
 pub make-requires : goal.make-requires
-make-requires c = subst (λ new. IsOpenTo c.args.run.now (called (request.Create new) appended.Kept ∷ [])) (sym c.in_ok-new.ensures) c.requires
+make-requires c = subst (λ new. IsOpenTo c.args.run.now (called (request.Create new) appended.Kept ∷ []))
+    (sym c.in_ok-new.ensures) c.requires

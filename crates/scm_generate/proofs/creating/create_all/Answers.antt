@@ -9,4 +9,5 @@ loop-before-preserved c =
     creations_more c.args.run.now c.loop-before.run c.create.new.run c.loop-before.before c.loop-before.invariant c.in-Ok.ensures
 
 pub create-requires : goal.create-requires
-create-requires c = open_creation c.args.run.now c.loop-before.run c.loop-before.before c.args.services c.loop-before-test.true c.loop-before.invariant c.requires
+create-requires c = open_creation c.args.run.now c.loop-before.run c.loop-before.before c.args.services c.loop-before-test.true
+    c.loop-before.invariant c.requires

@@ -10,7 +10,8 @@ begin-requires c = open_opening c.args.run.now c.args.services c.requires.open
 pub create_all-requires : goal.create_all-requires
 create_all-requires c =
     let n = c.args.services in
-    open_left c.begin.new.run (creations n) (starts n 1 1 ++ (at_once (Gone 1) ∷ [])) (open_opened c.args.run.now c.begin.new.run n c.in_ok-begin.ensures c.requires.open)
+    open_left c.begin.new.run (creations n) (starts n 1 1 ++ (at_once (Gone 1) ∷ []))
+    (open_opened c.args.run.now c.begin.new.run n c.in_ok-begin.ensures c.requires.open)
 
 pub start_all-requires-clause-open : goal.start_all-requires-clause-open
 start_all-requires-clause-open c =

@@ -21,7 +21,8 @@ start-requires-clause-small c =
 
 pub start-requires-clause-open : goal.start-requires-clause-open
 start-requires-clause-open c =
-    open_start c.loop-before.run c.args.services c.loop-before.before c.loop-before.process _ c.loop-before-test.true c.loop-before.invariant.still
+    open_start c.loop-before.run c.args.services c.loop-before.before c.loop-before.process _ c.loop-before-test.true
+    c.loop-before.invariant.still
 
 pub loop-before-preserved : goal.loop-before-preserved
 loop-before-preserved c =
@@ -29,10 +30,12 @@ loop-before-preserved c =
     let short = line_short (c.args.services - c.loop-before.before) (omega (arith, c.requires.few)) in
     record {
       few = omega (arith, short, before.few, c.in-Ok.ensures.next);
-      still = open_starts c.loop-before.run c.start.new.run c.args.services c.loop-before.before c.loop-before.process c.in-Ok.next c.loop-before-test.true c.in-Ok.ensures.made c.in-Ok.ensures.next before.still;
+      still = open_starts c.loop-before.run c.start.new.run c.args.services c.loop-before.before c.loop-before.process c.in-Ok.next
+          c.loop-before-test.true c.in-Ok.ensures.made c.in-Ok.ensures.next before.still;
       whole = λ now rest.
           before.whole now
-          (starts_more c.loop-before.run c.start.new.run now c.args.services c.loop-before.before c.loop-before.process c.in-Ok.next c.loop-before-test.true
+          (starts_more c.loop-before.run c.start.new.run now c.args.services c.loop-before.before c.loop-before.process c.in-Ok.next
+          c.loop-before-test.true
           c.in-Ok.ensures.made c.in-Ok.ensures.next rest);
     }
 

@@ -8,5 +8,6 @@ abbrev pub invariant-loop-before : goal.invariant-loop-before
 invariant-loop-before l = record {
   few : l.process ≤ 1 + 32 * l.before;
   still : IsOpenTo l.run (starts (l.services - l.before) l.process (l.before + 1));
-  whole : (now : Progress) → Makes l.run (starts (l.services - l.before) l.process (l.before + 1)) now → Makes l.fn.run (starts l.services 1 1) now;
+  whole : (now : Progress) → Makes l.run (starts (l.services - l.before) l.process (l.before + 1)) now
+      → Makes l.fn.run (starts l.services 1 1) now;
 }

@@ -30,7 +30,8 @@ pub returns : goal.returns
 returns c =
     let n = c.args.number in
     subst
-    (λ status. OnOk c.make-3.result (Makes c.args.run.now (at_once LaunchTaken ∷ at_once (Launched n n) ∷ at_once (Report n status) ∷ []) c.make-3.new.self))
+    (λ status. OnOk c.make-3.result (Makes c.args.run.now (at_once LaunchTaken ∷ at_once (Launched n n) ∷ at_once (Report n status) ∷ [])
+    c.make-3.new.self))
     c.told.ensures
     (on_ok c.make-3.result c.make-3.ensures
     (makes_three c.args.run.now c.make.new.self c.make-2.new.self c.make-3.new.self _ _ _ c.in_ok-make.ensures c.in_ok-make-2.ensures))

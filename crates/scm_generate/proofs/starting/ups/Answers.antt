@@ -9,4 +9,5 @@ loop-before-preserved c =
     ups_more c.args.run.now c.loop-before.run c.up.new.run c.args.first c.loop-before.before c.loop-before.invariant c.in-Ok.ensures
 
 pub up-requires : goal.up-requires
-up-requires c = open_up c.args.run.now c.loop-before.run c.args.first c.loop-before.before c.args.count c.loop-before-test.true c.loop-before.invariant c.requires.open
+up-requires c = open_up c.args.run.now c.loop-before.run c.args.first c.loop-before.before c.args.count c.loop-before-test.true
+    c.loop-before.invariant c.requires.open

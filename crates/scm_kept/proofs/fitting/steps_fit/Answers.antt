@@ -7,7 +7,8 @@ use Rattle.scm_kept.proofs.fitting.steps_fit.Goals as goal
 
 pub loop-entry-preserved : goal.loop-entry-preserved
 loop-entry-preserved c =
-    All-more (λ (e : Entry). FitsStep e.1) c.args.steps.now c.loop-entry.entry-index c.entry-item.result c.loop-entry-test.true c.loop-entry.invariant
+    All-more (λ (e : Entry). FitsStep e.1) c.args.steps.now c.loop-entry.entry-index c.entry-item.result c.loop-entry-test.true
+    c.loop-entry.invariant
     (subst (λ (e : Entry). FitsStep e.1) c.entry-item.is c.step_fits.ensures)
 
 pub returns : goal.returns

@@ -1,16 +1,29 @@
 use Rattle.scm_pipe.proofs.Joining.{can_join}
-use Rattle.scm_pipe.proofs.Piping.{complete_at}
+use Rattle.scm_pipe.proofs.Piping.{complete_at, finds_room_at}
 use Rattle.scm_pipe.proofs.alone.serve_alone.Goals as goal
 
 pub serve_root-requires-clause-can : goal.serve_root-requires-clause-can
 serve_root-requires-clause-can g c =
-    can_join c.in-Ok-new.opened.book.opening c.args.manager.limits c.args.manager.flat (g.K.Keeper.held c.args.keeper) (g.K.Keeper.faults c.args.keeper) c.args.principal
+    can_join c.in-Ok-new.opened.book.opening c.args.manager.limits c.args.manager.flat (g.K.Keeper.held c.args.keeper)
+    (g.K.Keeper.faults c.args.keeper) c.args.principal
     c.in-Ok-new.ensures.ok.0 c.requires.begins c.requires.place c.requires.room
 
 pub returns-in-Ok-new-clause-complete : goal.returns-in-Ok-new-clause-complete
 returns-in-Ok-new-clause-complete g c =
     let served = c.serve_root in
-    complete_at g.K.Keeper.held g.K.Keeper.faults (g.C.Clock.tells c.args.clock.now) c.args.principal c.args.manager.limits c.args.manager.flat
-    (g.I.Source.left c.args.input.now) (g.I.Source.left served.new.input) (g.O.Sink.held c.args.output.now) (g.O.Sink.held served.new.output)
-    (g.I.Source.faults c.args.input.now) (g.I.Source.faults served.new.input) (g.O.Sink.faults c.args.output.now) (g.O.Sink.faults served.new.output) c.args.keeper served.result
+    complete_at g.K.Keeper.held g.K.Keeper.faults (g.C.Clock.tells c.args.clock.now) c.args.principal c.args.manager.limits
+    c.args.manager.flat
+    (g.I.Source.left c.args.input.now) (g.I.Source.left served.new.input) (g.O.Sink.held c.args.output.now)
+    (g.O.Sink.held served.new.output)
+    (g.I.Source.faults c.args.input.now) (g.I.Source.faults served.new.input) (g.O.Sink.faults c.args.output.now)
+    (g.O.Sink.faults served.new.output) c.args.keeper served.result
     c.in-Ok-new.opened.book.opening c.in-Ok-new.ensures.ok.0 served.ensures.ended served.ensures.cause
+
+pub returns-in-Ok-new-clause-room : goal.returns-in-Ok-new-clause-room
+returns-in-Ok-new-clause-room g c =
+    let served = c.serve_root in
+    finds_room_at g.K.Keeper.held g.K.Keeper.faults (g.C.Clock.tells c.args.clock.now) c.args.principal c.args.manager.limits
+    c.args.manager.flat
+    (g.I.Source.left c.args.input.now) (g.I.Source.left served.new.input) (g.O.Sink.held c.args.output.now)
+    (g.O.Sink.held served.new.output) c.args.keeper served.result
+    c.in-Ok-new.opened.book.opening c.in-Ok-new.ensures.ok.0 served.ensures.ended

@@ -24,7 +24,8 @@ returns-in-Err-clause-fed g c =
     let b : Point = point c.take.new.manager c.take.new.reading (g.O.Sink.held c.take.new.output) in
     rest_stops l c.args.piece.now c.loop-taken.taken a m b c.in-Err.stop before.on
     (subst (λ k. HaltsIn k (drop c.loop-taken.taken c.args.piece.now) m b c.in-Err.stop) before.keeps.limits
-    (subst (λ xs. HaltsIn c.loop-taken.manager.limits xs m b c.in-Err.stop) (take_rest c.args.piece.now c.loop-taken.taken) c.in-Err.ensures.fed))
+    (subst (λ xs. HaltsIn c.loop-taken.manager.limits xs m b c.in-Err.stop)
+    (take_rest c.args.piece.now c.loop-taken.taken) c.in-Err.ensures.fed))
 
 pub loop-taken-preserved : goal.loop-taken-preserved
 loop-taken-preserved g c =
@@ -41,7 +42,11 @@ loop-taken-preserved g c =
           (subst (λ k. GoesOn k (take c.in-Ok.more (drop c.loop-taken.taken c.args.piece.now)) m b) before.keeps.limits
           (subst (λ xs. GoesOn c.loop-taken.manager.limits (take c.in-Ok.more xs) m b) left on));
       keeps = keeps_more c.args.manager.now c.loop-taken.manager c.take.new.manager c.loop-taken.taken c.in-Ok.more before.keeps
-          (record { limits = c.in-Ok.ensures.keeps.limits; text = c.in-Ok.ensures.keeps.text; steps = omega (arith, c.in-Ok.ensures.keeps.steps, some) });
+          (record {
+            limits = c.in-Ok.ensures.keeps.limits;
+            text = c.in-Ok.ensures.keeps.text;
+            steps = omega (arith, c.in-Ok.ensures.keeps.steps, some);
+          });
       number = omega (arith, before.number, c.in-Ok.ensures.number, some);
       faults = c.in-Ok.ensures.cause.caused ∙ before.faults;
     }

@@ -10,15 +10,18 @@ use Rattle.scm_replay.proofs.making.made_in.Goals as goal
 pub step_at-answer-requires-clause-may : goal.step_at-answer-requires-clause-may
 step_at-answer-requires-clause-may c =
     rw (c.keep_as.ensures, c.kept_as-kept.ensures, c.makes_change.ensures)
-    (may_at c.args.manager.now.limits c.makes_room.new.manager.limits c.args.manager.now.flat c.makes_room.new.manager.flat c.args.line.now.moment c.args.line.now.step c.args.line.now.fails
+    (may_at c.args.manager.now.limits c.makes_room.new.manager.limits c.args.manager.now.flat c.makes_room.new.manager.flat
+    c.args.line.now.moment c.args.line.now.step c.args.line.now.fails
     c.makes_room.ensures.limits c.makes_room.ensures.flat (sym c.may.ensures ∙ c.if-not-may.false))
 
 pub returns-clause-outcome : goal.returns-clause-outcome
 returns-clause-outcome c =
     let old = c.args.manager.now in
     let line = c.args.line.now in
-    let made = made_there old.limits (standing old) line (sym c.may.ensures ∙ c.if-not-may.false) (sym c.finds_room.ensures ∙ c.if-not-finds_room.false) in
-    let told = told_over old.limits c.makes_room.new.manager.limits old.flat c.makes_room.new.manager.flat line c.makes_change.result c.kept_as-kept.result c.keep_as.new.step
+    let made = made_there old.limits (standing old) line (sym c.may.ensures ∙ c.if-not-may.false) (sym c.finds_room.ensures
+    ∙ c.if-not-finds_room.false) in
+    let told = told_over old.limits c.makes_room.new.manager.limits old.flat c.makes_room.new.manager.flat line c.makes_change.result
+    c.kept_as-kept.result c.keep_as.new.step
     c.makes_room.ensures.limits c.makes_room.ensures.flat c.makes_change.ensures c.kept_as-kept.ensures c.keep_as.ensures in
     c.put-2.ensures ∙ ap Answered (c.step_at-answer.ensures.answer ∙ ap (λ t. t.answer) told) ∙ sym (ap (λ o. o.0) made)
 
@@ -26,11 +29,14 @@ pub returns-clause-standing : goal.returns-clause-standing
 returns-clause-standing c =
     let old = c.args.manager.now in
     let line = c.args.line.now in
-    let made = made_there old.limits (standing old) line (sym c.may.ensures ∙ c.if-not-may.false) (sym c.finds_room.ensures ∙ c.if-not-finds_room.false) in
-    let told = told_over old.limits c.makes_room.new.manager.limits old.flat c.makes_room.new.manager.flat line c.makes_change.result c.kept_as-kept.result c.keep_as.new.step
+    let made = made_there old.limits (standing old) line (sym c.may.ensures ∙ c.if-not-may.false) (sym c.finds_room.ensures
+    ∙ c.if-not-finds_room.false) in
+    let told = told_over old.limits c.makes_room.new.manager.limits old.flat c.makes_room.new.manager.flat line c.makes_change.result
+    c.kept_as-kept.result c.keep_as.new.step
     c.makes_room.ensures.limits c.makes_room.ensures.flat c.makes_change.ensures c.kept_as-kept.ensures c.keep_as.ensures in
     let same = ap text_of c.keep_as.ensures ∙ same_text line.step c.kept_as-kept.result in
-    stands_behind (standing old) (standing c.step_at-answer.new.self) line.step (step_of old.limits old.flat line.moment (step_in old.limits old.flat line))
+    stands_behind (standing old) (standing c.step_at-answer.new.self) line.step
+    (step_of old.limits old.flat line.moment (step_in old.limits old.flat line))
     (c.step_at-answer.ensures.flat ∙ ap (λ t. t.flat) told)
     (c.step_at-answer.ensures.steps ∙ ap (λ n. n + 1) c.makes_room.ensures.steps)
     (c.step_at-answer.ensures.text ∙ ap (λ n. n + text_of c.keep_as.new.step) c.makes_room.ensures.text ∙ ap (λ n. old.text + n) same)

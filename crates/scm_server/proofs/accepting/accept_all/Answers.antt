@@ -11,7 +11,8 @@ loop-init g c = record {
 }
 
 pub returns-in-Over-clause-goes : goal.returns-in-Over-clause-goes
-returns-in-Over-clause-goes g c = goes_trans (g.C.Clock.tells c.args.clock.now) c.args.book.now.opening c.args.principal _ _ _ c.loop.invariant.goes c.in-Over.ensures.next.0
+returns-in-Over-clause-goes g c = goes_trans (g.C.Clock.tells c.args.clock.now) c.args.book.now.opening c.args.principal _ _ _
+    c.loop.invariant.goes c.in-Over.ensures.next.0
 
 pub returns-in-Over-clause-ends : goal.returns-in-Over-clause-ends
 returns-in-Over-clause-ends g c = ends_kept c.in-Over.over.is_failed _ _ _ c.loop.invariant.faults c.in-Over.ensures.next.1
@@ -20,6 +21,7 @@ pub loop-preserved : goal.loop-preserved
 loop-preserved g c = record {
   by = c.serve_next.ensures.by;
   of = c.serve_next.ensures.of;
-  goes = goes_trans (g.C.Clock.tells c.args.clock.now) c.args.book.now.opening c.args.principal _ _ _ c.loop.invariant.goes c.in-Came.ensures.next.0;
+  goes = goes_trans (g.C.Clock.tells c.args.clock.now) c.args.book.now.opening c.args.principal _ _ _ c.loop.invariant.goes
+      c.in-Came.ensures.next.0;
   faults = c.in-Came.ensures.next.1 ∙ c.loop.invariant.faults;
 }

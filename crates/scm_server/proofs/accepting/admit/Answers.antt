@@ -9,8 +9,10 @@ returns-in-Ok-clause-goes g c = λ came before come.
     let tells = g.C.Clock.tells c.args.clock.now in
     let o = c.args.book.now.opening in
     let new = c.requires.new in
-    let w = out_of c.args.input.number (g.I.Source.left c.args.input.end) (g.O.Sink.held c.args.output.end) (g.I.Source.faults c.args.input.end) (g.O.Sink.faults c.args.output.end) c.in-Ok.pass in
-    goes_trans tells o c.args.principal _ _ _ (joined_goes tells o c.args.principal c.args.by.now _ came _ _ w before _ c.in-Ok.ensures.by come c.now.ensures c.in-Ok.ensures.ok c.in-Ok.ensures.caller new)
+    let w = out_of c.args.input.number (g.I.Source.left c.args.input.end) (g.O.Sink.held c.args.output.end)
+    (g.I.Source.faults c.args.input.end) (g.O.Sink.faults c.args.output.end) c.in-Ok.pass in
+    goes_trans tells o c.args.principal _ _ _ (joined_goes tells o c.args.principal c.args.by.now _ came _ _ w before _ c.in-Ok.ensures.by
+    come c.now.ensures c.in-Ok.ensures.ok c.in-Ok.ensures.caller new)
     (c.run.ensures.goes c.args.principal before)
 
 pub returns-in-Err-clause-goes : goal.returns-in-Err-clause-goes
@@ -22,5 +24,7 @@ returns-in-Err-clause-goes g c = λ came before come.
     let written = ap (λ (p : PastConnection). p.written) c.end.ensures in
     let reads = ap (λ (p : PastConnection). p.read_faults) c.end.ensures ∙ new.unread in
     let writes = ap (λ (p : PastConnection). p.write_faults) c.end.ensures ∙ new.unfailed in
-    refused_goes tells o c.args.principal c.args.by.now _ came _ _ _ before _ _ c.is_without_memory.ensures _ _ _ _ c.in-Err.ensures.by come c.in-Err.ensures.cause new.unwritten left written reads writes
-    (ap (λ (p : PastConnection). p.number) c.end.ensures) c.note.ensures.left c.note.ensures.accepted c.note.ensures.listened c.note.ensures.faults c.note.ensures.noted
+    refused_goes tells o c.args.principal c.args.by.now _ came _ _ _ before _ _ c.is_without_memory.ensures _ _ _ _ c.in-Err.ensures.by come
+    c.in-Err.ensures.cause new.unwritten left written reads writes
+    (ap (λ (p : PastConnection). p.number) c.end.ensures) c.note.ensures.left c.note.ensures.accepted c.note.ensures.listened
+    c.note.ensures.faults c.note.ensures.noted

@@ -9,7 +9,8 @@ returns-clause-goes g c =
     let first = c.join_runner-ticks.ensures in
     let next = c.join_runner-launches.ensures in
     let last = c.join_runner-serves.ensures in
-    (all_seen (g.C.Clock.tells c.args.clock.now) c.args.book.now.opening c.args.root.now _ _ _ _ _ _ _ c.join-ticked.result.0 served.launched.spent served.both.pass _ _ _ first.by first.runner c.tick-how.ensures.ends next.runner next.by last.runner last.by
+    (all_seen (g.C.Clock.tells c.args.clock.now) c.args.book.now.opening c.args.root.now _ _ _ _ _ _ _ c.join-ticked.result.0
+    served.launched.spent served.both.pass _ _ _ first.by first.runner c.tick-how.ensures.ends next.runner next.by last.runner last.by
     c.join-ticked.ensures.first.1 c.join-ticked.ensures.second.1.0 c.join-ticked.ensures.second.1.1.1.0 c.take_all.ensures.takes).goes
 
 pub returns-clause-serves : goal.returns-clause-serves
@@ -20,8 +21,11 @@ returns-clause-serves g c =
     let last = c.join_runner-serves.ensures in
     let tells = g.C.Clock.tells c.args.clock.now in
     let o = c.args.book.now.opening in
-    let tell : g.row.N.Denot → Told = λ n. told (g.N.Listener.left n) (g.N.Listener.accepted n) (g.N.Listener.noted n) (g.N.Listener.listened n) (g.N.Listener.faults n) in
-    let seen = all_seen tells o c.args.root.now _ _ _ _ _ _ _ c.join-ticked.result.0 served.launched.spent served.both.pass _ _ _ first.by first.runner c.tick-how.ensures.ends next.runner next.by last.runner last.by c.join-ticked.ensures.first.1
+    let tell : g.row.N.Denot → Told = λ n. told (g.N.Listener.left n) (g.N.Listener.accepted n) (g.N.Listener.noted n)
+    (g.N.Listener.listened n) (g.N.Listener.faults n) in
+    let seen = all_seen tells o c.args.root.now _ _ _ _ _ _ _ c.join-ticked.result.0 served.launched.spent served.both.pass _ _ _ first.by
+    first.runner c.tick-how.ensures.ends next.runner next.by last.runner last.by c.join-ticked.ensures.first.1
     c.join-ticked.ensures.second.1.0 c.join-ticked.ensures.second.1.1.1.0 c.take_all.ensures.takes in
-    served_as tells o _ served.both.end c.take_all.result.end (tell c.args.admin) (tell served.both.admin) (tell c.take_all.result.admin) (tell c.args.user) (tell served.both.user) (tell c.take_all.result.user) c.take_all.ensures.end
+    served_as tells o _ served.both.end c.take_all.result.end (tell c.args.admin) (tell served.both.admin) (tell c.take_all.result.admin)
+    (tell c.args.user) (tell served.both.user) (tell c.take_all.result.user) c.take_all.ensures.end
     (ap tell c.take_all.ensures.admin) (ap tell c.take_all.ensures.user) (c.join-ticked.ensures.second.1.1.1.1.0 _ seen.within seen.legal)

@@ -15,5 +15,6 @@ loop-by-preserved g c = record {
   by = c.join_at-one.ensures.by;
   of = c.join_at-one.ensures.of;
   only = only_trans _ _ _ c.loop-by.invariant.only c.join_at-one.ensures.only;
-  goes = rw c.is_either-is_short.ensures (continue_trans (g.C.Clock.tells c.args.clock.now) c.args.book.now.opening _ _ _ _ _ _ _ _ _ _ _ c.loop-by.invariant.goes c.join_at-one.ensures.goes);
+  goes = rw c.is_either-is_short.ensures (continue_trans (g.C.Clock.tells c.args.clock.now) c.args.book.now.opening _ _ _ _ _ _ _ _ _ _ _
+      c.loop-by.invariant.goes c.join_at-one.ensures.goes);
 }

@@ -8,13 +8,19 @@ use Rattle.scm_shapes.proofs.levels.read_trigger_heads.Goals as goal
 pub returns-in_err-head-clause-value : goal.returns-in_err-head-clause-value
 returns-in_err-head-clause-value c =
     let p = err_from_is_err_and c.from_residual.result c.from_residual.ensures.1 in
-    rw (p.1, p.2) (ends trigger_head_at c.in_err-head.field-0.0 c.loop.heads c.args.count c.loop.counter c.loop.reader.body c.loop.reader.place (each_at trigger_head_at c.args.count c.args.reader.now.body c.args.reader.now.place) c.loop-test.true c.in_err-head.ensures.value c.loop.invariant.so_far)
+    rw (p.1, p.2) (ends trigger_head_at c.in_err-head.field-0.0 c.loop.heads c.args.count c.loop.counter c.loop.reader.body
+    c.loop.reader.place (each_at trigger_head_at c.args.count c.args.reader.now.body c.args.reader.now.place) c.loop-test.true
+    c.in_err-head.ensures.value c.loop.invariant.so_far)
 
 pub loop-preserved : goal.loop-preserved
 loop-preserved c =
-    let longer = pushed (c.push.new.self ≡ c.loop.heads ++ c.in_ok-head.head ∷ []) c.push.result c.if-is_err.ensures.value c.push.ensures.ok in
-    let read = goes_on trigger_head_at c.loop.heads c.args.count c.loop.counter c.loop.reader.body c.loop.reader.place c.in_ok-head.head c.read_trigger_head.new.reader.place (each_at trigger_head_at c.args.count c.args.reader.now.body c.args.reader.now.place) c.loop-test.true c.in_ok-head.ensures.value c.loop.invariant.so_far in
+    let longer = pushed (c.push.new.self ≡ c.loop.heads ++ c.in_ok-head.head ∷ []) c.push.result c.if-is_err.ensures.value c.push.ensures.ok
+    in
+    let read = goes_on trigger_head_at c.loop.heads c.args.count c.loop.counter c.loop.reader.body c.loop.reader.place c.in_ok-head.head
+    c.read_trigger_head.new.reader.place (each_at trigger_head_at c.args.count c.args.reader.now.body c.args.reader.now.place)
+    c.loop-test.true c.in_ok-head.ensures.value c.loop.invariant.so_far in
     record { so_far = rw (longer, c.in_ok-head.ensures.body) read; body = c.in_ok-head.ensures.body ∙ c.loop.invariant.body }
 
 pub returns-clause-value : goal.returns-clause-value
-returns-clause-value c = is_done trigger_head_at c.loop.heads c.args.count c.loop.counter c.loop.reader.body c.loop.reader.place (each_at trigger_head_at c.args.count c.args.reader.now.body c.args.reader.now.place) c.loop-test.false c.loop.invariant.so_far
+returns-clause-value c = is_done trigger_head_at c.loop.heads c.args.count c.loop.counter c.loop.reader.body c.loop.reader.place
+    (each_at trigger_head_at c.args.count c.args.reader.now.body c.args.reader.now.place) c.loop-test.false c.loop.invariant.so_far

@@ -11,7 +11,8 @@ returns-in-Ok c =
     let numbers = c.args.numbers.now in
     let behind = c.append_handle.ensures.items ∙ ap (λ (held : List ℕ). held ++ handle_bytes handle) c.in-Ok.ensures.items in
     record {
-      ok = c.append_numbers.ensures ∙ ap (λ (held : List ℕ). held ++ flat_map number_bytes numbers) behind ∙ append_assoc front (handle_bytes handle) (flat_map number_bytes numbers)
+      ok = c.append_numbers.ensures ∙ ap (λ (held : List ℕ). held ++ flat_map number_bytes numbers) behind
+          ∙ append_assoc front (handle_bytes handle) (flat_map number_bytes numbers)
           ∙ ap (λ (body : List ℕ). front ++ body) (sym (handle_at_once handle numbers));
       err = tt;
       enough = λ le. refl;

@@ -8,7 +8,11 @@ pub loop-preserved : goal.loop-preserved
 loop-preserved c =
     let more = referent_more c.args.count c.loop.counter c.loop.writer.draft c.loop-test.true in
     let put = c.in_ok-referent.ensures.ok in
-    record { front = c.in_ok-referent.ensures.front ∙ c.loop.invariant.front; draft = rw put (sym more ∙ c.loop.invariant.draft); space = omega (arith, c.in_ok-referent.ensures.space, c.loop.invariant.space) }
+    record {
+      front = c.in_ok-referent.ensures.front ∙ c.loop.invariant.front;
+      draft = rw put (sym more ∙ c.loop.invariant.draft);
+      space = omega (arith, c.in_ok-referent.ensures.space, c.loop.invariant.space);
+    }
 
 pub returns-clause-ok : goal.returns-clause-ok
 returns-clause-ok c = sym (no_referent c.args.count c.loop.counter c.loop.writer.draft c.loop-test.false) ∙ c.loop.invariant.draft

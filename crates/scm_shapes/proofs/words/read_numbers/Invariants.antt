@@ -5,4 +5,8 @@ use Rattle.scm_shapes.proofs.Loop.{with_front}
 use Rattle.scm_shapes.proofs.words.read_numbers.Given as goal
 
 abbrev pub invariant-loop : goal.invariant-loop
-invariant-loop l = record { so_far : with_front l.numbers (each_at number_at (l.count - l.counter) l.reader.body l.reader.place) ≡ each_at number_at l.count l.fn.reader.body l.fn.reader.place; body : l.reader.body ≡ l.fn.reader.body }
+invariant-loop l = record {
+  so_far : with_front l.numbers (each_at number_at (l.count - l.counter) l.reader.body l.reader.place) ≡ each_at
+      number_at l.count l.fn.reader.body l.fn.reader.place;
+  body : l.reader.body ≡ l.fn.reader.body;
+}

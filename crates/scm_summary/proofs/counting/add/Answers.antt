@@ -8,5 +8,6 @@ raise-requires c =
 
 pub returns : goal.returns
 returns c =
-    counts_one c.args.trail.now.entries _ c.args.place c.in_ok-counted.field-0.joined c.args.counts.now c.raise.new.counts c.in_ok-counted.field-0.calling
+    counts_one c.args.trail.now.entries _ c.args.place c.in_ok-counted.field-0.joined c.args.counts.now c.raise.new.counts
+    c.in_ok-counted.field-0.calling
     c.in_ok-counted.ensures c.requires.counts c.raise.ensures

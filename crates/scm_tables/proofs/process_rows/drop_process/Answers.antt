@@ -15,17 +15,20 @@ returns-in-None-clause-rows c = nothing_gone number_of c.args.number c.as_slice.
 
 pub returns-in-Some-clause-rows : goal.returns-in-Some-clause-rows
 returns-in-Some-clause-rows c =
-    c.remove-gone.ensures.items ∙ gone_at number_of c.args.number c.as_slice.ensures.value c.in-Some.ensures.within c.in-Some.ensures.found c.requires.rising c.remove-gone.result
+    c.remove-gone.ensures.items ∙ gone_at number_of c.args.number c.as_slice.ensures.value c.in-Some.ensures.within c.in-Some.ensures.found
+    c.requires.rising c.remove-gone.result
 
 pub overflow_sub-result : goal.overflow_sub-result
 overflow_sub-result c =
     let rows = c.args.rows.now.items in
     let within = subst (λ (rs : List ProcessRow). c.in-Some.place < length rs) c.as_slice.ensures.value c.in-Some.ensures.within in
-    owed_enough rows c.in-Some.place c.remove-gone.result within c.requires.owed (c.owed_in_phase.ensures ∙ ap (λ (row : ProcessRow). owed_in_phase row.phase) c.remove-gone.ensures.value)
+    owed_enough rows c.in-Some.place c.remove-gone.result within c.requires.owed (c.owed_in_phase.ensures
+    ∙ ap (λ (row : ProcessRow). owed_in_phase row.phase) c.remove-gone.ensures.value)
 
 pub returns-in-Some-clause-owed : goal.returns-in-Some-clause-owed
 returns-in-Some-clause-owed c =
     let rows = c.args.rows.now.items in
     let within = subst (λ (rs : List ProcessRow). c.in-Some.place < length rs) c.as_slice.ensures.value c.in-Some.ensures.within in
-    owed_without rows c.in-Some.place c.remove-gone.result within c.requires.owed (c.owed_in_phase.ensures ∙ ap (λ (row : ProcessRow). owed_in_phase row.phase) c.remove-gone.ensures.value)
+    owed_without rows c.in-Some.place c.remove-gone.result within c.requires.owed (c.owed_in_phase.ensures
+    ∙ ap (λ (row : ProcessRow). owed_in_phase row.phase) c.remove-gone.ensures.value)
     ∙ sym (ap owed_in c.remove-gone.ensures.items)

@@ -15,25 +15,34 @@ pub overflow_sub-result : goal.overflow_sub-result
 overflow_sub-result c =
     let rows = c.args.rows.now.items in
     let within = subst (λ (rs : List ProcessRow). c.in-Some.place < length rs) c.as_slice.ensures.value c.in-Some.ensures.within in
-    owed_enough rows c.in-Some.place c.index.result.now within c.requires.owed (c.owed_in_phase-before.ensures ∙ ap (λ (row : ProcessRow). owed_in_phase row.phase) c.index.ensures)
+    owed_enough rows c.in-Some.place c.index.result.now within c.requires.owed (c.owed_in_phase-before.ensures
+    ∙ ap (λ (row : ProcessRow). owed_in_phase row.phase) c.index.ensures)
 
 pub overflow_add-result : goal.overflow_add-result
 overflow_add-result c =
     let short = subst (λ (rs : List ProcessRow). length rs < 2 ^ 64) c.as_slice.ensures.value c.in-Some.ensures.few in
-    omega (arith, owed_fits c.args.rows.now.items c.args.owed c.owed_in_phase-before.result c.owed_in_phase.result short c.requires.owed (omega (arith, c.owed_in_phase.ensures)))
+    omega (
+      arith,
+      owed_fits c.args.rows.now.items c.args.owed c.owed_in_phase-before.result c.owed_in_phase.result short c.requires.owed
+          (omega (arith, c.owed_in_phase.ensures)),
+    )
 
 pub returns-in-Some-clause-owed : goal.returns-in-Some-clause-owed
 returns-in-Some-clause-owed c =
     let rows = c.args.rows.now.items in
     let within = subst (λ (rs : List ProcessRow). c.in-Some.place < length rs) c.as_slice.ensures.value c.in-Some.ensures.within in
-    owed_after rows c.in-Some.place c.index.result.now within c.requires.owed (c.owed_in_phase-before.ensures ∙ ap (λ (row : ProcessRow). owed_in_phase row.phase) c.index.ensures)
+    owed_after rows c.in-Some.place c.index.result.now within c.requires.owed (c.owed_in_phase-before.ensures
+    ∙ ap (λ (row : ProcessRow). owed_in_phase row.phase) c.index.ensures)
     c.take_row.new.row (c.owed_in_phase.ensures ∙ sym (ap (λ (row : ProcessRow). owed_in_phase row.phase) c.take_row.ensures))
 
 pub returns-in-None-clause-rows : goal.returns-in-None-clause-rows
 returns-in-None-clause-rows c =
-    unchanged number_of c.args.number (listed_as (taken_if c.args.number)) (taken_elsewhere c.args.number) c.as_slice.ensures.value c.in-None.ensures.none
+    unchanged number_of c.args.number (listed_as (taken_if c.args.number))
+    (taken_elsewhere c.args.number) c.as_slice.ensures.value c.in-None.ensures.none
 
 pub returns-in-Some-clause-rows : goal.returns-in-Some-clause-rows
 returns-in-Some-clause-rows c =
     rw (c.take_row.ensures, c.index_mut.ensures.value)
-    (changed_at number_of c.args.number (listed_as (taken_if c.args.number)) (taken_elsewhere c.args.number) taken (taken_here c.args.number) c.as_slice.ensures.value c.in-Some.ensures.within c.in-Some.ensures.found c.requires.rising c.index_mut.result.now)
+    (changed_at number_of c.args.number (listed_as (taken_if c.args.number)) (taken_elsewhere c.args.number) taken
+    (taken_here c.args.number) c.as_slice.ensures.value c.in-Some.ensures.within c.in-Some.ensures.found c.requires.rising
+    c.index_mut.result.now)

@@ -10,4 +10,5 @@ returns-in-Some g c =
     let rows = c.args.rows.now.services in
     let told = subst (λ (o : Option ℕ). IfSome o (NoOtherHas c.args.process rows)) c.in-Some.is c.requires.told in
     ap (λ (t : Recorded). t.services) c.alter-found.ensures.table
-    ∙ altered_owner c.args.process c.in-Some.service (g.C.Change.changed c.args.change.now) c.if-process-ne0.true c.requires.others rows told
+    ∙ altered_owner c.args.process c.in-Some.service (g.C.Change.changed c.args.change.now) c.if-process-ne0.true c.requires.others rows
+    told

@@ -14,4 +14,5 @@ returns c =
     let config = c.args.config in
     ap (λ (t : Recorded). t.services) c.alter-found.ensures.table
     ∙ ap (λ (t : Recorded). map (altered_at number_of n (typed config.kind)) t.services) c.replace-before.ensures.table
-    ∙ altered_twice n (with_config config) (typed config.kind) (configured_if n config) (λ (row : Service). refl) (configured_here n config) (configured_elsewhere n config) c.args.rows.now.services
+    ∙ altered_twice n (with_config config) (typed config.kind) (configured_if n config) (λ (row : Service). refl) (configured_here n config)
+    (configured_elsewhere n config) c.args.rows.now.services

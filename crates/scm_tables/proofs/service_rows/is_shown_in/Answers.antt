@@ -7,11 +7,13 @@ pub returns-then-is_some : goal.returns-then-is_some
 returns-then-is_some c =
     let rows = c.args.rows.now.services in
     let text = c.args.text.now in
-    or_then _ _ _ _ (c.is_some.ensures ∙ ap is_some c.by_name.ensures.number ∙ some_passes (is_named text) rows) c.if-is_some.true (any_or (is_named text) (is_displayed text) rows)
+    or_then _ _ _ _ (c.is_some.ensures ∙ ap is_some c.by_name.ensures.number ∙ some_passes (is_named text) rows) c.if-is_some.true
+    (any_or (is_named text) (is_displayed text) rows)
 
 pub returns-else-is_some : goal.returns-else-is_some
 returns-else-is_some c =
     let rows = c.args.rows.now.services in
     let text = c.args.text.now in
     or_else _ _ _ _ _ (c.is_some.ensures ∙ ap is_some c.by_name.ensures.number ∙ some_passes (is_named text) rows) c.if-is_some.false
-    (c.is_some-else-is_some.ensures ∙ ap is_some c.by_display.ensures.number ∙ some_passes (is_displayed text) rows) (any_or (is_named text) (is_displayed text) rows)
+    (c.is_some-else-is_some.ensures ∙ ap is_some c.by_display.ensures.number ∙ some_passes (is_displayed text) rows)
+    (any_or (is_named text) (is_displayed text) rows)

@@ -10,4 +10,5 @@ returns-in-Some-clause-awaited c = λ rows told.
     let process = c.args.process in
     let slept = c.args.plans.now.awaited in
     subst (λ (ns : List ℕ). AreWokenFor process rows slept ns) (sym c.wake.ensures.awaited)
-    (woken_said process c.in-Some.service rows slept c.if-process-ne0.true (subst (λ (o : Option ℕ). IfSome o (NoOtherHas process rows)) c.in-Some.is told))
+    (woken_said process c.in-Some.service rows slept c.if-process-ne0.true
+    (subst (λ (o : Option ℕ). IfSome o (NoOtherHas process rows)) c.in-Some.is told))

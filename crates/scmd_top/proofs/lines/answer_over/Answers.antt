@@ -1,6 +1,6 @@
 use Rattle.scm_replay.specs.Outcomes.{standing}
 use Rattle.scmd_top.specs.Sides.{side}
-use Rattle.scmd_top.proofs.Replays.{complete_over}
+use Rattle.scmd_top.proofs.Replays.{answered_over, complete_over}
 use Rattle.scmd_top.proofs.lines.answer_over.Goals as goal
 
 pub returns-in-Ok-clause-complete : goal.returns-in-Ok-clause-complete
@@ -8,6 +8,18 @@ returns-in-Ok-clause-complete g c =
     let how = c.replay-how in
     rw c.status_of_replay.ensures
     (complete_over how.result
+    (record {
+      input = side g.I.Source.left g.I.Source.faults c.args.input.now how.new.input;
+      output = side g.O.Sink.held g.O.Sink.faults c.args.output.now how.new.output;
+      keeper = side g.K.Keeper.held g.K.Keeper.faults c.args.keeper.now c.open_stored.new.keeper;
+    })
+    _ (standing how.new.manager) c.in-Ok.ensures how.ensures.replayed how.ensures.cause)
+
+pub returns-in-Ok-clause-run : goal.returns-in-Ok-clause-run
+returns-in-Ok-clause-run g c =
+    let how = c.replay-how in
+    rw c.status_of_replay.ensures
+    (answered_over how.result
     (record {
       input = side g.I.Source.left g.I.Source.faults c.args.input.now how.new.input;
       output = side g.O.Sink.held g.O.Sink.faults c.args.output.now how.new.output;

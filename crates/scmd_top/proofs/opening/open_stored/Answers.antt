@@ -15,4 +15,5 @@ returns g c =
 
 pub returns-in_default : goal.returns-in_default
 returns-in_default g c =
-    untouched_so (side g.K.Keeper.held g.K.Keeper.faults c.args.keeper.now c.args.keeper.now) (groups_in (lent c.args.names)) c.args.moment refl
+    untouched_so (side g.K.Keeper.held g.K.Keeper.faults c.args.keeper.now c.args.keeper.now)
+    (groups_in (lent c.args.names)) c.args.moment refl

@@ -1,7 +1,7 @@
 use Rattle.std.proofs.Common.{inl}
 use Rattle.record_journal.specs.Keepers.{has_path}
 use Rattle.scmd_top.specs.Sides.{side, sides_of}
-use Rattle.scmd_top.proofs.Connected.{come, complete_always, complete_pipe}
+use Rattle.scmd_top.proofs.Connected.{come, complete_pipe, room_always}
 use Rattle.scmd_top.proofs.pipe.pipe_main.Goals as goal
 
 pub returns-in-Ok-clause-run : goal.returns-in-Ok-clause-run
@@ -10,8 +10,10 @@ returns-in-Ok-clause-run g c =
     inl (record {
       how = how.result.how;
       status_is = c.status_of.ensures;
-      come = come g.K.Keeper.held g.K.Keeper.faults (g.C.Clock.tells c.args.world.clock) (has_path c.args.path) c.args.principal c.now-moment.result _
-          (side g.I.Source.left g.I.Source.faults c.args.world.input how.new.input) (side g.O.Sink.held g.O.Sink.faults c.args.world.output how.new.output)
+      come = come g.K.Keeper.held g.K.Keeper.faults (g.C.Clock.tells c.args.world.clock)
+          (has_path c.args.path) c.args.principal c.now-moment.result _
+          (side g.I.Source.left g.I.Source.faults c.args.world.input how.new.input)
+          (side g.O.Sink.held g.O.Sink.faults c.args.world.output how.new.output)
           c.args.world.keeper c.open_at.new.keeper how.result c.now-moment.ensures c.in-Ok.ensures how.ensures.ended;
       cause = how.ensures.cause;
     })
@@ -22,7 +24,16 @@ returns-in-Ok-clause-complete g c =
     rw c.status_of.ensures
     (complete_pipe (has_path c.args.path) c.args.principal
     (sides_of g.I.Source.left g.I.Source.faults g.O.Sink.held g.O.Sink.faults g.K.Keeper.held g.K.Keeper.faults c.args.world
-    (record { input = how.new.input; output = how.new.output; keeper = how.result.keeper; admin = c.args.world.admin; user = c.args.world.user; spawner = c.args.world.spawner; clock = c.args.world.clock }))
-    how.result.how
-    (complete_always (has_path c.args.path) c.args.principal c.now-moment.result _ (side g.K.Keeper.held g.K.Keeper.faults c.args.world.keeper c.open_at.new.keeper) _ _ _ _ _ how.result.how
-    c.in-Ok.ensures how.ensures.complete))
+    (record {
+      input = how.new.input;
+      output = how.new.output;
+      keeper = how.result.keeper;
+      admin = c.args.world.admin;
+      user = c.args.world.user;
+      spawner = c.args.world.spawner;
+      clock = c.args.world.clock;
+    }))
+    how.result.how how.ensures.complete
+    (room_always (has_path c.args.path) c.args.principal c.now-moment.result _
+    (side g.K.Keeper.held g.K.Keeper.faults c.args.world.keeper c.open_at.new.keeper) _ how.result.how
+    c.in-Ok.ensures how.ensures.room))

@@ -5,4 +5,5 @@ use Rattle.service_listing.proofs.levels.put_wide.Given as goal
 
 -- with the numbers that are left they are all numbers
 abbrev pub invariant-loop-number : goal.invariant-loop-number
-invariant-loop-number l = l.out ++ flat_map (to_le_bytes w32) (drop l.number-index l.numbers) ≡ l.initial.out ++ flat_map (to_le_bytes w32) l.numbers
+invariant-loop-number l = l.out ++ flat_map (to_le_bytes w32) (drop l.number-index l.numbers) ≡ l.initial.out
+    ++ flat_map (to_le_bytes w32) l.numbers

@@ -5,4 +5,5 @@ use Rattle.service_listing.proofs.writing.put_names.Given as goal
 
 -- with the names that are left they are all names
 abbrev pub invariant-loop-service : goal.invariant-loop-service
-invariant-loop-service l = l.out ++ flat_map names_bytes (map (λ s. s.now) (drop l.service-index l.services)) ≡ l.initial.out ++ flat_map names_bytes (map (λ s. s.now) l.services)
+invariant-loop-service l = l.out ++ flat_map names_bytes (map (λ s. s.now) (drop l.service-index l.services)) ≡ l.initial.out
+    ++ flat_map names_bytes (map (λ s. s.now) l.services)

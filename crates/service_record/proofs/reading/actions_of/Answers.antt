@@ -6,11 +6,15 @@ use Rattle.service_record.proofs.reading.actions_of.Goals as goal
 pub returns-in_err-action : goal.returns-in_err-action
 returns-in_err-action c =
     let p = err_from_is_err_and c.from_residual.result c.from_residual.ensures.1 in
-    rw (p.1, p.2) (ends take_action c.in_err-action.field-0.0 c.loop.actions.items c.args.count c.loop.counter c.loop.rest.now (take_items take_action c.args.count c.args.bytes.now) c.loop-test.true c.in_err-action.ensures c.loop.invariant)
+    rw (p.1, p.2) (ends take_action c.in_err-action.field-0.0 c.loop.actions.items c.args.count c.loop.counter c.loop.rest.now
+    (take_items take_action c.args.count c.args.bytes.now) c.loop-test.true c.in_err-action.ensures c.loop.invariant)
 
 pub loop-preserved : goal.loop-preserved
 loop-preserved c =
-    rw c.in_ok-push.ensures.items (goes_on take_action c.loop.actions.items c.args.count c.loop.counter c.loop.rest.now c.in_ok-action.action c.in_ok-action.after.now (take_items take_action c.args.count c.args.bytes.now) c.loop-test.true c.in_ok-action.ensures c.loop.invariant)
+    rw c.in_ok-push.ensures.items (goes_on take_action c.loop.actions.items c.args.count c.loop.counter c.loop.rest.now
+    c.in_ok-action.action c.in_ok-action.after.now (take_items take_action c.args.count c.args.bytes.now) c.loop-test.true
+    c.in_ok-action.ensures c.loop.invariant)
 
 pub returns : goal.returns
-returns c = is_done take_action c.loop.actions.items c.args.count c.loop.counter c.loop.rest.now (take_items take_action c.args.count c.args.bytes.now) c.loop-test.false c.loop.invariant
+returns c = is_done take_action c.loop.actions.items c.args.count c.loop.counter c.loop.rest.now
+    (take_items take_action c.args.count c.args.bytes.now) c.loop-test.false c.loop.invariant

@@ -6,11 +6,14 @@ use Rattle.service_record.proofs.reading.needs_of.Goals as goal
 pub returns-in_err-need : goal.returns-in_err-need
 returns-in_err-need c =
     let p = err_from_is_err_and c.from_residual.result c.from_residual.ensures.1 in
-    rw (p.1, p.2) (ends take_need c.in_err-need.field-0.0 c.loop.needs.items c.args.count c.loop.counter c.loop.rest.now (take_items take_need c.args.count c.args.bytes.now) c.loop-test.true c.in_err-need.ensures c.loop.invariant)
+    rw (p.1, p.2) (ends take_need c.in_err-need.field-0.0 c.loop.needs.items c.args.count c.loop.counter c.loop.rest.now
+    (take_items take_need c.args.count c.args.bytes.now) c.loop-test.true c.in_err-need.ensures c.loop.invariant)
 
 pub loop-preserved : goal.loop-preserved
 loop-preserved c =
-    rw c.in_ok-push.ensures.items (goes_on take_need c.loop.needs.items c.args.count c.loop.counter c.loop.rest.now c.in_ok-need.need c.in_ok-need.after.now (take_items take_need c.args.count c.args.bytes.now) c.loop-test.true c.in_ok-need.ensures c.loop.invariant)
+    rw c.in_ok-push.ensures.items (goes_on take_need c.loop.needs.items c.args.count c.loop.counter c.loop.rest.now c.in_ok-need.need
+    c.in_ok-need.after.now (take_items take_need c.args.count c.args.bytes.now) c.loop-test.true c.in_ok-need.ensures c.loop.invariant)
 
 pub returns : goal.returns
-returns c = is_done take_need c.loop.needs.items c.args.count c.loop.counter c.loop.rest.now (take_items take_need c.args.count c.args.bytes.now) c.loop-test.false c.loop.invariant
+returns c = is_done take_need c.loop.needs.items c.args.count c.loop.counter c.loop.rest.now
+    (take_items take_need c.args.count c.args.bytes.now) c.loop-test.false c.loop.invariant

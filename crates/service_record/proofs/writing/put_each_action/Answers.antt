@@ -7,5 +7,6 @@ use Rattle.service_record.proofs.writing.put_each_action.Goals as goal
 pub loop-value-preserved : goal.loop-value-preserved
 loop-value-preserved c = record {
   bytes = grind (arith, common_steps);
-  fit = All-more IsAction c.args.actions.now c.loop-value.value-index _ c.loop-value-test.true c.loop-value.invariant.fit (c.in_ok-put_action.ensures.fits);
+  fit = All-more IsAction c.args.actions.now c.loop-value.value-index _ c.loop-value-test.true c.loop-value.invariant.fit
+      (c.in_ok-put_action.ensures.fits);
 }

@@ -8,5 +8,6 @@ pub returns : goal.returns
 returns c =
     let all = total owed_by_plan (plans_in c.args.slots.now) in
     let done : min (c.loop-slot.owed + total owed_by_plan []) 18446744073709551615 ≡ min all 18446744073709551615 =
-    subst (λ slots. min (c.loop-slot.owed + total owed_by_plan (plans_in slots)) 18446744073709551615 ≡ min all 18446744073709551615) (drop_all c.loop-slot.slot-index c.args.slots.now c.loop-slot-test.false) c.loop-slot.invariant.counted in
+    subst (λ slots. min (c.loop-slot.owed + total owed_by_plan (plans_in slots)) 18446744073709551615 ≡ min all 18446744073709551615)
+    (drop_all c.loop-slot.slot-index c.args.slots.now c.loop-slot-test.false) c.loop-slot.invariant.counted in
     omega (arith, done, c.loop-slot.invariant.most)

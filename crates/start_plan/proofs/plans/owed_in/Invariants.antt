@@ -6,6 +6,7 @@ use Rattle.start_plan.proofs.plans.owed_in.Given as goal
 -- what was counted, and the plans that are left
 abbrev pub invariant-loop-slot : goal.invariant-loop-slot
 invariant-loop-slot l = record {
-  counted : min (l.owed + total owed_by_plan (plans_in (drop l.slot-index l.slots))) (2 ^ 64 - 1) ≡ min (total owed_by_plan (plans_in l.slots)) (2 ^ 64 - 1);
+  counted : min (l.owed + total owed_by_plan (plans_in (drop l.slot-index l.slots))) (2 ^ 64 - 1) ≡ min
+      (total owed_by_plan (plans_in l.slots)) (2 ^ 64 - 1);
   most : l.owed ≤ 2 ^ 64 - 1;
 }

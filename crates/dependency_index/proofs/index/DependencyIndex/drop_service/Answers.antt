@@ -10,7 +10,9 @@ invariant_of-self c =
     let left = rw c.as_slice.ensures.value at c.leave_lists.ensures.lists in
     record {
       once = c.take_out.ensures.once;
-      rising = rw c.take_out.ensures.rows (rising_filter (λ (row : NeedRow). not (has_number c.args.service row)) rows c.self.invariant.rising);
+      rising = rw c.take_out.ensures.rows (rising_filter (λ (row : NeedRow). not (has_number c.args.service row)) rows
+          c.self.invariant.rising);
       lists = rw c.take_out.ensures.rows (still_of _ _ _ c.forget_texts.ensures left);
-      room = tt;
+      room = rw c.take.ensures.after tt;
+      next = rw c.take-2.ensures.after tt;
     }

@@ -9,10 +9,12 @@ puts c =
     (when_ok c.insert-before.result c.insert-before.ensures.updates (c.insert-before.ensures.succeeds (omega (arith, room)))).0
 
 pub invariant_of-self : goal.invariant_of-self
-invariant_of-self c = pushed_numbered c.self.inside.map.entries c.insert-before.new.self.entries c.args.row c.self.invariant c.insert-before.ensures.unique (puts c)
+invariant_of-self c = pushed_numbered c.self.inside.map.entries c.insert-before.new.self.entries c.args.row c.self.invariant
+    c.insert-before.ensures.unique (puts c)
 
 pub returns-clause-items : goal.returns-clause-items
 returns-clause-items c =
     rw (← c.self.view_is)
     (pushed_is c.self.inside.map.entries c.insert-before.new.self.entries c.args.row c.self.invariant
-    (pushed_numbered c.self.inside.map.entries c.insert-before.new.self.entries c.args.row c.self.invariant c.insert-before.ensures.unique (puts c)) (puts c) (rw (← c.self.view_is) at c.requires.above))
+    (pushed_numbered c.self.inside.map.entries c.insert-before.new.self.entries c.args.row c.self.invariant c.insert-before.ensures.unique
+    (puts c)) (puts c) (rw (← c.self.view_is) at c.requires.above))

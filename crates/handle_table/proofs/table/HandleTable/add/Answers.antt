@@ -7,11 +7,23 @@ use Rattle.handle_table.proofs.table.HandleTable.add.Goals as goal
 
 pub raise_kind-requires-clause-fits : goal.raise_kind-requires-clause-fits
 raise_kind-requires-clause-fits c = λ (service : ℕ).
-    omega (arith, c.self.invariant.services service, few (is_row_of service) c.self.inside.rows.items, c.len-len.ensures.len, c.len-len.ensures.small)
+    omega (
+      arith,
+      c.self.invariant.services service,
+      few (is_row_of service) c.self.inside.rows.items,
+      c.len-len.ensures.len,
+      c.len-len.ensures.small,
+    )
 
 pub raise-requires-clause-fits : goal.raise-requires-clause-fits
 raise-requires-clause-fits c =
-    omega (arith, c.self.invariant.callers c.args.caller, few (is_callers c.args.caller) c.self.inside.rows.items, c.len-len.ensures.len, c.len-len.ensures.small)
+    omega (
+      arith,
+      c.self.invariant.callers c.args.caller,
+      few (is_callers c.args.caller) c.self.inside.rows.items,
+      c.len-len.ensures.len,
+      c.len-len.ensures.small,
+    )
 
 pub invariant_of-self : goal.invariant_of-self
 invariant_of-self c =
@@ -19,13 +31,17 @@ invariant_of-self c =
     let new : HandleRow = record { number = c.self.inside.next; caller = c.args.caller; kind = c.args.kind; granted = c.args.granted } in
     rw c.push.ensures.items (record {
       services = λ (service : ℕ).
-          c.raise_kind.ensures service ∙ ap (λ m. cond (is_of_service service c.args.kind) (m + 1) m) (c.self.invariant.services service) ∙ sym (raised (is_row_of service) rows new);
+          c.raise_kind.ensures service ∙ ap (λ m. cond (is_of_service service c.args.kind) (m + 1) m) (c.self.invariant.services service)
+          ∙ sym (raised (is_row_of service) rows new);
       callers = λ (caller : ℕ).
-          c.raise.ensures.counts caller ∙ ap (λ m. cond (eqb c.args.caller caller) (m + 1) m) (c.self.invariant.callers caller) ∙ sym (raised (is_callers caller) rows new);
+          c.raise.ensures.counts caller ∙ ap (λ m. cond (eqb c.args.caller caller) (m + 1) m) (c.self.invariant.callers caller)
+          ∙ sym (raised (is_callers caller) rows new);
       listed = λ (caller number : ℕ).
-          c.add.ensures caller number ∙ ap (λ b. is_handle caller number new || b) (c.self.invariant.listed caller number) ∙ sym (any_pushed (is_handle caller number) rows new);
+          c.add.ensures caller number ∙ ap (λ b. is_handle caller number new || b) (c.self.invariant.listed caller number)
+          ∙ sym (any_pushed (is_handle caller number) rows new);
       below = below_pushed c.self.inside.next rows new c.self.invariant.below refl;
     })
 
 pub add-requires-clause-above : goal.add-requires-clause-above
-add-requires-clause-above c = λ (caller number : ℕ) there. any_below caller number c.self.inside.next c.self.inside.rows.items c.self.invariant.below (sym (c.self.invariant.listed caller number) ∙ there)
+add-requires-clause-above c = λ (caller number : ℕ) there. any_below caller number c.self.inside.next c.self.inside.rows.items
+    c.self.invariant.below (sym (c.self.invariant.listed caller number) ∙ there)

@@ -11,10 +11,14 @@ copied (Some row) = refl
 
 pub returns-then-is_some-clause-row : goal.returns-then-is_some-clause-row
 returns-then-is_some-clause-row c =
-    c.remove.ensures.row ∙ (his_row c.args.caller c.args.number c.args.self.now.rows c.find.ensures.rising (sym (ap is_some c.find.ensures.row) ∙ copied c.find.result ∙ sym c.if-is_some.ensures)).0
+    c.remove.ensures.row ∙ (his_row c.args.caller c.args.number c.args.self.now.rows c.find.ensures.rising
+    (sym (ap is_some c.find.ensures.row) ∙ copied c.find.result ∙ sym c.if-is_some.ensures)).0
 
 pub returns-then-is_some-clause-rows : goal.returns-then-is_some-clause-rows
-returns-then-is_some-clause-rows c = c.remove.ensures.rows ∙ (his_row c.args.caller c.args.number c.args.self.now.rows c.find.ensures.rising (sym (ap is_some c.find.ensures.row) ∙ copied c.find.result ∙ sym c.if-is_some.ensures)).1
+returns-then-is_some-clause-rows c = c.remove.ensures.rows ∙ (his_row c.args.caller c.args.number c.args.self.now.rows c.find.ensures.rising
+    (sym (ap is_some c.find.ensures.row) ∙ copied c.find.result ∙ sym c.if-is_some.ensures)).1
 
 pub returns-else-is_some-clause-rows : goal.returns-else-is_some-clause-rows
-returns-else-is_some-clause-rows c = sym (stays_none (is_handle c.args.caller c.args.number) c.args.self.now.rows (is_none_of (find (is_handle c.args.caller c.args.number) c.args.self.now.rows) (sym (ap is_some c.find.ensures.row) ∙ copied c.find.result ∙ sym c.if-is_some.ensures)))
+returns-else-is_some-clause-rows c = sym (stays_none (is_handle c.args.caller c.args.number) c.args.self.now.rows
+    (is_none_of (find (is_handle c.args.caller c.args.number) c.args.self.now.rows) (sym (ap is_some c.find.ensures.row)
+    ∙ copied c.find.result ∙ sym c.if-is_some.ensures)))

@@ -9,16 +9,23 @@ use Rattle.handle_table.proofs.table.HandleTable.remove.Goals as goal
 pub invariant_of-self : goal.invariant_of-self
 invariant_of-self c =
     let same = c.remove.ensures.items ∙ stays_none (has_number c.args.number) c.self.inside.rows.items (sym c.in_err-row.ensures.row) in
-    rw same (record { services = c.self.invariant.services; callers = c.self.invariant.callers; listed = c.self.invariant.listed; below = c.self.invariant.below })
+    rw same (record {
+      services = c.self.invariant.services;
+      callers = c.self.invariant.callers;
+      listed = c.self.invariant.listed;
+      below = c.self.invariant.below;
+    })
 
 pub lower_kind-requires : goal.lower_kind-requires
 lower_kind-requires c = λ (service : ℕ) is.
-    rw (c.self.invariant.services service) (one_at_least (is_row_of service) c.self.inside.rows.items c.in_ok-row.row c.args.number (sym c.in_ok-row.ensures.row) is)
+    rw (c.self.invariant.services service) (one_at_least (is_row_of service) c.self.inside.rows.items c.in_ok-row.row c.args.number
+    (sym c.in_ok-row.ensures.row) is)
 
 pub lower-requires : goal.lower-requires
 lower-requires c =
     rw (c.self.invariant.callers c.in_ok-row.row.caller)
-    (one_at_least (is_callers c.in_ok-row.row.caller) c.self.inside.rows.items c.in_ok-row.row c.args.number (sym c.in_ok-row.ensures.row) (eq-eqb c.in_ok-row.row.caller c.in_ok-row.row.caller refl))
+    (one_at_least (is_callers c.in_ok-row.row.caller) c.self.inside.rows.items c.in_ok-row.row c.args.number (sym c.in_ok-row.ensures.row)
+    (eq-eqb c.in_ok-row.row.caller c.in_ok-row.row.caller refl))
 
 pub invariant_of-self-2 : goal.invariant_of-self-2
 invariant_of-self-2 c =
@@ -34,6 +41,7 @@ invariant_of-self-2 c =
           c.lower.ensures.counts caller ∙ ap (λ m. cond (eqb gone.caller caller) (m - 1) m) (c.self.invariant.callers caller)
           ∙ sym (lowered (is_callers caller) rows gone c.args.number rising found);
       listed = λ (caller number : ℕ).
-          c.remove-2.ensures caller number ∙ ap (λ b. not (eqb c.args.number number) && b) (c.self.invariant.listed caller number) ∙ sym (one_gone c.args.number rows caller number);
+          c.remove-2.ensures caller number ∙ ap (λ b. not (eqb c.args.number number) && b) (c.self.invariant.listed caller number)
+          ∙ sym (one_gone c.args.number rows caller number);
       below = below_filter c.self.inside.next (λ (row : HandleRow). not (has_number c.args.number row)) rows c.self.invariant.below;
     })

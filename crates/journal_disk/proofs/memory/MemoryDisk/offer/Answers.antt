@@ -20,7 +20,8 @@ returns-in-Ok-clause-chosen c =
     let within = rw (← c.self.view_is) at c.requires in
     let le : c.args.moment ≤ length calls = omega (arith, within, past_length calls) in
     rw (← c.self.view_is)
-    (c.in-Ok.ensures.image ∙ ap (λ (l : List TakenCall). image_of c.args.tears.now c.self.inside.first (past_of (take c.args.moment l))) c.deref.ensures.value
+    (c.in-Ok.ensures.image ∙ ap (λ (l : List TakenCall). image_of c.args.tears.now c.self.inside.first (past_of (take c.args.moment l)))
+    c.deref.ensures.value
     ∙ ap (image_of c.args.tears.now c.self.inside.first) (sym (at_moment calls c.args.moment le)))
 
 pub returns-in-Ok-clause-left : goal.returns-in-Ok-clause-left

@@ -13,9 +13,11 @@ returns-in_err-end-clause-changes g c =
     let a = g.D.Disk.state c.args.self.now in let b = g.D.Disk.state c.end_of.new.disk in
     let alike = subst (λ d. IsToldAlike (g.D.Disk.state d).seen b.seen) c.self.view_is c.end_of.ensures.told in
     let moments =
-    subst (λ d. (f : Files) → (g.D.Disk.state d).seen ≡ Some f → Leaves (λ x. CanLeave (g.D.Disk.state d) (content x)) (g.D.Disk.state d) b) c.self.view_is c.end_of.ensures.any_moment in
+    subst (λ d. (f : Files) → (g.D.Disk.state d).seen ≡ Some f → Leaves (λ x. CanLeave (g.D.Disk.state d) (content x)) (g.D.Disk.state d) b)
+    c.self.view_is c.end_of.ensures.any_moment in
     let same =
-    subst (λ d. (f h : Files) → (g.D.Disk.state d).seen ≡ Some f → b.seen ≡ Some h → content h ≡ content f) c.self.view_is c.end_of.ensures.same in
+    subst (λ d. (f h : Files) → (g.D.Disk.state d).seen ≡ Some f → b.seen ≡ Some h
+    → content h ≡ content f) c.self.view_is c.end_of.ensures.same in
     let p = err_from_is_err_and c.from_residual.result c.from_residual.ensures.1 in
     rw p.1 (not_opened a b alike moments same (λ x. x ++ c.args.bytes.now) p.0)
 
@@ -24,21 +26,26 @@ returns-in_err-end-2-clause-changes g c =
     let a = g.D.Disk.state c.args.self.now in let b = g.D.Disk.state c.end_of.new.disk in
     let alike = subst (λ d. IsToldAlike (g.D.Disk.state d).seen b.seen) c.self.view_is c.end_of.ensures.told in
     let moments =
-    subst (λ d. (f : Files) → (g.D.Disk.state d).seen ≡ Some f → Leaves (λ x. CanLeave (g.D.Disk.state d) (content x)) (g.D.Disk.state d) b) c.self.view_is c.end_of.ensures.any_moment in
+    subst (λ d. (f : Files) → (g.D.Disk.state d).seen ≡ Some f → Leaves (λ x. CanLeave (g.D.Disk.state d) (content x)) (g.D.Disk.state d) b)
+    c.self.view_is c.end_of.ensures.any_moment in
     let same =
-    subst (λ d. (f h : Files) → (g.D.Disk.state d).seen ≡ Some f → b.seen ≡ Some h → content h ≡ content f) c.self.view_is c.end_of.ensures.same in
+    subst (λ d. (f h : Files) → (g.D.Disk.state d).seen ≡ Some f → b.seen ≡ Some h
+    → content h ≡ content f) c.self.view_is c.end_of.ensures.same in
     let p = err_from_is_err_and c.from_residual-in_err-end-2.result c.from_residual-in_err-end-2.ensures.1 in
     rw p.1
-    (not_changed a b alike moments same (λ x. x ++ c.args.bytes.now) (g.D.Disk.is_disk c.end_of.new.disk) (g.D.Disk.state c.append.new.disk) (g.D.Disk.is_disk c.append.new.disk) c.append.ensures.told c.append.ensures.any_moment p.0)
+    (not_changed a b alike moments same (λ x. x ++ c.args.bytes.now) (g.D.Disk.is_disk c.end_of.new.disk) (g.D.Disk.state c.append.new.disk)
+    (g.D.Disk.is_disk c.append.new.disk) c.append.ensures.told c.append.ensures.any_moment p.0)
 
 pub returns-clause-changes : goal.returns-clause-changes
 returns-clause-changes g c =
     let a = g.D.Disk.state c.args.self.now in let b = g.D.Disk.state c.end_of.new.disk in
     let alike = subst (λ d. IsToldAlike (g.D.Disk.state d).seen b.seen) c.self.view_is c.end_of.ensures.told in
     let moments =
-    subst (λ d. (f : Files) → (g.D.Disk.state d).seen ≡ Some f → Leaves (λ x. CanLeave (g.D.Disk.state d) (content x)) (g.D.Disk.state d) b) c.self.view_is c.end_of.ensures.any_moment in
+    subst (λ d. (f : Files) → (g.D.Disk.state d).seen ≡ Some f → Leaves (λ x. CanLeave (g.D.Disk.state d) (content x)) (g.D.Disk.state d) b)
+    c.self.view_is c.end_of.ensures.any_moment in
     let same =
-    subst (λ d. (f h : Files) → (g.D.Disk.state d).seen ≡ Some f → b.seen ≡ Some h → content h ≡ content f) c.self.view_is c.end_of.ensures.same in
+    subst (λ d. (f h : Files) → (g.D.Disk.state d).seen ≡ Some f → b.seen ≡ Some h
+    → content h ≡ content f) c.self.view_is c.end_of.ensures.same in
     changed a b alike moments same (λ x. x ++ c.args.bytes.now) (g.D.Disk.is_disk c.end_of.new.disk) (g.D.Disk.state c.append.new.disk)
     (g.D.Disk.is_disk c.append.new.disk) c.append.ensures.told c.append.ensures.any_moment
     c.in_ok-end-2.ensures.added (settled (g.D.Disk.state c.append.new.disk) _ _ c.in_ok-end-2.ensures.ready)

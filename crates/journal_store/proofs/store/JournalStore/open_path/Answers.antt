@@ -11,7 +11,8 @@ returns-in_err-end-clause-changes g c =
     let opens = subst (λ e. Opens (has_path c.args.path) (g.D.Disk.state e) b (Ok tt)) c.self.view_is c.in_ok-open_at.ensures.opens in
     let p = err_from_is_err_and c.from_residual-in_err-end.result c.from_residual-in_err-end.ensures.1 in
     rw p.1
-    (not_found (has_path c.args.path) (g.D.Disk.state c.args.self.now) b d opens (g.D.Disk.is_disk c.open_at.new.self) (g.D.Disk.is_disk c.open.new.disk) c.open.ensures.told c.open.ensures.any_moment c.open.ensures.same p.0)
+    (not_found (has_path c.args.path) (g.D.Disk.state c.args.self.now) b d opens (g.D.Disk.is_disk c.open_at.new.self)
+    (g.D.Disk.is_disk c.open.new.disk) c.open.ensures.told c.open.ensures.any_moment c.open.ensures.same p.0)
 
 pub returns-clause-changes : goal.returns-clause-changes
 returns-clause-changes g c =

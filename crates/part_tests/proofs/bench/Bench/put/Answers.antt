@@ -10,4 +10,5 @@ returns-then-place-len c =
     let rows = c.self.inside.services.items in
     let pending = subst (λ (b : Flat × Limits). ArePending b.0.services c.args.plans.now.awaited) (sym c.self.view_is) c.requires in
     let row = c.index_mut-row.result.now in
-    rw c.wake.ensures.awaited (pending_set rows c.args.place row (record row { status = c.status-row.result }) (omega arith) c.index_mut-row.ensures.value refl c.args.plans.now.awaited pending)
+    rw c.wake.ensures.awaited (pending_set rows c.args.place row (record row { status = c.status-row.result })
+    (omega arith) c.index_mut-row.ensures.value refl c.args.plans.now.awaited pending)

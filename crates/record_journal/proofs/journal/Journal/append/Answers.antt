@@ -9,7 +9,8 @@ returns-in-Ok-put-clause-ok g c =
 
 pub returns-clause-err : goal.returns-clause-err
 returns-clause-err g c =
-    rw c.in-Err.ensures.err (same c.args.change.now _ _ _ _ (c.in-Ok.ensures.fits refl) (rw (← c.in-Ok.ensures.bytes, ← c.as_slice.ensures) c.in-Err.ensures.bytes))
+    rw c.in-Err.ensures.err (same c.args.change.now _ _ _ _ (c.in-Ok.ensures.fits refl)
+    (rw (← c.in-Ok.ensures.bytes, ← c.as_slice.ensures) c.in-Err.ensures.bytes))
 
 pub returns-in_default-clause-err : goal.returns-in_default-clause-err
 returns-in_default-clause-err g c = unchanged _ _

@@ -7,10 +7,12 @@ use Rattle.record_table.proofs.table.RecordTable.insert.Goals as goal
 
 pub invariant_of-self-2 : goal.invariant_of-self-2
 invariant_of-self-2 c =
-    let made : c.in-Some.spare ≡ spare_of c.args.service.config = same_Some _ _ (c.in-Some.ensures.value ∙ rw (← c.self.view_is) at c.requires.spare) in
+    let made : c.in-Some.spare ≡ spare_of c.args.service.config = same_Some _ _ (c.in-Some.ensures.value
+    ∙ rw (← c.self.view_is) at c.requires.spare) in
     let above = rw (← c.self.view_is) at c.requires.above in
     rw c.push.ensures.items (record {
       rising = rising_push c.self.inside.rows.items c.args.service c.self.invariant.rising above;
-      texts = entered c.self.inside.texts c.enter_texts.new.texts c.self.inside.rows.items c.args.service c.in-Some.spare c.self.invariant.texts made above c.enter_texts.ensures;
+      texts = entered c.self.inside.texts c.enter_texts.new.texts c.self.inside.rows.items c.args.service c.in-Some.spare
+          c.self.invariant.texts made above c.enter_texts.ensures;
       spare = rw c.in-Some.ensures.after tt;
     })

@@ -12,7 +12,8 @@ invariant_of-self c =
     record {
       rising = rw same c.self.invariant.rising;
       texts = rw same c.self.invariant.texts;
-      spare = more_room c.self.inside.spare c.self.inside c.remove.new.self c.self.inside.texts c.remove.ensures.room (λ had. had) c.self.invariant.spare;
+      spare = more_room c.self.inside.spare c.self.inside c.remove.new.self c.self.inside.texts c.remove.ensures.room
+          (λ had. had) c.self.invariant.spare;
     }
 
 pub invariant_of-self-2 : goal.invariant_of-self-2
@@ -20,6 +21,7 @@ invariant_of-self-2 c =
     rw (c.remove.ensures.items, c.take.ensures.after) (record {
       rising = rising_filter (λ (row : Service). not (has_number c.args.number row)) c.self.inside.rows.items c.self.invariant.rising;
       texts = gone_from c.forget_room.new.texts c.leave_texts.new.texts c.self.inside.rows.items c.in_ok-row.row c.args.number
-          (still_of _ _ _ c.forget_room.ensures c.self.invariant.texts) c.self.invariant.rising (sym c.in_ok-row.ensures.row) c.leave_texts.ensures;
+          (still_of _ _ _ c.forget_room.ensures c.self.invariant.texts) c.self.invariant.rising
+          (sym c.in_ok-row.ensures.row) c.leave_texts.ensures;
       spare = tt;
     })

@@ -27,7 +27,9 @@ invariant_of-self-2 c =
     let made : c.in-Some.spare ≡ spare_of config = same_Some _ _ (c.in-Some.ensures.value ∙ rw (← c.self.view_is) at c.requires.spare) in
     let got = some_configured (find (has_number n) rows) c.in_ok-before.before c.in_ok-before.ensures.config in
     rw c.exchange.ensures.items (record {
-      rising = rising_map (altered_at number_of n (with_config config)) (altered_number n (with_config config) (λ (row : Service). refl)) rows c.self.invariant.rising;
-      texts = exchanged_each c.self.inside.texts c.move_texts.new.texts rows got.0 n config c.self.invariant.texts c.self.invariant.rising got.1 (rw (← got.2, made) at c.move_texts.ensures);
+      rising = rising_map (altered_at number_of n (with_config config))
+          (altered_number n (with_config config) (λ (row : Service). refl)) rows c.self.invariant.rising;
+      texts = exchanged_each c.self.inside.texts c.move_texts.new.texts rows got.0 n config c.self.invariant.texts c.self.invariant.rising
+          got.1 (rw (← got.2, made) at c.move_texts.ensures);
       spare = rw c.in-Some.ensures.after tt;
     })

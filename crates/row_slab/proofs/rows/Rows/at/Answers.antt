@@ -10,7 +10,8 @@ returns-then-place-len g c =
     let lt : c.args.place < length c.self.inside.places.items = omega arith in
     rw (← c.self.view_is)
     (c.get.ensures ∙ ap (λ (p : Place). slice_index_or c.self.inside.slots.slots p.key None) c.index.ensures
-    ∙ sym (row_at g.T.Numbered.number_of c.self.inside.slots.slots c.self.inside.places.items c.args.place c.index.result.now c.self.invariant lt))
+    ∙ sym (row_at g.T.Numbered.number_of c.self.inside.slots.slots c.self.inside.places.items c.args.place c.index.result.now
+    c.self.invariant lt))
 
 pub returns-else-place-len : goal.returns-else-place-len
 returns-else-place-len g c =

@@ -8,4 +8,5 @@ returns-clause-len g c =
     rw (← c.self.view_is) (omega (arith, many, c.len.ensures))
 
 pub returns-clause-rising : goal.returns-clause-rising
-returns-clause-rising g c = rw (← c.self.view_is) (rising g.T.Numbered.number_of c.self.inside.slots.slots c.self.inside.places.items c.self.invariant)
+returns-clause-rising g c = rw (← c.self.view_is) (rising g.T.Numbered.number_of c.self.inside.slots.slots c.self.inside.places.items
+    c.self.invariant)

@@ -10,8 +10,10 @@ invariant_of-self g c =
     let apart = apart_none number_of slots c.insert_reserved-key.result places c.insert_reserved-key.ensures.was_vacant c.self.invariant in
     let above = rw (← c.self.view_is, ← c.number-number.ensures) at c.requires.above in
     rw c.push_reserved.ensures.items
-    (kept_pushed number_of slots c.insert_reserved-key.new.self.slots places (record { number = c.number-number.result; key = c.insert_reserved-key.result }) c.args.row c.self.invariant apart
-    c.insert_reserved-key.ensures.updates.others c.insert_reserved-key.ensures.updates.changed (sym c.number-number.ensures) (below_places number_of slots places c.number-number.result c.self.invariant above))
+    (kept_pushed number_of slots c.insert_reserved-key.new.self.slots places
+    (record { number = c.number-number.result; key = c.insert_reserved-key.result }) c.args.row c.self.invariant apart
+    c.insert_reserved-key.ensures.updates.others c.insert_reserved-key.ensures.updates.changed (sym c.number-number.ensures)
+    (below_places number_of slots places c.number-number.result c.self.invariant above))
 
 pub returns-clause-items : goal.returns-clause-items
 returns-clause-items g c =
@@ -20,5 +22,6 @@ returns-clause-items g c =
     let places = c.self.inside.places.items in
     let apart = apart_none number_of slots c.insert_reserved-key.result places c.insert_reserved-key.ensures.was_vacant c.self.invariant in
     rw (c.push_reserved.ensures.items, ← c.self.view_is)
-    (pushed number_of slots c.insert_reserved-key.new.self.slots places (record { number = c.number-number.result; key = c.insert_reserved-key.result }) c.args.row c.self.invariant apart
+    (pushed number_of slots c.insert_reserved-key.new.self.slots places
+    (record { number = c.number-number.result; key = c.insert_reserved-key.result }) c.args.row c.self.invariant apart
     c.insert_reserved-key.ensures.updates.others c.insert_reserved-key.ensures.updates.changed)

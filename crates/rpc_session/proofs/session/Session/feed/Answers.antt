@@ -24,5 +24,6 @@ returns-clause-stuck c = λ fault stuck.
     let before : Seen = record { state = c.self.inside.state; held = c.self.inside.stream } in
     let stood = subst (λ s. IsStuck s fault) (sym c.self.view_is) stuck in
     by_result c.feed.result c.feed.ensures.ok c.feed.ensures.err
-    (λ fed. subst (λ held. IsStuck (record { state = c.self.inside.state; held = held }) fault) (sym fed) (stuck_fed before c.args.piece.now fault stood))
+    (λ fed. subst (λ held. IsStuck (record { state = c.self.inside.state; held = held }) fault) (sym fed)
+    (stuck_fed before c.args.piece.now fault stood))
     (λ same. subst (λ held. IsStuck (record { state = c.self.inside.state; held = held }) fault) (sym same) stood)

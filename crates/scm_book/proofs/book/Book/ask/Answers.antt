@@ -10,16 +10,20 @@ use Rattle.scm_book.proofs.book.Book.ask.Goals as goal
 
 pub call_by-requires-clause-may : goal.call_by-requires-clause-may
 call_by-requires-clause-may g c =
-    seen_outside (λ (x : Identity) (y : Known). AlwaysMay x.opening y c.args.moment c.args.call.now.step) c.args.self.now c.self.inside.shared.turn c.args.pass.now (of_badge c.pass.inside.badge)
+    seen_outside (λ (x : Identity) (y : Known). AlwaysMay x.opening y c.args.moment c.args.call.now.step) c.args.self.now
+    c.self.inside.shared.turn c.args.pass.now (of_badge c.pass.inside.badge)
     (sym c.self.view_is) (sym c.pass.view_is) c.requires.may
 
 pub call_by-requires-clause-none : goal.call_by-requires-clause-none
 call_by-requires-clause-none g c =
-    may_lack c.self.inside.shared.turn.opening c.args.pass.now (of_badge c.pass.inside.badge) c.pass.view_is c.args.moment c.pass.inside.caller c.pass.invariant.whose c.requires.caller
+    may_lack c.self.inside.shared.turn.opening c.args.pass.now (of_badge c.pass.inside.badge) c.pass.view_is c.args.moment
+    c.pass.inside.caller c.pass.invariant.whose c.requires.caller
 
 pub invariant_of-pass : goal.invariant_of-pass
 invariant_of-pass g c =
-    let same = caller_still c.self.inside.shared.turn.opening (of_badge c.pass.inside.badge) (of_badge c.call_by.new.badge) c.args.moment c.pass.inside.caller c.args.call.now.step c.requires.stays c.call_by.result c.call_by.ensures.ends in
+    let same = caller_still c.self.inside.shared.turn.opening (of_badge c.pass.inside.badge)
+    (of_badge c.call_by.new.badge) c.args.moment c.pass.inside.caller c.args.call.now.step c.requires.stays c.call_by.result
+    c.call_by.ensures.ends in
     record { rests = c.call_by.ensures.badge.rests; whose = c.pass.invariant.whose ∙ sym same }
 
 pub returns-clause-opens : goal.returns-clause-opens
@@ -27,5 +31,6 @@ returns-clause-opens g c = subst (λ (b : Identity). Opens b.opening) c.self.vie
 
 pub returns-clause-asks : goal.returns-clause-asks
 returns-clause-asks g c =
-    asks_so c.self.inside.shared.turn c.args.self.now (of_badge c.pass.inside.badge) c.args.pass.now (of_badge c.call_by.new.badge) c.self.view_is c.pass.view_is c.args.moment c.pass.inside.caller
+    asks_so c.self.inside.shared.turn c.args.self.now (of_badge c.pass.inside.badge) c.args.pass.now
+    (of_badge c.call_by.new.badge) c.self.view_is c.pass.view_is c.args.moment c.pass.inside.caller
     c.pass.invariant.whose c.args.call.now.step c.call_by.result c.call_by.ensures.ends

@@ -10,28 +10,38 @@ use Rattle.scm_book.proofs.book.Book.call.Goals as goal
 pub ask-ended-requires-clause-may : goal.ask-ended-requires-clause-may
 ask-ended-requires-clause-may g c =
     may_call c.args.self.now.opening c.args.pass.now c.args.moment c.requires.caller c.args.request c.write.new.self.step
-    (call_is (of_badge c.pass.inside.badge) c.args.pass.now c.pass.view_is c.pass.inside.caller c.pass.invariant.whose c.args.request c.write.new.self.step c.write.ensures) c.requires.ranged
+    (call_is (of_badge c.pass.inside.badge) c.args.pass.now c.pass.view_is c.pass.inside.caller c.pass.invariant.whose c.args.request
+    c.write.new.self.step c.write.ensures) c.requires.ranged
 
 pub ask-ended-requires-clause-stays : goal.ask-ended-requires-clause-stays
 ask-ended-requires-clause-stays g c =
     subst LeavesWhose
-    (sym (call_is (of_badge c.pass.inside.badge) c.args.pass.now c.pass.view_is c.pass.inside.caller c.pass.invariant.whose c.args.request c.write.new.self.step c.write.ensures)) (λ f n. refl)
+    (sym (call_is (of_badge c.pass.inside.badge) c.args.pass.now c.pass.view_is c.pass.inside.caller c.pass.invariant.whose c.args.request
+    c.write.new.self.step c.write.ensures)) (λ f n. refl)
 
 pub call_end-requires : goal.call_end-requires
 call_end-requires g c =
-    let is = call_is (of_badge c.pass.inside.badge) c.args.pass.now c.pass.view_is c.pass.inside.caller c.pass.invariant.whose c.args.request c.write.new.self.step c.write.ensures in
-    told_reply c.args.self.now.opening c.ask-ended.ensures.opens c.args.pass.now c.ask-ended.new.pass c.args.moment c.args.request c.requires.start c.ask-ended.result
-    (subst (λ (s : Step). CallEnds c.args.self.now.opening c.args.pass.now c.args.moment c.args.pass.now.caller s c.ask-ended.result c.ask-ended.new.pass) is c.ask-ended.ensures.asks)
+    let is = call_is (of_badge c.pass.inside.badge) c.args.pass.now c.pass.view_is c.pass.inside.caller c.pass.invariant.whose
+    c.args.request c.write.new.self.step c.write.ensures in
+    told_reply c.args.self.now.opening c.ask-ended.ensures.opens c.args.pass.now c.ask-ended.new.pass c.args.moment c.args.request
+    c.requires.start c.ask-ended.result
+    (subst (λ (s : Step). CallEnds c.args.self.now.opening c.args.pass.now c.args.moment c.args.pass.now.caller s c.ask-ended.result
+    c.ask-ended.new.pass) is c.ask-ended.ensures.asks)
 
 pub returns-clause-calls : goal.returns-clause-calls
 returns-clause-calls g c =
-    let is = call_is (of_badge c.pass.inside.badge) c.args.pass.now c.pass.view_is c.pass.inside.caller c.pass.invariant.whose c.args.request c.write.new.self.step c.write.ensures in
-    call_comes c.args.self.now.opening c.ask-ended.ensures.opens c.args.pass.now c.ask-ended.new.pass c.args.moment c.args.request c.write.new.self.step c.ask-ended.new.call.step is c.ask-ended.result
+    let is = call_is (of_badge c.pass.inside.badge) c.args.pass.now c.pass.view_is c.pass.inside.caller c.pass.invariant.whose
+    c.args.request c.write.new.self.step c.write.ensures in
+    call_comes c.args.self.now.opening c.ask-ended.ensures.opens c.args.pass.now c.ask-ended.new.pass c.args.moment c.args.request
+    c.write.new.self.step c.ask-ended.new.call.step is c.ask-ended.result
     (λ none. ap (λ (d : _). d.step) (c.ask-ended.ensures.same none)) c.call_end.result c.ask-ended.ensures.asks c.call_end.ensures
 
 pub returns-clause-keeps : goal.returns-clause-keeps
 returns-clause-keeps g c =
-    let is = call_is (of_badge c.pass.inside.badge) c.args.pass.now c.pass.view_is c.pass.inside.caller c.pass.invariant.whose c.args.request c.write.new.self.step c.write.ensures in
-    calls_keep c.args.self.now.opening c.ask-ended.ensures.opens c.args.pass.now c.ask-ended.new.pass c.args.moment c.args.request c.call_end.result
-    (call_comes c.args.self.now.opening c.ask-ended.ensures.opens c.args.pass.now c.ask-ended.new.pass c.args.moment c.args.request c.write.new.self.step c.ask-ended.new.call.step is c.ask-ended.result
+    let is = call_is (of_badge c.pass.inside.badge) c.args.pass.now c.pass.view_is c.pass.inside.caller c.pass.invariant.whose
+    c.args.request c.write.new.self.step c.write.ensures in
+    calls_keep c.args.self.now.opening c.ask-ended.ensures.opens c.args.pass.now c.ask-ended.new.pass c.args.moment c.args.request
+    c.call_end.result
+    (call_comes c.args.self.now.opening c.ask-ended.ensures.opens c.args.pass.now c.ask-ended.new.pass c.args.moment c.args.request
+    c.write.new.self.step c.ask-ended.new.call.step is c.ask-ended.result
     (λ none. ap (λ (d : _). d.step) (c.ask-ended.ensures.same none)) c.call_end.result c.ask-ended.ensures.asks c.call_end.ensures)

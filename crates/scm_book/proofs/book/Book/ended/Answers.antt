@@ -12,20 +12,27 @@ use Rattle.scm_book.proofs.book.Book.ended.Goals as goal
 pub owe_by-told-requires-clause-may : goal.owe_by-told-requires-clause-may
 owe_by-told-requires-clause-may g c =
     always_ended c.self.inside.shared.turn.opening (of_badge c.pass.inside.badge) c.args.moment c.args.process
-    (held_inside c.self.inside.shared.turn c.args.self.now (of_badge c.pass.inside.badge) c.args.pass.now c.args.process phases.Launched c.self.view_is c.pass.view_is c.requires.process)
+    (held_inside c.self.inside.shared.turn c.args.self.now (of_badge c.pass.inside.badge) c.args.pass.now c.args.process phases.Launched
+    c.self.view_is c.pass.view_is c.requires.process)
 
 pub end_of-requires : goal.end_of-requires
-end_of-requires g c = told_ended c.self.inside.shared.turn.opening c.self.invariant (of_badge c.pass.inside.badge) (of_badge c.owe_by-told.new.badge) c.args.moment c.args.process c.owe_by-told.result c.owe_by-told.ensures.made
+end_of-requires g c = told_ended c.self.inside.shared.turn.opening c.self.invariant (of_badge c.pass.inside.badge)
+    (of_badge c.owe_by-told.new.badge) c.args.moment c.args.process c.owe_by-told.result c.owe_by-told.ensures.made
 
 pub returns-clause-ended : goal.returns-clause-ended
 returns-clause-ended g c =
-    seen_outside (λ (b : Identity) (k : Known). EndedSo b.opening k c.args.moment c.args.process c.end_of.result (of_badge c.owe_by-told.new.badge))
+    seen_outside (λ (b : Identity) (k : Known). EndedSo b.opening k c.args.moment c.args.process c.end_of.result
+    (of_badge c.owe_by-told.new.badge))
     c.self.inside.shared.turn c.args.self.now (of_badge c.pass.inside.badge) c.args.pass.now c.self.view_is c.pass.view_is
-    (ended_so c.self.inside.shared.turn.opening c.self.invariant (of_badge c.pass.inside.badge) (of_badge c.owe_by-told.new.badge) c.args.moment c.args.process c.end_of.result
-    (subst (λ (t : Answer). Made c.self.inside.shared.turn.opening (of_badge c.pass.inside.badge) c.args.moment (Ended c.args.process) t (of_badge c.owe_by-told.new.badge)) c.end_of.ensures c.owe_by-told.ensures.made))
+    (ended_so c.self.inside.shared.turn.opening c.self.invariant (of_badge c.pass.inside.badge)
+    (of_badge c.owe_by-told.new.badge) c.args.moment c.args.process c.end_of.result
+    (subst (λ (t : Answer). Made c.self.inside.shared.turn.opening (of_badge c.pass.inside.badge) c.args.moment (Ended c.args.process) t
+    (of_badge c.owe_by-told.new.badge)) c.end_of.ensures c.owe_by-told.ensures.made))
 
 pub returns-clause-rest : goal.returns-clause-rest
 returns-clause-rest g c =
     seen_outside (λ (b : Identity) (k : Known). KeepsAllBut b.opening c.args.process k (of_badge c.owe_by-told.new.badge))
     c.self.inside.shared.turn c.args.self.now (of_badge c.pass.inside.badge) c.args.pass.now c.self.view_is c.pass.view_is
-    (keeps_but c.self.inside.shared.turn.opening c.self.invariant (of_badge c.pass.inside.badge) (of_badge c.owe_by-told.new.badge) c.args.moment (Ended c.args.process) c.owe_by-told.result c.owe_by-told.ensures.made c.owe_by-told.ensures.made.caller c.args.process refl)
+    (keeps_but c.self.inside.shared.turn.opening c.self.invariant (of_badge c.pass.inside.badge)
+    (of_badge c.owe_by-told.new.badge) c.args.moment (Ended c.args.process) c.owe_by-told.result c.owe_by-told.ensures.made
+    c.owe_by-told.ensures.made.caller c.args.process refl)

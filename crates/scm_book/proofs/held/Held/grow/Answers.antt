@@ -4,5 +4,7 @@ use Rattle.scm_book.proofs.held.Held.grow.Goals as goal
 
 pub returns-clause-grows : goal.returns-clause-grows
 returns-clause-grows g c =
-    grown c.args.self.now _ c.args.moment c.args.step.now c.args.step.now c.args.note c.step_at-answer.result refl c.requires.note c.requires.may c.push.ensures.entries
-    c.step_at-answer.ensures.answer c.step_at-answer.ensures.flat c.step_at-answer.ensures.limits c.step_at-answer.ensures.steps c.step_at-answer.ensures.text
+    grown c.args.self.now _ c.args.moment c.args.step.now c.args.step.now c.args.note c.step_at-answer.result refl c.requires.note
+    c.requires.may c.push.ensures.entries
+    c.step_at-answer.ensures.answer c.step_at-answer.ensures.flat c.step_at-answer.ensures.limits c.step_at-answer.ensures.steps
+    c.step_at-answer.ensures.text

@@ -10,10 +10,15 @@ push-requires-clause-room g c = c.requires.room (some_first c.args.self.now.mana
 pub returns-in-Some : goal.returns-in-Some
 returns-in-Some g c = (
   adds_launch c.args.self.now _ c.args.moment c.in-Some.process c.in-Some.ensures.0 c.in-Some.ensures.3
-      (c.push.ensures.entries ∙ ap (λ (step : Step). c.args.self.now.trail.entries ++ (c.args.moment, step) ∷ []) c.note.ensures) c.push.ensures.room refl refl,
+      (c.push.ensures.entries ∙ ap (λ (step : Step). c.args.self.now.trail.entries ++ (c.args.moment, step) ∷ []) c.note.ensures)
+      c.push.ensures.room refl refl,
   record { lies = c.in-Some.ensures.1; rest = c.in-Some.ensures.2 },
 )
 
 pub returns-in-None : goal.returns-in-None
-returns-in-None g c =
-    (nothing_wanted c.args.self.now.manager.flat c.in-None.ensures.0, ap (λ (m : Managed). record c.args.self.now { manager = m }) c.in-None.ensures.1, c.in-None.ensures.2)
+returns-in-None g c = (
+  nothing_wanted c.args.self.now.manager.flat c.in-None.ensures.0,
+  ap
+      (λ (m : Managed). record c.args.self.now { manager = m }) c.in-None.ensures.1,
+  c.in-None.ensures.2,
+)

@@ -10,13 +10,20 @@ use Rattle.scm_book.proofs.shared.Shared.control_by.Goals as goal
 
 pub add_where_it_may-ended-requires-clause-turn : goal.add_where_it_may-ended-requires-clause-turn
 add_where_it_may-ended-requires-clause-turn g c =
-    has_turn g.K.Keeper.held g.K.Keeper.faults c.args.self.now.turn c.sit-seat.result c.enter-held.new.seat c.enter-held.result c.enter-held.ensures c.sit-seat.ensures.waits
+    has_turn g.K.Keeper.held g.K.Keeper.faults c.args.self.now.turn c.sit-seat.result c.enter-held.new.seat c.enter-held.result
+    c.enter-held.ensures c.sit-seat.ensures.waits
 
 pub add_where_it_may-ended-requires-clause-own : goal.add_where_it_may-ended-requires-clause-own
-add_where_it_may-ended-requires-clause-own g c = own_control (known c.enter-held.new.seat) c.args.process c.new-control.result.step c.new-control.ensures
+add_where_it_may-ended-requires-clause-own g c = own_control (known c.enter-held.new.seat) c.args.process c.new-control.result.step
+    c.new-control.ensures
 
 pub returns-clause-looks : goal.returns-clause-looks
 returns-clause-looks g c =
-    as_tokens (λ (k k' : Known). LooksFor c.args.self.now.turn.opening k c.args.moment c.args.process k' (record { ended = c.add_where_it_may-ended.result; waiting = c.waiting-waiting.result })) c.sit-seat.ensures.knows c.stand.ensures.knows
-    (looks_for g.K.Keeper.held g.K.Keeper.faults c.args.self.now.turn c.sit-seat.result c.enter-held.new.seat c.enter-held.result c.enter-held.ensures c.add_where_it_may-ended.new.seat c.args.moment c.args.process
-    c.new-control.result.step c.new-control.ensures (record { ended = c.add_where_it_may-ended.result; waiting = c.waiting-waiting.result }) (c.waiting-waiting.ensures ∙ ap (λ (h : Held _). waiting h.manager.flat c.args.process) c.deref.ensures) c.add_where_it_may-ended.ensures.did)
+    as_tokens (λ (k k' : Known). LooksFor c.args.self.now.turn.opening k c.args.moment c.args.process k'
+    (record { ended = c.add_where_it_may-ended.result; waiting = c.waiting-waiting.result })) c.sit-seat.ensures.knows
+    c.stand.ensures.knows
+    (looks_for g.K.Keeper.held g.K.Keeper.faults c.args.self.now.turn c.sit-seat.result c.enter-held.new.seat c.enter-held.result
+    c.enter-held.ensures c.add_where_it_may-ended.new.seat c.args.moment c.args.process
+    c.new-control.result.step c.new-control.ensures (record { ended = c.add_where_it_may-ended.result; waiting = c.waiting-waiting.result })
+    (c.waiting-waiting.ensures ∙ ap (λ (h : Held _). waiting h.manager.flat c.args.process) c.deref.ensures)
+    c.add_where_it_may-ended.ensures.did)

@@ -12,4 +12,5 @@ returns-then-may c =
     ∙ told_made inside.tables.limits inside.tables.flat inside.made (promised inside.room) c.args.step.now c.self.invariant.made
     (subst (λ (m : Managed). WasMadeFor m.room c.args.step.now) (sym c.self.view_is) c.requires)
     ∙ ap (λ (m : Managed). keeps_right m.limits m.flat c.args.step.now) c.self.view_is
-    ∙ sym (ap (λ (comes : Bool). comes && keeps_right c.args.self.now.limits c.args.self.now.flat c.args.step.now) (sym c.may.ensures ∙ c.if-may.true))
+    ∙ sym (ap (λ (comes : Bool). comes && keeps_right c.args.self.now.limits c.args.self.now.flat c.args.step.now) (sym c.may.ensures
+    ∙ c.if-may.true))

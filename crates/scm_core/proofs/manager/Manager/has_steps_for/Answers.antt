@@ -9,4 +9,5 @@ returns c =
     let m = c.args.self.now in
     let steps : c.self.inside.steps ≡ m.steps = ap (λ (m : Managed). m.steps) c.self.view_is in
     rw (c.saturating_add.ensures, c.requires, c.need_of.ensures, c.most_steps.ensures, steps)
-    (found m.steps (owed m.flat) (length m.flat.services) m.limits.steps (2 ^ 64 - 1) (2 ^ 128 - 1) c.args.step.now (omega (arith, c.most_steps.ensures, c.most_steps.type_inv)) (omega arith))
+    (found m.steps (owed m.flat) (length m.flat.services) m.limits.steps (2 ^ 64 - 1) (2 ^ 128 - 1) c.args.step.now
+    (omega (arith, c.most_steps.ensures, c.most_steps.type_inv)) (omega arith))

@@ -8,5 +8,7 @@ new-requires c = texts_short c.args.configs c.requires.configs.checked
 
 pub invariant_of-result : goal.invariant_of-result
 invariant_of-result c =
-    let flat = c.in_ok-new.ensures.flat ∙ ap (λ (groups : List (List ℕ)). opening c.args.limits groups c.args.configs c.args.moment) c.as_slice.ensures in
-    opened_sound _ c.args.limits c.args.groups c.args.configs c.args.moment flat c.in_ok-new.ensures.limits refl refl c.requires.configs c.requires.limits
+    let flat = c.in_ok-new.ensures.flat ∙ ap (λ (groups : List (List ℕ)). opening c.args.limits groups c.args.configs c.args.moment)
+    c.as_slice.ensures in
+    opened_sound _ c.args.limits c.args.groups c.args.configs c.args.moment flat c.in_ok-new.ensures.limits refl refl c.requires.configs
+    c.requires.limits

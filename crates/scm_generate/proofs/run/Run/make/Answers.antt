@@ -11,4 +11,5 @@ pub returns : goal.returns
 returns c =
     let kept = c.in_ok-reserve_for.ensures.ok in
     makes_one c.self.inside c.args.self.now c.reserve_for.new.self c.act.new.manager c.args.step c.launch_in.result c.self.view_is
-    (rw kept refl) (rw kept refl) (rw kept refl) c.act.ensures.flat c.act.ensures.limits c.act.ensures.text c.launch_in.ensures.value c.requires
+    (rw kept refl) (rw kept refl) (rw kept refl) c.act.ensures.flat c.act.ensures.limits c.act.ensures.text c.launch_in.ensures.value
+    c.requires

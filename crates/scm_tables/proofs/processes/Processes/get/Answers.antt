@@ -9,6 +9,7 @@ use Rattle.scm_tables.proofs.processes.Processes.get.Goals as goal
 
 pub returns : goal.returns
 returns c =
-    ap (option_map process_shown) (c.process_with.ensures ∙ ap (find (λ (row : ProcessRow). row.number == c.args.number)) c.as_slice.ensures.value)
+    ap (option_map process_shown) (c.process_with.ensures ∙ ap (find (λ (row : ProcessRow). row.number == c.args.number))
+    c.as_slice.ensures.value)
     ∙ found_shown c.args.number c.self.inside.rows.items
     ∙ ap (λ (t : Processed). find (λ (row : Process). row.number == c.args.number) t.processes) c.self.view_is

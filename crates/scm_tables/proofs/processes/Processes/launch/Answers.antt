@@ -9,10 +9,17 @@ use Rattle.scm_tables.proofs.processes.Processes.launch.Goals as goal
 pub invariant_of-self : goal.invariant_of-self
 invariant_of-self c =
     record {
-      rising = rw c.launch_in-self-inside.ensures.rows (ordered_map number_of _ (listed_as (launched_if c.args.number c.args.pid)) (launched_number c.args.number c.args.pid) _ c.self.invariant.rising);
+      rising = rw c.launch_in-self-inside.ensures.rows (ordered_map number_of _ (listed_as (launched_if c.args.number c.args.pid))
+          (launched_number c.args.number c.args.pid) _ c.self.invariant.rising);
       owed = c.launch_in-self-inside.ensures.owed;
     }
 
 pub returns : goal.returns
 returns c =
-    rw (← c.self.view_is, c.launch_in-self-inside.ensures.rows, c.launch_in-self-inside.ensures.capacity, processes_changed (launched_if c.args.number c.args.pid) c.self.inside.rows.items, wanted_launched c.args.number c.args.pid c.self.inside.rows.items) refl
+    rw (
+      ← c.self.view_is,
+      c.launch_in-self-inside.ensures.rows,
+      c.launch_in-self-inside.ensures.capacity,
+      processes_changed (launched_if c.args.number c.args.pid) c.self.inside.rows.items,
+      wanted_launched c.args.number c.args.pid c.self.inside.rows.items,
+    ) refl

@@ -13,4 +13,10 @@ invariant_of-self c =
 
 pub returns : goal.returns
 returns c =
-    rw (← c.self.view_is, c.drop_process-self-inside.ensures.rows, c.drop_process-self-inside.ensures.capacity, processes_kept c.args.number c.self.inside.rows.items, wanted_kept c.args.number c.self.inside.rows.items) refl
+    rw (
+      ← c.self.view_is,
+      c.drop_process-self-inside.ensures.rows,
+      c.drop_process-self-inside.ensures.capacity,
+      processes_kept c.args.number c.self.inside.rows.items,
+      wanted_kept c.args.number c.self.inside.rows.items,
+    ) refl

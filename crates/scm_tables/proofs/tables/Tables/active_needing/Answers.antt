@@ -9,5 +9,6 @@ returns-in-Some c =
     let services = c.args.self.now.flat.services in
     let active = c.active_among-active.ensures
     ∙ ap (λ (ns : List ℕ). length (filter (λ n. not (state_in (with_number services n) == SERVICE_STOPPED)) ns)) c.named_by.ensures.numbers
-    ∙ naming_active services (in_order c.self.invariant c.self.view_is) c.self.inside.index.rows (indexed c.self.invariant c.self.view_is) c.in-Some.row.now.config.name in
+    ∙ naming_active services (in_order c.self.invariant c.self.view_is) c.self.inside.index.rows
+    (indexed c.self.invariant c.self.view_is) c.in-Some.row.now.config.name in
     rw c.in-Some.is (c.min.ensures ∙ ap (λ n. min n 4294967295) active)

@@ -16,18 +16,25 @@ invariant_of-self c =
     record {
       rising = rw c.configure_in.ensures
           (rising_map _ (configured_if c.args.number c.args.config) (configured_number c.args.number c.args.config) _ kept.rising);
-      owns = rw c.configure_in.ensures (own_map _ (configured_if c.args.number c.args.config) (λ row. inl (configured_process c.args.number c.args.config row)) _ kept.owns);
-      listed = rw c.configure_in.ensures (listed_map _ (configured_if c.args.number c.args.config) (configured_number c.args.number c.args.config) (λ row. inl (configured_process c.args.number c.args.config row)) _ kept.listed);
+      owns = rw c.configure_in.ensures (own_map _ (configured_if c.args.number c.args.config)
+          (λ row. inl (configured_process c.args.number c.args.config row)) _ kept.owns);
+      listed = rw c.configure_in.ensures (listed_map _ (configured_if c.args.number c.args.config)
+          (configured_number c.args.number c.args.config) (λ row. inl (configured_process c.args.number c.args.config row)) _ kept.listed);
       texts = rw c.configure_in.ensures (texts_configured c.args.number c.args.config _ c.requires.texts kept.texts);
       index = rw (c.change_needs.ensures, c.configure_in.ensures, kept.index) (rows_changed c.args.number c.args.config _);
-      needs = λ t. rw c.configure_in.ensures (still_free c.args.number c.args.config _ (kept.needs (c.stays_acyclic-self-inside.ensures.before t)) (rw kept.index at (c.stays_acyclic-self-inside.ensures.after t)));
-      marked = rw c.configure_in.ensures (kept.marked ∙ sym (marks_map (configured_if c.args.number c.args.config) (configured_number c.args.number c.args.config) (configured_mark c.args.number c.args.config) _));
+      needs = λ t. rw c.configure_in.ensures (still_free c.args.number c.args.config _
+          (kept.needs (c.stays_acyclic-self-inside.ensures.before t)) (rw kept.index at (c.stays_acyclic-self-inside.ensures.after t)));
+      marked = rw c.configure_in.ensures (kept.marked ∙ sym (marks_map (configured_if c.args.number c.args.config)
+          (configured_number c.args.number c.args.config) (configured_mark c.args.number c.args.config) _));
       marks = rw c.configure_in.ensures (room_map (configured_if c.args.number c.args.config) _ _ kept.marks);
       room = kept.room;
       plans = kept.plans;
-      pending = rw c.configure_in.ensures (pending_map (configured_if c.args.number c.args.config) (configured_number c.args.number c.args.config) (configured_state c.args.number c.args.config) c.self.inside.services.services _ kept.pending);
+      pending = rw c.configure_in.ensures (pending_map (configured_if c.args.number c.args.config)
+          (configured_number c.args.number c.args.config) (configured_state c.args.number c.args.config) c.self.inside.services.services _
+          kept.pending);
       untried = kept.untried;
-      dues = rw c.configure_in.ensures (map_keeps (configured_if c.args.number c.args.config) (configured_number c.args.number c.args.config) kept.dues);
+      dues = rw c.configure_in.ensures (map_keeps (configured_if c.args.number c.args.config)
+          (configured_number c.args.number c.args.config) kept.dues);
       rooms = kept.rooms;
     }
 

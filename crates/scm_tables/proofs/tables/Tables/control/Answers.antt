@@ -7,4 +7,5 @@ pub returns-clause-flat : goal.returns-clause-flat
 returns-clause-flat c = rw (← c.self.view_is, c.control.ensures) refl
 
 pub invariant_of-self : goal.invariant_of-self
-invariant_of-self c = other_processes c.self.invariant c.control.new.self c.control.ensures refl refl (listed_changed _ (controlled_same _ c.args.process c.args.code) _ _ c.self.invariant.listed)
+invariant_of-self c = other_processes c.self.invariant c.control.new.self c.control.ensures refl refl
+    (listed_changed _ (controlled_same _ c.args.process c.args.code) _ _ c.self.invariant.listed)

@@ -19,15 +19,18 @@ invariant_of-self c =
     record {
       rising = rw c.count_in.ensures (rising_map _ (counted_if number moment) (counted_number number moment) _ kept.rising);
       owns = rw c.count_in.ensures (own_map _ (counted_if number moment) (λ row. inl (counted_process number moment row)) _ kept.owns);
-      listed = rw c.count_in.ensures (listed_map _ (counted_if number moment) (counted_number number moment) (λ row. inl (counted_process number moment row)) _ kept.listed);
+      listed = rw c.count_in.ensures (listed_map _ (counted_if number moment) (counted_number number moment)
+          (λ row. inl (counted_process number moment row)) _ kept.listed);
       texts = rw c.count_in.ensures (texts_map (counted_if number moment) (counted_config number moment) _ kept.texts);
       index = rw c.count_in.ensures (kept.index ∙ same_rows (counted_if number moment) (counted_needs number moment) _);
       needs = λ t. rw c.count_in.ensures (same_graph (counted_if number moment) (counted_needs number moment) _ (kept.needs t));
-      marked = rw c.count_in.ensures (kept.marked ∙ sym (marks_map (counted_if number moment) (counted_number number moment) (counted_mark number moment) _));
+      marked = rw c.count_in.ensures (kept.marked ∙ sym (marks_map (counted_if number moment) (counted_number number moment)
+          (counted_mark number moment) _));
       marks = rw c.count_in.ensures (room_map (counted_if number moment) _ _ kept.marks);
       room = kept.room;
       plans = kept.plans;
-      pending = rw c.count_in.ensures (pending_map (counted_if number moment) (counted_number number moment) (counted_state number moment) c.self.inside.services.services _ kept.pending);
+      pending = rw c.count_in.ensures (pending_map (counted_if number moment) (counted_number number moment)
+          (counted_state number moment) c.self.inside.services.services _ kept.pending);
       untried = kept.untried;
       dues = rw c.count_in.ensures (map_keeps (counted_if number moment) (counted_number number moment) kept.dues);
       rooms = kept.rooms;

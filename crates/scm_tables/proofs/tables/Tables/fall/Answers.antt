@@ -15,21 +15,30 @@ use Rattle.scm_tables.proofs.tables.Tables.fall.Goals as goal
 
 pub note_fall-requires : goal.note_fall-requires
 note_fall-requires c =
-    rw c.current_in.ensures (found_has HasShort (λ (row : Service). row.process == c.args.process) c.self.inside.services.services c.self.invariant.texts)
+    rw c.current_in.ensures (found_has HasShort (λ (row : Service). row.process == c.args.process) c.self.inside.services.services
+    c.self.invariant.texts)
 
 pub invariant_of-self : goal.invariant_of-self
 invariant_of-self c =
     let kept = c.self.invariant in
     let rows = c.self.inside.services.services in
-    let woken = c.wake_in.ensures.awaited rows (told_of c.args.process c.self.inside.processes.processes rows c.service_of-of.ensures refl kept.listed) in
+    let woken = c.wake_in.ensures.awaited rows (told_of c.args.process c.self.inside.processes.processes rows c.service_of-of.ensures refl
+    kept.listed) in
     record {
-      rising = rw c.fall_in.ensures (rising_map _ (fallen_if c.args.process c.args.code) (fallen_number c.args.process c.args.code) _ kept.rising);
-      owns = rw c.fall_in.ensures (own_map _ (fallen_if c.args.process c.args.code) (fallen_process c.args.process c.args.code) _ kept.owns);
-      listed = rw c.fall_in.ensures (listed_map _ (fallen_if c.args.process c.args.code) (fallen_number c.args.process c.args.code) (fallen_process c.args.process c.args.code) _ kept.listed);
-      texts = rw c.fall_in.ensures (texts_map (fallen_if c.args.process c.args.code) (fallen_config c.args.process c.args.code) _ kept.texts);
-      index = rw c.fall_in.ensures (kept.index ∙ same_rows (fallen_if c.args.process c.args.code) (fallen_needs c.args.process c.args.code) _);
-      needs = λ t. rw c.fall_in.ensures (same_graph (fallen_if c.args.process c.args.code) (fallen_needs c.args.process c.args.code) _ (kept.needs t));
-      marked = rw c.fall_in.ensures (kept.marked ∙ sym (marks_map (fallen_if c.args.process c.args.code) (fallen_number c.args.process c.args.code) (fallen_mark c.args.process c.args.code) _));
+      rising = rw c.fall_in.ensures (rising_map _ (fallen_if c.args.process c.args.code)
+          (fallen_number c.args.process c.args.code) _ kept.rising);
+      owns = rw c.fall_in.ensures (own_map _ (fallen_if c.args.process c.args.code)
+          (fallen_process c.args.process c.args.code) _ kept.owns);
+      listed = rw c.fall_in.ensures (listed_map _ (fallen_if c.args.process c.args.code) (fallen_number c.args.process c.args.code)
+          (fallen_process c.args.process c.args.code) _ kept.listed);
+      texts = rw c.fall_in.ensures (texts_map (fallen_if c.args.process c.args.code)
+          (fallen_config c.args.process c.args.code) _ kept.texts);
+      index = rw c.fall_in.ensures (kept.index ∙ same_rows (fallen_if c.args.process c.args.code)
+          (fallen_needs c.args.process c.args.code) _);
+      needs = λ t. rw c.fall_in.ensures (same_graph (fallen_if c.args.process c.args.code) (fallen_needs c.args.process c.args.code) _
+          (kept.needs t));
+      marked = rw c.fall_in.ensures (kept.marked ∙ sym (marks_map (fallen_if c.args.process c.args.code)
+          (fallen_number c.args.process c.args.code) (fallen_mark c.args.process c.args.code) _));
       marks = rw c.fall_in.ensures (room_map (fallen_if c.args.process c.args.code) _ _ kept.marks);
       room = kept.room;
       plans = rw c.wake_in.ensures.plans kept.plans;
@@ -43,10 +52,12 @@ pub current_in-requires-clause-ordered : goal.current_in-requires-clause-ordered
 current_in-requires-clause-ordered c = c.self.invariant.rising.rising
 
 pub current_in-requires-clause-told : goal.current_in-requires-clause-told
-current_in-requires-clause-told c = told_of c.args.process c.self.inside.processes.processes c.self.inside.services.services c.service_of-of.ensures refl c.self.invariant.listed
+current_in-requires-clause-told c = told_of c.args.process c.self.inside.processes.processes c.self.inside.services.services
+    c.service_of-of.ensures refl c.self.invariant.listed
 
 pub fall_in-requires : goal.fall_in-requires
-fall_in-requires c = told_of c.args.process c.self.inside.processes.processes c.self.inside.services.services c.service_of-of.ensures refl c.self.invariant.listed
+fall_in-requires c = told_of c.args.process c.self.inside.processes.processes c.self.inside.services.services c.service_of-of.ensures refl
+    c.self.invariant.listed
 
 pub returns-clause-flat : goal.returns-clause-flat
 returns-clause-flat c =

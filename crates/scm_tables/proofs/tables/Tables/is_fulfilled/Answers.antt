@@ -12,5 +12,6 @@ returns-in-Group c =
     let services = c.args.self.now.flat.services in
     let group = c.in-Group.group in
     rw c.in-Group.is
-    (c.is_any_running.ensures ∙ ap (list_any (λ n. state_in (with_number services n) == SERVICE_RUNNING)) (c.members.ensures.numbers ∙ ap (λ (t : Tabled). numbers_with (is_member group) t.flat.services) c.self.view_is)
+    (c.is_any_running.ensures ∙ ap (list_any (λ n. state_in (with_number services n) == SERVICE_RUNNING)) (c.members.ensures.numbers
+    ∙ ap (λ (t : Tabled). numbers_with (is_member group) t.flat.services) c.self.view_is)
     ∙ group_running services (in_order c.self.invariant c.self.view_is) group)

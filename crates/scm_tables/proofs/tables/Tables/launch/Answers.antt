@@ -7,4 +7,5 @@ pub returns-clause-flat : goal.returns-clause-flat
 returns-clause-flat c = rw (← c.self.view_is, c.launch.ensures) refl
 
 pub invariant_of-self : goal.invariant_of-self
-invariant_of-self c = other_processes c.self.invariant c.launch.new.self c.launch.ensures refl refl (listed_changed _ (launched_same c.args.process c.args.pid) _ _ c.self.invariant.listed)
+invariant_of-self c = other_processes c.self.invariant c.launch.new.self c.launch.ensures refl refl
+    (listed_changed _ (launched_same c.args.process c.args.pid) _ _ c.self.invariant.listed)

@@ -19,7 +19,8 @@ use Rattle.scm_tables.proofs.tables.Tables.let_one_go.Goals as goal
 
 pub note_leaving-requires : goal.note_leaving-requires
 note_leaving-requires c =
-    rw c.get.ensures (found_has HasShort (λ (row : Service). row.number == c.in-Some.number) c.self.inside.services.services c.self.invariant.texts)
+    rw c.get.ensures (found_has HasShort (λ (row : Service). row.number == c.in-Some.number) c.self.inside.services.services
+    c.self.invariant.texts)
 
 pub invariant_of-self-2 : goal.invariant_of-self-2
 invariant_of-self-2 c =
@@ -31,13 +32,15 @@ invariant_of-self-2 c =
       owns = rw gone (own_filter _ _ _ kept.owns);
       listed = rw gone (listed_filter _ _ _ kept.listed);
       texts = rw gone (All-filter _ HasShort _ kept.texts);
-      index = rw (c.drop_service.ensures, gone) (ap (filter (λ (row : NeedRow). not (row.number == number))) kept.index ∙ rows_without number _);
+      index = rw (c.drop_service.ensures, gone) (ap (filter (λ (row : NeedRow). not (row.number == number))) kept.index
+          ∙ rows_without number _);
       needs = λ t. rw gone (fewer _ _ kept.rising.rising (kept.needs t));
       marked = rw gone (c.in-Some.ensures.items ∙ ap (λ ns. without_number ns number) kept.marked ∙ sym (marks_without number _));
       marks = rw gone (omega (arith, few_without number c.self.inside.services.services, kept.marks, c.in-Some.ensures.held));
       room = kept.room;
       plans = kept.plans;
-      pending = rw gone (pending_left c.self.inside.handles.rows c.self.inside.services.services c.self.inside.leaving.items number _ c.in-Some.ensures.first kept.pending);
+      pending = rw gone (pending_left c.self.inside.handles.rows c.self.inside.services.services c.self.inside.leaving.items number _
+          c.in-Some.ensures.first kept.pending);
       untried = kept.untried;
       dues = rw gone (left_keeps _ kept.dues);
       rooms = kept.rooms;
@@ -66,5 +69,6 @@ returns-clause-fewer c = λ yes.
     let gone = ap (λ (r : Recorded). r.services) c.remove-gone.ensures.table in
     let t = c.self.inside in
     let told = c.in-Some.ensures.first in
-    let first = leaver t.handles.rows t.services.services t.leaving.items c.in-Some.number c.self.invariant.rising.rising c.self.invariant.marked told in
+    let first = leaver t.handles.rows t.services.services t.leaving.items c.in-Some.number c.self.invariant.rising.rising
+    c.self.invariant.marked told in
     rw (← c.self.view_is, gone) (one_less t.handles.rows t.services.services c.in-Some.number first)

@@ -8,7 +8,7 @@ use Rattle.scm_tables.proofs.NeedRows.{same_rows}
 use Rattle.scm_tables.proofs.Keeping.{texts_map}
 use Rattle.scm_tables.proofs.Placed.{map_keeps}
 use Rattle.number_lists.specs.Rising.{with_number}
-use Rattle.number_lists.specs.Under.{has}
+use Rattle.number_lists.specs.UnderName.{has}
 use Rattle.scm_tables.proofs.Marks.{fewer_marks, found_any, marks_with, rising_by, room_map}
 use Rattle.scm_tables.proofs.Sleeping.{pending_map}
 use Rattle.scm_tables.proofs.Rising.{rising_map}
@@ -19,7 +19,8 @@ use Rattle.scm_tables.proofs.tables.Tables.mark.Goals as goal
 pub note_mark-requires : goal.note_mark-requires
 note_mark-requires c =
     let found = c.in-Some.ensures in
-    subst (λ (o : Option Service). IfSome o HasShort) (sym found) (found_has HasShort (λ (row : Service). row.number == c.args.service) c.self.inside.services.services c.self.invariant.texts)
+    subst (λ (o : Option Service). IfSome o HasShort) (sym found) (found_has HasShort
+    (λ (row : Service). row.number == c.args.service) c.self.inside.services.services c.self.invariant.texts)
 
 pub mark-told-requires : goal.mark-told-requires
 mark-told-requires c = λ fresh.
@@ -43,11 +44,13 @@ invariant_of-self c =
       texts = rw c.mark_in.ensures (texts_map (marked_if number) (λ row. refl) _ kept.texts);
       index = rw c.mark_in.ensures (kept.index ∙ same_rows (marked_if number) (λ row. refl) _);
       needs = λ t. rw c.mark_in.ensures (same_graph (marked_if number) (λ row. refl) _ (kept.needs t));
-      marked = rw c.mark_in.ensures (c.mark-told.ensures.items ∙ ap (λ ns. with_number ns number) kept.marked ∙ sym (marks_with number _ (rising_by _ kept.rising.rising) is));
+      marked = rw c.mark_in.ensures (c.mark-told.ensures.items ∙ ap (λ ns. with_number ns number) kept.marked
+          ∙ sym (marks_with number _ (rising_by _ kept.rising.rising) is));
       marks = rw c.mark_in.ensures (room_map (marked_if number) _ _ (omega (arith, kept.marks, c.mark-told.ensures.held)));
       room = kept.room;
       plans = kept.plans;
-      pending = rw c.mark_in.ensures (pending_map (marked_if number) (λ row. refl) (λ row. refl) c.self.inside.services.services _ kept.pending);
+      pending = rw c.mark_in.ensures (pending_map (marked_if number) (λ row. refl)
+          (λ row. refl) c.self.inside.services.services _ kept.pending);
       untried = kept.untried;
       dues = rw c.mark_in.ensures (map_keeps (marked_if number) (λ row. refl) kept.dues);
       rooms = kept.rooms;

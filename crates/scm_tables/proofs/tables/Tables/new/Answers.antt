@@ -25,13 +25,20 @@ invariant_of-result c =
     let rows = c.in_ok-services-2.services.services in
     let same : rows ≡ c.in_ok-services.services.items = c.in_ok-services-2.ensures in
     let is : rows ≡ services_from 1 c.args.configs = same ∙ c.in_ok-services.ensures in
-    let count : c.len-3.result ≡ length c.args.configs = omega (arith, c.len-3.ensures, ap (λ (all : List Service). length all) c.in_ok-services.ensures, opened_length 1 c.args.configs) in
+    let count : c.len-3.result ≡ length c.args.configs = omega (
+      arith,
+      c.len-3.ensures,
+      ap (λ (all : List Service). length all) c.in_ok-services.ensures,
+      opened_length 1 c.args.configs,
+    ) in
     let rising = subst (AreRising (length c.args.configs + 1)) (sym is) (opened_rising c.args.configs) in
     let graph = c.in_ok-index.ensures ∙ ap need_rows (c.as_slice-2.ensures.value ∙ sym same) in
     record {
-      rising = subst (λ (n : ℕ). AreRising n rows) (sym (ap (λ (n : Next). n.service) c.first_numbers-next.ensures)) (subst (λ (n : ℕ). AreRising (n + 1) rows) (sym count) rising);
+      rising = subst (λ (n : ℕ). AreRising n rows) (sym (ap (λ (n : Next). n.service) c.first_numbers-next.ensures))
+          (subst (λ (n : ℕ). AreRising (n + 1) rows) (sym count) rising);
       owns = rw (ap (λ (t : Processed). t.next) c.in_ok-processes.ensures.none) (subst (HaveOwn 1) (sym is) (opened_own 1 c.args.configs));
-      listed = rw (ap (λ (t : Processed). t.processes) c.in_ok-processes.ensures.none) (All-nil (λ (p : Process). NoOtherHas p.number rows p.service));
+      listed = rw (ap (λ (t : Processed). t.processes) c.in_ok-processes.ensures.none)
+          (All-nil (λ (p : Process). NoOtherHas p.number rows p.service));
       texts = subst (All HasShort) (sym is) (opened_texts 1 c.args.configs c.requires);
       index = graph;
       needs = λ t. subst (λ (g : List NeedRow). IsAcyclic (needs_of g)) graph (c.is_acyclic-acyclic.ensures t);
@@ -41,27 +48,40 @@ invariant_of-result c =
       plans = search rules;
       pending = search rules;
       untried = search rules;
-      dues = opened_places c.args.moment c.args.groups.now {rows = c.in_ok-dues.dues.rows} {capacity = c.in_ok-dues.dues.capacity} {next = length c.args.configs + 1} rising
-          (c.in_ok-dues.ensures.rows ∙ ap (λ all. starts_from 1 c.args.moment (auto_rows all c.args.groups.now)) (c.as_slice.ensures.value ∙ sym same))
-          (let room = c.in_ok-dues.ensures.room in let count = ap (λ (all : List Service). length all) (c.as_slice.ensures.value ∙ sym same) in omega (arith, room, count));
+      dues = opened_places c.args.moment c.args.groups.now {rows = c.in_ok-dues.dues.rows} {capacity = c.in_ok-dues.dues.capacity} {next =
+          length c.args.configs + 1} rising
+          (c.in_ok-dues.ensures.rows ∙ ap (λ all. starts_from 1 c.args.moment (auto_rows all c.args.groups.now)) (c.as_slice.ensures.value
+          ∙ sym same))
+          (let room = c.in_ok-dues.ensures.room in let count = ap (λ (all : List Service). length all) (c.as_slice.ensures.value
+          ∙ sym same) in omega (arith, room, count));
       rooms = record { starts_fit = search rules; commands_fit = search rules };
     }
 
 pub returns-clause-flat : goal.returns-clause-flat
 returns-clause-flat c =
     let is : c.in_ok-services.services.items ≡ services_from 1 c.args.configs = c.in_ok-services.ensures in
-    let count : c.len-3.result ≡ length c.args.configs = omega (arith, c.len-3.ensures, ap (λ (rows : List Service). length rows) is, opened_length 1 c.args.configs) in
+    let count : c.len-3.result ≡ length c.args.configs = omega (
+      arith,
+      c.len-3.ensures,
+      ap (λ (rows : List Service). length rows) is,
+      opened_length 1 c.args.configs,
+    ) in
     let dues : c.in_ok-dues.dues.rows ≡ automatic_starts c.args.groups.now c.args.configs c.args.moment =
-    c.in_ok-dues.ensures.rows ∙ ap (λ (rows : List Service). starts_from 1 c.args.moment (auto_rows rows c.args.groups.now)) (c.as_slice.ensures.value ∙ is) in
+    c.in_ok-dues.ensures.rows ∙ ap (λ (rows : List Service). starts_from 1 c.args.moment (auto_rows rows c.args.groups.now))
+    (c.as_slice.ensures.value ∙ is) in
     let given : c.in_ok-dues.dues.next ≡ length (automatic_starts c.args.groups.now c.args.configs c.args.moment) + 1 =
     c.in_ok-dues.ensures.next ∙ ap (λ (rows : List Due). length rows + 1) dues in
-    let next : all_numbers c.first_numbers-next.result c.new.result.next c.in_ok-processes.processes.next c.in_ok-dues.dues.next ≡ (opening c.args.limits c.args.groups.now c.args.configs c.args.moment).next =
+    let next : all_numbers c.first_numbers-next.result c.new.result.next c.in_ok-processes.processes.next c.in_ok-dues.dues.next ≡
+    (opening c.args.limits c.args.groups.now c.args.configs c.args.moment).next =
     ap (λ n. all_numbers c.first_numbers-next.result n c.in_ok-processes.processes.next c.in_ok-dues.dues.next) c.new.ensures.next
     ∙ ap (λ (t : Processed). all_numbers c.first_numbers-next.result 1 t.next c.in_ok-dues.dues.next) c.in_ok-processes.ensures.none
     ∙ ap (λ (n : Next). record n { due = c.in_ok-dues.dues.next }) c.first_numbers-next.ensures
     ∙ ap (λ (n : ℕ). record (empty_at 0).next { service = n + 1; due = c.in_ok-dues.dues.next }) count
     ∙ ap (λ (n : ℕ). record (empty_at 0).next { service = length c.args.configs + 1; due = n }) given in
-    same_flat _ _ _ _ _ _ _ _ _ _ _ _ _ (c.in_ok-services-2.ensures ∙ is) c.new.ensures.rows (ap (λ (t : Processed). t.processes) c.in_ok-processes.ensures.none) (ap (λ (t : Processed). t.wanted) c.in_ok-processes.ensures.none) c.none.ensures.plans (search rules) dues (search rules) (search rules) refl next refl
+    same_flat _ _ _ _ _ _ _ _ _ _ _ _ _ (c.in_ok-services-2.ensures ∙ is) c.new.ensures.rows
+    (ap (λ (t : Processed). t.processes) c.in_ok-processes.ensures.none)
+    (ap (λ (t : Processed). t.wanted) c.in_ok-processes.ensures.none) c.none.ensures.plans (search rules) dues (search rules)
+    (search rules) refl next refl
 
 pub index_of-requires : goal.index_of-requires
 index_of-requires c =

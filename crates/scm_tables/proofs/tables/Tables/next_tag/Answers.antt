@@ -11,6 +11,7 @@ returns c =
     let services = c.args.self.now.flat.services in
     let group = c.args.group.now in
     let greatest = c.greatest_tag-greatest.ensures
-    ∙ ap (λ (ns : List ℕ). fold (λ greatest number. max greatest (tag_of (with_number services number))) 0 ns) (c.members.ensures.numbers ∙ ap (λ (t : Tabled). numbers_with (is_member group) t.flat.services) c.self.view_is)
+    ∙ ap (λ (ns : List ℕ). fold (λ greatest number. max greatest (tag_of (with_number services number))) 0 ns) (c.members.ensures.numbers
+    ∙ ap (λ (t : Tabled). numbers_with (is_member group) t.flat.services) c.self.view_is)
     ∙ group_tag services (in_order c.self.invariant c.self.view_is) group in
     omega (arith, c.saturating_add.ensures, greatest)

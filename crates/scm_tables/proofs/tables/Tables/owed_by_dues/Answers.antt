@@ -9,5 +9,6 @@ pub returns : goal.returns
 returns c =
     let l = c.loop-row in
     let f = c.args.self.now.flat in
-    counted_all (owed_by_due f) l.owed l.row-index (2 ^ 64 - 1) c.self.inside.dues.rows c.as_slice-row-items.result.now c.as_slice-row-items.ensures (omega arith) l.invariant.most l.invariant.counted
+    counted_all (owed_by_due f) l.owed l.row-index (2 ^ 64 - 1) c.self.inside.dues.rows c.as_slice-row-items.result.now
+    c.as_slice-row-items.ensures (omega arith) l.invariant.most l.invariant.counted
     ∙ ap (λ (t : Tabled). min (total (owed_by_due f) t.flat.dues) (2 ^ 64 - 1)) c.self.view_is

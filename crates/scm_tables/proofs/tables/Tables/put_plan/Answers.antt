@@ -15,7 +15,8 @@ invariant_of-self c =
     let kept = c.self.invariant in
     let room = subst (λ (t : Tabled). 1 ≤ t.spare.dues) (sym c.self.view_is) c.requires.dues in
     let number = subst (λ (t : Tabled). c.args.plan.number ≡ t.flat.next.plan) (sym c.self.view_is) c.requires.number in
-    other_plans kept refl refl refl refl refl refl refl refl refl refl refl (rw c.begin.ensures.plans (below_more _ _ _ kept.plans number)) (rw c.begin.ensures.awaited kept.pending)
+    other_plans kept refl refl refl refl refl refl refl refl refl refl refl (rw c.begin.ensures.plans (below_more _ _ _ kept.plans number))
+    (rw c.begin.ensures.awaited kept.pending)
     (rw c.push-number.ensures.after (deadline_keeps _ (λ n. refl) kept.dues (omega (arith, room))))
 
 pub returns-clause-dues : goal.returns-clause-dues

@@ -24,14 +24,17 @@ invariant_of-self c =
       listed = rw more (listed_push _ _ _ kept.listed refl);
       texts = rw more (All-push HasShort _ _ kept.texts c.requires.texts);
       index = rw (c.set_needs.ensures, more, kept.index) (sym (rows_added _ _ kept.rising.below));
-      needs = λ t. rw more (subst (λ g. IsAcyclic (needs_of g)) (sym (rows_added _ _ kept.rising.below)) (rw kept.index at (c.stays_acyclic-self-inside.ensures.after t)));
+      needs = λ t. rw more (subst (λ g. IsAcyclic (needs_of g)) (sym (rows_added _ _ kept.rising.below))
+          (rw kept.index at (c.stays_acyclic-self-inside.ensures.after t)));
       marked = kept.marked ∙ sym (marks_pushed c.self.inside.services.services c.insert.new.self.services _ more refl);
-      marks = rw more (room_push _ _ _ (let room = subst (λ (t : Tabled). 1 ≤ t.spare.services) (sym c.self.view_is) c.requires.room in omega (arith, room)));
+      marks = rw more (room_push _ _ _ (let room = subst (λ (t : Tabled). 1 ≤ t.spare.services) (sym c.self.view_is) c.requires.room in
+          omega (arith, room)));
       room = kept.room;
       plans = kept.plans;
       pending = rw more (pending_push c.self.inside.services.services _ _ kept.pending);
       untried = kept.untried;
-      dues = rw more (push_keeps _ kept.dues (let room = subst (λ (t : Tabled). 1 ≤ t.spare.services) (sym c.self.view_is) c.requires.room in omega (arith, room)));
+      dues = rw more (push_keeps _ kept.dues (let room = subst (λ (t : Tabled). 1 ≤ t.spare.services)
+          (sym c.self.view_is) c.requires.room in omega (arith, room)));
       rooms = kept.rooms;
     }
 
@@ -42,7 +45,8 @@ pub set_needs-requires : goal.set_needs-requires
 set_needs-requires c =
     let kept = c.self.invariant in
     record {
-      spare = ap (λ (room : NeedRoom). room.index) (subst (λ (t : Tabled). HasNeedRoom t.spare c.args.config) (sym c.self.view_is) c.requires.needs);
+      spare = ap (λ (room : NeedRoom). room.index) (subst (λ (t : Tabled). HasNeedRoom t.spare c.args.config)
+          (sym c.self.view_is) c.requires.needs);
       next = rw kept.index (λ fresh. next_above c.self.inside.next.service _ kept.rising.below);
     }
 
@@ -50,6 +54,7 @@ pub insert-requires : goal.insert-requires
 insert-requires c =
     let kept = c.self.invariant in
     record {
-      spare = ap (λ (room : NeedRoom). room.rows) (subst (λ (t : Tabled). HasNeedRoom t.spare c.args.config) (sym c.self.view_is) c.requires.needs);
+      spare = ap (λ (room : NeedRoom). room.rows) (subst (λ (t : Tabled). HasNeedRoom t.spare c.args.config)
+          (sym c.self.view_is) c.requires.needs);
       above = recursion_from_All (λ (row : Service). row.number < c.self.inside.next.service) _ kept.rising.below;
     }

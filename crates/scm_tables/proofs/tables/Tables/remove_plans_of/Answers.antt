@@ -7,4 +7,6 @@ use Rattle.scm_tables.proofs.tables.Tables.remove_plans_of.Goals as goal
 
 pub invariant_of-self : goal.invariant_of-self
 invariant_of-self c =
-    other_plans c.self.invariant refl refl refl refl refl refl refl refl refl refl refl (rw c.gone.ensures.plans (all_filter (IsBelow c.self.inside.next.plan) _ _ c.self.invariant.plans)) (among_pending c.self.inside.services.services _ _ c.self.invariant.pending c.gone.ensures.awaited) c.self.invariant.dues
+    other_plans c.self.invariant refl refl refl refl refl refl refl refl refl refl refl
+    (rw c.gone.ensures.plans (all_filter (IsBelow c.self.inside.next.plan) _ _ c.self.invariant.plans))
+    (among_pending c.self.inside.services.services _ _ c.self.invariant.pending c.gone.ensures.awaited) c.self.invariant.dues

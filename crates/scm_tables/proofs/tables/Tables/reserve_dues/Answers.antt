@@ -5,4 +5,5 @@ use Rattle.scm_tables.proofs.tables.Tables.reserve_dues.Goals as goal
 
 pub returns-clause-room : goal.returns-clause-room
 returns-clause-room c =
-    on_ok_weaker c.reserve.result (λ room. reserved c.self.inside.services.services c.reserve.new.self.rows c.reserve.new.self.capacity c.args.more (omega (arith, room))) c.reserve.ensures.ok
+    on_ok_weaker c.reserve.result (λ room. reserved c.self.inside.services.services c.reserve.new.self.rows c.reserve.new.self.capacity
+    c.args.more (omega (arith, room))) c.reserve.ensures.ok

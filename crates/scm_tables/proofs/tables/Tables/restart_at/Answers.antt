@@ -9,4 +9,5 @@ begin_any-requires-clause-listed c =
 
 pub returns-clause-flat : goal.returns-clause-flat
 returns-clause-flat c =
-    c.begin_any.ensures.flat ∙ (rw (c.startable-target.ensures, c.row_at.ensures) (begun_as (slice_get c.args.self.now.flat.services c.args.place) c.args.self.now.flat))
+    c.begin_any.ensures.flat ∙ (rw (c.startable-target.ensures, c.row_at.ensures)
+    (begun_as (slice_get c.args.self.now.flat.services c.args.place) c.args.self.now.flat))

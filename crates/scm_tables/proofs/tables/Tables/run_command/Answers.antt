@@ -13,7 +13,8 @@ use Rattle.scm_tables.proofs.tables.Tables.run_command.Goals as goal
 pub of_command-line-requires-clause-command : goal.of_command-line-requires-clause-command
 of_command-line-requires-clause-command c =
     let found = c.in-Some.ensures in
-    let short : HasShort c.in-Some.row.now = subst (λ (o : Option Service). IfSome o HasShort) (sym found) (found_has HasShort (λ (row : Service). row.number == c.args.service) c.self.inside.services.services c.self.invariant.texts) in
+    let short : HasShort c.in-Some.row.now = subst (λ (o : Option Service). IfSome o HasShort) (sym found)
+    (found_has HasShort (λ (row : Service). row.number == c.args.service) c.self.inside.services.services c.self.invariant.texts) in
     short.command
 
 pub returns-clause-flat : goal.returns-clause-flat
@@ -23,7 +24,8 @@ returns-clause-flat c =
     let found = c.in-Some.ensures in
     let is = subst (λ (t : Tabled). service_of t.flat c.args.service ≡ Some row) c.self.view_is (sym found) in
     let can = sym (c.can_run.ensures ∙ ap (runs before.limits before.flat) c.service.ensures) ∙ c.if-not-can_run.false in
-    let runs = ap (λ (t : Tabled). with_wanted_command row.config.command t.flat) c.self.view_is ∙ runs_one before.limits before.flat (service_of before.flat c.args.service) row is can in
+    let runs = ap (λ (t : Tabled). with_wanted_command row.config.command t.flat) c.self.view_is
+    ∙ runs_one before.limits before.flat (service_of before.flat c.args.service) row is can in
     rw (c.list.ensures, c.of_command-line.ensures) runs
 
 pub invariant_of-self : goal.invariant_of-self

@@ -20,7 +20,8 @@ returns-clause-flat c =
     let was = ap (λ (p : Planned). p.plans) c.replace-plans.ensures.value in
     let rows = filter (λ (due : Due). is_due_still c.settle.new.self.plans due.kind) c.self-2.inside.dues.rows in
     rw c.keep_due.ensures (ap (λ (t : Tabled). record t.flat { plans = c.settle.new.self.plans; dues = rows }) c.self-2.view_is
-    ∙ settles l f c.settle.new.field.flat c.replace-plans.result.plans c.settle.new.self.plans rows c.settle.ensures.plans c.settle.ensures.flat
+    ∙ settles l f c.settle.new.field.flat c.replace-plans.result.plans c.settle.new.self.plans rows c.settle.ensures.plans
+    c.settle.ensures.flat
     (ap (λ (t : Tabled). filter (λ (due : Due). is_due_still c.settle.new.self.plans due.kind) t.flat.dues) c.self-2.view_is)
     ∙ ap (λ (ps : List Plan). settled l (with_plans f ps)) was
     ∙ ap (λ (t : Tabled). settled t.limits t.flat) c.self.view_is)
@@ -31,8 +32,12 @@ invariant_of-self-2 c =
     let l = c.self.inside.limits in
     let f = with_plans (tabled c.self.inside).flat c.replace-plans.new.dest.plans in
     let was = ap (λ (p : Planned). p.plans) c.replace-plans.ensures.value in
-    let next = ap (λ (t : Tabled). t.flat.next.plan) c.self-2.view_is ∙ ap (λ (g : Flat). g.next.plan) c.settle.ensures.flat ∙ next_settled l f c.replace-plans.result.plans in
-    let below = below_settled l f c.self.inside.next.plan c.replace-plans.result.plans (subst (λ (ps : List Plan). AllByRecursion (IsBelow c.self.inside.next.plan) ps) (sym was) c.self.invariant.plans) in
-    other_plans kept refl refl refl refl refl refl refl refl refl refl refl (subst (λ n. AllByRecursion (IsBelow n) c.settle.new.self.plans) (sym next) (subst (λ (ps : List Plan). AllByRecursion (IsBelow c.self.inside.next.plan) ps) (sym c.settle.ensures.plans) below))
+    let next = ap (λ (t : Tabled). t.flat.next.plan) c.self-2.view_is ∙ ap (λ (g : Flat). g.next.plan) c.settle.ensures.flat
+    ∙ next_settled l f c.replace-plans.result.plans in
+    let below = below_settled l f c.self.inside.next.plan c.replace-plans.result.plans
+    (subst (λ (ps : List Plan). AllByRecursion (IsBelow c.self.inside.next.plan) ps) (sym was) c.self.invariant.plans) in
+    other_plans kept refl refl refl refl refl refl refl refl refl refl refl
+    (subst (λ n. AllByRecursion (IsBelow n) c.settle.new.self.plans) (sym next)
+    (subst (λ (ps : List Plan). AllByRecursion (IsBelow c.self.inside.next.plan) ps) (sym c.settle.ensures.plans) below))
     (subst (λ (t : Tabled). ArePending t.flat.services c.settle.new.self.awaited) (sym c.self-2.view_is) c.settle.ensures.pending)
     (rw c.keep_due.ensures (filter_keeps _ kept.dues))

@@ -7,4 +7,5 @@ pub returns-clause-flat : goal.returns-clause-flat
 returns-clause-flat c = rw (← c.self.view_is, c.take.ensures) refl
 
 pub invariant_of-self : goal.invariant_of-self
-invariant_of-self c = other_processes c.self.invariant c.take.new.self c.take.ensures refl refl (listed_changed _ (taken_same c.args.process) _ _ c.self.invariant.listed)
+invariant_of-self c = other_processes c.self.invariant c.take.new.self c.take.ensures refl refl
+    (listed_changed _ (taken_same c.args.process) _ _ c.self.invariant.listed)

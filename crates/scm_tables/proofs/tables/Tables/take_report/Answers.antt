@@ -15,27 +15,37 @@ use Rattle.scm_tables.proofs.tables.Tables.take_report.Goals as goal
 
 pub note_report-requires : goal.note_report-requires
 note_report-requires c =
-    rw c.current_in.ensures (found_has HasShort (λ (row : Service). row.process == c.args.process) c.self.inside.services.services c.self.invariant.texts)
+    rw c.current_in.ensures (found_has HasShort (λ (row : Service). row.process == c.args.process) c.self.inside.services.services
+    c.self.invariant.texts)
 
 pub invariant_of-self : goal.invariant_of-self
 invariant_of-self c =
     let kept = c.self.invariant in
     let rows = c.self.inside.services.services in
-    let woken = c.wake_in.ensures.awaited rows (told_of c.args.process c.self.inside.processes.processes rows c.service_of-of.ensures refl kept.listed) in
+    let woken = c.wake_in.ensures.awaited rows (told_of c.args.process c.self.inside.processes.processes rows c.service_of-of.ensures refl
+    kept.listed) in
     record {
-      rising = rw c.report_in.ensures (rising_map _ (reported_if c.args.process c.args.report.now) (reported_number c.args.process c.args.report.now) _ kept.rising);
-      owns = rw c.report_in.ensures (own_map _ (reported_if c.args.process c.args.report.now) (reported_process c.args.process c.args.report.now) _ kept.owns);
-      listed = rw c.report_in.ensures (listed_map _ (reported_if c.args.process c.args.report.now) (reported_number c.args.process c.args.report.now) (reported_process c.args.process c.args.report.now) _ kept.listed);
-      texts = rw c.report_in.ensures (texts_map (reported_if c.args.process c.args.report.now) (reported_config c.args.process c.args.report.now) _ kept.texts);
-      index = rw c.report_in.ensures (kept.index ∙ same_rows (reported_if c.args.process c.args.report.now) (reported_needs c.args.process c.args.report.now) _);
-      needs = λ t. rw c.report_in.ensures (same_graph (reported_if c.args.process c.args.report.now) (reported_needs c.args.process c.args.report.now) _ (kept.needs t));
-      marked = rw c.report_in.ensures (kept.marked ∙ sym (marks_map (reported_if c.args.process c.args.report.now) (reported_number c.args.process c.args.report.now) (reported_mark c.args.process c.args.report.now) _));
+      rising = rw c.report_in.ensures (rising_map _ (reported_if c.args.process c.args.report.now)
+          (reported_number c.args.process c.args.report.now) _ kept.rising);
+      owns = rw c.report_in.ensures (own_map _ (reported_if c.args.process c.args.report.now)
+          (reported_process c.args.process c.args.report.now) _ kept.owns);
+      listed = rw c.report_in.ensures (listed_map _ (reported_if c.args.process c.args.report.now)
+          (reported_number c.args.process c.args.report.now) (reported_process c.args.process c.args.report.now) _ kept.listed);
+      texts = rw c.report_in.ensures (texts_map (reported_if c.args.process c.args.report.now)
+          (reported_config c.args.process c.args.report.now) _ kept.texts);
+      index = rw c.report_in.ensures (kept.index ∙ same_rows (reported_if c.args.process c.args.report.now)
+          (reported_needs c.args.process c.args.report.now) _);
+      needs = λ t. rw c.report_in.ensures (same_graph (reported_if c.args.process c.args.report.now)
+          (reported_needs c.args.process c.args.report.now) _ (kept.needs t));
+      marked = rw c.report_in.ensures (kept.marked ∙ sym (marks_map (reported_if c.args.process c.args.report.now)
+          (reported_number c.args.process c.args.report.now) (reported_mark c.args.process c.args.report.now) _));
       marks = rw c.report_in.ensures (room_map (reported_if c.args.process c.args.report.now) _ _ kept.marks);
       room = kept.room;
       plans = rw c.wake_in.ensures.plans kept.plans;
       pending = rw c.report_in.ensures (woken kept.pending _ (reported_changes c.args.process c.args.report.now));
       untried = kept.untried;
-      dues = rw c.report_in.ensures (map_keeps (reported_if c.args.process c.args.report.now) (reported_number c.args.process c.args.report.now) kept.dues);
+      dues = rw c.report_in.ensures (map_keeps (reported_if c.args.process c.args.report.now)
+          (reported_number c.args.process c.args.report.now) kept.dues);
       rooms = kept.rooms;
     }
 
@@ -47,7 +57,9 @@ pub current_in-requires-clause-ordered : goal.current_in-requires-clause-ordered
 current_in-requires-clause-ordered c = c.self.invariant.rising.rising
 
 pub current_in-requires-clause-told : goal.current_in-requires-clause-told
-current_in-requires-clause-told c = told_of c.args.process c.self.inside.processes.processes c.self.inside.services.services c.service_of-of.ensures refl c.self.invariant.listed
+current_in-requires-clause-told c = told_of c.args.process c.self.inside.processes.processes c.self.inside.services.services
+    c.service_of-of.ensures refl c.self.invariant.listed
 
 pub report_in-requires : goal.report_in-requires
-report_in-requires c = told_of c.args.process c.self.inside.processes.processes c.self.inside.services.services c.service_of-of.ensures refl c.self.invariant.listed
+report_in-requires c = told_of c.args.process c.self.inside.processes.processes c.self.inside.services.services c.service_of-of.ensures refl
+    c.self.invariant.listed

@@ -10,4 +10,5 @@ returns-then-not-fire_first-clause-flat c =
     let l = c.loop-left.self.limits in
     let f = c.loop-left.self.flat in
     let none = none_due f (sym c.fire_first.ensures.any ∙ c.if-not-fire_first.true) in
-    c.fire_first.ensures.flat ∙ ap (λ (o : Option Due). if_found (fired l) o f) none ∙ sym (none_fired l c.loop-left.left f none) ∙ c.loop-left.invariant.whole
+    c.fire_first.ensures.flat ∙ ap (λ (o : Option Due). if_found (fired l) o f) none ∙ sym (none_fired l c.loop-left.left f none)
+    ∙ c.loop-left.invariant.whole

@@ -55,4 +55,5 @@ returns c =
     let inside = c.self.inside in
     let is = ap (λ (t : Trailed). t.entries) c.self.view_is in
     is_entry inside.chunks.items inside.len c.args.place c.args.self.now.entries c.self.invariant.filled is c.requires
-    c.index-chunk.result.now c.as_slice.result.now c.as_slice.ensures c.index-chunk.ensures c.index-as_slice-place.result c.index-as_slice-place.is
+    c.index-chunk.result.now c.as_slice.result.now c.as_slice.ensures c.index-chunk.ensures c.index-as_slice-place.result
+    c.index-as_slice-place.is

@@ -15,4 +15,5 @@ pub returns-clause-plans : goal.returns-clause-plans
 returns-clause-plans c = same c ∙ ap (λ (p : Planned). p.plans) c.self.view_is
 
 pub returns-clause-awaited : goal.returns-clause-awaited
-returns-clause-awaited c = rw c.wake_in.ensures.slots (awaited_woken c.args.service c.self.inside.slots.items) ∙ ap (λ (p : Planned). all_but c.args.service p.awaited) c.self.view_is
+returns-clause-awaited c = rw c.wake_in.ensures.slots (awaited_woken c.args.service c.self.inside.slots.items)
+    ∙ ap (λ (p : Planned). all_but c.args.service p.awaited) c.self.view_is

@@ -1,0 +1,14 @@
+use Rattle.std.proofs.Common.{sym, ◌∙◌}
+use Rattle.sc_lines.specs.Levels.{action_line}
+use Rattle.sc_lines.proofs.Rows.{row_more, row_end}
+use Rattle.sc_lines.proofs.levels.add_actions.Goals as goal
+
+pub loop-row-preserved : goal.loop-row-preserved
+loop-row-preserved c =
+    row_more action_line (λ row. row.now) c.args.list.now c.loop-row.row-index _ c.loop-row.text c.add_action.new.text c.loop-row-test.true
+    c.in_ok-add_action.ensures
+    ∙ c.loop-row.invariant
+
+pub returns : goal.returns
+returns c = sym (row_end action_line (λ row. row.now) c.args.list.now c.loop-row.row-index c.loop-row.text c.loop-row-test.false)
+    ∙ c.loop-row.invariant
