@@ -119,7 +119,7 @@ const WEB: &str = "create|Web|binPath=|/bin/sh /srv/web.sh|start=|auto|depend=|D
 /// that fails.
 pub const ROWS: &[Row] = &[
     Row {
-        words: "query",
+        words: "delete",
         text: "",
         status: NO_COMMAND,
         again: false,
